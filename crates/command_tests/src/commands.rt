@@ -75,10 +75,10 @@ fn commands_give_their_rows(rt: HostRuntime) -> Result<(), Fail> {
 }
 
 #[test]
-fn refused_words_are_told(rt: HostRuntime) -> Result<(), Fail> {
+fn refused_words_are_reported(rt: HostRuntime) -> Result<(), Fail> {
     let folder = folder();
     let files = folder.as_slice();
-    for (line, told) in refused_words() {
+    for (line, reported) in refused_words() {
         let messages = format!(in rt.alloc(); "{told}{USAGE}")?;
         let row = (
             *line,

@@ -55,9 +55,13 @@ fn cut_after(left: usize) -> MemoryFile<'static> {
 }
 
 #[test]
-fn failed_reads_are_told(rt: HostRuntime) -> Result<(), Fail> {
-    for (line, from, to, output, told, status) in cut_rows() {
-        let messages = if *told { "grep: h: read error\n" } else { "" };
+fn failed_reads_are_reported(rt: HostRuntime) -> Result<(), Fail> {
+    for (line, from, to, output, reported, status) in cut_rows() {
+        let messages = if *reported {
+            "grep: h: read error\n"
+        } else {
+            ""
+        };
         let row = (*line, b"".as_slice(), *output, messages, *status);
         for left in *from..=*to {
             let folder = [cut_after(left), file("k", b"b\na\n")];
@@ -120,13 +124,13 @@ fn assert_cut_output(
         messages: usize::MAX,
     };
     let front = &output[..output.len().min(room)];
-    let told = if room < before { b"" } else { message };
+    let reported = if room < before { b"" } else { message };
     let search = searched(alloc, line, files, input, limits)?;
     assert_eq!(rt; search.answer, Err(RunFault::Write), "{line}, {room}");
-    assert_written(rt, &search, front, told, line, room);
+    assert_written(rt, &search, front, reported, line, room);
     let command = commanded(alloc, line, files, input, limits)?;
     assert_eq!(rt; command.answer, 2, "{line}, {room}");
-    let mut messages = told.to_vec(alloc)?;
+    let mut messages = reported.to_vec(alloc)?;
     messages.extend_from_slice(WRITE_ERROR)?;
     assert_written(rt, &command, front, &messages, line, room);
     Ok(())
@@ -179,7 +183,7 @@ fn few_bytes_at_a_time_are_as_many_at_once(rt: HostRuntime) -> Result<(), Fail> 
 }
 
 /// A command; its message; its output before the message; its output; its exit status.
-type ToldRow = (
+type MessageRow = (
     &'static str,
     &'static [u8],
     &'static [u8],
@@ -187,7 +191,7 @@ type ToldRow = (
     u8,
 );
 
-static TOLD: [ToldRow; 5] = [
+static TOLD: [MessageRow; 5] = [
     (
         "a f nofile h",
         b"grep: nofile: cannot open\n",
@@ -208,7 +212,7 @@ static TOLD: [ToldRow; 5] = [
 ];
 
 /// Commands whose message is cut.
-fn told_rows() -> &'static [ToldRow] {
+fn message_rows() -> &'static [MessageRow] {
     &TOLD
 }
 
@@ -217,7 +221,7 @@ fn told_rows() -> &'static [ToldRow] {
 fn assert_cut_message(
     rt: &impl Abort,
     alloc: Global,
-    row: ToldRow,
+    row: MessageRow,
     room: usize,
 ) -> Result<(), Fail> {
     let (line, message, before, output, status) = row;
@@ -245,7 +249,7 @@ fn assert_cut_message(
 
 #[test]
 fn failed_messages_end_the_run(rt: HostRuntime) -> Result<(), Fail> {
-    for row in told_rows() {
+    for row in message_rows() {
         for room in 0..=row.1.len() {
             assert_cut_message(&rt, rt.alloc(), *row, room)?;
         }
@@ -297,18 +301,18 @@ fn failed_messages_are_not_written_again(rt: HostRuntime) -> Result<(), Fail> {
 
 // The first line counts once its newline was read.
 #[test]
-fn failed_standard_input_is_told(rt: HostRuntime) -> Result<(), Fail> {
-    let told = b"grep: (standard input): read error\n";
+fn failed_standard_input_is_reported(rt: HostRuntime) -> Result<(), Fail> {
+    let reported = b"grep: (standard input): read error\n";
     for left in 0..=5 {
         let content = Content::new(b"ab\ncd");
         let input = Content { left, ..content };
         let count = if left < 3 { b"0\n" } else { b"1\n" };
         let search = searched(rt.alloc(), "-c .", &[], input, UNLIMITED)?;
         assert_eq!(rt; status_of(search.answer), 2);
-        assert_written(&rt, &search, count, told, "-c .", left);
+        assert_written(&rt, &search, count, reported, "-c .", left);
         let command = commanded(rt.alloc(), "-c .", &[], input, UNLIMITED)?;
         assert_eq!(rt; command.answer, 2);
-        assert_written(&rt, &command, count, told, "-c .", left);
+        assert_written(&rt, &command, count, reported, "-c .", left);
     }
     Ok(())
 }

@@ -99,12 +99,12 @@ fn written(
 ) -> Result<(Vec<u8>, Vec<u8>), AllocError> {
     let mut output = Vec::new(alloc);
     let mut messages = Vec::new(alloc);
-    for (rows, end, told) in parts.iter().take(sources) {
+    for (rows, end, reported) in parts.iter().take(sources) {
         for row in *rows {
             output.extend_from_slice(row)?;
         }
         output.extend_from_slice(end)?;
-        messages.extend_from_slice(told)?;
+        messages.extend_from_slice(reported)?;
     }
     for (rows, _, _) in parts.iter().skip(sources).take(1) {
         for row in rows.iter().take(lines) {
@@ -123,7 +123,7 @@ fn assert_answer(
     n: usize,
 ) -> Result<bool, Fail> {
     let (line, parts, status) = row;
-    let (sources, lines, told) = match search.answer {
+    let (sources, lines, reported) = match search.answer {
         Err(RunFault::Memory { source, lines }) => (source, lines, true),
         answer => {
             assert_eq!(rt; answer, Ok(status), "{line}, {n}");
@@ -133,7 +133,7 @@ fn assert_answer(
     let lines = usize::try_from(lines)?;
     let (output, messages) = written(alloc, parts, sources, lines)?;
     assert_written(rt, search, &output, &messages, line, n);
-    Ok(told)
+    Ok(reported)
 }
 
 /// Refuses each request for memory of a row's search in turn, until a run meets no refusal.
@@ -147,8 +147,8 @@ fn assert_each_refused(
         let devices = Devices::roomy(alloc)?;
         let input = Content::new(b"");
         let (search, refused) = searched_without(alloc, row.0, files, input, devices, n)?;
-        let told = assert_answer(rt, alloc, row, &search, n)?;
-        assert!(rt; refused || !told, "{}, {n}", row.0);
+        let reported = assert_answer(rt, alloc, row, &search, n)?;
+        assert!(rt; refused || !reported, "{}, {n}", row.0);
         if !refused {
             return Ok(());
         }

@@ -4,7 +4,7 @@ use Rattle.grep_core.specs.Buffer.{BufferedWriter, SendsAll, SendsSome, all_cont
 use Rattle.grep_core.specs.Meters.{Steps}
 use Rattle.grep_core.specs.Run.{Writer, writer, devices}
 use Rattle.grep_utility.specs.Bytes.{Text}
-use Rattle.grep_utility.specs.Command.{TellsLines, CommandGives}
+use Rattle.grep_utility.specs.Command.{ReportsLines, CommandGives}
 use Rattle.grep_utility.specs.Folder.{Folder}
 use Rattle.grep_utility.specs.Texts.{write_error}
 
@@ -12,9 +12,9 @@ abbrev pub words_refused : Text
 words_refused = codes "grep: words must be UTF-8"
 
 -- a write error is reported, but not if a message could not be written before
-abbrev pub TellsWriteError : Writer → Writer → Type 0
-TellsWriteError old new =
-    MatchBool (nat_lt 0 old.failures) (new ≡ old) (TellsLines old new (write_error ∷ []))
+abbrev pub ReportsWriteError : Writer → Writer → Type 0
+ReportsWriteError old new =
+    MatchBool (nat_lt 0 old.failures) (new ≡ old) (ReportsLines old new (write_error ∷ []))
 
 -- standard output, buffered; standard error; how often a file could not be opened or read; and the
 -- steps that were counted
@@ -33,15 +33,15 @@ module _ {W : Type 0} (contents : W → Option Text) (failures : W → ℕ) wher
   -- otherwise all buffered output is sent, with the same status; or a beginning of it is sent, the
   -- write error is reported, and the status is 2
   abbrev pub EndsAs : BufferedWriter W → BufferedWriter W → Writer → Writer → ℕ → ℕ → Type 0
-  EndsAs old new told_before told found status =
+  EndsAs old new reported_before reported found status =
       MatchBool (nat_lt 0 (failures old.inner))
-      ((new ≡ old) × (told ≡ told_before) × (status ≡ found))
-      ((SendsAll contents failures old new × (told ≡ told_before) × (status ≡ found))
-      ⊎ (SendsSome contents failures old new × TellsWriteError told_before told × (status ≡ 2)))
+      ((new ≡ old) × (reported ≡ reported_before) × (status ≡ found))
+      ((SendsAll contents failures old new × (reported ≡ reported_before) × (status ≡ found))
+      ⊎ (SendsSome contents failures old new × ReportsWriteError reported_before reported × (status ≡ 2)))
 
   -- standard output as the command writes to it
-  abbrev pub gathered : BufferedWriter W → Writer
-  gathered = writer (all_contents contents) (λ out. failures out.inner)
+  abbrev pub read_so_far : BufferedWriter W → Writer
+  read_so_far = writer (all_contents contents) (λ out. failures out.inner)
 
   -- what the program does for its words: what the command does, and then how the program ends
   pub record ProgramGives (folder : Folder) (given : List (Option Text) → Type 0)
@@ -50,7 +50,7 @@ module _ {W : Type 0} (contents : W → Option Text) (failures : W → ℕ) wher
     pub out : BufferedWriter W
     pub messages : Writer
     pub command : CommandGives folder given
-        (devices (gathered old.out) old.messages old.source_failures old.steps)
-        (devices (gathered out) messages new.source_failures new.steps)
+        (devices (read_so_far old.out) old.messages old.source_failures old.steps)
+        (devices (read_so_far out) messages new.source_failures new.steps)
         found words
     pub ends : EndsAs out new.out messages new.messages found status

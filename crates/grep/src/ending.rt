@@ -2,7 +2,7 @@
 ghost use Rattle.std.specs.Prelude.{◌≡◌};
 ghost use Rattle.grep_core.specs.Run.{writer};
 ghost use Rattle.grep_utility.specs.Texts.{out_of_memory, usage};
-ghost use Rattle.grep.specs.Exit.{words_refused, TellsWriteError, EndsAs};
+ghost use Rattle.grep.specs.Exit.{words_refused, ReportsWriteError, EndsAs};
 
 use grep_core::{Buffered, CountedWrite, WriteFault};
 use grep_utility::{FAILED, OUT_OF_MEMORY, Program, USAGE, WRITE_ERROR, fail};
@@ -23,9 +23,9 @@ pub fn program() -> Program
 
 /// Reports that the output could not be written, unless a message could not be written before, and
 /// returns the exit status.
-fn tell_write_error<M: CountedWrite>(messages: &mut M) -> u8
+fn report_write_error<M: CountedWrite>(messages: &mut M) -> u8
     ensures status { result ≡ 2 }
-    ensures told { TellsWriteError (writer M.contents M.failures messages.old)
+    ensures reported { ReportsWriteError (writer M.contents M.failures messages.old)
         (writer M.contents M.failures messages.new) }
 {
     if messages.failures() > 0 {
@@ -51,6 +51,6 @@ pub fn finish<W: CountedWrite, M: CountedWrite>(
     }
     match out.send() {
         Ok(()) => found,
-        Err(WriteFault) => tell_write_error(messages),
+        Err(WriteFault) => report_write_error(messages),
     }
 }

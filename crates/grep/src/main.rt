@@ -6,7 +6,7 @@ mod ending;
 mod guard;
 
 ghost use Rattle.grep_core.specs.Run.{writer};
-ghost use Rattle.grep_core.specs.Sources.{GivesBack};
+ghost use Rattle.grep_core.specs.Sources.{Returns};
 ghost use Rattle.grep_utility.specs.Words.{texts_of};
 ghost use Rattle.grep.specs.Exit.{ProgramGives, streams};
 
@@ -19,7 +19,7 @@ use std::alloc::Global;
 use std::process::ExitCode;
 
 /// Runs the command, sends the output that is still buffered, and returns the exit status.
-fn run_gathered<F: Files, W: CountedWrite, M: CountedWrite>(
+fn run_on_devices<F: Files, W: CountedWrite, M: CountedWrite>(
     alloc: Global,
     words: &[String],
     files: &mut F,
@@ -28,7 +28,7 @@ fn run_gathered<F: Files, W: CountedWrite, M: CountedWrite>(
     meter: &mut Meter,
 ) -> u8
     ensures { ProgramGives W.contents W.failures (F.folder files.old)
-        (GivesBack F.given_back files.old files.new) (texts_of words.now)
+        (Returns F.returned_readers files.old files.new) (texts_of words.now)
         (streams out.old (writer M.contents M.failures messages.old) (F.failures files.old)
         meter.old)
         (streams out.new (writer M.contents M.failures messages.new) (F.failures files.new)
@@ -49,7 +49,7 @@ fn run(rt: &HostRuntime, words: &[String]) -> u8 {
     let Ok(mut out) = Buffered::new(alloc, Tally::new(rt.stdout())) else {
         return program().refuse_memory(&mut messages);
     };
-    run_gathered(
+    run_on_devices(
         alloc,
         words,
         &mut DiskFiles::new(rt),

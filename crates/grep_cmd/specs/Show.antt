@@ -14,16 +14,16 @@ status_line NoneSelected = codes "status 1"
 status_line Error = codes "status 2"
 
 -- the lines, each after the margin
-abbrev pub behind : Text → List Text → List Text
-behind margin text = map (λ line. margin ++ line) text
+abbrev pub beyond : Text → List Text → List Text
+beyond margin text = map (λ line. margin ++ line) text
 
 -- the lines that are shown of the inputs
 pub record AreShown (inputs : Inputs) (shown : List Text) : Type 0 where
   pub out : List Text
-  pub told : List Text
+  pub reported : List Text
   pub status : Status
-  pub gives : GrepGives inputs out told status
-  pub is : shown ≡ behind (codes "o ") out ++ (behind (codes "e ") told ++ status_line status ∷ [])
+  pub gives : GrepGives inputs out reported status
+  pub is : shown ≡ beyond (codes "o ") out ++ (beyond (codes "e ") reported ++ status_line status ∷ [])
 
 -- they were written, or a beginning of them
 abbrev pub Shows : {W T E : Type 0} → (W → Option Text) → (W → ℕ) → Inputs → W → W → Result T E →

@@ -5,7 +5,7 @@ ghost use Rattle.grep_io.specs.declared.input.lines.Stage.{Stage};
 ghost use Rattle.grep_live.specs.Marks.{new_watched};
 ghost use Rattle.grep_cmd.specs.declared.script.ScriptFault.{ScriptFault};
 ghost use Rattle.grep_cmd.specs.Replies.{GaveLines, ScriptGives};
-ghost use Rattle.grep_cmd.specs.Working.Answered.{FlushesBehind, HasRead};
+ghost use Rattle.grep_cmd.specs.Working.Answered.{FlushesAfter, HasRead};
 
 mod answer;
 mod command;
@@ -81,7 +81,7 @@ fn send_replies<W: CountedWrite>(
     ended: Result<ScriptEnd, ScriptFault>,
     writer: &mut W,
 ) -> Result<ScriptEnd, ScriptFault>
-    ensures kept { FlushesBehind W.contents W.failures writer.old writer.new ended result }
+    ensures kept { FlushesAfter W.contents W.failures writer.old writer.new ended result }
     ensures sent { result ≢ Err ScriptFault.Write → W.waiting writer.new ≡ 0 }
 {
     match ended {

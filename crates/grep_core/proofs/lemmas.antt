@@ -41,5 +41,5 @@ pub mod WrittenLemmas
 pub mod MatcherLemmas
 pub mod SameChoice
 pub mod BlockLines
-pub mod BehindLemmas
+pub mod RecentLinesLemmas
 pub mod StretchLemmas

@@ -45,17 +45,17 @@ module _ (es : List Expression) (options : Options) where
       × IfHolds (Stops file) (rest ≡ []) (Reached files rest)
 
   abbrev pub Message : File → List Text → Type 0
-  Message file told = IfHolds (FaultMet file) (told ≡ message file.ending file.name) (told ≡ [])
+  Message file reported = IfHolds (FaultMet file) (reported ≡ message file.ending file.name) (reported ≡ [])
 
   -- the messages about files that are all reached, and none under `-s`
-  abbrev pub Told : List File → List Text → Type 0
-  Told files told = MatchBool options.no_messages (told ≡ []) (EachGives Message files told)
+  abbrev pub Reported : List File → List Text → Type 0
+  Reported files reported = MatchBool options.no_messages (reported ≡ []) (EachGives Message files reported)
 
   -- one message for each file that is reached and whose fault is met, and none under `-s`
   abbrev pub Messages : List File → List Text → Type 0
-  Messages files told =
-      MatchBool options.no_messages (told ≡ [])
-      ((reached : List File) × Reached files reached × EachGives Message reached told)
+  Messages files reported =
+      MatchBool options.no_messages (reported ≡ [])
+      ((reached : List File) × Reached files reached × EachGives Message reached reported)
 
   abbrev pub AnySelected : List File → Type 0
   AnySelected files = Any (HasSelected es options) files

@@ -129,7 +129,7 @@ module _ (es : List Expression) (options : Options) (sources : List Source)
     pub are_messages : Messages es options (files_of sources readings) messages
     pub is_status : StatusOf es options (files_of sources readings) status
     pub wrote : TakesAll old.out new.out output
-    pub told : TakesAll old.messages new.messages messages
+    pub reported : TakesAll old.messages new.messages messages
     pub failures : ℕ
     pub are_failures : FailuresMet es options sources readings failures
     pub counted : new.source_failures ≡ count_more old.source_failures failures
@@ -155,7 +155,7 @@ module _ (es : List Expression) (options : Options) (sources : List Source)
     pub are_before : Messages es options (take at (files_of sources readings)) messages_before
     pub messages : List Text
     pub are_messages : Messages es options (files_of sources readings) messages
-    pub told : TakesPast old.messages new.messages messages_before messages
+    pub reported : TakesPast old.messages new.messages messages_before messages
     pub failures : ℕ
     pub are_failures : FailuresMet es options (take (suc at) sources) readings failures
     pub counted : new.source_failures ≡ count_more old.source_failures failures
@@ -167,7 +167,7 @@ module _ (es : List Expression) (options : Options) (sources : List Source)
   -- a run that ran out of memory after the first n lines of source k, whatever is written of them:
   -- the output is that of the sources before it and of a source of these lines, the messages those
   -- of the sources before it
-  pub record StopsBehind (k n : ℕ) : Type 0 where
+  pub record StopsAfter (k n : ℕ) : Type 0 where
     pub readings : List Reading
     pub are_readings : AreReadings sources readings
     pub in_sources : k < length sources
@@ -179,7 +179,7 @@ module _ (es : List Expression) (options : Options) (sources : List Source)
     pub messages : List Text
     pub are_messages : Messages es options (take k (files_of sources readings)) messages
     pub wrote : TakesAll old.out new.out output
-    pub told : TakesAll old.messages new.messages messages
+    pub reported : TakesAll old.messages new.messages messages
     pub failures : ℕ
     pub are_failures : FailuresMet es options (take k sources) readings failures
     pub counted : new.source_failures ≡ count_more old.source_failures failures
@@ -200,7 +200,7 @@ module _ (es : List Expression) (options : Options) (sources : List Source)
   RunGives (Err MessageWrite) =
       BreaksOff × (new.out.failures ≡ old.out.failures) ×
       (new.messages.failures ≡ one_more old.messages.failures)
-  RunGives (Err (Memory k n)) = StopsBehind k n
+  RunGives (Err (Memory k n)) = StopsAfter k n
 
 -- a run for patterns: it is one for the expressions that they mean
 abbrev pub Runs : Syntax → Options → List Text → List Source → (List (Option Text) → Type 0) →

@@ -19,7 +19,7 @@ Opens remaining failures source before after answer =
     (failures reader ≡ 0) × (after ≡ before))
 
 -- between the two states, readers that had these bytes left were returned, in this order
-abbrev pub GivesBack : {S : Type 0} → (S → List (Option Text) → Type 0) → S → S →
+abbrev pub Returns : {S : Type 0} → (S → List (Option Text) → Type 0) → S → S →
     List (Option Text) → Type 0
-GivesBack given_back old new left =
-    (before : List (Option Text)) → given_back old before → given_back new (before ++ left)
+Returns returned_readers old new left =
+    (before : List (Option Text)) → returned_readers old before → returned_readers new (before ++ left)

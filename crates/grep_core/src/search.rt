@@ -1,12 +1,12 @@
 //! The search: of a line, of a source, of all sources.
 
 pub mod around;
-pub mod behind;
 pub mod counting;
 pub mod file;
 pub mod held;
 pub mod line;
 pub mod matching;
+pub mod recent;
 pub mod requests;
 pub mod run;
 pub mod serving;

@@ -2,7 +2,7 @@
 ghost use Rattle.std.specs.Prelude.{◌≡◌, ℕ, ◌+◌, ◌<◌, List, [], ◌∷◌, Option, length, ⊤};
 ghost use Rattle.grep_io.specs.Reading.{Source};
 ghost use Rattle.grep_core.specs.Run.{count_more};
-ghost use Rattle.grep_core.specs.Sources.{source_at, Opens, GivesBack};
+ghost use Rattle.grep_core.specs.Sources.{source_at, Opens, Returns};
 
 use grep_io::CountedRead;
 
@@ -21,7 +21,7 @@ pub trait Sources {
 
     /// What the returned readers had left, in order: any history of them that a caller keeps. What
     /// it promises holds of what was read from each source before its reader was returned.
-    ghost given_back: { Self → List (Option (List ℕ)) → Type 0 } = { λ _ _. ⊤ };
+    ghost returned_readers: { Self → List (Option (List ℕ)) → Type 0 } = { λ _ _. ⊤ };
 
     /// The sources are at this place: the one there may be opened next.
     ghost stands_at: { Self → ℕ → Type 0 } = { λ _ _. ⊤ };
@@ -46,7 +46,7 @@ pub trait Sources {
         requires in_order { stands_at self.old k }
         ensures listed { listed self.new ≡ listed self.old }
         ensures next { stands_at self.new (k + 1) }
-        ensures none_back { GivesBack given_back self.old self.new [] }
+        ensures none_back { Returns returned_readers self.old self.new [] }
         ensures same_loan { loan self.new ≡ loan self.old }
         ensures given { Opens Self.Reader.remaining Self.Reader.failures
             (source_at (listed self.old) k)
@@ -56,7 +56,7 @@ pub trait Sources {
     fn close(&mut self, reader: Self::Reader)
         ensures listed { listed self.new ≡ listed self.old }
         ensures same_place { (k : ℕ) → stands_at self.old k → stands_at self.new k }
-        ensures back { GivesBack given_back self.old self.new (Self.Reader.remaining reader ∷ []) }
+        ensures back { Returns returned_readers self.old self.new (Self.Reader.remaining reader ∷ []) }
         ensures same_loan { loan self.new ≡ loan self.old }
         ensures counted { failures self.new ≡
             count_more (failures self.old) (Self.Reader.failures reader) };

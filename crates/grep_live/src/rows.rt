@@ -135,7 +135,11 @@ fn write_text<W: CountedWrite>(out: &mut W, before: &[u8], text: &[u8]) -> Resul
 
 /// Writes the parts of a hit and its line, and a newline.
 #[tactic(auto, using(grep_core::proofs::lemmas::RowLemmas::writing))]
-fn write_parted<W: CountedWrite>(out: &mut W, parts: &[Span], text: &[u8]) -> Result<(), WriteFault>
+fn write_with_parts<W: CountedWrite>(
+    out: &mut W,
+    parts: &[Span],
+    text: &[u8],
+) -> Result<(), WriteFault>
     ensures { Writes W.contents W.failures out.old out.new
         (parts_text (map span_places parts.now) ++ (codes " " ++ output_line [] text.now)) result }
 {
@@ -156,7 +160,7 @@ fn write_rest<W: CountedWrite>(
         ++ (codes " " ++ output_line [] text.now))) result }
 {
     push_all(out, before)?;
-    write_parted(out, parts, text)
+    write_with_parts(out, parts, text)
 }
 
 /// Writes the row of a hit: a word, numbers, its parts and its line.

@@ -17,11 +17,11 @@ use Rattle.grep_session.specs.Edits.{Edit, Applies, EditGives, no_inputs}
 
 -- what grep writes to standard output and to standard error for these inputs, and its status (XCU
 -- grep, STDOUT, STDERR and EXIT STATUS)
-pub record GrepGives (inputs : Inputs) (out told : List Text) (status : Status) : Type 0 where
+pub record GrepGives (inputs : Inputs) (out reported : List Text) (status : Status) : Type 0 where
   pub es : List Expression
   pub are_meant : AreMeant inputs.syntax inputs.options inputs.patterns es
   pub is_output : Out es inputs.options inputs.files out
-  pub are_messages : Messages es inputs.options inputs.files told
+  pub are_messages : Messages es inputs.options inputs.files reported
   pub is_status : StatusOf es inputs.options inputs.files status
 
 -- ---- what is written for inputs
@@ -32,26 +32,26 @@ module _ {W : Type 0} (contents : W → Option Text) (failures : W → ℕ) (inp
   -- failed, and a beginning of the output was written
   pub record ReportsInputs {E : Type 0} (result : Result Status E) : Type 0 where
     pub out : List Text
-    pub told : List Text
+    pub reported : List Text
     pub status : Status
-    pub gives : GrepGives inputs out told status
+    pub gives : GrepGives inputs out reported status
     pub wrote : Writes contents failures old new (written margin out) result
     pub answered : IfOk result (λ answer. answer ≡ status)
 
   -- the messages were written, each after the margin; or a write failed, and a beginning of them
   -- was written
-  pub record TellsInputs {T E : Type 0} (result : Result T E) : Type 0 where
+  pub record ReportsAllInputs {T E : Type 0} (result : Result T E) : Type 0 where
     pub out : List Text
-    pub told : List Text
+    pub reported : List Text
     pub status : Status
-    pub gives : GrepGives inputs out told status
-    pub wrote : Writes contents failures old new (written margin told) result
+    pub gives : GrepGives inputs out reported status
+    pub wrote : Writes contents failures old new (written margin reported) result
 
 -- the status is the one for the inputs
 pub record IsStatusOfInputs (inputs : Inputs) (status : Status) : Type 0 where
   pub out : List Text
-  pub told : List Text
-  pub gives : GrepGives inputs out told status
+  pub reported : List Text
+  pub gives : GrepGives inputs out reported status
 
 -- ---- lists of edits
 
@@ -95,6 +95,6 @@ pub record AcceptedEditsDecide : Type 0 where
       ComesTo (tried ++ last ∷ []) no_inputs new
       → (left : Inputs) × Makes (accepted tried) no_inputs left ×
       EditGives last.edit left new last.answer
-  pub one_report : (inputs : Inputs) (out more told tells : List Text) (status other : Status) →
-      GrepGives inputs out told status → GrepGives inputs more tells other
-      → (more ≡ out) × (tells ≡ told) × (other ≡ status)
+  pub one_report : (inputs : Inputs) (out more reported reported_too : List Text) (status other : Status) →
+      GrepGives inputs out reported status → GrepGives inputs more reported_too other
+      → (more ≡ out) × (reported_too ≡ reported) × (other ≡ status)

@@ -11,7 +11,7 @@ ghost use Rattle.grep_session.specs.Working.Report.{shown_rows, around_rows, sel
 use crate::kept::KeptLine;
 use crate::layout::Layout;
 use grep_core::{
-    Context, CountedWrite, Progress, Shown, WriteFault, count_found, write_line_behind,
+    Context, CountedWrite, Progress, Shown, WriteFault, count_found, write_line_after,
 };
 
 /// Writes the separator, if there is one.
@@ -24,7 +24,7 @@ fn write_separator<W: CountedWrite>(
         (if separated then group_separator ∷ [] else [])) result }
 {
     if separated {
-        return write_line_behind(out, margin, b"--");
+        return write_line_after(out, margin, b"--");
     }
     Ok(())
 }
@@ -105,7 +105,7 @@ pub fn write_lines_around<W: CountedWrite>(
     ensures rows { Writes W.contents W.failures out.old out.new (written layout.now.margin.now
         (around_rows layout.now.request.options layout.now.request.many layout.now.request.name.now
         (progress_from context some) [] lines.now)) result }
-    ensures told { IfOk result
+    ensures reported { IfOk result
         (λ selected. selected ≡ selected_count layout.now.request.options lines.now) }
 {
     let mut progress = Progress::new(context, some);

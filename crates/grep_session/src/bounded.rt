@@ -18,7 +18,7 @@ pub trait Bounded: LineMatch {
 
     /// Whether the line is matched.
     fn matches(&mut self, line: &[u8], meter: &mut Meter) -> bool
-        ensures told { IsTrue result ↔
+        ensures reported { IsTrue result ↔
             Matches (Self.expression self.old) line.now (Self.whole self.old) }
         ensures same_expression { Self.expression self.new ≡ Self.expression self.old }
         ensures same_whole { Self.whole self.new ≡ Self.whole self.old }
@@ -28,7 +28,7 @@ pub trait Bounded: LineMatch {
     /// The next part of the line at `from` or later.
     fn part(&mut self, line: &[u8], from: usize, meter: &mut Meter) -> Option<Span>
         requires { from ≤ length line.now }
-        ensures told { FindsPart (Self.expression self.old ∷ []) line.now (Self.whole self.old) from
+        ensures reported { FindsPart (Self.expression self.old ∷ []) line.now (Self.whole self.old) from
             result }
         ensures same_expression { Self.expression self.new ≡ Self.expression self.old }
         ensures same_whole { Self.whole self.new ≡ Self.whole self.old }
@@ -60,7 +60,7 @@ pub fn next_part<M: Bounded>(
 ) -> Option<Span>
     requires within { from ≤ length line.now }
     requires whole { AllAnswer options.line_regexp (map M.whole matchers.old) }
-    ensures told { FindsPart (map M.expression matchers.old) line.now options.line_regexp from
+    ensures reported { FindsPart (map M.expression matchers.old) line.now options.line_regexp from
         result }
     ensures bounds { IfSome result
         (λ part. (part.start < part.end) × (part.end ≤ length line.now)) }
@@ -79,7 +79,7 @@ fn first_part<M: Bounded>(
     meter: &mut Meter,
 ) -> Option<Span>
     requires within { from ≤ length line.now }
-    ensures told { FindsPartOfAll (map M.expression matchers.old) (map M.whole matchers.old)
+    ensures reported { FindsPartOfAll (map M.expression matchers.old) (map M.whole matchers.old)
         line.now from result }
     ensures same_matchers { SameBounded M.expression M.whole M.room matchers.old matchers.new }
     ensures steps { AddsAtMost (length matchers.old * (length line.now - from + 1)) meter.old

@@ -65,7 +65,7 @@ fn write_line<W: CountedWrite>(
     requires { PartsFit layout.now.request.options line.now }
     ensures rows { Writes W.contents W.failures out.old out.new (written layout.now.margin.now
         (line_rows layout.now.request.options layout.now.request.many layout.now.request.name.now number line.now)) result }
-    ensures told { IfOk result (λ found. found ≡ is_selected layout.now.request.options line.now) }
+    ensures reported { IfOk result (λ found. found ≡ is_selected layout.now.request.options line.now) }
 {
     if !line.is_selected(&layout.request.options) {
         return Ok(false);
@@ -83,7 +83,7 @@ fn write_found<W: CountedWrite>(
     requires { All (PartsFit layout.now.request.options) lines.now }
     ensures rows { Writes W.contents W.failures out.old out.new (written layout.now.margin.now
         (rows_from layout.now.request.options layout.now.request.many layout.now.request.name.now 1 lines.now)) result }
-    ensures told { IfOk result
+    ensures reported { IfOk result
         (λ selected. selected ≡ selected_count layout.now.request.options lines.now) }
 {
     let mut number: u64 = 0;
@@ -108,7 +108,7 @@ pub fn write_lines<W: CountedWrite>(
     ensures rows { Writes W.contents W.failures out.old out.new (written layout.now.margin.now
         (text_rows layout.now.request.options layout.now.request.many layout.now.request.name.now
         (form layout.now.request.options) some lines.now)) result }
-    ensures told { IfOk result
+    ensures reported { IfOk result
         (λ selected. selected ≡ selected_count layout.now.request.options lines.now) }
 {
     match layout.request.options.form() {

@@ -2,7 +2,7 @@
 ghost use Rattle.std.specs.Prelude.{◌≡◌, ◌≤◌, map, IfOk, IfErr};
 ghost use Rattle.re_syntax.specs.Profile.{most_states};
 ghost use Rattle.grep_core.specs.Working.MatcherLists.{AreMatchers};
-ghost use Rattle.grep_session.specs.Working.Reading.{RefusesFirst, told_at};
+ghost use Rattle.grep_session.specs.Working.Reading.{RefusesFirst, reported_at};
 ghost use Rattle.grep_session.specs.Working.Rooms.{KeepAtMost};
 
 use crate::fault::EditFault;
@@ -14,7 +14,7 @@ use std::alloc::Global;
 
 /// The fault of the pattern at a place. Out of memory is no fault of the pattern.
 fn fault_at(place: usize, fault: PatternFault) -> EditFault
-    ensures { result ≡ told_at place fault }
+    ensures { result ≡ reported_at place fault }
 {
     match fault.kind {
         FaultKind::Memory => EditFault::Memory,

@@ -5,7 +5,7 @@ ghost use Rattle.re_syntax.specs.Expression.{Expression};
 ghost use Rattle.grep_core.specs.Output.{written};
 ghost use Rattle.grep_core.specs.Written.{Writes};
 ghost use Rattle.grep_session.specs.Working.Kept.{kept_lines, kept_file, IsFileKept};
-ghost use Rattle.grep_session.specs.Working.Report.{FileFits, rows_with, report_rows, told_from};
+ghost use Rattle.grep_session.specs.Working.Report.{FileFits, rows_with, report_rows, reported_from};
 ghost use Rattle.grep_session.specs.Working.Report.{any_selected, any_missing, status_by_files};
 ghost use Rattle.grep_session.specs.Working.Report.{status_given};
 ghost use Rattle.grep_session.specs.Working.Report.{has_selected_in};
@@ -15,8 +15,8 @@ use crate::kept::KeptFile;
 use crate::layout::Layout;
 use crate::lines::write_lines;
 use grep_core::{
-    CountedWrite, FileEnd, FileFound, FileRequest, Options, Status, WriteFault, status_of,
-    tell_fault, write_summary,
+    CountedWrite, FileEnd, FileFound, FileRequest, Options, Status, WriteFault, report_fault,
+    status_of, write_summary,
 };
 
 /// Writes the output for one file, and returns whether a line of it is selected. `some` says
@@ -31,7 +31,7 @@ fn write_file<W: CountedWrite>(
     ensures rows { Writes W.contents W.failures out.old out.new (written layout.now.margin.now
         (rows_with layout.now.request.options layout.now.request.many layout.now.request.name.now some
         (kept_lines file.now))) result }
-    ensures told { IfOk result
+    ensures reported { IfOk result
         (λ found. found ≡ has_selected_in layout.now.request.options (kept_lines file.now)) }
 {
     let Some(lines) = &file.lines else {
@@ -92,10 +92,10 @@ pub fn write_messages<W: CountedWrite>(
     out: &mut W,
 ) -> Result<(), WriteFault>
     ensures { Writes W.contents W.failures out.old out.new
-        (written margin.now (told_from options.now files.now)) result }
+        (written margin.now (reported_from options.now files.now)) result }
 {
     for file in files {
-        tell_fault(options.no_messages, &file.name, file.end(), out, margin)?;
+        report_fault(options.no_messages, &file.name, file.end(), out, margin)?;
         if options.quiet & file.has_selected(options) {
             return Ok(());
         }

@@ -395,14 +395,14 @@ impl Session {
             return Err(EditFault::NoSuchPattern);
         }
         if self.options.only_matching {
-            return self.drop_parted(p, meter);
+            return self.drop_with_parts(p, meter);
         }
         self.drop_plain(p);
         Ok(())
     }
 
     /// Removes pattern `p`, and searches the parts of the lines that it matched.
-    fn drop_parted(&mut self, p: usize, meter: &mut Meter) -> Result<(), EditFault>
+    fn drop_with_parts(&mut self, p: usize, meter: &mut Meter) -> Result<(), EditFault>
         requires within { p < length self.old.patterns }
         ensures gives { EditGives (DropPattern p) self.old self.new result }
         ensures steps { TakesSteps (DropPattern p) self.old meter.old meter.new }

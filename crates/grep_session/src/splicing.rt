@@ -35,7 +35,7 @@ pub fn any_newline(lines: &[Vec<u8>]) -> bool
 /// Whether file `k` has `count` lines from `start` on.
 pub fn find_place(files: &[KeptFile], k: usize, start: usize, count: usize) -> Result<(), EditFault>
     ensures place { PlaceGives (map kept_file files.now) k start count result }
-    ensures told { IfErr result (λ fault. fault ≢ Memory) }
+    ensures reported { IfErr result (λ fault. fault ≢ Memory) }
 {
     if k >= files.len() {
         return Err(EditFault::NoSuchFile);

@@ -2,10 +2,10 @@ pub mod PieceLemmas
 pub mod WordLemmas
 pub mod NumberLemmas
 pub mod UsageLemmas
-pub mod GatherLemmas
+pub mod CollectingLemmas
 pub mod SourceLemmas
 pub mod OperandLemmas
-pub mod TellingLemmas
+pub mod ReportingLemmas
 pub mod CommandLemmas
 pub mod CountLemmas
 pub mod ServingLemmas

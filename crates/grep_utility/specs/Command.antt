@@ -17,7 +17,7 @@ use Rattle.grep_core.specs.Run.{Writer, Devices, TakesAll, TakesFront, count_mor
 use Rattle.grep_utility.specs.Folder.{Folder, sources_named, searched}
 use Rattle.re_syntax.specs.Profile.{most_patterns}
 use Rattle.grep_core.specs.Matchers.{IsFirstRefused}
-use Rattle.grep_utility.specs.Patterns.{Unread, behind_all, GivePatterns, FirstUnread}
+use Rattle.grep_utility.specs.Patterns.{Unread, after_all, GivePatterns, FirstUnread}
 use Rattle.grep_utility.specs.Texts.{usage_texts, out_of_memory, write_error, too_many_patterns}
 use Rattle.grep_utility.specs.Texts.{pattern_refused}
 use Rattle.grep_utility.specs.Words.{Asked, read}
@@ -29,8 +29,8 @@ status_number NoneSelected = 1
 status_number Error = 2
 
 -- the lines were written, or a beginning of them where a write failed
-abbrev pub TellsLines : Writer → Writer → List Text → Type 0
-TellsLines old new texts =
+abbrev pub ReportsLines : Writer → Writer → List Text → Type 0
+ReportsLines old new texts =
     TakesAll old new texts ⊎ (TakesFront old new texts × (new.failures ≡ one_more old.failures))
 
 -- the command ends with these messages and status 2; nothing more is written to the output, no step
@@ -38,7 +38,7 @@ TellsLines old new texts =
 pub record GivesUp (old new : Devices) (texts : List Text) (failures status : ℕ) : Type 0 where
   pub is_error : status ≡ 2
   pub none_written : new.out ≡ old.out
-  pub told : TellsLines old.messages new.messages texts
+  pub reported : ReportsLines old.messages new.messages texts
   pub counted : new.source_failures ≡ count_more old.source_failures failures
   pub no_step : new.steps ≡ old.steps
 
@@ -95,7 +95,7 @@ module _ (folder : Folder) (given : List (Option Text) → Type 0) (old new : De
       ((unread : Unread) × FirstUnread folder asked.sources unread ×
       GivesUp old new (unread.message ∷ []) unread.failures status)
       ⊎ ((texts : List Text) × (read : List (Option Text)) × GivePatterns folder asked.sources texts
-      × DoesForPatterns asked (behind_all folder asked.sources) texts (λ left. given (read ++ left))
+      × DoesForPatterns asked (after_all folder asked.sources) texts (λ left. given (read ++ left))
       old new status)
 
   -- or it was out of memory before the search

@@ -58,9 +58,9 @@ usage =
     codes "[-e LIST]... [-f FILE]... [LIST] [FILE...]"
 
 -- how the command is used (XCU grep, SYNOPSIS), after a fault of the words themselves
-abbrev pub usage_behind : UsageFault → List Text
-usage_behind Memory = []
-usage_behind _ = usage ∷ []
+abbrev pub usage_after : UsageFault → List Text
+usage_after Memory = []
+usage_after _ = usage ∷ []
 
 abbrev pub usage_texts : UsageFault → List Text
-usage_texts fault = fault_text fault ∷ usage_behind fault
+usage_texts fault = fault_text fault ∷ usage_after fault

@@ -126,15 +126,15 @@ pub record Wanting : Type 0 where
 
 -- the options of a group and the pieces after it. The argument of an option is the rest of the
 -- group or, where there is none, the next word (Guidelines 6 and 7)
-module _ (behind : Option Wanting → List Piece) where
+module _ (beyond : Option Wanting → List Piece) where
   abbrev pub group : List ℕ → List Piece
-  group [] = behind None
+  group [] = beyond None
   group (c ∷ cs) = elim (meaning_of c) [
     | Some (meaning.Flag f) ↦ flag f ∷ group cs
     | Some (meaning.Syntax s) ↦ reads_as s ∷ group cs
     | Some (meaning.Takes a) ↦ elim cs [
-      | [] ↦ behind (Some (record { letter = c; argument = a }))
-      | d ∷ ds ↦ with_argument c a (encode_utf8_all (d ∷ ds)) ∷ behind None
+      | [] ↦ beyond (Some (record { letter = c; argument = a }))
+      | d ∷ ds ↦ with_argument c a (encode_utf8_all (d ∷ ds)) ∷ beyond None
     ]
     | None ↦ fault (UnknownOption c) ∷ group cs
   ]
@@ -165,10 +165,10 @@ first_fault before (reads_as s ∷ ps) =
 first_fault before (_ ∷ ps) = first_fault before ps
 
 -- the syntax that pieces leave, where this one was asked for before them
-abbrev pub syntax_behind : Syntax → List Piece → Syntax
-syntax_behind before [] = before
-syntax_behind before (reads_as s ∷ ps) = syntax_behind s ps
-syntax_behind before (_ ∷ ps) = syntax_behind before ps
+abbrev pub syntax_after : Syntax → List Piece → Syntax
+syntax_after before [] = before
+syntax_after before (reads_as s ∷ ps) = syntax_after s ps
+syntax_after before (_ ∷ ps) = syntax_after before ps
 
 abbrev pub with_flag : Flag → Options → Options
 with_flag Count options = record options { count = true }
@@ -182,10 +182,10 @@ with_flag InvertMatch options = record options { invert_match = true }
 with_flag LineRegexp options = record options { line_regexp = true }
 
 -- the options that pieces set beside those that were set before
-abbrev pub options_behind : Options → List Piece → Options
-options_behind before [] = before
-options_behind before (flag f ∷ ps) = options_behind (with_flag f before) ps
-options_behind before (_ ∷ ps) = options_behind before ps
+abbrev pub options_after : Options → List Piece → Options
+options_after before [] = before
+options_after before (flag f ∷ ps) = options_after (with_flag f before) ps
+options_after before (_ ∷ ps) = options_after before ps
 
 abbrev pub with_lines : Side → ℕ → Around → Around
 with_lines After count before = record before { after = Some count }
@@ -193,10 +193,10 @@ with_lines Before count before = record before { before = Some count }
 with_lines Both count before = record before { both = Some count }
 
 -- the numbers that `-A`, `-B` and `-C` have after pieces: the last one of each counts
-abbrev pub around_behind : Around → List Piece → Around
-around_behind before [] = before
-around_behind before (around side count ∷ ps) = around_behind (with_lines side count before) ps
-around_behind before (_ ∷ ps) = around_behind before ps
+abbrev pub around_after : Around → List Piece → Around
+around_after before [] = before
+around_after before (around side count ∷ ps) = around_after (with_lines side count before) ps
+around_after before (_ ∷ ps) = around_after before ps
 
 abbrev pub either : Option ℕ → Option ℕ → Option ℕ
 either (Some count) _ = Some count
@@ -230,8 +230,8 @@ operands_of (_ ∷ ps) = operands_of ps
 -- a request to which the pieces are added
 abbrev pub with_pieces : Asked → List Piece → Asked
 with_pieces before ps = record {
-  syntax = syntax_behind before.syntax ps;
-  options = options_behind before.options ps;
+  syntax = syntax_after before.syntax ps;
+  options = options_after before.options ps;
   sources = before.sources ++ sources_of ps;
   files = before.files ++ operands_of ps;
 }
@@ -252,7 +252,7 @@ with_context context a = record a { options = record a.options { context = conte
 abbrev pub reads_on : Around → Asked → List Piece → Result Asked UsageFault
 reads_on numbers before ps = elim (first_fault before.syntax ps) [
   | Some f ↦ Err f
-  | None ↦ completed (with_context (context_of (around_behind numbers ps)) (with_pieces before ps))
+  | None ↦ completed (with_context (context_of (around_after numbers ps)) (with_pieces before ps))
 ]
 
 abbrev pub nothing_asked : Asked

@@ -6,17 +6,17 @@ ghost use Rattle.re_search.specs.Working.Filters.{AreNeeded};
 ghost use Rattle.re_search.specs.Working.Matchers.{matched_expression, wants_whole};
 ghost use Rattle.re_search.specs.Searching.{AllAnswer};
 ghost use Rattle.grep_core.specs.Run.{writer, devices};
-ghost use Rattle.grep_core.specs.Sources.{GivesBack};
+ghost use Rattle.grep_core.specs.Sources.{Returns};
 ghost use Rattle.grep_utility.specs.Command.{SearchEnds, PatternsGive, RequestGives, CommandGives};
 ghost use Rattle.grep_utility.specs.Folder.{searched, sources_named};
 ghost use Rattle.grep_utility.specs.Words.{asked, texts_of};
 
 use crate::files::Files;
+use crate::message_texts::{end_search, fail, report_unread, report_usage};
 use crate::operands::Operands;
 use crate::patterns::read_patterns;
-use crate::refusal::tell_refused;
+use crate::refusal::report_refused;
 use crate::searchers::{OwnedSearchers, has_more_than, searchers_of};
-use crate::telling::{end_search, fail, tell_unread, tell_usage};
 use crate::texts::{FAILED, OUT_OF_MEMORY};
 use crate::words::{Request, read_words};
 use grep_core::{CountedWrite, SearchRequest, search_filtered};
@@ -47,7 +47,7 @@ fn search_request<F: Files, W: CountedWrite, N: CountedWrite>(
     ensures { SearchEnds (map matched_expression searchers.old.matchers.items)
         task.now.request.now.options
         (sources_named (F.folder files.old) (searched (texts_of task.now.request.now.files.items)))
-        (GivesBack F.given_back files.old files.new)
+        (Returns F.returned_readers files.old files.new)
         (devices (writer W.contents W.failures out.old) (writer N.contents N.failures messages.old)
         (F.failures files.old) meter.old)
         (devices (writer W.contents W.failures out.new) (writer N.contents N.failures messages.new)
@@ -78,7 +78,7 @@ fn run_patterns<F: Files, W: CountedWrite, N: CountedWrite>(
     meter: &mut Meter,
 ) -> u8
     ensures { PatternsGive (asked task.now.request.now) (F.folder files.old) (lines_of texts.now)
-        (GivesBack F.given_back files.old files.new)
+        (Returns F.returned_readers files.old files.new)
         (devices (writer W.contents W.failures out.old) (writer N.contents N.failures messages.old)
         (F.failures files.old) meter.old)
         (devices (writer W.contents W.failures out.new) (writer N.contents N.failures messages.new)
@@ -95,7 +95,7 @@ fn run_patterns<F: Files, W: CountedWrite, N: CountedWrite>(
             if fault.kind == FaultKind::Memory {
                 return fail(messages, OUT_OF_MEMORY);
             }
-            tell_refused(messages, place, fault);
+            report_refused(messages, place, fault);
             FAILED
         }
     }
@@ -109,7 +109,7 @@ fn run_request<F: Files, W: CountedWrite, N: CountedWrite>(
     messages: &mut N,
     meter: &mut Meter,
 ) -> u8
-    ensures { RequestGives (F.folder files.old) (GivesBack F.given_back files.old files.new)
+    ensures { RequestGives (F.folder files.old) (Returns F.returned_readers files.old files.new)
         (devices (writer W.contents W.failures out.old) (writer N.contents N.failures messages.old)
         (F.failures files.old) meter.old)
         (devices (writer W.contents W.failures out.new) (writer N.contents N.failures messages.new)
@@ -119,7 +119,7 @@ fn run_request<F: Files, W: CountedWrite, N: CountedWrite>(
     match read_patterns(task.alloc, files, &task.request.sources) {
         Ok(texts) => run_patterns(task, &texts, files, out, messages, meter),
         Err(fault) => {
-            tell_unread(messages, fault);
+            report_unread(messages, fault);
             FAILED
         }
     }
@@ -160,7 +160,7 @@ pub fn run_grep<F: Files, W: CountedWrite, M: CountedWrite>(
     messages: &mut M,
     meter: &mut Meter,
 ) -> u8
-    ensures { CommandGives (F.folder files.old) (GivesBack F.given_back files.old files.new)
+    ensures { CommandGives (F.folder files.old) (Returns F.returned_readers files.old files.new)
         (devices (writer W.contents W.failures out.old) (writer M.contents M.failures messages.old)
         (F.failures files.old) meter.old)
         (devices (writer W.contents W.failures out.new) (writer M.contents M.failures messages.new)
@@ -176,7 +176,7 @@ pub fn run_grep<F: Files, W: CountedWrite, M: CountedWrite>(
             run_request(&task, files, out, messages, meter)
         }
         Err(fault) => {
-            tell_usage(messages, fault);
+            report_usage(messages, fault);
             FAILED
         }
     }

@@ -1,7 +1,7 @@
 //! The files that a command may name.
 ghost use Rattle.std.specs.Prelude.{◌≡◌, ℕ, ⊤, List, [], ◌∷◌, Option};
 ghost use Rattle.grep_core.specs.Run.{count_more};
-ghost use Rattle.grep_core.specs.Sources.{Opens, GivesBack};
+ghost use Rattle.grep_core.specs.Sources.{Opens, Returns};
 ghost use Rattle.grep_utility.specs.Folder.{Folder, file_named, input_used, is_standard, display_name};
 ghost use Rattle.grep_utility.specs.Folder.{source_named, after_use};
 
@@ -20,7 +20,7 @@ pub trait Files {
     ghost failures: { Self → ℕ };
 
     /// What the returned readers had left, in order: any history of them that a caller keeps.
-    ghost given_back: { Self → List (Option (List ℕ)) → Type 0 } = { λ _ _. ⊤ };
+    ghost returned_readers: { Self → List (Option (List ℕ)) → Type 0 } = { λ _ _. ⊤ };
 
     /// Which loan they are that are a `&mut`, by the name of its referent's value in proofs. It is
     /// the same for all that are none.
@@ -33,7 +33,7 @@ pub trait Files {
         ensures bytes { Self.Reader.remaining result ≡ (folder self.old).input }
         ensures fresh { Self.Reader.failures result ≡ 0 }
         ensures counted { failures self.new ≡ failures self.old }
-        ensures none_back { GivesBack given_back self.old self.new [] }
+        ensures none_back { Returns returned_readers self.old self.new [] }
         ensures same_loan { loan self.new ≡ loan self.old };
 
     /// A reader of the file, from its first byte on, of which no read has failed. `None` says that
@@ -43,7 +43,7 @@ pub trait Files {
         ensures opened { Opens Self.Reader.remaining Self.Reader.failures
             (file_named (folder self.old) name.now)
             (failures self.old) (failures self.new) result }
-        ensures none_back { GivesBack given_back self.old self.new [] }
+        ensures none_back { Returns returned_readers self.old self.new [] }
         ensures same_loan { loan self.new ≡ loan self.old };
 
     /// What is opened from here on is searched with these options, and its rows may be written
@@ -51,7 +51,7 @@ pub trait Files {
     fn begin_search(&mut self, _options: &Options)
         ensures kept { folder self.new ≡ folder self.old }
         ensures counted { failures self.new ≡ failures self.old }
-        ensures none_back { GivesBack given_back self.old self.new [] }
+        ensures none_back { Returns returned_readers self.old self.new [] }
         ensures same_loan { loan self.new ≡ loan self.old }
     {}
 
@@ -60,7 +60,7 @@ pub trait Files {
         ensures kept { folder self.new ≡ folder self.old }
         ensures counted { failures self.new ≡
             count_more (failures self.old) (Self.Reader.failures reader) }
-        ensures back { GivesBack given_back self.old self.new (Self.Reader.remaining reader ∷ []) }
+        ensures back { Returns returned_readers self.old self.new (Self.Reader.remaining reader ∷ []) }
         ensures same_loan { loan self.new ≡ loan self.old };
 
     /// How many attempts to open a file, and reads of returned readers, have failed. The count
@@ -76,7 +76,7 @@ impl<F: Files> Files for &mut F {
 
     ghost failures = { λ f. F.failures f.now };
 
-    ghost given_back = { λ f left. F.given_back f.now left };
+    ghost returned_readers = { λ f left. F.returned_readers f.now left };
 
     ghost loan = { λ f. f.ghost_name };
 
@@ -124,7 +124,7 @@ pub fn open_named<F: Files>(files: &mut F, name: &str) -> Option<F::Reader>
     ensures opened { Opens F.Reader.remaining F.Reader.failures
         (source_named (F.folder files.old) name.now)
         (F.failures files.old) (F.failures files.new) result }
-    ensures none_back { GivesBack F.given_back files.old files.new [] }
+    ensures none_back { Returns F.returned_readers files.old files.new [] }
     ensures same_loan { F.loan files.new ≡ F.loan files.old }
 {
     if is_standard(name) {

@@ -187,7 +187,7 @@ impl<'a> Files for MemoryFiles<'_, 'a> {
 
     ghost failures = { λ m. m.failed };
 
-    ghost given_back = { returned_by };
+    ghost returned_readers = { returned_by };
 
     #[tactic(auto, using(crate::proofs::lemmas::MemoryLemmas::same_history))]
     fn standard(&mut self) -> MemoryReader<'a> {
@@ -221,7 +221,7 @@ impl<'a> Sources for MemoryFiles<'_, 'a> {
 
     ghost failures = { λ m. m.failed };
 
-    ghost given_back = { returned_by };
+    ghost returned_readers = { returned_by };
 
     fn count(&self) -> usize {
         self.files.len()

@@ -76,7 +76,7 @@ impl<F: Files> Sources for Operands<'_, F> {
 
     ghost failures = { λ o. F.failures o.files };
 
-    ghost given_back = { λ o left. F.given_back o.files left };
+    ghost returned_readers = { λ o left. F.returned_readers o.files left };
 
     ghost stands_at = { λ o k.
         StandsAt (F.folder o.start.value) (F.folder o.files) (searched (texts_of o.words.now)) k };

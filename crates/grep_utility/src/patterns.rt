@@ -3,11 +3,11 @@ ghost use Rattle.std.specs.Prelude.{◌≡◌, List, Option, [], ◌∷◌, ◌+
 ghost use Rattle.re_syntax.specs.Bytes.{Text};
 ghost use Rattle.re_syntax.specs.Lines.{newline, lines_of};
 ghost use Rattle.grep_io.specs.declared.input.lines.Stage.{Stage};
-ghost use Rattle.grep_core.specs.Sources.{GivesBack};
+ghost use Rattle.grep_core.specs.Sources.{Returns};
 ghost use Rattle.grep_utility.specs.Folder.{source_named, after_use};
-ghost use Rattle.grep_utility.specs.Patterns.{GivesPatterns, behind, behind_all, GivePatterns};
+ghost use Rattle.grep_utility.specs.Patterns.{GivesPatterns, beyond, after_all, GivePatterns};
 ghost use Rattle.grep_utility.specs.Patterns.{FirstUnread};
-ghost use Rattle.grep_utility.specs.Working.Gathered.{AddsLines, ReadsFile, AddsSource, StopsFor};
+ghost use Rattle.grep_utility.specs.Working.CollectedTexts.{AddsLines, ReadsFile, AddsSource, StopsFor};
 ghost use Rattle.grep_utility.specs.Words.{given_source};
 
 use crate::files::{Files, open_named};
@@ -98,7 +98,7 @@ fn add_pattern_file<F: Files>(
 ) -> Result<FileRead, AllocError>
     ensures used { F.folder files.new ≡ after_use (F.folder files.old) word.now }
     ensures same_loan { F.loan files.new ≡ F.loan files.old }
-    ensures back { (left : List (Option Text)) × GivesBack F.given_back files.old files.new left }
+    ensures back { (left : List (Option Text)) × Returns F.returned_readers files.old files.new left }
     ensures ok { IfOk result (λ read. ReadsFile (source_named (F.folder files.old) word.now)
         (F.failures files.old) (F.failures files.new) texts.old.items texts.new.items read) }
     ensures err { OnErr result (F.failures files.new ≡ F.failures files.old) }
@@ -122,9 +122,9 @@ fn add_source<'a, F: Files>(
     source: &'a PatternSource,
     texts: &mut Vec<u8>,
 ) -> Result<(), PatternsFault<'a>>
-    ensures used { F.folder files.new ≡ behind (F.folder files.old) (given_source source.now) }
+    ensures used { F.folder files.new ≡ beyond (F.folder files.old) (given_source source.now) }
     ensures same_loan { F.loan files.new ≡ F.loan files.old }
-    ensures back { (left : List (Option Text)) × GivesBack F.given_back files.old files.new left }
+    ensures back { (left : List (Option Text)) × Returns F.returned_readers files.old files.new left }
     ensures ok { IfOk result
         (λ _.
         AddsSource (F.folder files.old) (given_source source.now) texts.old.items texts.new.items) }
@@ -160,9 +160,9 @@ pub fn read_patterns<'a, F: Files>(
     sources: &'a [PatternSource],
 ) -> Result<Vec<u8>, PatternsFault<'a>>
     ensures same_loan { F.loan files.new ≡ F.loan files.old }
-    ensures back { (left : List (Option Text)) × GivesBack F.given_back files.old files.new left }
+    ensures back { (left : List (Option Text)) × Returns F.returned_readers files.old files.new left }
     ensures used { IfOk result
-        (λ _. F.folder files.new ≡ behind_all (F.folder files.old) (map given_source sources.now)) }
+        (λ _. F.folder files.new ≡ after_all (F.folder files.old) (map given_source sources.now)) }
     ensures none_failed { IfOk result (λ _. F.failures files.new ≡ F.failures files.old) }
     ensures ok { IfOk result
         (λ texts.

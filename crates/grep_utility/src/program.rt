@@ -3,9 +3,9 @@ ghost use Rattle.std.specs.Prelude.{◌≡◌, [], ◌∷◌};
 ghost use Rattle.grep_core.specs.Output.{written};
 ghost use Rattle.grep_core.specs.Run.{writer};
 ghost use Rattle.grep_core.specs.Written.{Writes};
-ghost use Rattle.grep_utility.specs.Command.{TellsLines};
+ghost use Rattle.grep_utility.specs.Command.{ReportsLines};
 
-use crate::telling::fail;
+use crate::message_texts::fail;
 use crate::texts::FAILED;
 use grep_core::{CountedWrite, Tally, WriteFault, write_line};
 use std::io::ErrorKind;
@@ -36,7 +36,7 @@ impl Program {
     /// tried again.
     pub fn refuse_words<M: CountedWrite>(&self, messages: &mut M) -> u8
         ensures status { result ≡ 2 }
-        ensures told { TellsLines (writer M.contents M.failures messages.old)
+        ensures reported { ReportsLines (writer M.contents M.failures messages.old)
             (writer M.contents M.failures messages.new)
             (self.now.words_refused.now ∷ self.now.usage.now ∷ []) }
     {
@@ -48,7 +48,7 @@ impl Program {
     /// again.
     pub fn refuse_memory<M: CountedWrite>(&self, messages: &mut M) -> u8
         ensures status { result ≡ 2 }
-        ensures told { TellsLines (writer M.contents M.failures messages.old)
+        ensures reported { ReportsLines (writer M.contents M.failures messages.old)
             (writer M.contents M.failures messages.new) (self.now.out_of_memory.now ∷ []) }
     {
         fail(messages, self.out_of_memory)

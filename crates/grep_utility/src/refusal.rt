@@ -4,7 +4,7 @@ ghost use Rattle.std.specs.Fmt.{decimal};
 ghost use Rattle.grep_core.specs.Row.{output_line};
 ghost use Rattle.grep_core.specs.Written.{Writes};
 ghost use Rattle.grep_core.specs.Run.{writer};
-ghost use Rattle.grep_utility.specs.Command.{TellsLines};
+ghost use Rattle.grep_utility.specs.Command.{ReportsLines};
 ghost use Rattle.grep_utility.specs.Texts.{kind_name, pattern_refused};
 
 use grep_core::{CountedWrite, WriteFault, push_all, write_count, write_decimal};
@@ -91,9 +91,9 @@ pub fn write_pattern_refused<W: CountedWrite>(
 
 /// Reports a pattern that is refused, by its place, counted from 0. A write that fails is not
 /// tried again.
-pub fn tell_refused<M: CountedWrite>(messages: &mut M, place: usize, fault: PatternFault)
+pub fn report_refused<M: CountedWrite>(messages: &mut M, place: usize, fault: PatternFault)
     requires { place < 2 ^ 64 - 1 }
-    ensures { TellsLines (writer M.contents M.failures messages.old)
+    ensures { ReportsLines (writer M.contents M.failures messages.old)
         (writer M.contents M.failures messages.new) (pattern_refused place fault ∷ []) }
 {
     let number = (place + 1) as u64;

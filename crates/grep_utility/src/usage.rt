@@ -3,11 +3,11 @@ ghost use Rattle.std.specs.Prelude.{[], ◌++◌, codes, encode_utf8};
 ghost use Rattle.grep_core.specs.Output.{written};
 ghost use Rattle.grep_core.specs.Row.{output_line};
 ghost use Rattle.grep_core.specs.Written.{Writes};
-ghost use Rattle.grep_utility.specs.Texts.{fault_text, usage_behind, usage_texts};
+ghost use Rattle.grep_utility.specs.Texts.{fault_text, usage_after, usage_texts};
 
 use crate::texts::{OUT_OF_MEMORY, USAGE};
 use crate::words::UsageFault;
-use grep_core::{CountedWrite, WriteFault, push_all, write_line, write_line_behind};
+use grep_core::{CountedWrite, WriteFault, push_all, write_line, write_line_after};
 
 /// Writes the line on an option that needs something else.
 fn write_need<M: CountedWrite>(
@@ -21,7 +21,7 @@ fn write_need<M: CountedWrite>(
     let mut bytes = [0; 4];
     let letter = letter.encode_utf8(&mut bytes).as_bytes();
     push_all(messages, b"grep: option -")?;
-    write_line_behind(messages, letter, need)
+    write_line_after(messages, letter, need)
 }
 
 /// Writes the line on a character that is no option.
@@ -31,7 +31,7 @@ fn write_unknown_option<M: CountedWrite>(messages: &mut M, letter: char) -> Resu
 {
     let mut bytes = [0; 4];
     let letter = letter.encode_utf8(&mut bytes).as_bytes();
-    write_line_behind(messages, b"grep: unknown option -", letter)
+    write_line_after(messages, b"grep: unknown option -", letter)
 }
 
 /// Writes the line that reports the fault.
@@ -51,12 +51,9 @@ fn write_fault<M: CountedWrite>(messages: &mut M, fault: UsageFault) -> Result<(
 }
 
 /// Writes how the command is used, unless the fault is out of memory.
-fn write_usage_behind<M: CountedWrite>(
-    messages: &mut M,
-    fault: UsageFault,
-) -> Result<(), WriteFault>
+fn write_usage_after<M: CountedWrite>(messages: &mut M, fault: UsageFault) -> Result<(), WriteFault>
     ensures { Writes M.contents M.failures messages.old messages.new
-        (written [] (usage_behind fault)) result }
+        (written [] (usage_after fault)) result }
 {
     match fault {
         UsageFault::Memory => Ok(()),
@@ -76,5 +73,5 @@ pub fn write_usage_fault<M: CountedWrite>(
         (written [] (usage_texts fault)) result }
 {
     write_fault(messages, fault)?;
-    write_usage_behind(messages, fault)
+    write_usage_after(messages, fault)
 }

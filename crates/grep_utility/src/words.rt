@@ -1,6 +1,6 @@
 //! The words of grep, and what they ask for (XBD 12.2; XCU grep, SYNOPSIS, OPTIONS, OPERANDS).
 ghost use Rattle.std.specs.Prelude.{◌≡◌, ◌∷◌, [], IfOk, MatchResult};
-ghost use Rattle.grep_utility.specs.Words.{AreRead, OrMemory, around_behind, asked, completed};
+ghost use Rattle.grep_utility.specs.Words.{AreRead, OrMemory, around_after, asked, completed};
 ghost use Rattle.grep_utility.specs.Words.{context_of, file, first_fault, list, may_follow};
 ghost use Rattle.grep_utility.specs.Words.{no_numbers, nothing_asked, operand, pieces, reads_on};
 ghost use Rattle.grep_utility.specs.Words.{source, texts_of, with_context, with_flag, with_pieces};
@@ -195,7 +195,7 @@ impl Draft {
             (λ _. (first_fault self.old.request.syntax (piece_of (Ok piece.entry) ∷ []) ≡ None)
             × (asked self.new.request
             ≡ with_pieces (asked self.old.request) (piece_of (Ok piece.entry) ∷ []))
-            × (self.new.around ≡ around_behind self.old.around (piece_of (Ok piece.entry) ∷ [])))
+            × (self.new.around ≡ around_after self.old.around (piece_of (Ok piece.entry) ∷ [])))
             (λ fault. OrMemory fault
             (first_fault self.old.request.syntax (piece_of (Ok piece.entry) ∷ []) ≡ Some fault)) }
     {

@@ -7,7 +7,7 @@ use Rattle.grep_core.specs.Meters.{Steps}
 use Rattle.grep_core.specs.Run.{Writer}
 use Rattle.grep_cmd.specs.Bytes.{Text}
 use Rattle.grep_cmd.specs.Replies.{GaveLines, ScriptGives}
-use Rattle.grep_utility.specs.Command.{TellsLines}
+use Rattle.grep_utility.specs.Command.{ReportsLines}
 use Rattle.grep_cmd.specs.declared.script.ScriptEnd.{ScriptEnd}
 use Rattle.grep_cmd.specs.declared.script.ScriptEnd.TheVariants.{Clean, Refused}
 use Rattle.grep_cmd.specs.declared.script.ScriptFault.{ScriptFault}
@@ -36,7 +36,7 @@ fault_text Memory = out_of_memory
 abbrev pub EndsScript : Result ScriptEnd ScriptFault → Writer → Writer → ℕ → Type 0
 EndsScript (Ok Clean) old new status = (status ≡ 0) × (new ≡ old)
 EndsScript (Ok Refused) old new status = (status ≡ 1) × (new ≡ old)
-EndsScript (Err fault) old new status = (status ≡ 2) × TellsLines old new (fault_text fault ∷ [])
+EndsScript (Err fault) old new status = (status ≡ 2) × ReportsLines old new (fault_text fault ∷ [])
 
 -- the script: the bytes that its reader has left, where they are known, and how often reads failed;
 -- standard output, buffered; standard error; and the steps that were counted

@@ -57,16 +57,16 @@ script_file None = None
 script_file (Some name) = if is_standard name then None else Some name
 
 -- the fault for an error of the library
-abbrev pub Tells : Error → OccurFault → Type 0
-Tells error fault.Memory = kind_of error ≡ OutOfMemory
-Tells error (fault.Words told) = (told ≡ error) × (kind_of error ≢ OutOfMemory)
+abbrev pub Explains : Error → OccurFault → Type 0
+Explains error fault.Memory = kind_of error ≡ OutOfMemory
+Explains error (fault.Words reported) = (reported ≡ error) × (kind_of error ≢ OutOfMemory)
 
 -- words are accepted only if no kind of error is possible; a fault of the words has a possible
 -- kind, and any other fault is out of memory
-abbrev pub TellsAmong : Kinds → Result Request OccurFault → Type 0
-TellsAmong kinds (Ok request) = kinds ≡ []
-TellsAmong kinds (Err fault.Memory) = ⊤
-TellsAmong kinds (Err (fault.Words error)) =
+abbrev pub ExplainsAmong : Kinds → Result Request OccurFault → Type 0
+ExplainsAmong kinds (Ok request) = kinds ≡ []
+ExplainsAmong kinds (Err fault.Memory) = ⊤
+ExplainsAmong kinds (Err (fault.Words error)) =
     (kind_of error ≢ OutOfMemory) × IsAmong (kind_of error) kinds
 
 -- a word that is no option: it does not begin with a hyphen (45)

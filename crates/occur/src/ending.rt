@@ -4,7 +4,7 @@ ghost use Rattle.clap.specs.Words.{kind_of};
 ghost use Rattle.grep_core.specs.Row.{output_line};
 ghost use Rattle.grep_core.specs.Run.{writer};
 ghost use Rattle.grep_core.specs.Written.{Writes};
-ghost use Rattle.grep_utility.specs.Command.{TellsLines};
+ghost use Rattle.grep_utility.specs.Command.{ReportsLines};
 ghost use Rattle.occur.specs.Exit.{EndsScript, cannot_open, fault_text, out_of_memory};
 ghost use Rattle.occur.specs.Exit.{usage, words_refused, words_status};
 
@@ -52,7 +52,7 @@ fn write_cannot_open<M: CountedWrite>(messages: &mut M, name: &[u8]) -> Result<(
 /// not tried again.
 pub fn refuse_script<M: CountedWrite>(messages: &mut M, name: &str) -> u8
     ensures status { result ≡ 2 }
-    ensures told { TellsLines (writer M.contents M.failures messages.old)
+    ensures reported { ReportsLines (writer M.contents M.failures messages.old)
         (writer M.contents M.failures messages.new)
         (cannot_open name.now ∷ []) }
 {

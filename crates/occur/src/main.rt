@@ -38,7 +38,7 @@ fn refuse_output(rt: &HostRuntime) -> u8 {
 
 /// Runs the script from the reader with its replies on the writer, reports what kept it from its end,
 /// and returns the exit status. A write that fails is not tried again.
-fn run_gathered<R: CountedRead, W: CountedWrite, M: CountedWrite>(
+fn run_on_devices<R: CountedRead, W: CountedWrite, M: CountedWrite>(
     alloc: Global,
     reader: &mut R,
     out: &mut Buffered<W>,
@@ -72,7 +72,7 @@ fn run_from<R: CountedRead>(rt: &HostRuntime, reader: &mut R, states: usize) -> 
         return program().refuse_memory(&mut messages);
     };
     let mut meter = fresh_meter();
-    run_gathered(
+    run_on_devices(
         rt.alloc(),
         reader,
         &mut out,
@@ -107,7 +107,7 @@ fn run(rt: &HostRuntime, request: &Request) -> u8
 
 /// Prints the help or the error when no script is run, and returns the exit status. If the help
 /// could not be written, that is reported.
-fn tell_words(rt: &HostRuntime, error: &Error) -> u8 {
+fn report_words(rt: &HostRuntime, error: &Error) -> u8 {
     match error.print(rt) {
         Ok(()) => words_status(error),
         Err(_) if error.use_stderr() => FAILED,
@@ -119,7 +119,7 @@ fn tell_words(rt: &HostRuntime, error: &Error) -> u8 {
 fn run_words(rt: &HostRuntime, words: &[String]) -> u8 {
     match occur_words(rt.alloc(), words) {
         Ok(request) => run(rt, &request),
-        Err(OccurFault::Words(error)) => tell_words(rt, &error),
+        Err(OccurFault::Words(error)) => report_words(rt, &error),
         Err(OccurFault::Memory) => program().refuse_memory(&mut Tally::new(rt.stderr())),
     }
 }

@@ -3,7 +3,7 @@ ghost use Rattle.std.specs.Prelude.{[], ◌∷◌, ◌≡◌, ◌≤◌, IfOk, O
 ghost use Rattle.std.specs.Prelude.{string_bytes, true};
 ghost use Rattle.clap.specs.Words.{Text, app_of, fault_of, found_of, matches_of, rows_of};
 ghost use Rattle.clap.specs.Words.{rule_of};
-ghost use Rattle.occur.specs.Words.{AsksForHelp, HasStates, IsChosenBy, Tells, TellsAmong};
+ghost use Rattle.occur.specs.Words.{AsksForHelp, HasStates, IsChosenBy, Explains, ExplainsAmong};
 ghost use Rattle.occur.specs.Words.{occur_app};
 ghost use Rattle.occur.specs.Words.{Reads, form_words, is_no_option, script_file, script_rule};
 ghost use Rattle.occur.specs.Words.{states_rule, texts_of};
@@ -51,7 +51,7 @@ pub enum OccurFault {
 }
 
 impl From<clap::Error> for OccurFault {
-    ghost from_gives = { Tells };
+    ghost from_gives = { Explains };
 
     fn from(error: clap::Error) -> OccurFault {
         match error.kind() {
@@ -131,7 +131,7 @@ fn request_of(alloc: Global, matches: &ArgMatches<'_>) -> Result<Request, AllocE
 fn parse_words(alloc: Global, words: &[String]) -> Result<Request, OccurFault>
     ensures states { IfOk result (λ request. (1 ≤ request.states) × (request.states ≤ 65536)) }
     ensures chosen { IfOk result (IsChosenBy (matches_of occur_app (texts_of words.now))) }
-    ensures faults { TellsAmong (fault_of occur_app (texts_of words.now)) result }
+    ensures faults { ExplainsAmong (fault_of occur_app (texts_of words.now)) result }
 {
     let matches = occur_command(alloc)?.try_get_matches_from(words)?;
     Ok(request_of(alloc, &matches)?)
@@ -148,7 +148,7 @@ pub fn occur_words(alloc: Global, words: &[String]) -> Result<Request, OccurFaul
 
     // For any words: the request and faults that clap defines for this command.
     ensures chosen { IfOk result (IsChosenBy (matches_of occur_app (texts_of words.now))) }
-    ensures faults { TellsAmong (fault_of occur_app (texts_of words.now)) result }
+    ensures faults { ExplainsAmong (fault_of occur_app (texts_of words.now)) result }
 {
     parse_words(alloc, words)
 }

@@ -5,7 +5,7 @@ pub mod JoinedChains
 pub mod InTurnAndEither
 pub mod AgainAndOptional
 pub mod RepeatedByCopies
-pub mod PositionsTell
+pub mod PositionsDecide
 pub mod SetsByChains
 pub mod LeastStarts
 pub mod WithoutPositions

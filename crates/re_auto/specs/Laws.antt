@@ -8,14 +8,14 @@ use Rattle.re_auto.specs.declared.mode.Mode.{Mode}
 use Rattle.re_auto.specs.Working.Positions.{is_end, PartHolds, part_of}
 use Rattle.re_auto.specs.Working.Stepping.{IsAfter}
 use Rattle.re_syntax.specs.Working.BestStretches.{Least, IsBest}
-use Rattle.re_auto.specs.Working.Starts.{StartsAfter, IsNextStarts, Told, IsMatched}
+use Rattle.re_auto.specs.Working.Starts.{StartsAfter, IsNextStarts, Reported, IsMatched}
 use Rattle.re_syntax.specs.Working.BestStretches.{better}
 use Rattle.re_auto.specs.Working.Starts.{IsSpent}
 
 -- An expression holds on a stretch exactly where a chain of its positions reads the stretch's
 -- bytes, or where the stretch is empty and the expression may be.
-abbrev pub PositionsTell : Type 0
-PositionsTell =
+abbrev pub PositionsDecide : Type 0
+PositionsDecide =
     (e : Expression) (n : ℕ) (line : Text) (i j : ℕ) →
     Holds line e i j ↔ PartHolds (part_of e n) line i j
 
@@ -39,23 +39,23 @@ StartsStay =
 
 -- The least start at the last positions is that of the matched stretches which end here and are not
 -- empty.
-abbrev pub StartsTell : Type 0
-StartsTell =
+abbrev pub StartsDecide : Type 0
+StartsDecide =
     (e : Expression) (n : ℕ) (mode : Mode) (from : ℕ) (line : Text) (j : ℕ) (least : ℕ → Option ℕ)
-    (told : Option ℕ)
+    (reported : Option ℕ)
     → StartsAfter (part_of e n) mode from line j least →
-    Least (Told (part_of e n) (is_end line j) least) told
-    → Least (λ i. IsMatched e mode from line i j) told
+    Least (Reported (part_of e n) (is_end line j) least) reported
+    → Least (λ i. IsMatched e mode from line i j) reported
 
 -- One pass finds the stretch that begins earliest and is the longest of those that begin there: the
 -- least start at each end is enough.
 abbrev pub OnePassIsEnough : Type 0
 OnePassIsEnough =
     (e : Expression) (mode : Mode) (from : ℕ) (line : Text) (to : ℕ) (best : Option (ℕ × ℕ))
-    (told : Option ℕ)
+    (reported : Option ℕ)
     → IsBest (IsMatched e mode from line) to best →
-    Least (λ i. IsMatched e mode from line i (suc to)) told
-    → IsBest (IsMatched e mode from line) (suc to) (better best (suc to) told)
+    Least (λ i. IsMatched e mode from line i (suc to)) reported
+    → IsBest (IsMatched e mode from line) (suc to) (better best (suc to) reported)
 
 -- Once each carried start is after s, no stretch that begins at s or before ends here or later, and
 -- the pass may stop.
@@ -68,15 +68,15 @@ SpentIsOver =
 
 -- A set of positions is right after a front of a line exactly if it is right after that front
 -- alone: it depends only on the bytes read so far.
-abbrev pub FrontsTell : Type 0
-FrontsTell =
+abbrev pub FrontsDecide : Type 0
+FrontsDecide =
     (e : Expression) (n : ℕ) (mode : Mode) (front rest : Text) (S : ℕ → Bool)
     → IsAfter (part_of e n) mode front (length front) (λ q. IsTrue (S q)) ↔
     IsAfter (part_of e n) mode (front ++ rest) (length front) (λ q. IsTrue (S q))
 
 -- The same holds for least starts.
-abbrev pub FrontsTellStarts : Type 0
-FrontsTellStarts =
+abbrev pub FrontsDecideStarts : Type 0
+FrontsDecideStarts =
     (e : Expression) (n : ℕ) (mode : Mode) (from : ℕ) (front rest : Text) (least : ℕ → Option ℕ)
     → StartsAfter (part_of e n) mode from front (length front) least ↔
     StartsAfter (part_of e n) mode from (front ++ rest) (length front) least

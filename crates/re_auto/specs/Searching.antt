@@ -28,8 +28,8 @@ FindsPartOfAll es wholes line from found =
     (whole : Bool) → AllAnswer whole wholes → FindsPart es line whole from found
 
 -- the verdict says whether some expression matches the line, by the answer that all matchers give
-abbrev pub TellsMatchOfAll : List Expression → List Bool → Text → Bool → Type 0
-TellsMatchOfAll es wholes line verdict =
+abbrev pub DecidesMatchOfAll : List Expression → List Bool → Text → Bool → Type 0
+DecidesMatchOfAll es wholes line verdict =
     (whole : Bool) → AllAnswer whole wholes → IsTrue verdict ↔ SomeMatches es line whole
 
 -- the same matchers in the same order: each has its expression as before, and asks for whole lines

@@ -88,9 +88,9 @@ impl Beginnings {
         let end = line.len();
         match self.few {
             Few::Never => end,
-            Few::One(a) => behind(place, memchr(a, &line[place..]), end),
-            Few::Two(a, b) => behind(place, memchr2(a, b, &line[place..]), end),
-            Few::Three(a, b, c) => behind(place, memchr3(a, b, c, &line[place..]), end),
+            Few::One(a) => beyond(place, memchr(a, &line[place..]), end),
+            Few::Two(a, b) => beyond(place, memchr2(a, b, &line[place..]), end),
+            Few::Three(a, b, c) => beyond(place, memchr3(a, b, c, &line[place..]), end),
             Few::Many => self.next_before(line, place, end),
         }
     }
@@ -139,7 +139,7 @@ impl Beginnings {
 
 // The place `passed` bytes after another, or the end where there is none.
 #[inline(always)]
-fn behind(place: usize, passed: Option<usize>, end: usize) -> usize
+fn beyond(place: usize, passed: Option<usize>, end: usize) -> usize
     requires { IfSome passed (λ n. place + n ≤ end) }
     ensures { MatchOption passed (result ≡ end) (λ n. result ≡ place + n) }
 {

@@ -13,7 +13,7 @@ mod step;
 mod tables;
 
 pub use build::BuildFault;
-pub use laws::{fronts_tell, least_starts_are_enough, positions_tell};
+pub use laws::{fronts_decide, least_starts_are_enough, positions_decide};
 pub use meter::{Meter, fresh_meter};
 pub use mode::Mode;
 pub use step::automaton::Automaton;

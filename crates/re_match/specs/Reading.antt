@@ -34,7 +34,7 @@ IsNotSpelled Fixed text fault = ⊥
 -- the text means an expression that is too large
 pub record IsTooLarge (syntax : Syntax) (fold : Bool) (text : Text)
     (fault : PatternFault) : Type 0 where
-  pub told : fault ≡ record { kind = TooLarge; at = 0 }
+  pub reported : fault ≡ record { kind = TooLarge; at = 0 }
   pub limited : IsTrue (has_limit syntax fold)
   pub meaning : Expression
   pub meant : IsMeant syntax fold text meaning

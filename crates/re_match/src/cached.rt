@@ -144,7 +144,7 @@ impl Cached {
             return self.simulated.step_over(line, meter);
         }
         match self.table.search(&asked, meter) {
-            Outcome::Told(told) => told,
+            Outcome::Reported(reported) => reported,
             Outcome::GaveUp(place) => {
                 self.table.give_up();
                 self.simulated
@@ -156,7 +156,7 @@ impl Cached {
     // Whether the line is matched.
     #[inline(always)]
     fn search(&mut self, line: &[u8], meter: &mut Meter) -> bool
-        ensures told { IsTrue result ↔
+        ensures reported { IsTrue result ↔
             Matches (expression_of self.old.tree) line.now self.old.whole }
         ensures same_tree { self.new.tree ≡ self.old.tree }
         ensures same_whole { self.new.whole ≡ self.old.whole }
@@ -165,8 +165,8 @@ impl Cached {
             self.old.cache self.new.cache meter.old meter.new result }
         ensures same_most { self.new.most ≡ self.old.most }
     {
-        if let Some(told) = self.simulated.settled(line) {
-            return told;
+        if let Some(reported) = self.simulated.settled(line) {
+            return reported;
         }
         self.searched(line, meter)
     }
@@ -180,7 +180,7 @@ impl LineMatch for Cached {
     ghost whole = { λ c. c.whole };
 
     fn is_match(&mut self, line: &[u8], meter: &mut Meter) -> bool
-        ensures told { IsTrue result ↔
+        ensures reported { IsTrue result ↔
             Matches (expression_of self.old.tree) line.now self.old.whole }
         ensures same_expression { expression_of self.new.tree ≡ expression_of self.old.tree }
         ensures same_whole { self.new.whole ≡ self.old.whole }
@@ -194,7 +194,7 @@ impl LineMatch for Cached {
 
     fn find(&mut self, line: &[u8], from: usize, meter: &mut Meter) -> Option<Span>
         requires { from ≤ length line.now }
-        ensures told { FindsPart (expression_of self.old.tree ∷ []) line.now self.old.whole from
+        ensures reported { FindsPart (expression_of self.old.tree ∷ []) line.now self.old.whole from
             result }
         ensures same_expression { expression_of self.new.tree ≡ expression_of self.old.tree }
         ensures same_whole { self.new.whole ≡ self.old.whole }

@@ -93,7 +93,7 @@ impl Fixed {
         requires block { IsBlock block.now }
         requires part { self.now.whole ≡ false }
         requires one_line { HasNoNewline self.now.text }
-        ensures told { FindsMatched (literal_expression self.now) self.now.whole
+        ensures reported { FindsMatched (literal_expression self.now) self.now.whole
             (lines_of block.now) result }
         ensures within { IfSome result (λ at. (at.start ≤ at.end) × (at.end < length block.now)) }
     {
@@ -139,7 +139,7 @@ impl Fixed {
     // Whether the line is matched.
     #[inline(always)]
     fn search(&mut self, line: &[u8], meter: &mut Meter) -> bool
-        ensures told { IsTrue result ↔
+        ensures reported { IsTrue result ↔
             Matches (literal_expression self.old) line.now self.old.whole }
         ensures steps { AddsAtMost (length line.now + 1) meter.old meter.new }
         ensures same { self.new ≡ self.old }
@@ -161,7 +161,7 @@ impl LineMatch for Fixed {
     ghost whole = { λ f. f.whole };
 
     fn is_match(&mut self, line: &[u8], meter: &mut Meter) -> bool
-        ensures told { IsTrue result ↔
+        ensures reported { IsTrue result ↔
             Matches (literal_expression self.old) line.now self.old.whole }
         ensures same_expression { literal_expression self.new ≡ literal_expression self.old }
         ensures same_whole { self.new.whole ≡ self.old.whole }
@@ -174,7 +174,7 @@ impl LineMatch for Fixed {
 
     fn find(&mut self, line: &[u8], from: usize, meter: &mut Meter) -> Option<Span>
         requires { from ≤ length line.now }
-        ensures told { FindsPart (literal_expression self.old ∷ []) line.now self.old.whole from
+        ensures reported { FindsPart (literal_expression self.old ∷ []) line.now self.old.whole from
             result }
         ensures same_expression { literal_expression self.new ≡ literal_expression self.old }
         ensures same_whole { self.new.whole ≡ self.old.whole }
@@ -191,7 +191,7 @@ impl LineMatch for Fixed {
 
     fn next_matched(&mut self, block: &[u8], meter: &mut Meter) -> Option<Span>
         requires { IsBlock block.now }
-        ensures told { FindsMatched (literal_expression self.old) self.old.whole
+        ensures reported { FindsMatched (literal_expression self.old) self.old.whole
             (lines_of block.now) result }
         ensures within { IfSome result
             (λ at. (at.start ≤ at.end) × (at.end < length block.now)) }
@@ -211,7 +211,7 @@ impl LineMatch for Fixed {
 
     fn count_matched(&mut self, block: &[u8], meter: &mut Meter) -> u64
         requires { IsBlock block.now }
-        ensures told { CountsMatched (literal_expression self.old) self.old.whole
+        ensures reported { CountsMatched (literal_expression self.old) self.old.whole
             (lines_of block.now) result }
         ensures same_expression { literal_expression self.new ≡ literal_expression self.old }
         ensures same_whole { self.new.whole ≡ self.old.whole }

@@ -139,7 +139,7 @@ impl FixedSet {
     fn next_line(&self, block: &[u8]) -> Option<Span>
         requires block { IsBlock block.now }
         requires part { self.now.whole ≡ false }
-        ensures told { FindsMatched (any_literal self.now) self.now.whole (lines_of block.now)
+        ensures reported { FindsMatched (any_literal self.now) self.now.whole (lines_of block.now)
             result }
         ensures within { IfSome result (λ at. (at.start ≤ at.end) × (at.end < length block.now)) }
     {
@@ -183,7 +183,7 @@ impl FixedSet {
     // Whether the line is matched.
     #[inline(always)]
     fn search(&mut self, line: &[u8], meter: &mut Meter) -> bool
-        ensures told { IsTrue result ↔ Matches (any_literal self.old) line.now self.old.whole }
+        ensures reported { IsTrue result ↔ Matches (any_literal self.old) line.now self.old.whole }
         ensures steps { AddsAtMost (length line.now + 1) meter.old meter.new }
         ensures same { self.new ≡ self.old }
         ensures counted { meter.new ≡ many_built (length line.now + 1) meter.old }
@@ -230,7 +230,7 @@ impl LineMatch for FixedSet {
     ghost whole = { λ f. f.whole };
 
     fn is_match(&mut self, line: &[u8], meter: &mut Meter) -> bool
-        ensures told { IsTrue result ↔ Matches (any_literal self.old) line.now self.old.whole }
+        ensures reported { IsTrue result ↔ Matches (any_literal self.old) line.now self.old.whole }
         ensures same_expression { any_literal self.new ≡ any_literal self.old }
         ensures same_whole { self.new.whole ≡ self.old.whole }
         ensures steps { AddsAtMost (length line.now + 1) meter.old meter.new }
@@ -242,7 +242,7 @@ impl LineMatch for FixedSet {
 
     fn find(&mut self, line: &[u8], from: usize, meter: &mut Meter) -> Option<Span>
         requires { from ≤ length line.now }
-        ensures told { FindsPart (any_literal self.old ∷ []) line.now self.old.whole from result }
+        ensures reported { FindsPart (any_literal self.old ∷ []) line.now self.old.whole from result }
         ensures same_expression { any_literal self.new ≡ any_literal self.old }
         ensures same_whole { self.new.whole ≡ self.old.whole }
         ensures steps { AddsAtMost (length line.now - from + 1) meter.old meter.new }
@@ -258,7 +258,7 @@ impl LineMatch for FixedSet {
 
     fn next_matched(&mut self, block: &[u8], meter: &mut Meter) -> Option<Span>
         requires { IsBlock block.now }
-        ensures told { FindsMatched (any_literal self.old) self.old.whole (lines_of block.now)
+        ensures reported { FindsMatched (any_literal self.old) self.old.whole (lines_of block.now)
             result }
         ensures within { IfSome result
             (λ at. (at.start ≤ at.end) × (at.end < length block.now)) }

@@ -23,7 +23,7 @@ pub trait LineMatch {
 
     /// Whether the line is matched, in at most one step for each of its bytes and one more.
     fn is_match(&mut self, line: &[u8], meter: &mut Meter) -> bool
-        ensures told { IsTrue result ↔ Matches (expression self.old) line.now (whole self.old) }
+        ensures reported { IsTrue result ↔ Matches (expression self.old) line.now (whole self.old) }
         ensures same_expression { expression self.new ≡ expression self.old }
         ensures same_whole { whole self.new ≡ whole self.old }
         ensures steps { AddsAtMost (length line.now + 1) meter.old meter.new };
@@ -32,7 +32,7 @@ pub trait LineMatch {
     /// longest (XBD 9.1), in at most one step for each byte from `from` on and one more.
     fn find(&mut self, line: &[u8], from: usize, meter: &mut Meter) -> Option<Span>
         requires { from ≤ length line.now }
-        ensures told { FindsPart (expression self.old ∷ []) line.now (whole self.old) from result }
+        ensures reported { FindsPart (expression self.old ∷ []) line.now (whole self.old) from result }
         ensures same_expression { expression self.new ≡ expression self.old }
         ensures same_whole { whole self.new ≡ whole self.old }
         ensures steps { AddsAtMost (length line.now - from + 1) meter.old meter.new };
@@ -42,7 +42,7 @@ pub trait LineMatch {
     /// line is matched, it takes at most one step for each byte of the block.
     fn next_matched(&mut self, block: &[u8], meter: &mut Meter) -> Option<Span>
         requires { IsBlock block.now }
-        ensures told { FindsMatched (expression self.old) (whole self.old) (lines_of block.now)
+        ensures reported { FindsMatched (expression self.old) (whole self.old) (lines_of block.now)
             result }
         ensures within { IfSome result
             (λ at. (at.start ≤ at.end) × (at.end < length block.now)) }
@@ -66,7 +66,7 @@ pub trait LineMatch {
     /// bytes.
     fn count_matched(&mut self, block: &[u8], meter: &mut Meter) -> u64
         requires { IsBlock block.now }
-        ensures told { CountsMatched (expression self.old) (whole self.old) (lines_of block.now)
+        ensures reported { CountsMatched (expression self.old) (whole self.old) (lines_of block.now)
             result }
         ensures same_expression { expression self.new ≡ expression self.old }
         ensures same_whole { whole self.new ≡ whole self.old }

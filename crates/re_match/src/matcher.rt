@@ -113,7 +113,7 @@ impl LineMatch for Matcher {
     ghost whole = { wants_whole };
 
     fn is_match(&mut self, line: &[u8], meter: &mut Meter) -> bool
-        ensures told { IsTrue result ↔
+        ensures reported { IsTrue result ↔
             Matches (matched_expression self.old) line.now (wants_whole self.old) }
         ensures same_expression { matched_expression self.new ≡ matched_expression self.old }
         ensures same_whole { wants_whole self.new ≡ wants_whole self.old }
@@ -131,7 +131,7 @@ impl LineMatch for Matcher {
 
     fn find(&mut self, line: &[u8], from: usize, meter: &mut Meter) -> Option<Span>
         requires { from ≤ length line.now }
-        ensures told { FindsPart (matched_expression self.old ∷ []) line.now (wants_whole self.old)
+        ensures reported { FindsPart (matched_expression self.old ∷ []) line.now (wants_whole self.old)
             from result }
         ensures same_expression { matched_expression self.new ≡ matched_expression self.old }
         ensures same_whole { wants_whole self.new ≡ wants_whole self.old }

@@ -52,7 +52,7 @@ impl Prefilter {
     #[inline(always)]
     pub fn settled(&self, line: &[u8], whole: bool) -> Option<bool>
         ensures { (e : Expression) → IsNeedleFor e self.now.needle →
-            IfSome result (λ told. IsSettled e whole line.now told) }
+            IfSome result (λ reported. IsSettled e whole line.now reported) }
     {
         if let Some(needle) = &self.needle {
             if whole && needle.is_first {

@@ -124,7 +124,7 @@ impl Simulated {
     #[inline(always)]
     pub(crate) fn settled(&self, line: &[u8]) -> Option<bool>
         ensures { IfSome result
-            (λ told. IsSettled (expression_of self.now.tree) self.now.whole line.now told) }
+            (λ reported. IsSettled (expression_of self.now.tree) self.now.whole line.now reported) }
     {
         self.prefilter.settled(line, self.whole)
     }
@@ -172,13 +172,13 @@ impl Simulated {
     // Whether the line is matched.
     #[inline(always)]
     fn search(&mut self, line: &[u8], meter: &mut Meter) -> bool
-        ensures told { IsTrue result ↔
+        ensures reported { IsTrue result ↔
             Matches (expression_of self.old.tree) line.now self.old.whole }
         ensures steps { AddsAtMost (length line.now + 1) meter.old meter.new }
         ensures same { self.new ≡ self.old }
     {
-        if let Some(told) = self.settled(line) {
-            return told;
+        if let Some(reported) = self.settled(line) {
+            return reported;
         }
         self.step_over(line, meter)
     }
@@ -187,7 +187,7 @@ impl Simulated {
     fn whole_line(&mut self, line: &[u8], from: usize, meter: &mut Meter) -> Option<Span>
         requires within { from ≤ length line.now }
         requires whole { self.old.whole ≡ true }
-        ensures told { FindsPart (expression_of self.old.tree ∷ []) line.now true from result }
+        ensures reported { FindsPart (expression_of self.old.tree ∷ []) line.now true from result }
         ensures same { self.new ≡ self.old }
         ensures steps { AddsAtMost (length line.now - from + 1) meter.old meter.new }
     {
@@ -203,7 +203,7 @@ impl Simulated {
     // The next part if it need not be the whole line.
     fn part(&mut self, line: &[u8], from: usize, meter: &mut Meter) -> Option<Span>
         requires { from ≤ length line.now }
-        ensures told { FindsPart (expression_of self.old.tree ∷ []) line.now false from result }
+        ensures reported { FindsPart (expression_of self.old.tree ∷ []) line.now false from result }
         ensures same { self.new ≡ self.old }
         ensures steps { AddsAtMost (length line.now - from) meter.old meter.new }
     {
@@ -234,7 +234,7 @@ impl LineMatch for Simulated {
     ghost whole = { λ s. s.whole };
 
     fn is_match(&mut self, line: &[u8], meter: &mut Meter) -> bool
-        ensures told { IsTrue result ↔
+        ensures reported { IsTrue result ↔
             Matches (expression_of self.old.tree) line.now self.old.whole }
         ensures same_expression { expression_of self.new.tree ≡ expression_of self.old.tree }
         ensures same_whole { self.new.whole ≡ self.old.whole }
@@ -246,7 +246,7 @@ impl LineMatch for Simulated {
 
     fn find(&mut self, line: &[u8], from: usize, meter: &mut Meter) -> Option<Span>
         requires { from ≤ length line.now }
-        ensures told { FindsPart (expression_of self.old.tree ∷ []) line.now self.old.whole from
+        ensures reported { FindsPart (expression_of self.old.tree ∷ []) line.now self.old.whole from
             result }
         ensures same_expression { expression_of self.new.tree ≡ expression_of self.old.tree }
         ensures same_whole { self.new.whole ≡ self.old.whole }

@@ -29,7 +29,7 @@ pub trait Sweeps {
 
     /// Whether the line is matched, in at most one step for each of its bytes and one more.
     fn search(&mut self, line: &[u8], meter: &mut Meter) -> bool
-        ensures told { IsTrue result ↔ Matches (expression self.old) line.now (whole self.old) }
+        ensures reported { IsTrue result ↔ Matches (expression self.old) line.now (whole self.old) }
         ensures same_expression { expression self.new ≡ expression self.old }
         ensures same_whole { whole self.new ≡ whole self.old }
         ensures steps { AddsAtMost (length line.now + 1) meter.old meter.new };
@@ -39,7 +39,7 @@ pub trait Sweeps {
 /// line at which a sweep stops is searched.
 pub fn next_by_sweeps<M: Sweeps>(matcher: &mut M, block: &[u8], meter: &mut Meter) -> Option<Span>
     requires { IsBlock block.now }
-    ensures told { FindsMatched (M.expression matcher.old) (M.whole matcher.old)
+    ensures reported { FindsMatched (M.expression matcher.old) (M.whole matcher.old)
         (lines_of block.now) result }
     ensures within { IfSome result (λ at. (at.start ≤ at.end) × (at.end < length block.now)) }
     ensures same_expression { M.expression matcher.new ≡ M.expression matcher.old }
@@ -62,7 +62,7 @@ pub fn next_by_sweeps<M: Sweeps>(matcher: &mut M, block: &[u8], meter: &mut Mete
 /// How many lines of a block of whole lines are matched, like `LineMatch::count_matched`.
 pub fn count_by_sweeps<M: Sweeps>(matcher: &mut M, block: &[u8], meter: &mut Meter) -> u64
     requires { IsBlock block.now }
-    ensures told { CountsMatched (M.expression matcher.old) (M.whole matcher.old)
+    ensures reported { CountsMatched (M.expression matcher.old) (M.whole matcher.old)
         (lines_of block.now) result }
     ensures same_expression { M.expression matcher.new ≡ M.expression matcher.old }
     ensures same_whole { M.whole matcher.new ≡ M.whole matcher.old }

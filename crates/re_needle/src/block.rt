@@ -98,7 +98,7 @@ fn last_newline(bytes: &[u8]) -> Option<usize>
 pub fn next_line_with(finder: &Finder<'_>, block: &[u8]) -> Option<Span>
     requires block { IsBlock block.now }
     requires one_line { HasNoNewline finder.now }
-    ensures told { FindsNext (StandsIn finder.now) (lines_of block.now) result }
+    ensures reported { FindsNext (StandsIn finder.now) (lines_of block.now) result }
     ensures within { IfSome result (λ at. (at.start ≤ at.end) × (at.end < length block.now)) }
 {
     let Some(at) = finder.find(block) else {

@@ -55,9 +55,9 @@ pub fn share_with(alike: Alike) -> u64 {
 
 // About how many of 65,536 bytes of most texts are this one; at least one.
 fn share_of(byte: u8) -> u32 {
-    let behind = u8::MAX - rank_of(byte);
-    let share = COMMONEST >> (behind / HALVED);
-    (share - share / u32::from(2 * HALVED) * u32::from(behind % HALVED)).max(1)
+    let beyond = u8::MAX - rank_of(byte);
+    let share = COMMONEST >> (beyond / HALVED);
+    (share - share / u32::from(2 * HALVED) * u32::from(beyond % HALVED)).max(1)
 }
 
 /// How common the byte is in most texts, from 0 for the rarest to 255.

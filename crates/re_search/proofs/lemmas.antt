@@ -4,7 +4,7 @@ pub use Rattle.re_needle.proofs.lemmas.CountedBlocks
 pub use Rattle.re_needle.proofs.lemmas.NextLines
 pub use Rattle.re_match.proofs.lemmas.LiteralLaws
 pub mod PartOfBoth
-pub mod PartedMatchers
+pub mod WithPartsMatchers
 pub mod OneMatcherMore
 pub mod LeastPasses
 pub mod KeptMatchers

@@ -5,7 +5,7 @@ ghost use Rattle.std.specs.Option.{ForSome};
 ghost use Rattle.re_syntax.specs.Expression.{Expression};
 ghost use Rattle.re_syntax.specs.Holds.{Matches};
 ghost use Rattle.re_syntax.specs.Lines.{lines_of, newline, HasNoNewline};
-ghost use Rattle.re_auto.specs.Searching.{AddsAtMost, AllAnswer, SameMatchers, TellsMatchOfAll};
+ghost use Rattle.re_auto.specs.Searching.{AddsAtMost, AllAnswer, SameMatchers, DecidesMatchOfAll};
 ghost use Rattle.re_needle.specs.Working.Blocks.{IsBlock, PassesUnmatched};
 ghost use Rattle.re_search.specs.Working.Filters.{AreNeeded, NeedsOneOf};
 ghost use Rattle.re_match.specs.Working.Literals.{Literals, any_literal};
@@ -74,7 +74,7 @@ impl Filter {
     // Whether no string occurs in the line. That takes a step for each of its bytes and one more;
     // else it takes none, since the matchers are asked then.
     pub(crate) fn rules_out(&self, line: &[u8], meter: &mut Meter) -> bool
-        ensures told { IsTrue result → (strings : Literals) × (self.now ≡ Some strings)
+        ensures reported { IsTrue result → (strings : Literals) × (self.now ≡ Some strings)
             × (¬ Matches (any_literal strings) line.now false) }
         ensures steps { AddsAtMost (length line.now + 1) meter.old meter.new }
         ensures none { result ≡ false → meter.new ≡ meter.old }
@@ -121,7 +121,7 @@ impl Filter {
         meter: &mut Meter,
     ) -> bool
         requires { (whole : Bool) × AllAnswer whole (map M.whole matchers.old) }
-        ensures told { TellsMatchOfAll (map M.expression matchers.old) (map M.whole matchers.old)
+        ensures reported { DecidesMatchOfAll (map M.expression matchers.old) (map M.whole matchers.old)
             line.now result }
         ensures same_matchers { SameMatchers M.expression M.whole matchers.old matchers.new }
         ensures steps { AddsAtMost (length matchers.old * (length line.now + 1)) meter.old
@@ -144,7 +144,7 @@ impl Filter {
         meter: &mut Meter,
     ) -> bool
         requires { (whole : Bool) × AllAnswer whole (map M.whole matchers.old) }
-        ensures told { TellsMatchOfAll (map M.expression matchers.old) (map M.whole matchers.old)
+        ensures reported { DecidesMatchOfAll (map M.expression matchers.old) (map M.whole matchers.old)
             line.now result }
         ensures same_matchers { SameMatchers M.expression M.whole matchers.old matchers.new }
         ensures steps { AddsAtMost (length matchers.old * (length line.now + 1)) meter.old

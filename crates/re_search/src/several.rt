@@ -4,7 +4,7 @@ ghost use Rattle.std.specs.Prelude.{ℕ, Bool, List, ◌≡◌, ◌+◌, ◌-◌
 ghost use Rattle.std.specs.Prelude.{map, ⊤};
 ghost use Rattle.re_syntax.specs.Bytes.{Text};
 ghost use Rattle.re_syntax.specs.Expression.{Expression};
-ghost use Rattle.re_auto.specs.Searching.{FindsPart, FindsPartOfAll, TellsMatchOfAll, AllAnswer};
+ghost use Rattle.re_auto.specs.Searching.{FindsPart, FindsPartOfAll, DecidesMatchOfAll, AllAnswer};
 ghost use Rattle.re_auto.specs.Searching.{AddsAtMost, SameMatchers};
 ghost use Rattle.re_needle.specs.Working.Blocks.{IsBlock, PassesAll};
 ghost use Rattle.re_search.specs.Working.Blocks.{PassesUnmatchedByAll};
@@ -31,7 +31,7 @@ pub fn parts<M: LineMatch>(
 ) -> Option<Span>
     requires within { from ≤ length line.now }
     requires alike { (whole : Bool) × AllAnswer whole (map M.whole matchers.old) }
-    ensures told { FindsPartOfAll (map M.expression matchers.old) (map M.whole matchers.old)
+    ensures reported { FindsPartOfAll (map M.expression matchers.old) (map M.whole matchers.old)
         line.now from result }
     ensures same_matchers { SameMatchers M.expression M.whole matchers.old matchers.new }
     ensures steps { AddsAtMost (length matchers.old * (length line.now - from + 1)) meter.old
@@ -71,7 +71,7 @@ fn better(best: Option<Span>, found: Option<Span>) -> Option<Span>
 /// matcher and byte, and one more for each matcher.
 pub fn is_matched<M: LineMatch>(matchers: &mut [M], line: &[u8], meter: &mut Meter) -> bool
     requires { (whole : Bool) × AllAnswer whole (map M.whole matchers.old) }
-    ensures told { TellsMatchOfAll (map M.expression matchers.old) (map M.whole matchers.old)
+    ensures reported { DecidesMatchOfAll (map M.expression matchers.old) (map M.whole matchers.old)
         line.now result }
     ensures same_matchers { SameMatchers M.expression M.whole matchers.old matchers.new }
     ensures steps { AddsAtMost (length matchers.old * (length line.now + 1)) meter.old meter.new }

@@ -46,7 +46,7 @@ impl StartPair {
         requires made { AreStartsFor (expression_of automaton.now) self.old }
         requires within { from ≤ length line.now }
         ensures made { AreStartsFor (expression_of automaton.now) self.new }
-        ensures told { FindsPart (expression_of automaton.now ∷ []) line.now false from result }
+        ensures reported { FindsPart (expression_of automaton.now ∷ []) line.now false from result }
         ensures steps { AddsAtMost (length line.now - from) meter.old meter.new }
     {
         self.current.start(from);

@@ -42,7 +42,7 @@ pub enum Went {
     /// The search is at this spot.
     To(Spot),
     /// The answer is known.
-    Told(bool),
+    Reported(bool),
     /// The search is at this place, and the set there is not in the table.
     Alone(usize),
 }
@@ -51,7 +51,7 @@ pub enum Went {
 #[derive(Drop)]
 pub enum Outcome {
     /// The answer.
-    Told(bool),
+    Reported(bool),
     /// The place.
     GaveUp(usize),
 }
@@ -65,7 +65,7 @@ impl Table {
         ensures gives { Gives asked.now self.old meter.old self.new meter.new result }
     {
         if self.is_matched_at_once(asked) {
-            return Outcome::Told(true);
+            return Outcome::Reported(true);
         }
         let mut spot = Spot {
             place: 0,
@@ -74,11 +74,11 @@ impl Table {
         'places: while spot.place < asked.line.len() {
             match self.onward(asked, spot, meter) {
                 Went::To(next) => spot = next,
-                Went::Told(told) => return Outcome::Told(told),
+                Went::Reported(reported) => return Outcome::Reported(reported),
                 Went::Alone(place) => return Outcome::GaveUp(place),
             }
         }
-        Outcome::Told(self.mark(self.stride.number(spot.row)).at_end)
+        Outcome::Reported(self.mark(self.stride.number(spot.row)).at_end)
     }
 
     // Whether a matched stretch ends at the first place of the line, which is not its last.
@@ -229,7 +229,7 @@ impl Table {
     {
         if cell >= LIMIT {
             if place < asked.line.len() {
-                return Went::Told(true);
+                return Went::Reported(true);
             }
             return Went::To(Spot {
                 place,
@@ -243,7 +243,7 @@ impl Table {
             });
         }
         if asked.mode == Mode::Whole {
-            return Went::Told(false);
+            return Went::Reported(false);
         }
         let next = asked.automaton.next_beginning(asked.line, place);
         self.pace.note_pass(next - place);

@@ -151,7 +151,7 @@ fn add_branch(
 // The byte at a place of a string; none at its end.
 fn key_at(strings: &[&[u8]], place: usize, depth: usize) -> Option<u8>
     requires { place < length strings.now }
-    ensures told { result ≡ slice_get (text_at (map (λ s. s.now) strings.now) place) depth }
+    ensures reported { result ≡ slice_get (text_at (map (λ s. s.now) strings.now) place) depth }
     ensures within { IfSome result
         (λ _. depth < length (text_at (map (λ s. s.now) strings.now) place)) }
 {

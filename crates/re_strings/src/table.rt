@@ -57,8 +57,8 @@ impl Table {
         let mut place = 0;
         let mut node = 0;
         'places: while place < line.len() {
-            let (behind, into) = self.pass(line, place, node, fold);
-            place = behind;
+            let (beyond, into) = self.pass(line, place, node, fold);
+            place = beyond;
             node = into;
             if self.ends[node] > 0 {
                 return true;
@@ -96,8 +96,8 @@ impl Table {
         let mut node = 0;
         let mut best = None;
         'places: while place < line.len() {
-            let (behind, into) = self.pass(line, place, node, fold);
-            place = behind;
+            let (beyond, into) = self.pass(line, place, node, fold);
+            place = beyond;
             node = into;
             if begins_before(best, place.saturating_sub(self.depths[node] as usize)) {
                 return best;

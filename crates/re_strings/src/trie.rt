@@ -22,10 +22,10 @@ impl Trie {
     pub fn child(&self, node: usize, byte: u8) -> Option<usize>
         requires trie { IsTrie self.now.first.items self.now.bytes.items }
         requires within { node < length self.now.bytes.items }
-        ensures behind { IfSome result
+        ensures beyond { IfSome result
             (λ m. (node < m) × (m < length self.now.bytes.items) ×
             (m < slice_index self.now.first.items (node + 1))) }
-        ensures told { (all : Labels) → IsTrieOf all self.now.first.items self.now.bytes.items
+        ensures reported { (all : Labels) → IsTrieOf all self.now.first.items self.now.bytes.items
             → MatchOption result (IsFront all.strings (all.label node ++ byte ∷ []) → ⊥)
             (λ m. all.label m ≡ all.label node ++ byte ∷ []) }
     {

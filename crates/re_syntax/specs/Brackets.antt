@@ -51,12 +51,12 @@ pub data IsBracket : Text → Text → Expression → Type 0 where
       IsBracket (codes "[^" ++ t) u (none_of s)
 
 -- a bracket expression of the text, from one place up to another, and what it means
-pub record IsBracketUpTo (text : Text) (from behind : ℕ) (e : Expression) : Type 0 where
-  pub within : behind ≤ length text
-  pub stands : IsBracket (drop from text) (drop behind text) e
+pub record IsBracketUpTo (text : Text) (from beyond : ℕ) (e : Expression) : Type 0 where
+  pub within : beyond ≤ length text
+  pub stands : IsBracket (drop from text) (drop beyond text) e
 
 -- every bracket expression at the first place ends at the second and has this meaning
 abbrev pub IsOnlyBracket : Text → ℕ → ℕ → Expression → Type 0
-IsOnlyBracket text from behind e =
+IsOnlyBracket text from beyond e =
     (rest : Text) (other : Expression) → IsBracket (drop from text) rest other →
-    (rest ≡ drop behind text) × (other ≡ e)
+    (rest ≡ drop beyond text) × (other ≡ e)

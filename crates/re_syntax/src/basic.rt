@@ -10,9 +10,9 @@ ghost use Rattle.re_syntax.specs.Profile.{most_levels};
 ghost use Rattle.re_syntax.specs.Spelled.{IsSpelled, SpellsNoOther};
 ghost use Rattle.re_syntax.specs.BasicFaults.{NeedsItem, IsStart, HasNothingToRepeat, IsShownIn};
 ghost use Rattle.re_syntax.specs.BasicFaults.{IsNoBasic};
-ghost use Rattle.re_syntax.specs.Working.PieceSteps.{IsTold, IsRefused};
+ghost use Rattle.re_syntax.specs.Working.PieceSteps.{IsReported, IsRefused};
 ghost use Rattle.re_syntax.specs.Working.BasicSteps.{AtomStands, HasNoAtom, HasItem, HasNoItem};
-ghost use Rattle.re_syntax.specs.Working.BasicSteps.{HasNoTail, IsBehindTail, SoFar, IsEnded};
+ghost use Rattle.re_syntax.specs.Working.BasicSteps.{HasNoTail, ComesAfterTail, SoFar, IsEnded};
 ghost use Rattle.re_syntax.specs.Working.BasicSteps.{MayBegin, ItemStands, HasNoItems};
 ghost use Rattle.re_syntax.specs.Working.BasicSteps.{BranchStands, HasNoBranches, BranchesStand};
 
@@ -45,11 +45,11 @@ fn is_at_end(text: &[u8], at: usize) -> bool
 /// The place after a `$` that ends its branch.
 fn after_tail(text: &[u8], at: usize) -> Option<usize>
     requires { at ≤ length text.now }
-    ensures { MatchOption result (HasNoTail (drop at text.now)) (IsBehindTail text.now at) }
+    ensures { MatchOption result (HasNoTail (drop at text.now)) (ComesAfterTail text.now at) }
 {
-    let behind = after(text, at, b"$")?;
-    if is_at_end(text, behind) {
-        Some(behind)
+    let beyond = after(text, at, b"$")?;
+    if is_at_end(text, beyond) {
+        Some(beyond)
     } else {
         None
     }
@@ -65,20 +65,20 @@ fn read_lead(alloc: Option<Global>, text: &[u8], from: usize) -> Result<Pieces, 
     let items = no_pieces(alloc, from);
     match after(text, from, b"^") {
         None => Ok(items),
-        Some(behind) => joined(items, leaf(alloc, Tree::Begin, 0, behind)),
+        Some(beyond) => joined(items, leaf(alloc, Tree::Begin, 0, beyond)),
     }
 }
 
 /// The items, and the anchor that ends their branch, if it has one.
 fn read_tail(alloc: Option<Global>, text: &[u8], items: Pieces) -> Result<Pieces, PatternFault>
-    requires within { items.behind ≤ length text.now }
-    requires ends { HasNoItem (drop items.behind text.now) }
+    requires within { items.beyond ≤ length text.now }
+    requires ends { HasNoItem (drop items.beyond text.now) }
     ensures read { IfOk result (IsEnded alloc text.now items) }
     ensures refused { IfErr result (λ fault. fault ≡ record { kind = FaultKind.Memory; at = 0 }) }
 {
-    match after_tail(text, items.behind) {
+    match after_tail(text, items.beyond) {
         None => Ok(items),
-        Some(behind) => joined(items, leaf(alloc, Tree::End, 0, behind)),
+        Some(beyond) => joined(items, leaf(alloc, Tree::End, 0, beyond)),
     }
 }
 
@@ -115,18 +115,18 @@ fn read_group(
         });
     }
     let branches = read_branches(alloc, text, at + 2, levels - 1)?;
-    match after(text, branches.behind, b"\\)") {
+    match after(text, branches.beyond, b"\\)") {
         None => Err(PatternFault {
             kind: FaultKind::UnclosedGroup,
             at,
         }),
-        Some(behind) => {
+        Some(beyond) => {
             let inside = any_of(branches);
             Ok(Piece {
                 tree: inside.tree,
                 positions: inside.positions,
                 height: inside.height + 1,
-                behind,
+                beyond,
             })
         }
     }
@@ -208,14 +208,14 @@ fn read_item(
         IsRefused (HasNoItems p levels (drop at text.now)) (IsShownIn text.now fault) fault) }
 {
     let mut piece = read_atom(alloc, text, at, levels)?;
-    'duplications: while let Some((counts, behind)) = read_duplication(text, piece.behind)? {
+    'duplications: while let Some((counts, beyond)) = read_duplication(text, piece.beyond)? {
         if piece.height == levels {
             return Err(PatternFault {
                 kind: FaultKind::TooDeep,
-                at: piece.behind,
+                at: piece.beyond,
             });
         }
-        piece = repeated(alloc, piece, counts, behind)?;
+        piece = repeated(alloc, piece, counts, beyond)?;
     }
     Ok(piece)
 }
@@ -237,8 +237,8 @@ fn read_branch(
         IsRefused (HasNoItems First levels (drop from text.now)) (IsShownIn text.now fault) fault) }
 {
     let mut items = read_lead(alloc, text, from)?;
-    'items: while has_item(text, items.behind) {
-        let piece = read_item(alloc, text, items.behind, levels)?;
+    'items: while has_item(text, items.beyond) {
+        let piece = read_item(alloc, text, items.beyond, levels)?;
         items = joined(items, piece)?;
     }
     let all = read_tail(alloc, text, items)?;
@@ -263,8 +263,8 @@ fn read_branches(
     let none = no_pieces(alloc, from);
     let first = read_branch(alloc, text, from, levels)?;
     let mut branches = joined(none, first)?;
-    'branches: while let Some(behind) = after(text, branches.behind, b"\\|") {
-        let branch = read_branch(alloc, text, behind, levels)?;
+    'branches: while let Some(beyond) = after(text, branches.beyond, b"\\|") {
+        let branch = read_branch(alloc, text, beyond, levels)?;
         branches = joined(branches, branch)?;
     }
     Ok(branches)
@@ -273,15 +273,15 @@ fn read_branches(
 /// The basic regular expression that the whole text spells.
 pub(crate) fn read_whole(alloc: Option<Global>, text: &[u8]) -> Result<Piece, PatternFault>
     ensures read { IfOk result
-        (λ piece. (e : Expression) × IsSpelled Basic text.now e × IsTold alloc piece e) }
+        (λ piece. (e : Expression) × IsSpelled Basic text.now e × IsReported alloc piece e) }
     ensures refused { IfErr result
         (λ fault. (fault ≡ record { kind = FaultKind.Memory; at = 0 }) ⊎ IsNoBasic text.now fault) }
 {
     let branches = read_branches(alloc, text, 0, MOST_LEVELS)?;
-    if branches.behind < text.len() {
+    if branches.beyond < text.len() {
         return Err(PatternFault {
             kind: FaultKind::UnopenedGroup,
-            at: branches.behind,
+            at: branches.beyond,
         });
     }
     Ok(any_of(branches))

@@ -134,11 +134,11 @@ fn skip_hyphen(cursor: &mut Cursor) -> Option<usize>
         (Begins (codes "-") (left cursor.old) → Begins (codes "-]") (left cursor.old))) }
 {
     let hyphen = cursor.place();
-    let mut behind = *cursor;
-    if !behind.skip(b"-") || behind.peek() == Some(b']') {
+    let mut beyond = *cursor;
+    if !beyond.skip(b"-") || beyond.peek() == Some(b']') {
         return None;
     }
-    *cursor = behind;
+    *cursor = beyond;
     Some(hyphen)
 }
 

@@ -9,7 +9,7 @@ ghost use Rattle.re_syntax.specs.Profile.{most_levels};
 ghost use Rattle.re_syntax.specs.Spelled.{IsSpelled, SpellsNoOther};
 ghost use Rattle.re_syntax.specs.ExtendedFaults.{OpensDuplication, IsStart, HasNothingToRepeat};
 ghost use Rattle.re_syntax.specs.ExtendedFaults.{IsShownIn, IsNoExtended};
-ghost use Rattle.re_syntax.specs.Working.PieceSteps.{IsTold, IsRefused};
+ghost use Rattle.re_syntax.specs.Working.PieceSteps.{IsReported, IsRefused};
 ghost use Rattle.re_syntax.specs.Working.ExtendedSteps.{stops, IsNoSign, DuplicationStands};
 ghost use Rattle.re_syntax.specs.Working.ExtendedSteps.{HasBadInterval, MayBegin, AtomStands};
 ghost use Rattle.re_syntax.specs.Working.ExtendedSteps.{HasNoAtom, ItemStands, HasNoItems, IsNext};
@@ -70,9 +70,9 @@ fn read_duplication(text: &[u8], at: usize) -> Result<Option<(Counts, usize)>, P
         None => Ok(None),
         Some(inside) => match read_interval(text, inside, b"}") {
             None => Ok(None),
-            Some((counts, behind)) => match counts_fault(counts) {
+            Some((counts, beyond)) => match counts_fault(counts) {
                 Some(kind) => Err(PatternFault { kind, at }),
-                None => Ok(Some((counts, behind))),
+                None => Ok(Some((counts, beyond))),
             },
         },
     }
@@ -123,18 +123,18 @@ fn read_group(
         });
     }
     let branches = read_branches(alloc, text, at + 1, true, levels - 1)?;
-    match after(text, branches.behind, b")") {
+    match after(text, branches.beyond, b")") {
         None => Err(PatternFault {
             kind: FaultKind::UnclosedGroup,
             at,
         }),
-        Some(behind) => {
+        Some(beyond) => {
             let inside = any_of(branches);
             Ok(Piece {
                 tree: inside.tree,
                 positions: inside.positions,
                 height: inside.height + 1,
-                behind,
+                beyond,
             })
         }
     }
@@ -188,14 +188,14 @@ fn read_item(
         fault) }
 {
     let mut piece = read_atom(alloc, text, at, in_group, levels)?;
-    'duplications: while let Some((counts, behind)) = read_duplication(text, piece.behind)? {
+    'duplications: while let Some((counts, beyond)) = read_duplication(text, piece.beyond)? {
         if piece.height == levels {
             return Err(PatternFault {
                 kind: FaultKind::TooDeep,
-                at: piece.behind,
+                at: piece.beyond,
             });
         }
-        piece = repeated(alloc, piece, counts, behind)?;
+        piece = repeated(alloc, piece, counts, beyond)?;
     }
     Ok(piece)
 }
@@ -219,8 +219,8 @@ fn read_next(
         IsRefused (HasNoItems in_group levels (drop at text.now)) (IsShownIn text.now fault)
         fault) }
 {
-    if let Some(behind) = after(text, at, b"^") {
-        return Ok(leaf(alloc, Tree::Begin, 0, behind));
+    if let Some(beyond) = after(text, at, b"^") {
+        return Ok(leaf(alloc, Tree::Begin, 0, beyond));
     }
     if opens_duplication(text, at) {
         return Err(PatternFault {
@@ -250,8 +250,8 @@ fn read_branch(
         fault) }
 {
     let mut items = no_pieces(alloc, from);
-    'items: while !stops_at(text, items.behind, in_group) {
-        let piece = read_next(alloc, text, items.behind, in_group, levels)?;
+    'items: while !stops_at(text, items.beyond, in_group) {
+        let piece = read_next(alloc, text, items.beyond, in_group, levels)?;
         items = joined(items, piece)?;
     }
     Ok(all_of(items))
@@ -278,8 +278,8 @@ fn read_branches(
     let none = no_pieces(alloc, from);
     let first = read_branch(alloc, text, from, in_group, levels)?;
     let mut branches = joined(none, first)?;
-    'branches: while let Some(behind) = after(text, branches.behind, b"|") {
-        let branch = read_branch(alloc, text, behind, in_group, levels)?;
+    'branches: while let Some(beyond) = after(text, branches.beyond, b"|") {
+        let branch = read_branch(alloc, text, beyond, in_group, levels)?;
         branches = joined(branches, branch)?;
     }
     Ok(branches)
@@ -288,7 +288,7 @@ fn read_branches(
 /// The extended regular expression that the whole text spells.
 pub(crate) fn read_whole(alloc: Option<Global>, text: &[u8]) -> Result<Piece, PatternFault>
     ensures read { IfOk result
-        (λ piece. (e : Expression) × IsSpelled Extended text.now e × IsTold alloc piece e) }
+        (λ piece. (e : Expression) × IsSpelled Extended text.now e × IsReported alloc piece e) }
     ensures refused { IfErr result
         (λ fault. (fault ≡ record { kind = FaultKind.Memory; at = 0 }) ⊎
         IsNoExtended text.now fault) }

@@ -63,8 +63,8 @@ fn read_greatest(text: &[u8], comma: usize, closing: &[u8]) -> Option<(Counts, u
     ensures { MatchOption result (HasNoGreatest closing.now (drop comma text.now))
         (λ found. GreatestStands closing.now text.now comma found.0 found.1) }
 {
-    let (greatest, behind) = read_number(text, comma)?;
-    let end = after(text, behind, closing)?;
+    let (greatest, beyond) = read_number(text, comma)?;
+    let end = after(text, beyond, closing)?;
     let most = Some(greatest);
     Some((Counts { least: 0, most }, end))
 }
@@ -80,20 +80,20 @@ pub fn read_interval(text: &[u8], at: usize, closing: &[u8]) -> Option<(Counts, 
     if let Some(comma) = after(text, at, b",") {
         return read_greatest(text, comma, closing);
     }
-    let (least, behind) = read_number(text, at)?;
-    if let Some(end) = after(text, behind, closing) {
+    let (least, beyond) = read_number(text, at)?;
+    if let Some(end) = after(text, beyond, closing) {
         let most = Some(least);
         return Some((Counts { least, most }, end));
     }
-    let comma = after(text, behind, b",")?;
+    let comma = after(text, beyond, b",")?;
     match read_number(text, comma) {
         None => {
             let end = after(text, comma, closing)?;
             Some((Counts { least, most: None }, end))
         }
-        Some((greatest, behind)) => {
+        Some((greatest, beyond)) => {
             let most = Some(greatest);
-            let end = after(text, behind, closing)?;
+            let end = after(text, beyond, closing)?;
             Some((Counts { least, most }, end))
         }
     }

@@ -9,7 +9,7 @@ ghost use Rattle.re_syntax.specs.Sets.{members};
 ghost use Rattle.re_syntax.specs.declared.fault.FaultKind.{FaultKind};
 ghost use Rattle.re_syntax.specs.Faults.{IsNoBracket};
 ghost use Rattle.re_syntax.specs.Profile.{most_levels};
-ghost use Rattle.re_syntax.specs.Working.PieceSteps.{meant_bytes, Keeps, KeepsAll, IsTold, AreTold};
+ghost use Rattle.re_syntax.specs.Working.PieceSteps.{meant_bytes, Keeps, KeepsAll, IsReported, AreReported};
 ghost use Rattle.re_syntax.specs.Working.PieceSteps.{IsBracketPiece, IsRepeated, IsJoined};
 
 use crate::bracket::read_bracket;
@@ -31,7 +31,7 @@ pub struct Piece {
     /// How deep groups and duplications are nested in it.
     pub height: usize,
     /// The place after it.
-    pub behind: usize,
+    pub beyond: usize,
 }
 
 /// Items or branches that were read.
@@ -44,7 +44,7 @@ pub struct Pieces {
     /// The greatest height of one of them.
     pub height: usize,
     /// The place after the last of them.
-    pub behind: usize,
+    pub beyond: usize,
 }
 
 /// The bytes that a byte means outside brackets and escapes: a period means any byte but NUL, any
@@ -60,31 +60,31 @@ pub fn meant_by(byte: u8) -> ByteSet
 }
 
 /// The piece of a tree without parts that has `count` positions, up to a place.
-pub fn leaf(alloc: Option<Global>, tree: Tree, count: usize, behind: usize) -> Piece
+pub fn leaf(alloc: Option<Global>, tree: Tree, count: usize, beyond: usize) -> Piece
     requires { count ≡ positions (expression_of tree) }
-    ensures told { (e : Expression) → expression_of tree ≡ e → IsTold alloc result e }
+    ensures reported { (e : Expression) → expression_of tree ≡ e → IsReported alloc result e }
     ensures height { result.height ≡ 0 }
-    ensures place { result.behind ≡ behind }
+    ensures place { result.beyond ≡ beyond }
 {
     Piece {
         tree: alloc.map(|_| tree),
         positions: count,
         height: 0,
-        behind,
+        beyond,
     }
 }
 
 /// No pieces yet, at a place.
 pub fn no_pieces(alloc: Option<Global>, at: usize) -> Pieces
-    ensures told { AreTold alloc result [] }
+    ensures reported { AreReported alloc result [] }
     ensures height { result.height ≡ 0 }
-    ensures place { result.behind ≡ at }
+    ensures place { result.beyond ≡ at }
 {
     Pieces {
         trees: alloc.map(Vec::new),
         positions: 0,
         height: 0,
-        behind: at,
+        beyond: at,
     }
 }
 
@@ -98,8 +98,8 @@ pub fn read_bracket_atom(
     ensures read { IfOk result (IsBracketPiece alloc text.now at) }
     ensures refused { IfErr result (IsNoBracket text.now at) }
 {
-    let (tree, behind) = read_bracket(text, at)?;
-    Ok(leaf(alloc, tree, 1, behind))
+    let (tree, beyond) = read_bracket(text, at)?;
+    Ok(leaf(alloc, tree, 1, beyond))
 }
 
 /// How often a repeated part is written out: its greatest count, or where it has none its least
@@ -141,10 +141,10 @@ pub fn repeated(
     alloc: Option<Global>,
     piece: Piece,
     counts: Counts,
-    behind: usize,
+    beyond: usize,
 ) -> Result<Piece, PatternFault>
     requires { piece.height < most_levels }
-    ensures made { IfOk result (IsRepeated alloc piece counts behind) }
+    ensures made { IfOk result (IsRepeated alloc piece counts beyond) }
     ensures refused { IfErr result (λ fault. fault ≡ record { kind = FaultKind.Memory; at = 0 }) }
 {
     let tree = repeated_tree(alloc, piece.tree, counts)?;
@@ -152,7 +152,7 @@ pub fn repeated(
         tree,
         positions: copies_of(counts).saturating_mul(piece.positions),
         height: piece.height + 1,
-        behind,
+        beyond,
     })
 }
 
@@ -188,7 +188,7 @@ pub fn joined(pieces: Pieces, piece: Piece) -> Result<Pieces, PatternFault>
         trees,
         positions: pieces.positions.saturating_add(piece.positions),
         height: pieces.height.max(piece.height),
-        behind: piece.behind,
+        beyond: piece.beyond,
     })
 }
 
@@ -208,30 +208,30 @@ fn choice_of(mut branches: Vec<Tree>) -> Tree
 
 /// The branches of an expression as one piece.
 pub fn any_of(branches: Pieces) -> Piece
-    ensures told { (alloc : Option Global) (es : List Expression) → AreTold alloc branches es →
-        IsTold alloc result (choice es) }
+    ensures reported { (alloc : Option Global) (es : List Expression) → AreReported alloc branches es →
+        IsReported alloc result (choice es) }
     ensures height { result.height ≡ branches.height }
-    ensures place { result.behind ≡ branches.behind }
+    ensures place { result.beyond ≡ branches.beyond }
 {
     Piece {
         tree: branches.trees.map(choice_of),
         positions: branches.positions,
         height: branches.height,
-        behind: branches.behind,
+        beyond: branches.beyond,
     }
 }
 
 /// The items of a branch as one piece.
 pub fn all_of(items: Pieces) -> Piece
-    ensures told { (alloc : Option Global) (es : List Expression) → AreTold alloc items es →
-        IsTold alloc result (sequence es) }
+    ensures reported { (alloc : Option Global) (es : List Expression) → AreReported alloc items es →
+        IsReported alloc result (sequence es) }
     ensures height { result.height ≡ items.height }
-    ensures place { result.behind ≡ items.behind }
+    ensures place { result.beyond ≡ items.beyond }
 {
     Piece {
         tree: items.trees.map(sequence_of),
         positions: items.positions,
         height: items.height,
-        behind: items.behind,
+        beyond: items.beyond,
     }
 }

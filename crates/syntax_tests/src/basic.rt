@@ -84,7 +84,7 @@ fn faults() -> &'static [(&'static [u8], FaultKind, usize)] {
 }
 
 #[test]
-fn a_refused_text_is_told_with_its_first_fault(rt: HostRuntime) {
+fn a_refused_text_is_reported_with_its_first_fault(rt: HostRuntime) {
     for row in faults() {
         let (text, kind, at) = *row;
         assert!(rt; is_refused(&rt, text, kind, at), "{text:?}");
@@ -103,7 +103,7 @@ fn deep() -> &'static [Copied] {
 }
 
 /// Whether the text of the copies is read, or has its fault.
-fn is_told(rt: &HostRuntime, row: Copied) -> Result<bool, Fail> {
+fn is_reported(rt: &HostRuntime, row: Copied) -> Result<bool, Fail> {
     let (first, count, second, others, last, fault) = row;
     let text = copies(rt, first, count, second, others, last)?;
     Ok(match fault {
@@ -117,7 +117,7 @@ fn groups_and_duplications_stand_256_deep(rt: HostRuntime) -> Result<(), Fail> {
     let deepest = copies(&rt, b"\\(", 256, b"\\)", 256, b"")?;
     assert!(rt; is_read(&rt, &deepest, &[Empty]));
     for row in deep() {
-        assert!(rt; is_told(&rt, *row)?, "{:?}, {}", row.0, row.1);
+        assert!(rt; is_reported(&rt, *row)?, "{:?}, {}", row.0, row.1);
     }
     Ok(())
 }

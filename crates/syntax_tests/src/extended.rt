@@ -81,7 +81,7 @@ fn faults() -> &'static [(&'static [u8], FaultKind, usize)] {
 }
 
 #[test]
-fn a_refused_text_is_told_with_its_first_fault(rt: HostRuntime) {
+fn a_refused_text_is_reported_with_its_first_fault(rt: HostRuntime) {
     for row in faults() {
         let (text, kind, at) = *row;
         assert!(rt; is_refused(&rt, text, kind, at), "{text:?}");

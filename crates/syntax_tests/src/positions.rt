@@ -24,7 +24,7 @@ fn positions_are_those_of_intervals_written_out(rt: HostRuntime) {
 }
 
 #[test]
-fn a_fault_is_told_in_place_of_a_count(rt: HostRuntime) {
+fn a_fault_is_reported_in_place_of_a_count(rt: HostRuntime) {
     let kind = FaultKind::UnclosedGroup;
     assert_eq!(rt;
         extended_positions(b"a(b"),

@@ -28,8 +28,8 @@ fn has_exactly(set: &ByteSet, first: u8, last: u8) -> bool {
 
 /// The place after the nodes of the tree, where they are at a place and the tree is at most this
 /// deep.
-#[cycle(nodes_behind)]
-fn nodes_behind(tree: &Tree, shapes: &[Shape], at: usize, depth: u16) -> Option<usize> {
+#[cycle(nodes_after)]
+fn nodes_after(tree: &Tree, shapes: &[Shape], at: usize, depth: u16) -> Option<usize> {
     if depth == 0 {
         return None;
     }
@@ -43,19 +43,19 @@ fn nodes_behind(tree: &Tree, shapes: &[Shape], at: usize, depth: u16) -> Option<
             if *least != low || *most != high {
                 return None;
             }
-            return nodes_behind(part, shapes, at + 1, depth - 1);
+            return nodes_after(part, shapes, at + 1, depth - 1);
         }
         (Tree::Cat(parts), Shape::Cat(count)) => {
             if parts.len() != count {
                 return None;
             }
-            return all_nodes_behind(parts, shapes, at + 1, depth - 1);
+            return all_nodes_after(parts, shapes, at + 1, depth - 1);
         }
         (Tree::Alt(branches), Shape::Alt(count)) => {
             if branches.len() != count {
                 return None;
             }
-            return all_nodes_behind(branches, shapes, at + 1, depth - 1);
+            return all_nodes_after(branches, shapes, at + 1, depth - 1);
         }
         _ => false,
     };
@@ -63,21 +63,21 @@ fn nodes_behind(tree: &Tree, shapes: &[Shape], at: usize, depth: u16) -> Option<
 }
 
 /// The same for trees in order.
-#[cycle(nodes_behind)]
-fn all_nodes_behind(trees: &[Tree], shapes: &[Shape], from: usize, depth: u16) -> Option<usize> {
+#[cycle(nodes_after)]
+fn all_nodes_after(trees: &[Tree], shapes: &[Shape], from: usize, depth: u16) -> Option<usize> {
     let mut at = from;
     for tree in trees {
         if depth == 0 {
             return None;
         }
-        at = nodes_behind(tree, shapes, at, depth - 1)?;
+        at = nodes_after(tree, shapes, at, depth - 1)?;
     }
     Some(at)
 }
 
 /// Whether a tree is of these nodes.
 pub fn is_tree(tree: &Tree, shapes: &[Shape]) -> bool {
-    nodes_behind(tree, shapes, 0, 1000) == Some(shapes.len())
+    nodes_after(tree, shapes, 0, 1000) == Some(shapes.len())
 }
 
 /// A text and its number of copies, another text and its number of copies, and a last text; the

@@ -46,23 +46,23 @@ fn assert_next(rt: &impl Abort, lines: &mut Lines<Tally<&[u8]>>, wanted: &[u8]) 
 
 /// Reads the lines of a text while the N-th request for memory is refused; whether one was.
 fn assert_refused(rt: &impl Abort, alloc: Global, text: &[u8], n: usize) -> Result<bool, Fail> {
-    let mut told = false;
+    let mut reported = false;
     refuse(alloc, n)?;
     match Lines::new(alloc, Tally::new(text)) {
         Err(reader) => {
-            told = true;
+            reported = true;
             assert!(rt; reader.into_inner() == text, "the reader comes back");
         }
         Ok(mut lines) => {
             for wanted in text.split(|byte| *byte == b'\n') {
-                told |= assert_next(rt, &mut lines, wanted);
+                reported |= assert_next(rt, &mut lines, wanted);
             }
             assert_eq!(rt; lines.next_line(), Ok(false));
             assert_eq!(rt; lines.held(), 0);
         }
     }
     let refused = was_refused(alloc);
-    assert_eq!(rt; told, refused, "{n}");
+    assert_eq!(rt; reported, refused, "{n}");
     Ok(refused)
 }
 

@@ -9,7 +9,7 @@ use Rattle.grep_core.specs.Output.{written}
 use Rattle.grep_core.specs.Row.{output_line}
 use Rattle.grep_core.specs.Written.{Writes}
 use Rattle.grep_core.proofs.lemmas.Exist.{StatusOf-exist}
-use Rattle.grep_session.proofs.lemmas.Writing.{if_ok, writes_err, writes_behind, stops_before}
+use Rattle.grep_session.proofs.lemmas.Writing.{if_ok, writes_err, writes_after, stops_before}
 use Rattle.grep_live.specs.Marks.{Watched}
 use Rattle.grep_live.specs.Changes.{all_after}
 use Rattle.grep_live.specs.Rows.{changes_rows, total_row, page_rows, all_hits}
@@ -68,7 +68,7 @@ module _ {W : Type 0} (contents : W → Option Text) (failures : W → ℕ) wher
           catches_up = t.catches_up;
           follows = (λ view f. all_follow t.es before.inputs t.are_meant before.inputs.files (all_after t.changes view) (t.catches_up view f));
         },
-        writes_behind contents failures [] a b c rows (status_line status ∷ []) r t.wrote (one_line b c (status_line status) r w),
+        writes_after contents failures [] a b c rows (status_line status ∷ []) r t.wrote (one_line b c (status_line status) r w),
         either_way r t.leaves,
       )
 
@@ -90,5 +90,5 @@ module _ {W : Type 0} (contents : W → Option Text) (failures : W → ℕ) wher
       let rows = total_row (min (length all) (2 ^ 64 - 1)) ∷ page_rows first count all in (
         rows ++ status_line status ∷ [],
         record { es = t.es; are_meant = t.are_meant; view = t.view; are_hits = t.are_hits; status = status; is_status = t.is_status; is = refl },
-        writes_behind contents failures [] a b c rows (status_line status ∷ []) r t.wrote (one_line b c (status_line status) r w),
+        writes_after contents failures [] a b c rows (status_line status ∷ []) r t.wrote (one_line b c (status_line status) r w),
       )

@@ -25,7 +25,7 @@ use Rattle.grep_cmd.specs.declared.script.reply.Answer.{Answer}
 use Rattle.grep_cmd.specs.declared.script.reply.Answer.TheVariants.{Accepted, Refused, Truncated}
 use Rattle.grep_live.specs.Marks.{Watched}
 use Rattle.grep_live.specs.Rows.{changes_rows, total_row, page_row, page_rows, all_hits}
-use Rattle.grep_cmd.specs.Show.{AreShown, behind, status_line}
+use Rattle.grep_cmd.specs.Show.{AreShown, beyond, status_line}
 use Rattle.grep_cmd.specs.Lists.{ReportsChanges, ReportsPage}
 use Rattle.grep_cmd.specs.Script.{Step, counts, IsStep, line_command}
 use Rattle.grep_cmd.specs.Replies.{RepliesTo, SearchesAtMost, reply_to, truncated, is_refusal}
@@ -71,18 +71,18 @@ status_after rows s lines is none = ap (list_any is_refusal) is ∙ none_joined 
 pub shown_is_no_refusal : (inputs : Inputs) (shown : List Text) → AreShown inputs shown → list_any is_refusal shown ≡ false
 shown_is_no_refusal inputs shown s =
     let out = none_mapped is_refusal (λ line. codes "o " ++ line) s.out (λ line. refl) in
-    let told = none_mapped is_refusal (λ line. codes "e " ++ line) s.told (λ line. refl) in
-    status_after (behind (codes "o ") s.out ++ behind (codes "e ") s.told) s.status shown
-    (s.is ∙ sym (append_assoc (behind (codes "o ") s.out) (behind (codes "e ") s.told) (status_line s.status ∷ [])))
-    (none_joined is_refusal (behind (codes "o ") s.out) (behind (codes "e ") s.told) out told)
+    let reported = none_mapped is_refusal (λ line. codes "e " ++ line) s.reported (λ line. refl) in
+    status_after (beyond (codes "o ") s.out ++ beyond (codes "e ") s.reported) s.status shown
+    (s.is ∙ sym (append_assoc (beyond (codes "o ") s.out) (beyond (codes "e ") s.reported) (status_line s.status ∷ [])))
+    (none_joined is_refusal (beyond (codes "o ") s.out) (beyond (codes "e ") s.reported) out reported)
 
-pub changes_is_no_refusal : (before after : Watched) (told : List Text) → ReportsChanges before after told → list_any is_refusal told ≡ false
-changes_is_no_refusal before after told t = status_after (changes_rows 0 t.changes) t.status told t.is (none_changes is_refusal (λ hit. refl) (λ k change. refl) 0 t.changes)
+pub changes_is_no_refusal : (before after : Watched) (reported : List Text) → ReportsChanges before after reported → list_any is_refusal reported ≡ false
+changes_is_no_refusal before after reported t = status_after (changes_rows 0 t.changes) t.status reported t.is (none_changes is_refusal (λ hit. refl) (λ k change. refl) 0 t.changes)
 
-pub page_is_no_refusal : (inputs : Inputs) (first count : ℕ) (told : List Text) → ReportsPage inputs first count told → list_any is_refusal told ≡ false
-page_is_no_refusal inputs first count told t =
+pub page_is_no_refusal : (inputs : Inputs) (first count : ℕ) (reported : List Text) → ReportsPage inputs first count reported → list_any is_refusal reported ≡ false
+page_is_no_refusal inputs first count reported t =
     let all = all_hits 0 t.view in
-    status_after (total_row (min (length all) (2 ^ 64 - 1)) ∷ page_rows first count all) t.status told t.is (none_mapped is_refusal page_row (take count (drop first all)) (λ row. refl))
+    status_after (total_row (min (length all) (2 ^ 64 - 1)) ∷ page_rows first count all) t.status reported t.is (none_mapped is_refusal page_row (take count (drop first all)) (λ row. refl))
 
 pub answered_in_time : {T : Type 0} (answer : Result T EditFault) → answer_for answer ≢ Truncated
 answered_in_time (Ok done) = λ e. let no : ⊥ = cc in no

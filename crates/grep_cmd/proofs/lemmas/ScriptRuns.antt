@@ -27,7 +27,7 @@ use Rattle.grep_cmd.specs.declared.script.ScriptEnd.{ScriptEnd}
 use Rattle.grep_cmd.specs.declared.script.ScriptEnd.TheVariants.{Clean, Refused}
 use Rattle.grep_cmd.specs.Script.{is_truncated, IsBegun}
 use Rattle.grep_cmd.specs.Replies.{truncated, is_refusal, end_for, AnswersScript, ReadsScript, BeginsScript, GaveLines, SearchesTouched, StopsWriting, ScriptGives}
-use Rattle.grep_cmd.specs.Working.Answered.{HasRead, ReadsNext, FlushesFor, FlushesBehind, DoesStep, WantsLines, LosesLines, AnswersLine, AnsweredSoFar}
+use Rattle.grep_cmd.specs.Working.Answered.{HasRead, ReadsNext, FlushesFor, FlushesAfter, DoesStep, WantsLines, LosesLines, AnswersLine, AnsweredSoFar}
 use Rattle.grep_cmd.proofs.lemmas.ScriptSteps.{done_push, done_steps, done_alone, replies_push, work_none, work_push, end_kept, end_refused}
 
 abbrev script_of : List Text → Ending → File
@@ -330,27 +330,27 @@ module _ {W : Type 0} (contents : W → Option Text) (failures : W → ℕ) (has
   stops_on_same bytes first second = subst (StopsWithin contents failures old new) (append-nil bytes) (stops_later contents failures old mid new bytes [] first second)
 
   -- what was buffered was sent after a run, or that failed
-  pub sends_behind : (ended result : Result ScriptEnd ScriptFault) → ScriptGives contents failures has_read known left failed_before failed begun spent old mid ended → FlushesBehind contents failures mid new ended result
+  pub sends_after : (ended result : Result ScriptEnd ScriptFault) → ScriptGives contents failures has_read known left failed_before failed begun spent old mid ended → FlushesAfter contents failures mid new ended result
       → ScriptGives contents failures has_read known left failed_before failed begun spent old new result
-  sends_behind (Ok end) result e (inl (sent, is)) =
+  sends_after (Ok end) result e (inl (sent, is)) =
       subst (ScriptGives contents failures has_read known left failed_before failed begun spent old new) (sym is)
       (record { file = e.file; reads = e.reads; is_whole = e.is_whole; replies = e.replies; answers = e.answers; work = e.work; goes = goes_on_same (written [] e.replies) e.goes sent; ended = e.ended })
-  sends_behind (Ok end) result e (inr (stops, is)) =
+  sends_after (Ok end) result e (inr (stops, is)) =
       subst (ScriptGives contents failures has_read known left failed_before failed begun spent old new) (sym is)
       (record { file = e.file; reads = inr e.reads; replies = e.replies; rest = []; answers = e.answers; work = e.work; stops = stops_on_same (written [] e.replies) e.goes stops })
-  sends_behind (Err Read) result e (inl (sent, is)) =
+  sends_after (Err Read) result e (inl (sent, is)) =
       subst (ScriptGives contents failures has_read known left failed_before failed begun spent old new) (sym is)
       (record { file = e.file; reads = e.reads; is_broken = e.is_broken; replies = e.replies; rest = e.rest; answers = e.answers; cut_short = e.cut_short; work = e.work; goes = goes_on_same (written [] e.replies) e.goes sent })
-  sends_behind (Err Read) result e (inr (stops, is)) =
+  sends_after (Err Read) result e (inr (stops, is)) =
       subst (ScriptGives contents failures has_read known left failed_before failed begun spent old new) (sym is)
       (record { file = e.file; reads = inr e.reads; replies = e.replies; rest = e.rest; answers = e.answers; work = e.work; stops = stops_on_same (written [] e.replies) e.goes stops })
-  sends_behind (Err Memory) result e (inl (sent, is)) =
+  sends_after (Err Memory) result e (inl (sent, is)) =
       subst (ScriptGives contents failures has_read known left failed_before failed begun spent old new) (sym is)
       (record { file = e.file; reads = e.reads; replies = e.replies; done = e.done; rest = e.rest; is_file = e.is_file; answers = e.answers; first = e.first; others = e.others; is_rest = e.is_rest; is_begun = e.is_begun; were_read = e.were_read; work = e.work; goes = goes_on_same (written [] e.replies) e.goes sent })
-  sends_behind (Err Memory) result e (inr (stops, is)) =
+  sends_after (Err Memory) result e (inr (stops, is)) =
       subst (ScriptGives contents failures has_read known left failed_before failed begun spent old new) (sym is)
       (record { file = e.file; reads = inl e.reads; replies = e.replies; rest = e.rest; answers = e.answers; work = e.work; stops = stops_on_same (written [] e.replies) e.goes stops })
-  sends_behind (Err Write) result e (same, is) =
+  sends_after (Err Write) result e (same, is) =
       subst (ScriptGives contents failures has_read known left failed_before failed begun spent old new) (sym is) (subst (λ w. StopsWriting contents failures has_read known left failed_before failed begun spent old w) (sym same) e)
 
 -- ---- what the reader gave

@@ -9,56 +9,56 @@ use Rattle.grep_core.specs.Row.{output_line}
 use Rattle.grep_core.specs.Written.{GoesOut, StopsWithin, Writes}
 use Rattle.grep_core.proofs.lemmas.RowLemmas.{stops_early, stops_later, writes_last}
 use Rattle.grep_core.proofs.lemmas.WriterLaws.{written-append}
-use Rattle.grep_session.specs.Headline.{GrepGives, TellsInputs}
-use Rattle.grep_cmd.specs.Show.{status_line, behind, Shows}
+use Rattle.grep_session.specs.Headline.{GrepGives, ReportsAllInputs}
+use Rattle.grep_cmd.specs.Show.{status_line, beyond, Shows}
 use Rattle.grep_session.proofs.lemmas.HeadlineLaws.{one_report}
 use Rattle.grep_session.proofs.lemmas.Writing.{writes_err}
 
 -- a margin is as good as a beginning of each line
-behind-written : (margin : Text) (text : List Text) → written [] (behind margin text) ≡ written margin text
-behind-written margin [] = refl
-behind-written margin (line ∷ text) = ap (λ l. output_line margin line ++ l) (behind-written margin text)
+beyond-written : (margin : Text) (text : List Text) → written [] (beyond margin text) ≡ written margin text
+beyond-written margin [] = refl
+beyond-written margin (line ∷ text) = ap (λ l. output_line margin line ++ l) (beyond-written margin text)
 
 abbrev shown_of : List Text → List Text → Status → List Text
-shown_of out told status = behind (codes "o ") out ++ (behind (codes "e ") told ++ status_line status ∷ [])
+shown_of out reported status = beyond (codes "o ") out ++ (beyond (codes "e ") reported ++ status_line status ∷ [])
 
 -- the bytes of what is shown
-shown_bytes : (out told : List Text) (status : Status) → written [] (shown_of out told status) ≡ written (codes "o ") out ++ (written (codes "e ") told ++ output_line [] (status_line status))
-shown_bytes out told status =
+shown_bytes : (out reported : List Text) (status : Status) → written [] (shown_of out reported status) ≡ written (codes "o ") out ++ (written (codes "e ") reported ++ output_line [] (status_line status))
+shown_bytes out reported status =
     let line : written [] (status_line status ∷ []) ≡ output_line [] (status_line status) = append-nil (output_line [] (status_line status)) in
-    let rest : written [] (behind (codes "e ") told ++ status_line status ∷ []) ≡ written (codes "e ") told ++ output_line [] (status_line status) =
-    written-append [] (behind (codes "e ") told) (status_line status ∷ []) ∙ (λ i. behind-written (codes "e ") told i ++ line i) in
-    written-append [] (behind (codes "o ") out) (behind (codes "e ") told ++ status_line status ∷ []) ∙ (λ i. behind-written (codes "o ") out i ++ rest i)
+    let rest : written [] (beyond (codes "e ") reported ++ status_line status ∷ []) ≡ written (codes "e ") reported ++ output_line [] (status_line status) =
+    written-append [] (beyond (codes "e ") reported) (status_line status ∷ []) ∙ (λ i. beyond-written (codes "e ") reported i ++ line i) in
+    written-append [] (beyond (codes "o ") out) (beyond (codes "e ") reported ++ status_line status ∷ []) ∙ (λ i. beyond-written (codes "o ") out i ++ rest i)
 
-module _ {W : Type 0} (contents : W → Option Text) (failures : W → ℕ) (inputs : Inputs) (out told : List Text) (status : Status) (gives : GrepGives inputs out told status) where
+module _ {W : Type 0} (contents : W → Option Text) (failures : W → ℕ) (inputs : Inputs) (out reported : List Text) (status : Status) (gives : GrepGives inputs out reported status) where
   -- what was written of the lines that are shown
-  shows_with : {T E : Type 0} (a d : W) (r : Result T E) → Writes contents failures a d (written (codes "o ") out ++ (written (codes "e ") told ++ output_line [] (status_line status))) r → Shows contents failures inputs a d r
+  shows_with : {T E : Type 0} (a d : W) (r : Result T E) → Writes contents failures a d (written (codes "o ") out ++ (written (codes "e ") reported ++ output_line [] (status_line status))) r → Shows contents failures inputs a d r
   shows_with a d r w = (
-    shown_of out told status,
-    record { out = out; told = told; status = status; gives = gives; is = refl },
-    subst (λ bytes. Writes contents failures a d bytes r) (sym (shown_bytes out told status)) w,
+    shown_of out reported status,
+    record { out = out; reported = reported; status = status; gives = gives; is = refl },
+    subst (λ bytes. Writes contents failures a d bytes r) (sym (shown_bytes out reported status)) w,
   )
 
   -- the messages that were written are those that are shown
-  pub tells_same : {T E : Type 0} (b c : W) (r : Result T E) → TellsInputs contents failures inputs (codes "e ") b c r → Writes contents failures b c (written (codes "e ") told) r
-  tells_same b c r m = subst (λ text. Writes contents failures b c (written (codes "e ") text) r) (one_report inputs out m.out told m.told status m.status gives m.gives).1 m.wrote
+  pub says_same : {T E : Type 0} (b c : W) (r : Result T E) → ReportsAllInputs contents failures inputs (codes "e ") b c r → Writes contents failures b c (written (codes "e ") reported) r
+  says_same b c r m = subst (λ text. Writes contents failures b c (written (codes "e ") text) r) (one_report inputs out m.out reported m.reported status m.status gives m.gives).1 m.wrote
 
   -- a write failed within the output
   pub shows_front : {T E : Type 0} (a b : W) (r : Result T E) → IsErr r → StopsWithin contents failures a b (written (codes "o ") out) → Shows contents failures inputs a b r
   shows_front a b r is s =
-      shows_with a b r (writes_err contents failures [] a b _ r is (stops_early contents failures a b (written (codes "o ") out) (written (codes "e ") told ++ output_line [] (status_line status)) s))
+      shows_with a b r (writes_err contents failures [] a b _ r is (stops_early contents failures a b (written (codes "o ") out) (written (codes "e ") reported ++ output_line [] (status_line status)) s))
 
   module _ (a b : W) (went : GoesOut contents failures a b (written (codes "o ") out)) where
     -- a write failed within the messages
-    pub shows_middle : {T E : Type 0} (c : W) (r : Result T E) → IsErr r → StopsWithin contents failures b c (written (codes "e ") told) → Shows contents failures inputs a c r
+    pub shows_middle : {T E : Type 0} (c : W) (r : Result T E) → IsErr r → StopsWithin contents failures b c (written (codes "e ") reported) → Shows contents failures inputs a c r
     shows_middle c r is s =
         shows_with a c r
-        (writes_err contents failures [] a c _ r is (stops_later contents failures a b c (written (codes "o ") out) (written (codes "e ") told ++ output_line [] (status_line status)) went
-        (stops_early contents failures b c (written (codes "e ") told) (output_line [] (status_line status)) s)))
+        (writes_err contents failures [] a c _ r is (stops_later contents failures a b c (written (codes "o ") out) (written (codes "e ") reported ++ output_line [] (status_line status)) went
+        (stops_early contents failures b c (written (codes "e ") reported) (output_line [] (status_line status)) s)))
 
     -- output and messages were written, and the status as the last call returns
-    pub shows_all : {T E : Type 0} (c d : W) (r : Result T E) → GoesOut contents failures b c (written (codes "e ") told) → Writes contents failures c d (output_line [] (status_line status)) r → Shows contents failures inputs a d r
+    pub shows_all : {T E : Type 0} (c d : W) (r : Result T E) → GoesOut contents failures b c (written (codes "e ") reported) → Writes contents failures c d (output_line [] (status_line status)) r → Shows contents failures inputs a d r
     shows_all c d r g w =
         shows_with a d r
-        (writes_last contents failures a b d (written (codes "o ") out) (written (codes "e ") told ++ output_line [] (status_line status)) r went
-        (writes_last contents failures b c d (written (codes "e ") told) (output_line [] (status_line status)) r g w))
+        (writes_last contents failures a b d (written (codes "o ") out) (written (codes "e ") reported ++ output_line [] (status_line status)) r went
+        (writes_last contents failures b c d (written (codes "e ") reported) (output_line [] (status_line status)) r g w))

@@ -83,9 +83,9 @@ module _ {W : Type 0} (contents : W → Option Text) (failures : W → ℕ) (old
 
   -- after a run that ended so what was buffered was sent, or that failed; where a write failed
   -- before, none is tried again
-  abbrev pub FlushesBehind : Result ScriptEnd ScriptFault → Result ScriptEnd ScriptFault → Type 0
-  FlushesBehind (Err Write) result = (new ≡ old) × (result ≡ Err Write)
-  FlushesBehind ended result =
+  abbrev pub FlushesAfter : Result ScriptEnd ScriptFault → Result ScriptEnd ScriptFault → Type 0
+  FlushesAfter (Err Write) result = (new ≡ old) × (result ≡ Err Write)
+  FlushesAfter ended result =
       (GoesOut contents failures old new [] × (result ≡ ended)) ⊎
       (StopsWithin contents failures old new [] × (result ≡ Err Write))
 

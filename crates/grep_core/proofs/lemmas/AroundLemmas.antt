@@ -16,14 +16,14 @@ use Rattle.grep_core.specs.Files.{Selected}
 use Rattle.grep_core.specs.Around.{group_separator, IsShown, BeginsGroup, Groups}
 use Rattle.grep_core.specs.Output.{around, shown_number}
 use Rattle.grep_core.specs.Working.Requests.{name_shown}
-use Rattle.grep_core.specs.Working.Groups.{behind_rows}
-use Rattle.grep_core.specs.Working.Progress.{progress_from, next_shown, with_waiting, behind_line, last_of, rows_around, row_by, rows_at}
+use Rattle.grep_core.specs.Working.Groups.{rows_after}
+use Rattle.grep_core.specs.Working.Progress.{progress_from, next_shown, with_waiting, after_line, last_of, rows_around, row_by, rows_at}
 use Rattle.grep_core.proofs.lemmas.ChooseLaws.{EachGives-append}
 use Rattle.grep_core.proofs.lemmas.Decided.{dec_selected}
 use Rattle.grep_core.proofs.lemmas.Verdicts.{decided_yes, decided_no}
 use Rattle.grep_core.proofs.lemmas.MoreLines.{enumerate_from-append}
 use Rattle.grep_core.proofs.lemmas.ShownLemmas.{EachGives-placed, EachGives-placed_nothing, shown_more, shown_passed, shown_cases, shown_near, begins_from, begins_at, begins_same, shows_same}
-use Rattle.grep_core.proofs.lemmas.GroupLemmas.{behind_group, behind_none, said_before, more_nonempty, Given, groups_grown}
+use Rattle.grep_core.proofs.lemmas.GroupLemmas.{after_group, after_none, said_before, more_nonempty, Given, groups_grown}
 
 module _ (es : List Expression) (options : Options) (many : Bool) (name : Text) (context : Context) (before : Bool) where
   -- the search is at this progress after these lines, and these rows of them are written; `before`
@@ -35,7 +35,7 @@ module _ (es : List Expression) (options : Options) (many : Bool) (name : Text) 
     pub within : p.waiting ≤ length lines
     pub front : List Text
     pub held : List Text
-    pub parted : lines ≡ front ++ held
+    pub with_parts : lines ≡ front ++ held
     pub many_held : length held ≡ p.waiting
     pub none_held : All (λ line. ¬ Selected es options line) held
     pub kept : (k : ℕ) → length front ≤ k → k < length lines → ¬ IsShown es options context lines k
@@ -44,7 +44,7 @@ module _ (es : List Expression) (options : Options) (many : Bool) (name : Text) 
     pub gap : Decides p.gap (BeginsGroup es options context lines (length front))
     pub groups : List Text
     pub given : EachGives (Given es options many name context lines) (enumerate_from 0 front) groups
-    pub written : rows ≡ behind_rows (around context) before groups
+    pub written : rows ≡ rows_after (around context) before groups
     pub shown : Decides p.shown (IsTrue before ⊎ (groups ≡ [] → ⊥))
     pub first : groups ≡ [] → p.gap ≡ true
 
@@ -56,7 +56,7 @@ module _ (es : List Expression) (options : Options) (many : Bool) (name : Text) 
     within = omega arith;
     front = [];
     held = [];
-    parted = refl;
+    with_parts = refl;
     many_held = refl;
     none_held = All-nil (λ line. ¬ Selected es options line);
     kept = λ k low high _. let bad : ⊥ = omega (arith, high) in bad;
@@ -65,7 +65,7 @@ module _ (es : List Expression) (options : Options) (many : Bool) (name : Text) 
     gap = ((λ _. tt), (λ _. refl));
     groups = [];
     given = refl;
-    written = behind_none context before;
+    written = after_none context before;
     shown = said_before before;
     first = λ _. refl;
   }
@@ -73,27 +73,27 @@ module _ (es : List Expression) (options : Options) (many : Bool) (name : Text) 
   -- lines that wait are the last of all
   held_last : (p : Progress) (lines rows : List Text) (t : Tracks p lines rows) → last_of p.waiting lines ≡ t.held
   held_last p lines rows t =
-      let front_long : length t.front ≡ length lines - p.waiting = omega (arith, ap length t.parted, length-append t.front t.held, t.many_held) in
-      ap (drop (length lines - p.waiting)) t.parted ∙ drop_at t.front t.held (length lines - p.waiting) front_long
+      let front_long : length t.front ≡ length lines - p.waiting = omega (arith, ap length t.with_parts, length-append t.front t.held, t.many_held) in
+      ap (drop (length lines - p.waiting)) t.with_parts ∙ drop_at t.front t.held (length lines - p.waiting) front_long
 
   -- the rows of these are before that of the next line
   rows_held : (p : Progress) (lines rows : List Text) (t : Tracks p lines rows) (row : Text)
       → rows_around options many name ((length lines + 1) - length (last_of p.waiting lines)) (last_of p.waiting lines) ++ row ∷ [] ≡ rows_around options many name (length t.front + 1) t.held ++ row ∷ []
   rows_held p lines rows t row =
-      let number : (length lines + 1) - length t.held ≡ length t.front + 1 = omega (arith, ap length t.parted, length-append t.front t.held) in
+      let number : (length lines + 1) - length t.held ≡ length t.front + 1 = omega (arith, ap length t.with_parts, length-append t.front t.held) in
       ap (λ w. rows_around options many name ((length lines + 1) - length w) w ++ row ∷ []) (held_last p lines rows t)
       ∙ ap (λ n. rows_around options many name n t.held ++ row ∷ []) number
 
   -- the next line is selected
   tracks_selected : (p : Progress) (lines rows : List Text) (line : Text) → Selected es options line → Tracks p lines rows
-      → Tracks (behind_line p true) (lines ++ line ∷ []) (rows ++ rows_at options many name true (next_shown p true) (last_of p.waiting lines) (length lines + 1) line)
+      → Tracks (after_line p true) (lines ++ line ∷ []) (rows ++ rows_at options many name true (next_shown p true) (last_of p.waiting lines) (length lines + 1) line)
   tracks_selected p lines rows line selected t =
       let all : List Text = lines ++ line ∷ [] in
       let one_more : length all ≡ length lines + 1 = length-append lines (line ∷ []) in
       let row : Text = row_by options many name true (length lines + 1) line in
       let separator : List Text = if p.gap then group_separator ∷ [] else [] in
       let written : List Text = rows_around options many name (length t.front + 1) t.held ++ row ∷ [] in
-      let long : length lines ≡ length t.front + length t.held = ap length t.parted ∙ length-append t.front t.held in
+      let long : length lines ≡ length t.front + length t.held = ap length t.with_parts ∙ length-append t.front t.held in
       let few : p.waiting ≤ context.before = subst (λ (c : Context). p.waiting ≤ c.before) t.same_context t.few in
       let back : (k : ℕ) → k < length t.front → IsShown es options context all k → IsShown es options context lines k = λ k below s. elim (t.missing k below) [
         | inl shown ↦ shown
@@ -107,7 +107,7 @@ module _ (es : List Expression) (options : Options) (many : Bool) (name : Text) 
         within = omega arith;
         front = all;
         held = [];
-        parted = sym (append-nil all);
+        with_parts = sym (append-nil all);
         many_held = refl;
         none_held = All-nil (λ line. ¬ Selected es options line);
         kept = λ k low high _. let bad : ⊥ = omega (arith, low, high) in bad;
@@ -117,30 +117,30 @@ module _ (es : List Expression) (options : Options) (many : Bool) (name : Text) 
         ];
         left = λ d. (
           (λ below. shown_near es options context lines line (length all + d) selected (omega (arith, one_more)) (omega (arith, subst (λ (c : Context). d < c.after) t.same_context below, one_more))),
-          (λ s. subst (λ (c : Context). d < c.after) (sym t.same_context) (omega (arith, s.on, s.behind, one_more))),
+          (λ s. subst (λ (c : Context). d < c.after) (sym t.same_context) (omega (arith, s.on, s.recent, one_more))),
         );
         gap = ((λ e. absurd (false≢true e)), (λ b. absurd (begins_at es options context all (length all) (length lines) b one_more (near (length lines) (omega (arith, long)) (omega arith)))));
         groups = t.groups ++ (separator ++ written);
-        given = groups_grown es options many name context lines t.front t.held line row t.groups p.gap t.parted t.none_held t.given back near t.gap (inl (selected, refl));
+        given = groups_grown es options many name context lines t.front t.held line row t.groups p.gap t.with_parts t.none_held t.given back near t.gap (inl (selected, refl));
         written = ap (λ w. rows ++ ((if p.gap && p.shown then group_separator ∷ [] else []) ++ w)) (rows_held p lines rows t row)
-            ∙ ap (λ r. r ++ ((if p.gap && p.shown then group_separator ∷ [] else []) ++ written)) t.written ∙ behind_group context before p.gap p.shown t.groups written t.shown t.first;
+            ∙ ap (λ r. r ++ ((if p.gap && p.shown then group_separator ∷ [] else []) ++ written)) t.written ∙ after_group context before p.gap p.shown t.groups written t.shown t.first;
         shown = ((λ _. inr (more_nonempty t.groups separator (rows_around options many name (length t.front + 1) t.held) row)), (λ _. refl));
         first = λ e. absurd (more_nonempty t.groups separator (rows_around options many name (length t.front + 1) t.held) row e);
       }
 
   -- the next line is not selected, and is shown after one that is
-  tracks_behind : (p : Progress) (lines rows : List Text) (line : Text) → ¬ Selected es options line → 0 < p.left → Tracks p lines rows
+  tracks_after : (p : Progress) (lines rows : List Text) (line : Text) → ¬ Selected es options line → 0 < p.left → Tracks p lines rows
       → Tracks (record p { left = p.left - 1 }) (lines ++ line ∷ []) (rows ++ (rows_around options many name ((length lines + 1) - length (last_of p.waiting lines)) (last_of p.waiting lines) ++ row_by options many name false (length lines + 1) line ∷ []))
-  tracks_behind p lines rows line passed some t =
+  tracks_after p lines rows line passed some t =
       let all : List Text = lines ++ line ∷ [] in
       let one_more : length all ≡ length lines + 1 = length-append lines (line ∷ []) in
       let row : Text = row_by options many name false (length lines + 1) line in
       let written : List Text = rows_around options many name (length t.front + 1) t.held ++ row ∷ [] in
-      let long : length lines ≡ length t.front + length t.held = ap length t.parted ∙ length-append t.front t.held in
+      let long : length lines ≡ length t.front + length t.held = ap length t.with_parts ∙ length-append t.front t.held in
       let none : All (λ l. ¬ Selected es options l) (line ∷ []) = All-cons (λ l. ¬ Selected es options l) line [] passed (All-nil (λ l. ¬ Selected es options l)) in
       let here : IsShown es options context lines (length lines + 0) = (t.left 0).0 some in
       let here_on : here.place < length lines = here.on in
-      let last_one : IsShown es options context lines (length lines - 1) = record { place = here.place; on = here.on; selected = here.selected; before = omega (arith, here_on); behind = omega (arith, here.behind) } in
+      let last_one : IsShown es options context lines (length lines - 1) = record { place = here.place; on = here.on; selected = here.selected; before = omega (arith, here_on); recent = omega (arith, here.recent) } in
       let all_before : length lines ≤ length t.front = elim (cases_lt (length t.front) (length lines)) [
         | inl low ↦ absurd (t.kept (length lines - 1) (omega (arith, low)) (omega (arith, low)) last_one)
         | inr high ↦ high
@@ -159,7 +159,7 @@ module _ (es : List Expression) (options : Options) (many : Bool) (name : Text) 
         within = omega (arith, t.within, one_more);
         front = all;
         held = [];
-        parted = sym (append-nil all);
+        with_parts = sym (append-nil all);
         many_held = omega (arith, long, all_before, t.many_held);
         none_held = All-nil (λ l. ¬ Selected es options l);
         kept = λ k low high _. let bad : ⊥ = omega (arith, low, high) in bad;
@@ -174,9 +174,9 @@ module _ (es : List Expression) (options : Options) (many : Bool) (name : Text) 
             );
         gap = ((λ e. absurd (false≢true (sym no_gap ∙ e))), (λ b. absurd (begins_not b)));
         groups = t.groups ++ group;
-        given = groups_grown es options many name context lines t.front t.held line row t.groups p.gap t.parted t.none_held t.given (λ k _ s. shown_passed es options context lines (line ∷ []) k none s) near t.gap (inr (passed, refl));
-        written = ap (λ w. rows ++ w) (rows_held p lines rows t row) ∙ ap (λ r. r ++ written) t.written ∙ ap (λ w. behind_rows (around context) before t.groups ++ w) (sym ungapped)
-            ∙ behind_group context before p.gap p.shown t.groups written t.shown t.first;
+        given = groups_grown es options many name context lines t.front t.held line row t.groups p.gap t.with_parts t.none_held t.given (λ k _ s. shown_passed es options context lines (line ∷ []) k none s) near t.gap (inr (passed, refl));
+        written = ap (λ w. rows ++ w) (rows_held p lines rows t row) ∙ ap (λ r. r ++ written) t.written ∙ ap (λ w. rows_after (around context) before t.groups ++ w) (sym ungapped)
+            ∙ after_group context before p.gap p.shown t.groups written t.shown t.first;
         shown = ((λ _. inr (more_nonempty t.groups (if p.gap then group_separator ∷ [] else []) (rows_around options many name (length t.front + 1) t.held) row)), (λ _. t.shown.1 (inr some_before)));
         first = λ e. absurd (more_nonempty t.groups (if p.gap then group_separator ∷ [] else []) (rows_around options many name (length t.front + 1) t.held) row e);
       }
@@ -189,7 +189,7 @@ module _ (es : List Expression) (options : Options) (many : Bool) (name : Text) 
       let all : List Text = lines ++ passed in
       let waiting : List Text = t.held ++ passed in
       let longer : length all ≡ length lines + length passed = length-append lines passed in
-      let long : length lines ≡ length t.front + length t.held = ap length t.parted ∙ length-append t.front t.held in
+      let long : length lines ≡ length t.front + length t.held = ap length t.with_parts ∙ length-append t.front t.held in
       let waiting_long : length waiting ≡ p.waiting + length passed = length-append t.held passed ∙ ap (λ w. w + length passed) t.many_held in
       let gone : ℕ = (p.waiting + length passed) - n in
       let few : n ≤ p.waiting + length passed = elim step [ inl s ↦ omega (arith, s.1) | inr s ↦ omega (arith, s.0, s.1) ] in
@@ -220,7 +220,7 @@ module _ (es : List Expression) (options : Options) (many : Bool) (name : Text) 
         within = omega (arith, few, t.within, longer);
         front = front;
         held = drop gone waiting;
-        parted = ap (λ ls. ls ++ passed) t.parted ∙ append_assoc t.front t.held passed ∙ ap (λ ls. t.front ++ ls) (sym (take-append-drop gone waiting)) ∙ sym (append_assoc t.front (take gone waiting) (drop gone waiting));
+        with_parts = ap (λ ls. ls ++ passed) t.with_parts ∙ append_assoc t.front t.held passed ∙ ap (λ ls. t.front ++ ls) (sym (take-append-drop gone waiting)) ∙ sym (append_assoc t.front (take gone waiting) (drop gone waiting));
         many_held = omega (arith, length-drop gone waiting, waiting_long, few);
         none_held = All-drop (λ line. ¬ Selected es options line) gone waiting (All-append (λ line. ¬ Selected es options line) t.held passed t.none_held none);
         kept = λ k low high. none_shown k (omega (arith, low, front_long));
@@ -266,9 +266,9 @@ module _ (es : List Expression) (options : Options) (many : Bool) (name : Text) 
 
   -- the next line is not selected
   tracks_unselected : (p : Progress) (lines rows : List Text) (line : Text) → ¬ Selected es options line → Tracks p lines rows
-      → Tracks (behind_line p false) (lines ++ line ∷ []) (rows ++ rows_at options many name false (next_shown p false) (last_of p.waiting lines) (length lines + 1) line)
+      → Tracks (after_line p false) (lines ++ line ∷ []) (rows ++ rows_at options many name false (next_shown p false) (last_of p.waiting lines) (length lines + 1) line)
   tracks_unselected p lines rows line passed t = elim (cases_lt 0 p.left) [
-    | inl some ↦ subst after (sym (lt-ltb 0 p.left some)) (tracks_behind p lines rows line passed some t)
+    | inl some ↦ subst after (sym (lt-ltb 0 p.left some)) (tracks_after p lines rows line passed some t)
     | inr none ↦ subst after (sym (le-ltb 0 p.left none)) (subst (Tracks (with_waiting 1 p) (lines ++ line ∷ [])) (sym (append-nil rows))
         (tracks_passed p lines rows (line ∷ []) (All-cons (λ l. ¬ Selected es options l) line [] passed (All-nil (λ l. ¬ Selected es options l))) (omega (arith, none)) t))
   ]
@@ -279,19 +279,19 @@ module _ (es : List Expression) (options : Options) (many : Bool) (name : Text) 
 
   -- the next line
   pub tracks_line : (p : Progress) (lines rows : List Text) (line : Text) (selected : Bool) → Decides selected (Selected es options line) → Tracks p lines rows
-      → Tracks (behind_line p selected) (lines ++ line ∷ []) (rows ++ rows_at options many name selected (next_shown p selected) (last_of p.waiting lines) (length lines + 1) line)
-  tracks_line p lines rows line true told t = tracks_selected p lines rows line (told.0 refl) t
-  tracks_line p lines rows line false told t = tracks_unselected p lines rows line (λ s. false≢true (told.1 s)) t
+      → Tracks (after_line p selected) (lines ++ line ∷ []) (rows ++ rows_at options many name selected (next_shown p selected) (last_of p.waiting lines) (length lines + 1) line)
+  tracks_line p lines rows line true reported t = tracks_selected p lines rows line (reported.0 refl) t
+  tracks_line p lines rows line false reported t = tracks_unselected p lines rows line (λ s. false≢true (reported.1 s)) t
 
   -- what was written of the lines is what is shown of them, as if the file ended there
   pub tracked_groups : (p : Progress) (lines rows : List Text) → Tracks p lines rows
-      → (groups : List Text) × Groups es options context (name_shown many name) (shown_number options) lines groups × (rows ≡ behind_rows (around context) before groups)
+      → (groups : List Text) × Groups es options context (name_shown many name) (shown_number options) lines groups × (rows ≡ rows_after (around context) before groups)
   tracked_groups p lines rows t =
-      let long : length lines ≡ length t.front + length t.held = ap length t.parted ∙ length-append t.front t.held in
+      let long : length lines ≡ length t.front + length t.held = ap length t.with_parts ∙ length-append t.front t.held in
       let rest = EachGives-placed_nothing (Given es options many name context lines) (length t.front) t.held (λ k x low high. inr (t.kept k low (omega (arith, high, long)), refl)) in
       let zeroed : 0 + length t.front ≡ length t.front = omega arith in
       let placed : enumerate_from 0 lines ≡ enumerate_from 0 t.front ++ enumerate_from (length t.front) t.held =
-      ap (enumerate_from 0) t.parted ∙ enumerate_from-append 0 t.front t.held ∙ ap (λ m. enumerate_from 0 t.front ++ enumerate_from m t.held) zeroed in (
+      ap (enumerate_from 0) t.with_parts ∙ enumerate_from-append 0 t.front t.held ∙ ap (λ m. enumerate_from 0 t.front ++ enumerate_from m t.held) zeroed in (
         t.groups,
         subst (λ ls. EachGives (Given es options many name context lines) ls t.groups) (sym placed)
             (subst (EachGives (Given es options many name context lines) (enumerate_from 0 t.front ++ enumerate_from (length t.front) t.held)) (append-nil t.groups)
@@ -303,10 +303,10 @@ module _ (es : List Expression) (options : Options) (many : Bool) (name : Text) 
   pub tracks_further : (p : Progress) (lines rows more : List Text) → Tracks p lines rows → (q : Progress) × (rest : List Text) × Tracks q (lines ++ more) (rows ++ rest)
   tracks_further p lines rows [] t = (p, [], subst (λ ls. Tracks p ls (rows ++ [])) (sym (append-nil lines)) (subst (Tracks p lines) (sym (append-nil rows)) t))
   tracks_further p lines rows (line ∷ more) t =
-      let told = decided (dec_selected es options line) in
-      let next = tracks_line p lines rows line told.0 told.1 t in
-      let written : List Text = rows_at options many name told.0 (next_shown p told.0) (last_of p.waiting lines) (length lines + 1) line in
-      let rest = tracks_further (behind_line p told.0) (lines ++ line ∷ []) (rows ++ written) more next in
+      let reported = decided (dec_selected es options line) in
+      let next = tracks_line p lines rows line reported.0 reported.1 t in
+      let written : List Text = rows_at options many name reported.0 (next_shown p reported.0) (last_of p.waiting lines) (length lines + 1) line in
+      let rest = tracks_further (after_line p reported.0) (lines ++ line ∷ []) (rows ++ written) more next in
       (rest.0, written ++ rest.1, subst (Tracks rest.0 (lines ++ line ∷ more)) (append_assoc rows written rest.1) (subst (λ ls. Tracks rest.0 ls ((rows ++ written) ++ rest.1)) (append_assoc lines (line ∷ []) more) rest.2))
     where
       decided : {P : Type 0} → Dec P → (b : Bool) × Decides b P

@@ -24,7 +24,7 @@ use Rattle.grep_io.specs.Working.Handed.{file_so_far}
 use Rattle.grep_core.specs.Working.LastLines.{LastLines}
 use Rattle.grep_io.specs.Working.Numbered.{Numbered, HasHanded}
 use Rattle.grep_core.specs.Working.Passed.{AreUnselected, Waits}
-use Rattle.grep_core.specs.Working.Progress.{progress_from, next_shown, behind_line, last_of, rows_at}
+use Rattle.grep_core.specs.Working.Progress.{progress_from, next_shown, after_line, last_of, rows_at}
 use Rattle.grep_core.specs.Working.Searched.{leaves_early, BreaksSource, StopsSource}
 use Rattle.grep_core.specs.Working.Given.{SearchGives}
 use Rattle.grep_core.specs.Working.ShownLines.{ShowStops}
@@ -34,7 +34,7 @@ use Rattle.grep_core.proofs.lemmas.ChooseLaws.{EachGives-one}
 use Rattle.grep_core.proofs.lemmas.FileOutput.{file_is, chosen_line, chosen_count}
 use Rattle.grep_core.proofs.lemmas.BlockLines.{last_of-many}
 use Rattle.grep_io.proofs.lemmas.HandedLemmas.{begins_with, has_read}
-use Rattle.grep_core.proofs.lemmas.LinesLemmas.{early_form, WrittenOf, WritesLines, stops_among, stops_behind, breaks_in, chosen_on}
+use Rattle.grep_core.proofs.lemmas.LinesLemmas.{early_form, WrittenOf, WritesLines, stops_among, stops_after, breaks_in, chosen_on}
 use Rattle.grep_io.proofs.lemmas.FileLaws.{file_with}
 use Rattle.grep_io.proofs.lemmas.NumberedLemmas.{has_handed_none}
 use Rattle.grep_core.proofs.lemmas.WaitingRows.{WaitsNot, waits_not_next, held_next, length-last_of}
@@ -46,13 +46,13 @@ use Rattle.grep_core.proofs.lemmas.WriterLaws.{TakesAll-nothing, TakesAll-more, 
 module _ {R : Type 0} (remaining : R → Option Text) (failures : R → ℕ) (es : List Expression) (options : Options) (many shown : Bool) (name : Text) (reader : R) (context : Context) where
   -- the lines that were handed out were searched, and what is shown of them so far was written; the
   -- last of them are held
-  pub record FollowedSoFar (now : Numbered R) (old new : Writer) (began ended : Steps) (selected : ℕ) (p : Progress) (behind : List Text) : Type 0 where
+  pub record FollowedSoFar (now : Numbered R) (old new : Writer) (began ended : Steps) (selected : ℕ) (p : Progress) (recent : List Text) : Type 0 where
     pub lines : List Text
     pub rows : List Text
     pub handed : HasHanded remaining failures reader now lines
     pub tracks : Tracks es options many name context shown p lines rows
     pub apart : WaitsNot p
-    pub held : behind ≡ last_of p.waiting lines
+    pub held : recent ≡ last_of p.waiting lines
     pub wrote : TakesAll old new rows
     pub chosen : List (ℕ × Text)
     pub are_chosen : SelectedLines es options many (file_so_far name lines) chosen
@@ -92,8 +92,8 @@ module _ {R : Type 0} (remaining : R → Option Text) (failures : R → ℕ) (es
   pub never_early : {P : Type 0} → IsTrue (leaves_early options) → P
   never_early early = absurd (elim (early_form options early) [ inl e ↦ (let no : ⊥ = cc (asked, e) in no) | inr e ↦ (let no : ⊥ = cc (asked, e) in no) ])
 
-  pub followed_none : (now : Numbered R) (w : Writer) (steps : Steps) (behind : List Text) → now.lines.reader ≡ reader → now.lines.ahead ≡ [] → now.lines.stage ≡ Open → now.number ≡ 0 → behind ≡ [] → Followed now w w steps steps 0 (progress_from context shown) behind
-  followed_none now w steps behind same none is_open zero empty = record {
+  pub followed_none : (now : Numbered R) (w : Writer) (steps : Steps) (recent : List Text) → now.lines.reader ≡ reader → now.lines.ahead ≡ [] → now.lines.stage ≡ Open → now.number ≡ 0 → recent ≡ [] → Followed now w w steps steps 0 (progress_from context shown) recent
+  followed_none now w steps recent same none is_open zero empty = record {
     lines = [];
     rows = [];
     handed = subst (λ r. HasHanded remaining failures r now []) same (has_handed_none remaining failures now none is_open zero);
@@ -109,9 +109,9 @@ module _ {R : Type 0} (remaining : R → Option Text) (failures : R → ℕ) (es
   }
 
   -- some lines were passed, which wait if any does
-  pub followed_waiting : (before now : Numbered R) (old new : Writer) (began mid ended : Steps) (selected : ℕ) (p q : Progress) (behind held : LastLines) → behind.limit ≡ context.before → (s : Followed before old new began mid selected p behind.lines)
-      → (passed : List Text) → HasHanded remaining failures reader now (s.lines ++ passed) → AreUnselected es options passed → Waits passed p q behind held → SearchesLines es options (length es) passed mid ended → (t : Followed now old new began ended selected q held.lines) × (t.lines ≡ s.lines ++ passed)
-  followed_waiting before now old new began mid ended selected p q behind held limit s passed handed unselected waits spent = (
+  pub followed_waiting : (before now : Numbered R) (old new : Writer) (began mid ended : Steps) (selected : ℕ) (p q : Progress) (recent held : LastLines) → recent.limit ≡ context.before → (s : Followed before old new began mid selected p recent.lines)
+      → (passed : List Text) → HasHanded remaining failures reader now (s.lines ++ passed) → AreUnselected es options passed → Waits passed p q recent held → SearchesLines es options (length es) passed mid ended → (t : Followed now old new began ended selected q held.lines) × (t.lines ≡ s.lines ++ passed)
+  followed_waiting before now old new began mid ended selected p q recent held limit s passed handed unselected waits spent = (
     record {
       lines = s.lines ++ passed;
       rows = s.rows;
@@ -127,8 +127,8 @@ module _ {R : Type 0} (remaining : R → Option Text) (failures : R → ℕ) (es
       held = elim waits [
         | inl none ↦ ap (λ (x : LastLines). x.lines) none.2 ∙ s.held ∙ ap (λ ls. last_of p.waiting ls) (sym (ap (λ ls. s.lines ++ ls) none.0 ∙ append-nil s.lines)) ∙ ap (λ (r : Progress). last_of r.waiting (s.lines ++ passed)) (sym none.1)
         | inr some ↦
-            (let room : behind.limit ≡ p.context.before = limit ∙ sym (ap (λ (c : Context). c.before) s.tracks.same_context) in
-            ap (λ (x : LastLines). x.lines) some.2 ∙ ap (λ n. last_of n (behind.lines ++ passed)) room ∙ ap (λ ls. last_of p.context.before (ls ++ passed)) s.held
+            (let room : recent.limit ≡ p.context.before = limit ∙ sym (ap (λ (c : Context). c.before) s.tracks.same_context) in
+            ap (λ (x : LastLines). x.lines) some.2 ∙ ap (λ n. last_of n (recent.lines ++ passed)) room ∙ ap (λ ls. last_of p.context.before (ls ++ passed)) s.held
             ∙ last_of-many p.context.before p.waiting s.lines passed s.tracks.within s.tracks.few ∙ ap (λ (r : Progress). last_of r.waiting (s.lines ++ passed)) (sym some.1))
       ];
       wrote = s.wrote;
@@ -142,15 +142,15 @@ module _ {R : Type 0} (remaining : R → Option Text) (failures : R → ℕ) (es
   )
 
   -- the limit of held lines stays that of the context
-  pub waiting_limit : (passed : List Text) (p q : Progress) (behind held : LastLines) → Waits passed p q behind held → behind.limit ≡ context.before → held.limit ≡ context.before
-  waiting_limit passed p q behind held waits limit = elim waits [
+  pub waiting_limit : (passed : List Text) (p q : Progress) (recent held : LastLines) → Waits passed p q recent held → recent.limit ≡ context.before → held.limit ≡ context.before
+  waiting_limit passed p q recent held waits limit = elim waits [
     | inl none ↦ ap (λ (x : LastLines). x.limit) none.2 ∙ limit
     | inr some ↦ ap (λ (x : LastLines). x.limit) some.2 ∙ limit
   ]
 
   -- buffered output was sent
-  pub followed_sent : (now : Numbered R) (old mid new : Writer) (began ended : Steps) (selected : ℕ) (p : Progress) (behind : List Text) → Followed now old mid began ended selected p behind → TakesAll mid new [] → Followed now old new began ended selected p behind
-  followed_sent now old mid new began ended selected p behind s sent = record {
+  pub followed_sent : (now : Numbered R) (old mid new : Writer) (began ended : Steps) (selected : ℕ) (p : Progress) (recent : List Text) → Followed now old mid began ended selected p recent → TakesAll mid new [] → Followed now old new began ended selected p recent
+  followed_sent now old mid new began ended selected p recent s sent = record {
     lines = s.lines;
     rows = s.rows;
     handed = s.handed;
@@ -165,7 +165,7 @@ module _ {R : Type 0} (remaining : R → Option Text) (failures : R → ℕ) (es
     steps = s.steps;
   }
 
-  module _ (before now : Numbered R) (old mid : Writer) (began amid : Steps) (selected : ℕ) (p : Progress) (behind : List Text) (s : Followed before old mid began amid selected p behind) where
+  module _ (before now : Numbered R) (old mid : Writer) (began amid : Steps) (selected : ℕ) (p : Progress) (recent : List Text) (s : Followed before old mid began amid selected p recent) where
     pub writes : WritesLines es options many shown name s.lines old mid selected
     writes = record { rows = s.rows; of = written_tracked p s.lines s.rows s.tracks; wrote = s.wrote; chosen = s.chosen; are_chosen = s.are_chosen; counted = s.counted }
 
@@ -198,32 +198,32 @@ module _ {R : Type 0} (remaining : R → Option Text) (failures : R → ℕ) (es
         is_count = is_number ∙ one_further ∙ ap (λ n. n + 1) (sym s.handed.counted)
 
         -- no more lines are held than were handed out
-        pub held_few : length behind ≤ count
+        pub held_few : length recent ≤ count
         held_few = omega (arith, is_count, ap length s.held ∙ length-last_of p.waiting s.lines s.tracks.within, s.tracks.within)
 
-        module _ (found : Bool) (told : Decides found (Selected es options line)) (ended : Steps) (spent : SearchesLines es options (length es) (s.lines ++ line ∷ []) began ended) where
+        module _ (found : Bool) (reported : Decides found (Selected es options line)) (ended : Steps) (spent : SearchesLines es options (length es) (s.lines ++ line ∷ []) began ended) where
           abbrev added : List Text
           added = rows_at options many name found (next_shown p found) (last_of p.waiting s.lines) (length s.lines + 1) line
 
-          tracked : Follows (behind_line p found) (s.lines ++ line ∷ []) (s.rows ++ added)
-          tracked = tracks_line es options many name context shown p s.lines s.rows line found told s.tracks
+          tracked : Follows (after_line p found) (s.lines ++ line ∷ []) (s.rows ++ added)
+          tracked = tracks_line es options many name context shown p s.lines s.rows line found reported s.tracks
 
-          at_line : rows_at options many name found (next_shown p found) behind count line ≡ added
+          at_line : rows_at options many name found (next_shown p found) recent count line ≡ added
           at_line = ap (λ ls. rows_at options many name found (next_shown p found) ls count line) s.held ∙ ap (λ n. rows_at options many name found (next_shown p found) (last_of p.waiting s.lines) n line) is_count
 
           -- what is shown at it was written, and it is held if it is not shown
-          pub followed_line : (new : Writer) (more : ℕ) (later : List Text) → TakesAll mid new (rows_at options many name found (next_shown p found) behind count line) → more ≡ (if found then selected + 1 else selected)
-              → later ≡ (if (next_shown p found).itself then [] else last_of context.before (behind ++ line ∷ [])) → Followed now old new began ended more (behind_line p found) later
+          pub followed_line : (new : Writer) (more : ℕ) (later : List Text) → TakesAll mid new (rows_at options many name found (next_shown p found) recent count line) → more ≡ (if found then selected + 1 else selected)
+              → later ≡ (if (next_shown p found).itself then [] else last_of context.before (recent ++ line ∷ [])) → Followed now old new began ended more (after_line p found) later
           followed_line new more later took e kept = record {
             lines = s.lines ++ line ∷ [];
             rows = s.rows ++ added;
             handed = next;
             tracks = tracked;
             apart = waits_not_next p found s.apart;
-            held = held_next p s.lines line behind later s.held s.tracks.few s.tracks.within s.apart found (kept ∙ ap (λ n. if (next_shown p found).itself then [] else last_of n (behind ++ line ∷ [])) (sym same_before));
+            held = held_next p s.lines line recent later s.held s.tracks.few s.tracks.within s.apart found (kept ∙ ap (λ n. if (next_shown p found).itself then [] else last_of n (recent ++ line ∷ [])) (sym same_before));
             wrote = TakesAll-more old mid new s.rows added s.wrote (subst (TakesAll mid new) at_line took);
             chosen = s.chosen ++ picked found (length s.lines + 1, line);
-            are_chosen = chosen_line es options many name s.lines line s.chosen found s.are_chosen told;
+            are_chosen = chosen_line es options many name s.lines line s.chosen found s.are_chosen reported;
             counted = chosen_count s.chosen (length s.lines + 1, line) selected found s.counted ∙ sym e;
             few = at_most found e;
             steps = spent;
@@ -234,32 +234,32 @@ module _ {R : Type 0} (remaining : R → Option Text) (failures : R → ℕ) (es
               at_most false eq = omega (arith, eq, s.few, one_further)
 
           -- a write failed in it
-          followed_breaks : (new : Writer) → TakesFront mid new (rows_at options many name found (next_shown p found) behind count line) → new.failures ≡ one_more mid.failures
+          followed_breaks : (new : Writer) → TakesFront mid new (rows_at options many name found (next_shown p found) recent count line) → new.failures ≡ one_more mid.failures
               → BreaksSource es options many shown (open_source name (remaining reader)) (OneLeft (remaining now.lines.reader)) (failures reader) (failures now.lines.reader) old new began ended
           followed_breaks new front counted =
               breaks_in es options many shown name (remaining reader) (remaining now.lines.reader) old mid new began ended selected (failures reader) (failures now.lines.reader) next.hands.none_failed
-              (s.lines ++ line ∷ []) (s.rows ++ added) (written_tracked (behind_line p found) (s.lines ++ line ∷ []) (s.rows ++ added) tracked) (TakesFront-more old mid new s.rows added s.wrote (subst (TakesFront mid new) at_line front)) (counted ∙ ap one_more s.wrote.none_failed)
+              (s.lines ++ line ∷ []) (s.rows ++ added) (written_tracked (after_line p found) (s.lines ++ line ∷ []) (s.rows ++ added) tracked) (TakesFront-more old mid new s.rows added s.wrote (subst (TakesFront mid new) at_line front)) (counted ∙ ap one_more s.wrote.none_failed)
               spent (begins_with remaining failures name reader now.lines (s.lines ++ line ∷ []) next.hands next.few)
 
           -- the line could not be kept
-          followed_refused : IsOneLineAndFew now.lines.ahead → (new : Writer) → TakesAll mid new (rows_at options many name found (next_shown p found) behind count line)
+          followed_refused : IsOneLineAndFew now.lines.ahead → (new : Writer) → TakesAll mid new (rows_at options many name found (next_shown p found) recent count line)
               → StopsSource es options many shown (open_source name (remaining reader)) (OneLeft (remaining now.lines.reader)) count (failures reader) (failures now.lines.reader) old new began ended
           followed_refused few_held new took =
               let chosen = s.chosen ++ picked found (length s.lines + 1, line) in
-              stops_behind es options many shown name (remaining reader) (remaining now.lines.reader) old new began ended (s.lines ++ line ∷ []) (length chosen) count
+              stops_after es options many shown name (remaining reader) (remaining now.lines.reader) old new began ended (s.lines ++ line ∷ []) (length chosen) count
               (record {
                 rows = s.rows ++ added;
-                of = written_tracked (behind_line p found) (s.lines ++ line ∷ []) (s.rows ++ added) tracked;
+                of = written_tracked (after_line p found) (s.lines ++ line ∷ []) (s.rows ++ added) tracked;
                 wrote = TakesAll-more old mid new s.rows added s.wrote (subst (TakesAll mid new) at_line took);
                 chosen = chosen;
-                are_chosen = chosen_line es options many name s.lines line s.chosen found s.are_chosen told;
+                are_chosen = chosen_line es options many name s.lines line s.chosen found s.are_chosen reported;
                 counted = refl;
               })
               spent (begins_with remaining failures name reader now.lines (s.lines ++ line ∷ []) next.hands next.few)
               (next.counted ∙ sym is_number) (has_read remaining failures name reader now.lines (s.lines ++ line ∷ []) next.hands few_held) (failures reader) (failures now.lines.reader) next.hands.none_failed
 
           -- what is shown at it could not be written, or the line could not be kept
-          pub followed_stops : IsOneLineAndFew now.lines.ahead → (new : Writer) (waits : LastLines) → waits.lines ≡ behind → (fault : SearchFault) → ShowStops options many name found count line p waits mid new fault
+          pub followed_stops : IsOneLineAndFew now.lines.ahead → (new : Writer) (waits : LastLines) → waits.lines ≡ recent → (fault : SearchFault) → ShowStops options many name found count line p waits mid new fault
               → (result : Result FileFound SearchFault) → IsErrAnd result (λ final. final ≡ fault)
               → SearchGives es options many shown (open_source name (remaining reader)) (OneLeft (remaining now.lines.reader)) (failures reader) (failures now.lines.reader) old new began ended result
           followed_stops few_held new waits is fault shows (Ok f) kept = absurd kept

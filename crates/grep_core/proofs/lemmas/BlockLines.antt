@@ -130,8 +130,8 @@ module _ (block : Text) (h : IsBlock block) where
   pub begins_last : (start most : ℕ) → start ≡ from_last most → drop start block ≡ terminated (last_of most lines)
   begins_last start most is =
       let m = length lines - most in
-      let parted : block ≡ terminated (take m lines) ++ terminated (drop m lines) = block_is ∙ ap terminated (sym (take-append-drop m lines)) ∙ terminated-append (take m lines) (drop m lines) in
-      ap (drop start) parted ∙ ap (λ n. drop n (terminated (take m lines) ++ terminated (drop m lines))) is ∙ drop-append_seam (terminated (take m lines)) (terminated (drop m lines))
+      let with_parts : block ≡ terminated (take m lines) ++ terminated (drop m lines) = block_is ∙ ap terminated (sym (take-append-drop m lines)) ∙ terminated-append (take m lines) (drop m lines) in
+      ap (drop start) with_parts ∙ ap (λ n. drop n (terminated (take m lines) ++ terminated (drop m lines))) is ∙ drop-append_seam (terminated (take m lines)) (terminated (drop m lines))
 
   -- one line more
   module _ (start k : ℕ) (is : start ≡ from_last k) (some : start ≢ 0) where
@@ -166,15 +166,15 @@ module _ (block : Text) (h : IsBlock block) where
     start_is : start ≡ length (front ++ line) + 1
     start_is = omega (arith, is ∙ ap length its_bytes, length-append front (line ++ newline ∷ []), length-append line (newline ∷ []), length-append front line)
 
-    parted : block ≡ (front ++ line) ++ (newline ∷ rest)
-    parted =
+    with_parts : block ≡ (front ++ line) ++ (newline ∷ rest)
+    with_parts =
         block_is ∙ ap terminated (sym (take-append-drop (length lines - k) lines)) ∙ terminated-append (take (length lines - k) lines) (drop (length lines - k) lines) ∙ ap (λ l. l ++ rest) its_bytes
         ∙ append_assoc front (line ++ newline ∷ []) rest ∙ ap (λ l. front ++ l) (append_assoc line (newline ∷ []) rest) ∙ sym (append_assoc front line (newline ∷ rest))
 
     before : take (start - 1) block ≡ front ++ line
     before =
         let e : start - 1 ≡ length (front ++ line) = omega (arith, start_is) in
-        ap (take (start - 1)) parted ∙ ap (λ n. take n ((front ++ line) ++ (newline ∷ rest))) e ∙ take-append_seam (front ++ line) (newline ∷ rest)
+        ap (take (start - 1)) with_parts ∙ ap (λ n. take n ((front ++ line) ++ (newline ∷ rest))) e ∙ take-append_seam (front ++ line) (newline ∷ rest)
 
     pub begins_before : (next : ℕ) → next ≤ length (take (start - 1) block) → (0 < next → get_or (take (start - 1) block) (next - 1) 0 ≡ newline) → HasNoNewline (drop next (take (start - 1) block)) → next ≡ from_last (k + 1)
     begins_before next within ended cut =

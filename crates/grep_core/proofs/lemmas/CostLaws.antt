@@ -36,14 +36,14 @@ pub from_place : (matchers : ℕ) (line : Text) (from : ℕ) (old new : Steps) �
 from_place matchers line from old new a =
     adds_within (matchers * (length line - from + 1)) (search_cost matchers line) old new (mul-le-mul_left matchers (let shorter : length line - from + 1 ≤ length line + 1 = omega arith in shorter)) a
 
--- one more line was searched; `behind` bytes are after it
-pub adds_line : (matchers all before behind : ℕ) (line : Text) (old mid new : Steps) → length line + 1 + behind ≤ before → before ≤ all → AddsAtMost (matchers * (all - before)) old mid → AddsAtMost (search_cost matchers line) mid new
-    → AddsAtMost (matchers * (all - behind)) old new
-adds_line matchers all before behind line old mid new fits within a b =
-    let further : all - before + (length line + 1) ≤ all - behind = omega (arith, fits, within) in
+-- one more line was searched; `recent` bytes are after it
+pub adds_line : (matchers all before recent : ℕ) (line : Text) (old mid new : Steps) → length line + 1 + recent ≤ before → before ≤ all → AddsAtMost (matchers * (all - before)) old mid → AddsAtMost (search_cost matchers line) mid new
+    → AddsAtMost (matchers * (all - recent)) old new
+adds_line matchers all before recent line old mid new fits within a b =
+    let further : all - before + (length line + 1) ≤ all - recent = omega (arith, fits, within) in
     let joined : matchers * (all - before) + search_cost matchers line ≡ matchers * (all - before + (length line + 1)) = omega arith in
     let most = mul-le-mul_left matchers further in
-    adds_within (matchers * (all - before) + search_cost matchers line) (matchers * (all - behind)) old new (omega (arith, joined, most)) (adds_both (matchers * (all - before)) (search_cost matchers line) old mid new a b)
+    adds_within (matchers * (all - before) + search_cost matchers line) (matchers * (all - recent)) old new (omega (arith, joined, most)) (adds_both (matchers * (all - before)) (search_cost matchers line) old mid new a b)
 
 -- lists that are mapped to the same have the same length
 pub same_length : {A B : Type 0} (f : A → B) (xs ys : List A) → map f xs ≡ map f ys → length xs ≡ length ys
@@ -132,9 +132,9 @@ module _ (es : List Expression) (options : Options) (matchers : ℕ) where
   bytes_within [] cost c = omega (arith, c)
   bytes_within (line ∷ ls) cost (times, rest, asked, more, is) =
       let long : length (terminated (line ∷ ls)) ≡ length line + 1 + length (terminated ls) = omega (arith, length-append line (newline ∷ terminated ls)) in
-      let parted : matchers * length (terminated (line ∷ ls)) ≡ search_cost matchers line + matchers * length (terminated ls) = ap (λ n. matchers * n) long ∙ spread (length line + 1) (length (terminated ls)) in
+      let with_parts : matchers * length (terminated (line ∷ ls)) ≡ search_cost matchers line + matchers * length (terminated ls) = ap (λ n. matchers * n) long ∙ spread (length line + 1) (length (terminated ls)) in
       let least : search_cost matchers line ≤ (times + 1) * search_cost matchers line = omega arith in
-      omega (arith, parted, least, is, bytes_within ls rest more)
+      omega (arith, with_parts, least, is, bytes_within ls rest more)
     where
       spread : (a b : ℕ) → matchers * (a + b) ≡ matchers * a + matchers * b
       spread a b = omega arith
@@ -150,9 +150,9 @@ module _ (es : List Expression) (options : Options) (matchers : ℕ) where
       let own = (asked.times + 1) * search_cost matchers line in
       let one : LinesCost es options matchers (line ∷ []) own = (asked.times, 0, asked.are_times, refl, omega arith) in
       let width : length (terminated (text ++ line ∷ [])) ≡ length (terminated text) + (length line + 1) = ap length (terminated-append text (line ∷ [])) ∙ length-append (terminated text) (line ++ newline ∷ []) ∙ ap (λ n. length (terminated text) + n) (length-append line (newline ∷ [])) in
-      let parted : matchers * length (terminated (text ++ line ∷ [])) ≡ matchers * length (terminated text) + search_cost matchers line = ap (λ n. matchers * n) width ∙ (omega arith) in
+      let with_parts : matchers * length (terminated (text ++ line ∷ [])) ≡ matchers * length (terminated text) + search_cost matchers line = ap (λ n. matchers * n) width ∙ (omega arith) in
       let least = bytes_within text first.0 first.1 in
-      let both : matchers * length (terminated (text ++ line ∷ [])) + asked.times * search_cost matchers line ≤ first.0 + own = omega (arith, parted, least) in
+      let both : matchers * length (terminated (text ++ line ∷ [])) + asked.times * search_cost matchers line ≤ first.0 + own = omega (arith, with_parts, least) in
       record { cost = first.0 + own; is_cost = both_lines_cost text (line ∷ []) first.0 own first.1 one; few = adds_within _ (first.0 + own) old new both (adds_both _ (asked.times * search_cost matchers line) old mid new a asked.few) }
 
   -- there are more lines than those that were searched

@@ -62,22 +62,22 @@ module _ (es : List Expression) (options : Options) where
       a.1 ∙ ap (λ t. file ∷ t) rest ∙ sym b.1
 
   -- a file has at most one list of messages about it
-  pub Message-determined : (file : File) (told more : List Text) → Message es options file told → Message es options file more → told ≡ more
-  Message-determined file told more a b = IfHolds-both a b same_value same_value
+  pub Message-determined : (file : File) (reported more : List Text) → Message es options file reported → Message es options file more → reported ≡ more
+  Message-determined file reported more a b = IfHolds-both a b same_value same_value
 
   -- files have at most one list of messages
-  pub Messages-determined : (files : List File) (told more : List Text) → Messages es options files told → Messages es options files more → told ≡ more
-  Messages-determined files told more a b = by_flag options.no_messages a b
+  pub Messages-determined : (files : List File) (reported more : List Text) → Messages es options files reported → Messages es options files more → reported ≡ more
+  Messages-determined files reported more a b = by_flag options.no_messages a b
     where
-      Told : Bool → List Text → Type 0
-      Told none rows = MatchBool none (rows ≡ []) ((reached : List File) × Reached es options files reached × EachGives (Message es options) reached rows)
+      Reported : Bool → List Text → Type 0
+      Reported none rows = MatchBool none (rows ≡ []) ((reached : List File) × Reached es options files reached × EachGives (Message es options) reached rows)
 
-      by_flag : (none : Bool) → Told none told → Told none more → told ≡ more
+      by_flag : (none : Bool) → Reported none reported → Reported none more → reported ≡ more
       by_flag true c d = same_value c d
       by_flag false c d =
           let same : c.0 ≡ d.0 = Reached-determined files c.0 d.0 c.1 d.1 in
           let of_same : EachGives (Message es options) c.0 more = subst (λ s. EachGives (Message es options) s more) (sym same) d.2 in
-          EachGives-determined _ Message-determined c.0 told more c.2 of_same
+          EachGives-determined _ Message-determined c.0 reported more c.2 of_same
 
   -- there is at most one status
   pub StatusOf-determined : (files : List File) (s t : Status) → StatusOf es options files s → StatusOf es options files t → s ≡ t

@@ -20,7 +20,7 @@ use Rattle.grep_core.specs.Run.{Writer, writer}
 use Rattle.grep_core.specs.Working.Given.{SearchGives}
 use Rattle.grep_core.specs.Working.Searched.{leaves_early, BreaksSource}
 use Rattle.grep_core.specs.Working.Taken.{NextTaken}
-use Rattle.grep_core.proofs.lemmas.LinesLemmas.{WritesLines, writes_sent, searches_whole, searches_broken, stops_behind, breaks_behind}
+use Rattle.grep_core.proofs.lemmas.LinesLemmas.{WritesLines, writes_sent, searches_whole, searches_broken, stops_after, breaks_after}
 use Rattle.grep_core.proofs.lemmas.WrittenLemmas.{TakesAll-written, TakesFront-written}
 
 module _ {R W : Type 0} (remaining : R → Option Text) (failures : R → ℕ) (contents : W → Option Text) (write_failures : W → ℕ) (es : List Expression) (options : Options) (many shown : Bool) (name : Text) (reader : R)
@@ -54,8 +54,8 @@ module _ {R W : Type 0} (remaining : R → Option Text) (failures : R → ℕ) (
     -- buffered output could not be sent, or a growth was refused
     pub stops_as : (fault : SearchFault) → Taken (Err fault) → Gives (Err fault)
     stops_as Write (h, stopped) =
-        breaks_behind es options many shown name (remaining reader) (remaining now.lines.reader) old _ _ began ended selected (failures reader) (failures now.lines.reader) h.hands.none_failed
+        breaks_after es options many shown name (remaining reader) (remaining now.lines.reader) old _ _ began ended selected (failures reader) (failures now.lines.reader) h.hands.none_failed
         lines wrote spent (begun_with h) (TakesFront-written contents write_failures mid new [] stopped) stopped.counted
     stops_as (Memory count) (h, few, is_count, went) =
-        stops_behind es options many shown name (remaining reader) (remaining now.lines.reader) old _ began ended lines selected count (sent went) spent (begun_with h) (h.counted ∙ is_count) (has_read remaining failures name reader now.lines lines h.hands few)
+        stops_after es options many shown name (remaining reader) (remaining now.lines.reader) old _ began ended lines selected count (sent went) spent (begun_with h) (h.counted ∙ is_count) (has_read remaining failures name reader now.lines lines h.hands few)
         (failures reader) (failures now.lines.reader) h.hands.none_failed

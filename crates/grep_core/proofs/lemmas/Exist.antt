@@ -74,19 +74,19 @@ module _ (es : List Expression) (options : Options) where
       by_stop (no p) rest = (file ∷ rest.0, (rest.0, refl, inr (p, rest.1)))
 
   -- a file has a list of messages about it, which may be empty
-  pub Message-exist : (file : File) → (told : List Text) × Message es options file told
+  pub Message-exist : (file : File) → (reported : List Text) × Message es options file reported
   Message-exist file = IfHolds-exist (message file.ending file.name) [] (dec_fault_met es options file)
 
   -- files have a list of messages
-  pub Messages-exist : (files : List File) → (told : List Text) × Messages es options files told
+  pub Messages-exist : (files : List File) → (reported : List Text) × Messages es options files reported
   Messages-exist files = by_flag options.no_messages
     where
-      by_flag : (none : Bool) → (told : List Text) × MatchBool none (told ≡ []) ((reached : List File) × Reached es options files reached × EachGives (Message es options) reached told)
+      by_flag : (none : Bool) → (reported : List Text) × MatchBool none (reported ≡ []) ((reached : List File) × Reached es options files reached × EachGives (Message es options) reached reported)
       by_flag true = ([], refl)
       by_flag false =
           let reached = Reached-exist files in
-          let told = EachGives-exist (Message es options) Message-exist reached.0 in
-          (told.0, (reached.0, reached.1, told.1))
+          let reported = EachGives-exist (Message es options) Message-exist reached.0 in
+          (reported.0, (reached.0, reached.1, reported.1))
 
   -- files have a status
   pub StatusOf-exist : (files : List File) → (status : Status) × StatusOf es options files status

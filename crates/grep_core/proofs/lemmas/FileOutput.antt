@@ -14,7 +14,7 @@ use Rattle.grep_core.specs.Files.{File, whole, Selected, HasSelected}
 use Rattle.grep_core.specs.Output.{Form, nothing, names, counts, parts, lines, around, OutAs, CountOf, RowsOf, PartRowsOf, GroupsOf, SelectedLines}
 use Rattle.grep_core.specs.Run.{begun, first_lines}
 use Rattle.grep_io.specs.Working.Handed.{file_so_far}
-use Rattle.grep_core.specs.Working.Groups.{GroupedAs, behind_rows}
+use Rattle.grep_core.specs.Working.Groups.{GroupedAs, rows_after}
 use Rattle.grep_core.specs.Working.OneLine.{IsPlain, LineRowsOf, RowsOfSelected}
 use Rattle.grep_core.specs.Working.Searched.{ending_of, count_line, summary_as}
 use Rattle.grep_core.proofs.lemmas.ChooseLaws.{EachGives-one}
@@ -65,8 +65,8 @@ module _ (es : List Expression) (options : Options) (many : Bool) where
       ]
 
   -- the number of chosen lines says whether one is selected
-  pub chosen_tells : (name : Text) (xs : List Text) (chosen : List (ℕ × Text)) → SelectedLines es options many (file_so_far name xs) chosen → Decides (nat_lt 0 (length chosen)) (Any (Selected es options) xs)
-  chosen_tells name xs chosen h = decides_some (length chosen) (some_chosen 1 xs chosen h) (chosen_some 1 xs chosen h)
+  pub chosen_decides : (name : Text) (xs : List Text) (chosen : List (ℕ × Text)) → SelectedLines es options many (file_so_far name xs) chosen → Decides (nat_lt 0 (length chosen)) (Any (Selected es options) xs)
+  chosen_decides name xs chosen h = decides_some (length chosen) (some_chosen 1 xs chosen h) (chosen_some 1 xs chosen h)
 
   -- ---- one more line
 
@@ -125,7 +125,7 @@ module _ (es : List Expression) (options : Options) (many : Bool) where
   output_all name ls end nothing rows chosen h c = λ i. h i ++ []
   output_all name ls end names rows chosen h c =
       let file = file_with name ls (ending_of end) in
-      subst (λ r. OutAs es options many names (file ∷ []) (r ++ summary_as names many name end (length chosen))) (sym h) (named_out file (nat_lt 0 (length chosen)) (chosen_tells name ls chosen c))
+      subst (λ r. OutAs es options many names (file ∷ []) (r ++ summary_as names many name end (length chosen))) (sym h) (named_out file (nat_lt 0 (length chosen)) (chosen_decides name ls chosen c))
   output_all name ls end counts rows chosen h c =
       let file = file_with name ls (ending_of end) in
       subst (λ r. OutAs es options many counts (file ∷ []) (r ++ count_line many name end (length chosen))) (sym h) (EachGives-one (λ f out. CountOf es options many f.ending f out) file (count_line many name end (length chosen)) (count_out name ls end chosen c))
@@ -172,7 +172,7 @@ module _ (es : List Expression) (options : Options) (many : Bool) where
   rows_begun (around context) n file rows h = EachGives-one (GroupsOf es options many context) (first_lines n file) rows h
 
 -- where no lines are shown around selected ones, no separator is left out
-pub plain_rows : (shape : Form) → IsPlain shape → (shown : Bool) (rows : List Text) → behind_rows shape shown rows ≡ rows
+pub plain_rows : (shape : Form) → IsPlain shape → (shown : Bool) (rows : List Text) → rows_after shape shown rows ≡ rows
 plain_rows nothing plain shown rows = refl
 plain_rows names plain shown rows = refl
 plain_rows counts plain shown rows = refl
@@ -181,11 +181,11 @@ plain_rows lines plain shown rows = refl
 plain_rows (around context) plain shown rows = absurd plain
 
 -- where there are no rows, none is left out
-pub behind_rows-none : (shape : Form) (shown : Bool) → behind_rows shape shown [] ≡ []
-behind_rows-none nothing shown = refl
-behind_rows-none names shown = refl
-behind_rows-none counts shown = refl
-behind_rows-none parts shown = refl
-behind_rows-none lines shown = refl
-behind_rows-none (around context) true = refl
-behind_rows-none (around context) false = refl
+pub rows_after-none : (shape : Form) (shown : Bool) → rows_after shape shown [] ≡ []
+rows_after-none nothing shown = refl
+rows_after-none names shown = refl
+rows_after-none counts shown = refl
+rows_after-none parts shown = refl
+rows_after-none lines shown = refl
+rows_after-none (around context) true = refl
+rows_after-none (around context) false = refl

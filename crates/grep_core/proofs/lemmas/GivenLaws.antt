@@ -7,7 +7,7 @@ use Rattle.grep_core.specs.declared.status.Status.{Status}
 use Rattle.grep_core.specs.declared.status.RunFault.{RunFault}
 use Rattle.grep_core.specs.declared.status.RunFault.TheVariants.{Write, MessageWrite, Memory}
 use Rattle.grep_io.specs.Reading.{Source}
-use Rattle.grep_core.specs.Run.{Devices, Finishes, BreaksOff, StopsBehind, RunGives}
+use Rattle.grep_core.specs.Run.{Devices, Finishes, BreaksOff, StopsAfter, RunGives}
 
 module _ (es : List Expression) (options : Options) (sources : List Source) (given other : List (Option Text) → Type 0) (more : (left : List (Option Text)) → given left → other left) (old new : Devices) where
   Finishes-given : (status : Status) → Finishes es options sources given old new status → Finishes es options sources other old new status
@@ -20,7 +20,7 @@ module _ (es : List Expression) (options : Options) (sources : List Source) (giv
     are_messages = f.are_messages;
     is_status = f.is_status;
     wrote = f.wrote;
-    told = f.told;
+    reported = f.reported;
     failures = f.failures;
     are_failures = f.are_failures;
     counted = f.counted;
@@ -45,7 +45,7 @@ module _ (es : List Expression) (options : Options) (sources : List Source) (giv
     messages = b.messages;
     are_messages = b.are_messages;
     wrote = b.wrote;
-    told = b.told;
+    reported = b.reported;
     failures = b.failures;
     are_failures = b.are_failures;
     counted = b.counted;
@@ -55,8 +55,8 @@ module _ (es : List Expression) (options : Options) (sources : List Source) (giv
     steps = b.steps;
   }
 
-  StopsBehind-given : (k n : ℕ) → StopsBehind es options sources given old new k n → StopsBehind es options sources other old new k n
-  StopsBehind-given k n s = record {
+  StopsAfter-given : (k n : ℕ) → StopsAfter es options sources given old new k n → StopsAfter es options sources other old new k n
+  StopsAfter-given k n s = record {
     readings = s.readings;
     are_readings = s.are_readings;
     in_sources = s.in_sources;
@@ -66,7 +66,7 @@ module _ (es : List Expression) (options : Options) (sources : List Source) (giv
     messages = s.messages;
     are_messages = s.are_messages;
     wrote = s.wrote;
-    told = s.told;
+    reported = s.reported;
     failures = s.failures;
     are_failures = s.are_failures;
     counted = s.counted;
@@ -82,4 +82,4 @@ module _ (es : List Expression) (options : Options) (sources : List Source) (giv
   RunGives-given (Ok status) f = Finishes-given status f
   RunGives-given (Err Write) b = (BreaksOff-given b.0, b.1, b.2)
   RunGives-given (Err MessageWrite) b = (BreaksOff-given b.0, b.1, b.2)
-  RunGives-given (Err (Memory k n)) s = StopsBehind-given k n s
+  RunGives-given (Err (Memory k n)) s = StopsAfter-given k n s

@@ -12,47 +12,47 @@ use Rattle.grep_core.specs.Choose.{EachGives}
 use Rattle.grep_core.specs.Files.{File, HasSelected}
 use Rattle.grep_core.specs.Messages.{AnySelected}
 use Rattle.grep_core.specs.Output.{Form, nothing, names, counts, parts, lines, around, shown_name, shown_number, GroupsOf}
-use Rattle.grep_core.specs.Working.Groups.{GroupedAs, behind_rows}
+use Rattle.grep_core.specs.Working.Groups.{GroupedAs, rows_after}
 use Rattle.grep_core.specs.Working.Searched.{summary_as}
 use Rattle.grep_core.proofs.lemmas.AroundLaws.{first_empty, second_empty, groups_none, groups_some}
 
 -- ---- what is written of such output
 
 -- what is written of some output is a beginning of what is written of that and more
-pub behind_longer : (shape : Form) (shown : Bool) (rows more : List Text) → (rest : List Text) × (behind_rows shape shown (rows ++ more) ≡ behind_rows shape shown rows ++ rest)
-behind_longer nothing shown rows more = (more, refl)
-behind_longer names shown rows more = (more, refl)
-behind_longer counts shown rows more = (more, refl)
-behind_longer parts shown rows more = (more, refl)
-behind_longer lines shown rows more = (more, refl)
-behind_longer (around context) true rows more = (more, refl)
-behind_longer (around context) false [] more = (drop 1 more, refl)
-behind_longer (around context) false (row ∷ rows) more = (more, refl)
+pub after_longer : (shape : Form) (shown : Bool) (rows more : List Text) → (rest : List Text) × (rows_after shape shown (rows ++ more) ≡ rows_after shape shown rows ++ rest)
+after_longer nothing shown rows more = (more, refl)
+after_longer names shown rows more = (more, refl)
+after_longer counts shown rows more = (more, refl)
+after_longer parts shown rows more = (more, refl)
+after_longer lines shown rows more = (more, refl)
+after_longer (around context) true rows more = (more, refl)
+after_longer (around context) false [] more = (drop 1 more, refl)
+after_longer (around context) false (row ∷ rows) more = (more, refl)
 
 -- no row was written
-pub behind_nothing : (shape : Form) (shown : Bool) → behind_rows shape shown [] ≡ []
-behind_nothing nothing shown = refl
-behind_nothing names shown = refl
-behind_nothing counts shown = refl
-behind_nothing parts shown = refl
-behind_nothing lines shown = refl
-behind_nothing (around context) true = refl
-behind_nothing (around context) false = refl
+pub after_nothing : (shape : Form) (shown : Bool) → rows_after shape shown [] ≡ []
+after_nothing nothing shown = refl
+after_nothing names shown = refl
+after_nothing counts shown = refl
+after_nothing parts shown = refl
+after_nothing lines shown = refl
+after_nothing (around context) true = refl
+after_nothing (around context) false = refl
 
 -- a summary is written as it is
-pub behind_summary : (shape : Form) (shown many : Bool) (name : Text) (end : FileEnd) (selected : ℕ) (rows : List Text)
-    → behind_rows shape shown (rows ++ summary_as shape many name end selected) ≡ behind_rows shape shown rows ++ summary_as shape many name end selected
-behind_summary nothing shown many name end selected rows = refl
-behind_summary names shown many name end selected rows = refl
-behind_summary counts shown many name end selected rows = refl
-behind_summary parts shown many name end selected rows = refl
-behind_summary lines shown many name end selected rows = refl
-behind_summary (around context) shown many name end selected rows =
-    ap (behind_rows (around context) shown) (append-nil rows) ∙ sym (append-nil (behind_rows (around context) shown rows))
+pub after_summary : (shape : Form) (shown many : Bool) (name : Text) (end : FileEnd) (selected : ℕ) (rows : List Text)
+    → rows_after shape shown (rows ++ summary_as shape many name end selected) ≡ rows_after shape shown rows ++ summary_as shape many name end selected
+after_summary nothing shown many name end selected rows = refl
+after_summary names shown many name end selected rows = refl
+after_summary counts shown many name end selected rows = refl
+after_summary parts shown many name end selected rows = refl
+after_summary lines shown many name end selected rows = refl
+after_summary (around context) shown many name end selected rows =
+    ap (rows_after (around context) shown) (append-nil rows) ∙ sym (append-nil (rows_after (around context) shown rows))
 
 -- groups after others, of which there are some or none
 two_written : (context : Context) (some : Bool) (rows more : List Text) → (some ≡ true → rows ≡ [] → ⊥) → (some ≡ false → rows ≡ [])
-    → behind_rows (around context) false (rows ++ more) ≡ behind_rows (around context) false rows ++ behind_rows (around context) some more
+    → rows_after (around context) false (rows ++ more) ≡ rows_after (around context) false rows ++ rows_after (around context) some more
 two_written context true [] more there none = absurd (there refl refl)
 two_written context true (row ∷ rows) more there none = refl
 two_written context false [] more there none = refl
@@ -80,12 +80,12 @@ module _ (es : List Expression) (options : Options) (many : Bool) where
 
   -- what is written for some files and for others after them, where `some` says whether the first
   -- have a selected line
-  pub behind_both : (shape : Form) (files : List File) (rows more : List Text) (some : Bool) → GroupedAs es options many shape files rows → Decides some (AnySelected es options files)
-      → behind_rows shape false (rows ++ more) ≡ behind_rows shape false rows ++ behind_rows shape some more
-  behind_both nothing files rows more some h d = refl
-  behind_both names files rows more some h d = refl
-  behind_both counts files rows more some h d = refl
-  behind_both parts files rows more some h d = refl
-  behind_both lines files rows more some h d = refl
-  behind_both (around context) files rows more some h d =
+  pub after_two : (shape : Form) (files : List File) (rows more : List Text) (some : Bool) → GroupedAs es options many shape files rows → Decides some (AnySelected es options files)
+      → rows_after shape false (rows ++ more) ≡ rows_after shape false rows ++ rows_after shape some more
+  after_two nothing files rows more some h d = refl
+  after_two names files rows more some h d = refl
+  after_two counts files rows more some h d = refl
+  after_two parts files rows more some h d = refl
+  after_two lines files rows more some h d = refl
+  after_two (around context) files rows more some h d =
       two_written context some rows more (λ e. all_some context files rows h (d.0 e)) (λ e. all_none context files rows h (λ any. false≢true (sym e ∙ d.1 any)))

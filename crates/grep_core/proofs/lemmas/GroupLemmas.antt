@@ -15,29 +15,29 @@ use Rattle.grep_core.specs.Files.{Selected}
 use Rattle.grep_core.specs.Around.{group_separator, IsShown, BeginsGroup, IsRow, Shows}
 use Rattle.grep_core.specs.Output.{around, shown_number}
 use Rattle.grep_core.specs.Working.Requests.{name_shown}
-use Rattle.grep_core.specs.Working.Groups.{behind_rows}
+use Rattle.grep_core.specs.Working.Groups.{rows_after}
 use Rattle.grep_core.specs.Working.Progress.{row_with, rows_around}
 use Rattle.grep_core.proofs.lemmas.ChooseLaws.{EachGives-one, EachGives-append}
 use Rattle.grep_core.proofs.lemmas.MoreLines.{enumerate_from-append}
 use Rattle.grep_core.proofs.lemmas.ShownLemmas.{EachGives-placed, shown_more, begins_at, begins_same, shows_same}
 
 -- a group that begins is after a separator where something was written before
-pub behind_group : (context : Context) (before gap shown : Bool) (groups rest : List Text) → Decides shown (IsTrue before ⊎ (groups ≡ [] → ⊥)) → (groups ≡ [] → gap ≡ true)
-    → behind_rows (around context) before groups ++ ((if gap && shown then group_separator ∷ [] else []) ++ rest) ≡ behind_rows (around context) before (groups ++ ((if gap then group_separator ∷ [] else []) ++ rest))
-behind_group context true true true groups rest told first = refl
-behind_group context true false true groups rest told first = refl
-behind_group context true gap false groups rest told first = absurd (false≢true (told.1 (inl refl)))
-behind_group context false gap true [] rest told first = elim (told.0 refl) [ inl b ↦ absurd (false≢true b) | inr n ↦ absurd (n refl) ]
-behind_group context false true false [] rest told first = refl
-behind_group context false false false [] rest told first = absurd (false≢true (first refl))
-behind_group context false true true (g ∷ gs) rest told first = refl
-behind_group context false false true (g ∷ gs) rest told first = refl
-behind_group context false gap false (g ∷ gs) rest told first = absurd (false≢true (told.1 (inr (λ e. let bad : ⊥ = omega (arith, ap length e) in bad))))
+pub after_group : (context : Context) (before gap shown : Bool) (groups rest : List Text) → Decides shown (IsTrue before ⊎ (groups ≡ [] → ⊥)) → (groups ≡ [] → gap ≡ true)
+    → rows_after (around context) before groups ++ ((if gap && shown then group_separator ∷ [] else []) ++ rest) ≡ rows_after (around context) before (groups ++ ((if gap then group_separator ∷ [] else []) ++ rest))
+after_group context true true true groups rest reported first = refl
+after_group context true false true groups rest reported first = refl
+after_group context true gap false groups rest reported first = absurd (false≢true (reported.1 (inl refl)))
+after_group context false gap true [] rest reported first = elim (reported.0 refl) [ inl b ↦ absurd (false≢true b) | inr n ↦ absurd (n refl) ]
+after_group context false true false [] rest reported first = refl
+after_group context false false false [] rest reported first = absurd (false≢true (first refl))
+after_group context false true true (g ∷ gs) rest reported first = refl
+after_group context false false true (g ∷ gs) rest reported first = refl
+after_group context false gap false (g ∷ gs) rest reported first = absurd (false≢true (reported.1 (inr (λ e. let bad : ⊥ = omega (arith, ap length e) in bad))))
 
 -- where there is no group, nothing is written
-pub behind_none : (context : Context) (before : Bool) → [] ≡ behind_rows (around context) before []
-behind_none context true = refl
-behind_none context false = refl
+pub after_none : (context : Context) (before : Bool) → [] ≡ rows_after (around context) before []
+after_none context true = refl
+after_none context false = refl
 
 -- the verdict on whether something was shown before, where there is no group yet
 pub said_before : (before : Bool) → Decides before (IsTrue before ⊎ (◌≡◌ {A = List Text} [] [] → ⊥))
@@ -100,10 +100,10 @@ module _ (es : List Expression) (options : Options) (many : Bool) (name : Text) 
       → Decides gap (BeginsGroup es options context lines (length front))
       → IsRow es options context (name_shown many name) (shown_number options (length lines + 1)) line row
       → EachGives (Given (lines ++ line ∷ [])) (enumerate_from 0 (lines ++ line ∷ [])) (groups ++ ((if gap then group_separator ∷ [] else []) ++ (rows_around options many name (length front + 1) held ++ row ∷ [])))
-  groups_grown lines front held line row groups gap parted none given same shown begins is_row =
+  groups_grown lines front held line row groups gap with_parts none given same shown begins is_row =
       let more : List Text = (if gap then group_separator ∷ [] else []) ++ (rows_around options many name (length front + 1) held ++ row ∷ []) in
       let all : List Text = lines ++ line ∷ [] in
-      let long : length lines ≡ length front + length held = ap length parted ∙ length-append front held in
+      let long : length lines ≡ length front + length held = ap length with_parts ∙ length-append front held in
       let stays = λ (k : ℕ). shown_more es options context lines (line ∷ []) k in
       let first = EachGives-placed (Given lines) (Given all) 0 front groups
       (λ k x zs low high. shows_same es options context (name_shown many name) (shown_number options) lines all k x zs (λ j _. stays j) (λ j below. same j (omega (arith, below, high)))) given in
@@ -120,5 +120,5 @@ module _ (es : List Expression) (options : Options) (many : Bool) (name : Text) 
       placed : length lines ≡ length front + length held → enumerate_from 0 (lines ++ line ∷ []) ≡ enumerate_from 0 front ++ enumerate_from (length front) (held ++ line ∷ [])
       placed long =
           let zeroed : 0 + length front ≡ length front = omega arith in
-          ap (λ ls. enumerate_from 0 (ls ++ line ∷ [])) parted ∙ ap (enumerate_from 0) (append_assoc front held (line ∷ [])) ∙ enumerate_from-append 0 front (held ++ line ∷ [])
+          ap (λ ls. enumerate_from 0 (ls ++ line ∷ [])) with_parts ∙ ap (enumerate_from 0) (append_assoc front held (line ∷ [])) ∙ enumerate_from-append 0 front (held ++ line ∷ [])
           ∙ ap (λ n. enumerate_from 0 front ++ enumerate_from n (held ++ line ∷ [])) zeroed

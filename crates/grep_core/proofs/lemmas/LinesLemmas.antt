@@ -19,7 +19,7 @@ use Rattle.grep_core.specs.Output.{Form, nothing, names, counts, form, SelectedL
 use Rattle.grep_core.specs.Messages.{FaultMet}
 use Rattle.grep_io.specs.Reading.{open_source, file_of, failures_of, most_lines, OneLeft, HasRead}
 use Rattle.grep_core.specs.Run.{Writer, TakesAll, TakesFront, first_lines}
-use Rattle.grep_core.specs.Working.Groups.{GroupedAs, behind_rows}
+use Rattle.grep_core.specs.Working.Groups.{GroupedAs, rows_after}
 use Rattle.grep_io.specs.Working.Handed.{StandsFor, BeginsWith, file_so_far}
 use Rattle.grep_core.specs.Cost.{SearchesLine, SearchesLines}
 use Rattle.grep_core.specs.Working.Passed.{AddsCounted}
@@ -38,7 +38,7 @@ use Rattle.grep_core.proofs.lemmas.OneFile.{FaultMet-left, whole-failures}
 use Rattle.grep_core.proofs.lemmas.MoreLines.{SelectedLines-passed}
 use Rattle.grep_io.proofs.lemmas.HandedLemmas.{begins_with}
 use Rattle.grep_io.proofs.lemmas.NumberedLemmas.{has_handed_none}
-use Rattle.grep_core.proofs.lemmas.FileOutput.{positive, chosen_tells, rows_line, chosen_line, chosen_count, output_all, output_left, output_front, rows_begun, plain_rows}
+use Rattle.grep_core.proofs.lemmas.FileOutput.{positive, chosen_decides, rows_line, chosen_line, chosen_count, output_all, output_left, output_front, rows_begun, plain_rows}
 
 -- where a file is left early, only its name is written, if that
 pub early_form : (options : Options) → IsTrue (leaves_early options) → (form options ≡ nothing) ⊎ (form options ≡ names)
@@ -61,9 +61,9 @@ module _ (es : List Expression) (options : Options) (many shown : Bool) (name : 
   pub record WrittenOf (shape : Form) (lines rows : List Text) : Type 0 where
     pub groups : List Text
     pub are_groups : LineRowsOf es options many shape (file_so_far name lines) groups
-    pub are_rows : rows ≡ behind_rows shape shown groups
+    pub are_rows : rows ≡ rows_after shape shown groups
     pub further : (file : File) (more : List Text) → file.name ≡ name → file.lines ≡ lines ++ more
-        → (all : List Text) × (rest : List Text) × GroupedAs es options many shape (file ∷ []) all × (behind_rows shape shown all ≡ rows ++ rest)
+        → (all : List Text) × (rest : List Text) × GroupedAs es options many shape (file ∷ []) all × (rows_after shape shown all ≡ rows ++ rest)
 
   -- where no lines are shown around selected ones, they are the rows of the lines
   pub written_plain : (shape : Form) → IsPlain shape → (lines rows : List Text) → LineRowsOf es options many shape (file_so_far name lines) rows → WrittenOf shape lines rows
@@ -95,12 +95,12 @@ module _ (es : List Expression) (options : Options) (many shown : Bool) (name : 
   -- one more line, by the rows that it adds
   pub writes_more : (lines : List Text) (line : Text) (added : List Text) (old mid new : Writer) (selected more : ℕ) (found : Bool) (w : WritesLines lines old mid selected)
       → WrittenOf (form options) (lines ++ line ∷ []) (w.rows ++ added) → TakesAll mid new added → Decides found (Selected es options line) → more ≡ (if found then selected + 1 else selected) → WritesLines (lines ++ line ∷ []) old new more
-  writes_more lines line added old mid new selected more found w of took told e = record {
+  writes_more lines line added old mid new selected more found w of took reported e = record {
     rows = w.rows ++ added;
     of = of;
     wrote = TakesAll-more old mid new w.rows added w.wrote took;
     chosen = w.chosen ++ picked found (length lines + 1, line);
-    are_chosen = chosen_line es options many name lines line w.chosen found w.are_chosen told;
+    are_chosen = chosen_line es options many name lines line w.chosen found w.are_chosen reported;
     counted = chosen_count w.chosen (length lines + 1, line) selected found w.counted ∙ sym e;
   }
 
@@ -116,7 +116,7 @@ module _ (es : List Expression) (options : Options) (many shown : Bool) (name : 
       → WritesLines (lines ++ line ∷ []) old new (if found then selected + 1 else selected)
   writes_line plain lines line old mid new selected found w t =
       let rows = rows_line es options many name (form options) plain lines line w.rows t.rows (plain_written (form options) plain lines w.rows w.of) t.are_rows in
-      writes_more lines line t.rows old mid new selected _ found w (written_plain (form options) plain (lines ++ line ∷ []) (w.rows ++ t.rows) rows) t.wrote t.told refl
+      writes_more lines line t.rows old mid new selected _ found w (written_plain (form options) plain (lines ++ line ∷ []) (w.rows ++ t.rows) rows) t.wrote t.reported refl
 
   -- lines were searched at once: their rows, and which of them are selected
   adds_lines : IsPlain (form options) → (more lines rows own : List Text) (chosen : List (ℕ × Text)) (found : ℕ) → LineRowsOf es options many (form options) (file_so_far name lines) rows → SelectedLines es options many (file_so_far name lines) chosen
@@ -130,10 +130,10 @@ module _ (es : List Expression) (options : Options) (many shown : Bool) (name : 
         subst (λ ls. SelectedLines es options many (file_so_far name ls) chosen) (sym (append-nil lines)) are,
         sum,
       )
-  adds_lines plain (line ∷ more) lines rows own chosen found has are (first, later, b, others, one, told, rest, joined, counted) =
+  adds_lines plain (line ∷ more) lines rows own chosen found has are (first, later, b, others, one, reported, rest, joined, counted) =
       let at : length lines + 1 + 1 ≡ length (lines ++ line ∷ []) + 1 = omega (arith, length_push lines line) in
       let here = rows_line es options many name (form options) plain lines line rows first has one in
-      let picks = chosen_line es options many name lines line chosen b are told in
+      let picks = chosen_line es options many name lines line chosen b are reported in
       let (has_all, all, are_all, many_all) = adds_lines plain more (lines ++ line ∷ []) (rows ++ first) later (chosen ++ picked b (length lines + 1, line)) others here picks (subst (λ n. RowsOfLines es options many name n more later others) at rest) in
       let same : (rows ++ first) ++ later ≡ rows ++ own = append_assoc rows first later ∙ ap (λ r. rows ++ r) (sym joined) in
       let long = chosen_count chosen (length lines + 1, line) (length chosen) b refl in (
@@ -175,8 +175,8 @@ module _ (es : List Expression) (options : Options) (many shown : Bool) (name : 
       record { rows = w.rows; of = w.of; wrote = wrote; chosen = w.chosen; are_chosen = w.are_chosen; counted = w.counted }
 
   -- the number says whether a line is selected
-  some_tells : (lines : List Text) (old new : Writer) (selected : ℕ) → WritesLines lines old new selected → Decides (nat_lt 0 selected) (Any (Selected es options) lines)
-  some_tells lines old new selected w = subst (λ n. Decides (nat_lt 0 n) (Any (Selected es options) lines)) w.counted (chosen_tells es options many name lines w.chosen w.are_chosen)
+  some_decides : (lines : List Text) (old new : Writer) (selected : ℕ) → WritesLines lines old new selected → Decides (nat_lt 0 selected) (Any (Selected es options) lines)
+  some_decides lines old new selected w = subst (λ n. Decides (nat_lt 0 n) (Any (Selected es options) lines)) w.counted (chosen_decides es options many name lines w.chosen w.are_chosen)
 
   module _ (known rest : Option Text) (old new : Writer) (began ended : Steps) where
     module _ (failed_before failed : ℕ) (lines : List Text) (selected : ℕ) (w : WritesLines lines old new selected) (spent : SearchesLines es options (length es) lines began ended) where
@@ -189,7 +189,7 @@ module _ (es : List Expression) (options : Options) (many shown : Bool) (name : 
             reading = s.reading;
             is_reading = s.is_reading;
             failures = record { own = failures_of s.reading; are_own = inr (unmet, whole-failures name s.reading (ap (λ (f : File). f.ending) s.file)); counted = s.counted; left = rest ∷ []; are_left = s.is_left; gave_back = refl };
-            some = subst (λ f. Decides (nat_lt 0 selected) (HasSelected es options f)) (sym s.file) (some_tells lines old new selected w);
+            some = subst (λ f. Decides (nat_lt 0 selected) (HasSelected es options f)) (sym s.file) (some_decides lines old new selected w);
             fault = decided_no unmet;
             ends = λ e. absurd (false≢true e);
             rows = w.of.groups;
@@ -203,7 +203,7 @@ module _ (es : List Expression) (options : Options) (many shown : Bool) (name : 
       pub searches_broken : StandsFor name known rest failed_before failed lines broken → (IsTrue (leaves_early options) → selected ≡ 0) → SearchesSource es options many shown (open_source name known) (OneLeft rest) failed_before failed old new began ended Broken selected
       searches_broken s none =
           let ends : File = record { name = name; lines = lines; ending = broken } in
-          let some = some_tells lines old new selected w in
+          let some = some_decides lines old new selected w in
           let none_selected : IsTrue (leaves_early options) → Any (Selected es options) lines → ⊥ = λ early has. false≢true (ap (nat_lt 0) (sym (none early)) ∙ some.1 has) in
           let met : FaultMet es options (file_of name s.reading) = subst (FaultMet es options) (sym s.file) none_selected in
           record {
@@ -225,7 +225,7 @@ module _ (es : List Expression) (options : Options) (many shown : Bool) (name : 
       searches_left b none_failed early found =
           let file = file_of name b.reading in
           let here : nat_lt 0 selected ≡ true = positive selected found in
-          let has : HasSelected es options file = subst (Any (Selected es options)) (sym b.has_lines) (Any-left (Selected es options) lines b.more ((some_tells lines old new selected w).0 here)) in
+          let has : HasSelected es options file = subst (Any (Selected es options)) (sym b.has_lines) (Any-left (Selected es options) lines b.more ((some_decides lines old new selected w).0 here)) in
           let unmet : FaultMet es options file → ⊥ = FaultMet-left es options file b.ends early has in
           let some : Decides (nat_lt 0 selected) (HasSelected es options file) = ((λ _. has), (λ _. here)) in
           record {
@@ -264,9 +264,9 @@ module _ (es : List Expression) (options : Options) (many shown : Bool) (name : 
         }
 
     -- no more lines were searched
-    pub stops_behind : (lines : List Text) (selected count : ℕ) → WritesLines lines old new selected → SearchesLines es options (length es) lines began ended → BeginsWith name known lines → length lines ≡ count → HasRead (open_source name known) rest lines
+    pub stops_after : (lines : List Text) (selected count : ℕ) → WritesLines lines old new selected → SearchesLines es options (length es) lines began ended → BeginsWith name known lines → length lines ≡ count → HasRead (open_source name known) rest lines
         → (failed_before failed : ℕ) → failed ≡ failed_before → StopsSource es options many shown (open_source name known) (OneLeft rest) count failed_before failed old new began ended
-    stops_behind lines selected count w spent b =
+    stops_after lines selected count w spent b =
         stops_among lines [] selected count w (subst (λ ls. SearchesLines es options (length es) ls began ended) (sym (append-nil lines)) spent) (subst (BeginsWith name known) (sym (append-nil lines)) b)
 
   module _ (known rest : Option Text) (old mid new : Writer) (began ended : Steps) (selected failed_before failed : ℕ) (none_failed : failed ≡ failed_before) where
@@ -315,9 +315,9 @@ module _ (es : List Expression) (options : Options) (many shown : Bool) (name : 
         breaks_adding lines line broke.rows w (written_plain (form options) plain (lines ++ line ∷ []) (w.rows ++ broke.rows) rows) spent b broke.wrote broke.counted
 
     -- all rows so far were written, and buffered output could not be sent
-    pub breaks_behind : (lines : List Text) → WritesLines lines old mid selected → SearchesLines es options (length es) lines began ended → BeginsWith name known lines → TakesFront mid new [] → new.failures ≡ one_more mid.failures
+    pub breaks_after : (lines : List Text) → WritesLines lines old mid selected → SearchesLines es options (length es) lines began ended → BeginsWith name known lines → TakesFront mid new [] → new.failures ≡ one_more mid.failures
         → BreaksSource es options many shown (open_source name known) (OneLeft rest) failed_before failed old new began ended
-    breaks_behind lines w spent b front counted =
+    breaks_after lines w spent b front counted =
         breaks_in lines w.rows w.of (subst (TakesFront old new) (append-nil w.rows) (TakesFront-more old mid new w.rows [] w.wrote front)) (counted ∙ ap one_more w.wrote.none_failed) spent b
 
 -- ---- the turns of the search

@@ -7,45 +7,45 @@ use Rattle.re_syntax.proofs.lemmas.Decisions.{Any-first, Any-later}
 use Rattle.grep_core.specs.declared.options.Options.{Options}
 use Rattle.grep_core.specs.Choose.{EachGives}
 use Rattle.grep_core.specs.Files.{File}
-use Rattle.grep_core.specs.Messages.{Stops, Reached, Message, Told, Messages}
+use Rattle.grep_core.specs.Messages.{Stops, Reached, Message, Reported, Messages}
 use Rattle.grep_core.proofs.lemmas.ChooseLaws.{EachGives-append, EachGives-exist}
 use Rattle.grep_core.proofs.lemmas.Exist.{Reached-exist, Message-exist}
 
 module _ (es : List Expression) (options : Options) where
   -- after files at which a run does not stop, the files that are reached follow
-  pub Reached-behind : (front rest reached : List File) → (Any (Stops es options) front → ⊥) → Reached es options rest reached → Reached es options (front ++ rest) (front ++ reached)
-  Reached-behind [] rest reached none r = r
-  Reached-behind (file ∷ front) rest reached none r =
-      (front ++ reached, refl, inr ((λ s. none (Any-first (Stops es options) file front s)), Reached-behind front rest reached (λ a. none (Any-later (Stops es options) file front a)) r))
+  pub Reached-recent : (front rest reached : List File) → (Any (Stops es options) front → ⊥) → Reached es options rest reached → Reached es options (front ++ rest) (front ++ reached)
+  Reached-recent [] rest reached none r = r
+  Reached-recent (file ∷ front) rest reached none r =
+      (front ++ reached, refl, inr ((λ s. none (Any-first (Stops es options) file front s)), Reached-recent front rest reached (λ a. none (Any-later (Stops es options) file front a)) r))
 
   -- where a run stops at no file, all are reached
   pub Reached-all : (files : List File) → (Any (Stops es options) files → ⊥) → Reached es options files files
-  Reached-all files none = subst (λ xs. Reached es options xs xs) (append-nil files) (Reached-behind files [] [] none refl)
+  Reached-all files none = subst (λ xs. Reached es options xs xs) (append-nil files) (Reached-recent files [] [] none refl)
 
   -- where a run stops at a file, it is the last that is reached
   pub Reached-stopped : (front rest : List File) (file : File) → (Any (Stops es options) front → ⊥) → Stops es options file → Reached es options (front ++ file ∷ rest) (front ++ file ∷ [])
-  Reached-stopped front rest file none stops = Reached-behind front (file ∷ rest) (file ∷ []) none ([], refl, inl (stops, refl))
+  Reached-stopped front rest file none stops = Reached-recent front (file ∷ rest) (file ∷ []) none ([], refl, inl (stops, refl))
 
   -- the messages are those about the files that are reached
-  pub Messages-reached : (files reached : List File) (told : List Text) → Reached es options files reached → Told es options reached told → Messages es options files told
-  Messages-reached files reached told r t = by_flag options.no_messages t
+  pub Messages-reached : (files reached : List File) (reported : List Text) → Reached es options files reached → Reported es options reached reported → Messages es options files reported
+  Messages-reached files reached reported r t = by_flag options.no_messages t
     where
-      by_flag : (none : Bool) → MatchBool none (told ≡ []) (EachGives (Message es options) reached told) →
-          MatchBool none (told ≡ []) ((reached : List File) × Reached es options files reached × EachGives (Message es options) reached told)
+      by_flag : (none : Bool) → MatchBool none (reported ≡ []) (EachGives (Message es options) reached reported) →
+          MatchBool none (reported ≡ []) ((reached : List File) × Reached es options files reached × EachGives (Message es options) reached reported)
       by_flag true h = h
       by_flag false h = (reached, r, h)
 
   -- no file has no message
-  pub Told-nothing : Told es options [] []
-  Told-nothing = by_flag options.no_messages
+  pub Reported-nothing : Reported es options [] []
+  Reported-nothing = by_flag options.no_messages
     where
       by_flag : (none : Bool) → MatchBool none (◌≡◌ {A = List Text} [] []) (EachGives (Message es options) [] [])
       by_flag true = refl
       by_flag false = refl
 
   -- the messages about some files, and about others after them
-  pub Told-append : (xs ys : List File) (us vs : List Text) → Told es options xs us → Told es options ys vs → Told es options (xs ++ ys) (us ++ vs)
-  Told-append xs ys us vs a b = by_flag options.no_messages a b
+  pub Reported-append : (xs ys : List File) (us vs : List Text) → Reported es options xs us → Reported es options ys vs → Reported es options (xs ++ ys) (us ++ vs)
+  Reported-append xs ys us vs a b = by_flag options.no_messages a b
     where
       by_flag : (none : Bool) → MatchBool none (us ≡ []) (EachGives (Message es options) xs us) → MatchBool none (vs ≡ []) (EachGives (Message es options) ys vs) →
           MatchBool none (us ++ vs ≡ []) (EachGives (Message es options) (xs ++ ys) (us ++ vs))
@@ -53,16 +53,16 @@ module _ (es : List Expression) (options : Options) where
       by_flag false h k = EachGives-append _ xs ys us vs h k
 
   -- any files have a list of messages about them, which may be empty
-  pub Told-exist : (files : List File) → (told : List Text) × Told es options files told
-  Told-exist files = by_flag options.no_messages
+  pub Reported-exist : (files : List File) → (reported : List Text) × Reported es options files reported
+  Reported-exist files = by_flag options.no_messages
     where
-      by_flag : (none : Bool) → (told : List Text) × MatchBool none (told ≡ []) (EachGives (Message es options) files told)
+      by_flag : (none : Bool) → (reported : List Text) × MatchBool none (reported ≡ []) (EachGives (Message es options) files reported)
       by_flag true = ([], refl)
       by_flag false = EachGives-exist (Message es options) (Message-exist es options) files
 
   -- the messages about files at which a run does not stop are a beginning of all messages
-  pub Messages-front : (front rest : List File) (told : List Text) → (Any (Stops es options) front → ⊥) → Told es options front told → (more : List Text) × Messages es options (front ++ rest) (told ++ more)
-  Messages-front front rest told none t =
+  pub Messages-front : (front rest : List File) (reported : List Text) → (Any (Stops es options) front → ⊥) → Reported es options front reported → (more : List Text) × Messages es options (front ++ rest) (reported ++ more)
+  Messages-front front rest reported none t =
       let reached = Reached-exist es options rest in
-      let more = Told-exist reached.0 in
-      (more.0, Messages-reached (front ++ rest) (front ++ reached.0) (told ++ more.0) (Reached-behind front rest reached.0 none reached.1) (Told-append front reached.0 told more.0 t more.1))
+      let more = Reported-exist reached.0 in
+      (more.0, Messages-reached (front ++ rest) (front ++ reached.0) (reported ++ more.0) (Reached-recent front rest reached.0 none reached.1) (Reported-append front reached.0 reported more.0 t more.1))

@@ -7,7 +7,7 @@ use Rattle.re_syntax.specs.Expression.{Expression}
 use Rattle.grep_core.specs.declared.options.Options.{Options}
 use Rattle.grep_core.specs.Files.{File}
 use Rattle.grep_core.specs.Output.{Form, nothing, names, counts, parts, lines, around, OutAs}
-use Rattle.grep_core.specs.Working.Groups.{GroupedAs, behind_rows}
+use Rattle.grep_core.specs.Working.Groups.{GroupedAs, rows_after}
 use Rattle.grep_core.proofs.lemmas.ChooseLaws.{EachGives-append}
 use Rattle.grep_core.proofs.lemmas.Exist.{OutAs-exist, groups_exist}
 
@@ -35,7 +35,7 @@ module _ (es : List Expression) (options : Options) (many : Bool) where
   GroupedAs-front shape xs rest us a = let more = GroupedAs-exist shape rest in (more.0, GroupedAs-append shape xs rest us more.0 a more.1)
 
   -- without the first separator it is the output
-  pub grouped_out : (shape : Form) (files : List File) (rows : List Text) → GroupedAs es options many shape files rows → OutAs es options many shape files (behind_rows shape false rows)
+  pub grouped_out : (shape : Form) (files : List File) (rows : List Text) → GroupedAs es options many shape files rows → OutAs es options many shape files (rows_after shape false rows)
   grouped_out nothing files rows h = h
   grouped_out names files rows h = h
   grouped_out counts files rows h = h

@@ -44,14 +44,14 @@ line_counted es options many name number line w asked s = record {
   rows = [];
   are_rows = inl (s, subst (λ shape. RowsOfSelected es options many shape name number line []) (sym asked) refl);
   wrote = TakesAll-nothing w;
-  told = ((λ _. s), (λ _. refl));
+  reported = ((λ _. s), (λ _. refl));
 }
 
 -- a line that is not selected has no rows
 pub line_passed : (es : List Expression) (options : Options) (many : Bool) (name : Text) (number : ℕ) (line : Text) (w : Writer) (verdict : Bool) → verdict ≡ false → Decides verdict (Selected es options line)
     → TakesLine es options many name number line w w false
 line_passed es options many name number line w true e d = absurd (false≢true (sym e))
-line_passed es options many name number line w false e d = record { rows = []; are_rows = inr ((λ s. false≢true (d.1 s)), refl); wrote = TakesAll-nothing w; told = d }
+line_passed es options many name number line w false e d = record { rows = []; are_rows = inr ((λ s. false≢true (d.1 s)), refl); wrote = TakesAll-nothing w; reported = d }
 
 -- a selected line has the rows that were written for it
 pub line_selected : (es ds : List Expression) (options : Options) (many : Bool) (name : Text) (number : ℕ) (line : Text) (a b : Writer) (verdict : Bool) → verdict ≡ true → Decides verdict (Selected es options line)
@@ -59,7 +59,7 @@ pub line_selected : (es ds : List Expression) (options : Options) (many : Bool) 
 line_selected es ds options many name number line a b verdict e d same went =
     let s = d.0 e in
     let w = subst (λ fs. WritesSelected fs options many name number line a b) same went in
-    record { rows = w.rows; are_rows = inl (s, w.are_rows); wrote = w.wrote; told = ((λ _. s), (λ _. refl)) }
+    record { rows = w.rows; are_rows = inl (s, w.are_rows); wrote = w.wrote; reported = ((λ _. s), (λ _. refl)) }
 
 -- a beginning of them was written
 pub line_broken : (es ds : List Expression) (options : Options) (many : Bool) (name : Text) (number : ℕ) (line : Text) (a b : Writer) (verdict : Bool) → verdict ≡ true → Decides verdict (Selected es options line)

@@ -23,7 +23,7 @@ use Rattle.grep_core.specs.Output.{Form, nothing, names, counts, parts, lines, a
 use Rattle.grep_io.specs.Reading.{Source, Reading, not_opened, fails_after, ends_after, open_source, IsReadingOf, file_of, failures_of, AreLeft, OneLeft, HasRead}
 use Rattle.grep_core.specs.Run.{Writer, TakesAll, TakesFront, first_lines, count_more}
 use Rattle.grep_core.specs.Working.Given.{SearchGives}
-use Rattle.grep_core.specs.Working.Groups.{behind_rows}
+use Rattle.grep_core.specs.Working.Groups.{rows_after}
 use Rattle.grep_core.specs.Working.OneLine.{IsPlain, LineRowsOf}
 use Rattle.grep_core.specs.Working.Searched.{CountsSource, BreaksSource, StopsSource, SearchesSource}
 use Rattle.grep_core.proofs.lemmas.Verdicts.{decided_yes, decided_no}
@@ -31,7 +31,7 @@ use Rattle.grep_core.proofs.lemmas.CostLaws.{searched_no_line, searched_first_li
 use Rattle.grep_core.proofs.lemmas.WriterLaws.{TakesAll-nothing}
 use Rattle.grep_io.proofs.lemmas.WindowLemmas.{none_in_nothing}
 use Rattle.grep_core.proofs.lemmas.Readings.{IsReadingOf-exists}
-use Rattle.grep_core.proofs.lemmas.FileOutput.{rows_none, output_all, rows_begun, plain_rows, behind_rows-none}
+use Rattle.grep_core.proofs.lemmas.FileOutput.{rows_none, output_all, rows_begun, plain_rows, rows_after-none}
 
 -- a source that was opened and then read may have done what was read
 pub opened : (source : Source) (r : Reading) → IfSome source.opens (λ b. b ≡ true) → IsReadingOf (open_source source.name source.bytes) r → IsReadingOf source r
@@ -148,7 +148,7 @@ module _ (es : List Expression) (options : Options) (many shown : Bool) (source 
         read = record { given = []; are_given = lines_of-terminated [] all_none ∙ no_lines (file_of source.name some.0).lines; held = []; few_held = none_in_nothing; read = subst (λ r. Consumes source.bytes r []) (sym none_read) (Consumes-nil source.bytes) };
         rows = [];
         are_rows = rows_begun es options many (form options) 0 (file_of source.name some.0) [] (no_rows (form options) (first_lines 0 (file_of source.name some.0)) refl);
-        wrote = subst (TakesAll w w) (sym (behind_rows-none (form options) shown)) (TakesAll-nothing w);
+        wrote = subst (TakesAll w w) (sym (rows_after-none (form options) shown)) (TakesAll-nothing w);
         steps = searched_first_lines es options (length es) [] (file_of source.name some.0).lines steps steps (searched_no_line es options (length es) steps);
       }
     where
@@ -175,14 +175,14 @@ module _ (es : List Expression) (options : Options) (many shown : Bool) (source 
     ends = λ _. refl;
     rows = [];
     are_rows = output_all es options many source.name [] Missing (form options) [] [] (rows_none es options many source.name (form options)) refl;
-    wrote = subst (TakesAll w w) (sym (behind_rows-none (form options) shown)) (TakesAll-nothing w);
+    wrote = subst (TakesAll w w) (sym (rows_after-none (form options) shown)) (TakesAll-nothing w);
     steps = searched_no_line es options (length es) steps;
   }
 
 -- where no lines are shown around selected ones, it makes no difference whether an earlier source
 -- has a selected line
 module _ (es : List Expression) (options : Options) (many : Bool) (plain : IsPlain (form options)) (first shown : Bool) (source : Source) (given : List (Option Text) → Type 0) where
-  same_rows : (rows : List Text) → behind_rows (form options) first rows ≡ behind_rows (form options) shown rows
+  same_rows : (rows : List Text) → rows_after (form options) first rows ≡ rows_after (form options) shown rows
   same_rows rows = plain_rows (form options) plain first rows ∙ sym (plain_rows (form options) plain shown rows)
 
   counts_anyway : (reading : Reading) (before after : ℕ) → CountsSource es options many first source given reading before after → CountsSource es options many shown source given reading before after

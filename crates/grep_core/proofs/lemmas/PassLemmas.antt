@@ -28,8 +28,8 @@ module _ {W : Type 0} (contents : W → Option Text) (failures : W → ℕ) wher
 -- ---- rows
 
 -- the verdict on one of two
-pub or_tells : {P Q : Type 0} (a b : Bool) → Decides a P → Decides b Q → {S : Type 0} → (P → S) → (Q → S) → (S → (P → ⊥) → (Q → ⊥) → ⊥) → Decides (a || b) S
-or_tells true b p q f g none = ((λ _. f (p.0 refl)), (λ _. refl))
-or_tells false true p q f g none = ((λ _. g (q.0 refl)), (λ _. refl))
-or_tells false false p q f g none =
+pub or_decides : {P Q : Type 0} (a b : Bool) → Decides a P → Decides b Q → {S : Type 0} → (P → S) → (Q → S) → (S → (P → ⊥) → (Q → ⊥) → ⊥) → Decides (a || b) S
+or_decides true b p q f g none = ((λ _. f (p.0 refl)), (λ _. refl))
+or_decides false true p q f g none = ((λ _. g (q.0 refl)), (λ _. refl))
+or_decides false false p q f g none =
     ((λ e. absurd (let no : ⊥ = cc in no)), (λ s. absurd (none s (λ x. let e = p.1 x in let no : ⊥ = cc in no) (λ y. let e = q.1 y in let no : ⊥ = cc in no))))

@@ -16,21 +16,21 @@ use Rattle.grep_io.specs.Counted.{one_more}
 use Rattle.grep_core.specs.Choose.{IfHolds}
 use Rattle.grep_core.specs.Files.{File, missing, HasSelected}
 use Rattle.grep_core.specs.Output.{Form, nothing, names, counts, parts, lines, around, form, OutAs, Out, are_many}
-use Rattle.grep_core.specs.Messages.{FaultMet, Stops, Told, Messages, AnySelected, StatusOf}
+use Rattle.grep_core.specs.Messages.{FaultMet, Stops, Reported, Messages, AnySelected, StatusOf}
 use Rattle.grep_io.specs.Reading.{Source, Reading, IsReadingOf, file_of, failures_of, AreLeft, HasRead}
-use Rattle.grep_core.specs.Run.{Writer, Devices, TakesAll, TakesFront, TakesPast, files_of, AreReadings, FailuresMet, LeftMet, begun, file_at, count_more, Finishes, BreaksOff, StopsBehind, RunGives}
+use Rattle.grep_core.specs.Run.{Writer, Devices, TakesAll, TakesFront, TakesPast, files_of, AreReadings, FailuresMet, LeftMet, begun, file_at, count_more, Finishes, BreaksOff, StopsAfter, RunGives}
 use Rattle.grep_core.specs.Sources.{source_at}
 use Rattle.grep_core.specs.Cost.{SearchesLines, SearchesFiles}
-use Rattle.grep_core.specs.Working.Groups.{GroupedAs, behind_rows}
+use Rattle.grep_core.specs.Working.Groups.{GroupedAs, rows_after}
 use Rattle.grep_core.specs.Working.Searched.{is_fault, status_by, SourceGives, CountsSource, FinishesSource, BreaksSource, BreaksMessage, StopsSource}
 use Rattle.re_syntax.proofs.lemmas.SomeOfJoined.{Any-left, Any-right, Any-append-cases, Any-single, none_more}
 use Rattle.grep_core.proofs.lemmas.CostLaws.{searched_without_steps, searched_one_file, searched_up_to}
 use Rattle.grep_core.proofs.lemmas.Decided.{dec_stops}
 use Rattle.grep_core.proofs.lemmas.Verdicts.{decided_no}
 use Rattle.grep_core.proofs.lemmas.MoreFiles.{GroupedAs-append, GroupedAs-front, grouped_out}
-use Rattle.grep_core.proofs.lemmas.GroupLaws.{behind_nothing, behind_longer, behind_both}
-use Rattle.grep_core.proofs.lemmas.MessageLaws.{Told-nothing, Told-append, Reached-all, Reached-stopped, Messages-reached, Messages-front}
-use Rattle.grep_core.proofs.lemmas.PassLemmas.{or_tells}
+use Rattle.grep_core.proofs.lemmas.GroupLaws.{after_nothing, after_longer, after_two}
+use Rattle.grep_core.proofs.lemmas.MessageLaws.{Reported-nothing, Reported-append, Reached-all, Reached-stopped, Messages-reached, Messages-front}
+use Rattle.grep_core.proofs.lemmas.PassLemmas.{or_decides}
 use Rattle.grep_core.proofs.lemmas.Readings.{AreReadings-exist}
 use Rattle.grep_core.proofs.lemmas.SourceLaws.{AreReadings-append, files_of-append, length-files_of, count_more-add, FailuresMet-append, FailuresMet-stopped, FailuresMet-one, FailuresMet-longer, LeftMet-append, LeftMet-stopped, LeftMet-one, LeftMet-longer}
 use Rattle.grep_core.proofs.lemmas.StatusLaws.{StatusOf-stopped, StatusOf-error, StatusOf-selected, StatusOf-none}
@@ -44,9 +44,9 @@ any_mapped P Q f [] h = absurd (Any-none P h)
 any_mapped P Q f (x ∷ xs) h = elim (Any-cases P x xs h) [ inl p ↦ Any-first Q x xs (f x p) | inr l ↦ Any-later Q x xs (any_mapped P Q f xs l) ]
 
 -- the verdict on some element of a list and one more
-any_tells : {A : Type 0} (P : A → Type 0) (xs : List A) (x : A) (a b : Bool) → Decides a (Any P xs) → Decides b (P x) → Decides (a || b) (Any P (xs ++ x ∷ []))
-any_tells P xs x a b p q =
-    or_tells a b p q (Any-left P xs (x ∷ [])) (λ h. Any-right P xs (x ∷ []) (Any-first P x [] h))
+any_decides : {A : Type 0} (P : A → Type 0) (xs : List A) (x : A) (a b : Bool) → Decides a (Any P xs) → Decides b (P x) → Decides (a || b) (Any P (xs ++ x ∷ []))
+any_decides P xs x a b p q =
+    or_decides a b p q (Any-left P xs (x ∷ [])) (λ h. Any-right P xs (x ∷ []) (Any-first P x [] h))
     (λ s none not_here. elim (Any-append-cases P xs (x ∷ []) s) [ inl l ↦ none l | inr r ↦ not_here (Any-single P x r) ])
 
 -- where the two are not both true, not both hold
@@ -74,13 +74,13 @@ module _ (es : List Expression) (options : Options) (many : Bool) where
     pub are_readings : AreReadings before readings
     pub output : List Text
     pub is_output : GroupedAs es options many (form options) (files_of before readings) output
-    pub wrote : TakesAll old.out new.out (behind_rows (form options) false output)
+    pub wrote : TakesAll old.out new.out (rows_after (form options) false output)
     pub messages : List Text
-    pub are_told : Told es options (files_of before readings) messages
-    pub told : TakesAll old.messages new.messages messages
+    pub are_reported : Reported es options (files_of before readings) messages
+    pub reported : TakesAll old.messages new.messages messages
     pub goes_on : Any (Stops es options) (files_of before readings) → ⊥
-    pub some_told : Decides some (AnySelected es options (files_of before readings))
-    pub faulty_told : Decides faulty (Any (FaultMet es options) (files_of before readings))
+    pub some_reported : Decides some (AnySelected es options (files_of before readings))
+    pub faulty_reported : Decides faulty (Any (FaultMet es options) (files_of before readings))
     pub failures : ℕ
     pub are_failures : FailuresMet es options before readings failures
     pub counted : new.source_failures ≡ count_more old.source_failures failures
@@ -96,13 +96,13 @@ module _ (es : List Expression) (options : Options) (many : Bool) where
     are_readings = tt;
     output = [];
     is_output = nothing_written (form options);
-    wrote = subst (TakesAll d.out d.out) (sym (behind_nothing (form options) false)) (TakesAll-nothing d.out);
+    wrote = subst (TakesAll d.out d.out) (sym (after_nothing (form options) false)) (TakesAll-nothing d.out);
     messages = [];
-    are_told = Told-nothing es options;
-    told = TakesAll-nothing d.messages;
+    are_reported = Reported-nothing es options;
+    reported = TakesAll-nothing d.messages;
     goes_on = Any-none (Stops es options);
-    some_told = decided_no (Any-none (HasSelected es options));
-    faulty_told = decided_no (Any-none (FaultMet es options));
+    some_reported = decided_no (Any-none (HasSelected es options));
+    faulty_reported = decided_no (Any-none (FaultMet es options));
     failures = 0;
     are_failures = refl;
     counted = refl;
@@ -124,12 +124,12 @@ module _ (es : List Expression) (options : Options) (many : Bool) where
   module _ (before : List Source) (source : Source) (given own_given all_given : List (Option Text) → Type 0) (join : (a b : List (Option Text)) → given a → own_given b → all_given (a ++ b))
       (old mid : Devices) (some faulty : Bool) (s : RunSoFar before given old mid some faulty) where
     -- what was written for the first sources, and for this one
-    wrote_both : (rows : List Text) → behind_rows (form options) false (s.output ++ rows) ≡ behind_rows (form options) false s.output ++ behind_rows (form options) some rows
-    wrote_both rows = behind_both es options many (form options) (files_of before s.readings) s.output rows some s.is_output s.some_told
+    wrote_both : (rows : List Text) → rows_after (form options) false (s.output ++ rows) ≡ rows_after (form options) false s.output ++ rows_after (form options) some rows
+    wrote_both rows = after_two es options many (form options) (files_of before s.readings) s.output rows some s.is_output s.some_reported
 
-    takes_both : (new : Writer) (rows : List Text) → TakesAll mid.out new (behind_rows (form options) some rows) → TakesAll old.out new (behind_rows (form options) false (s.output ++ rows))
+    takes_both : (new : Writer) (rows : List Text) → TakesAll mid.out new (rows_after (form options) some rows) → TakesAll old.out new (rows_after (form options) false (s.output ++ rows))
     takes_both new rows took =
-        subst (TakesAll old.out new) (sym (wrote_both rows)) (TakesAll-more old.out mid.out new (behind_rows (form options) false s.output) (behind_rows (form options) some rows) s.wrote took)
+        subst (TakesAll old.out new) (sym (wrote_both rows)) (TakesAll-more old.out mid.out new (rows_after (form options) false s.output) (rows_after (form options) some rows) s.wrote took)
 
     -- one more source, at which the run does not stop
     pub run_next : (new : Devices) (end : FileEnd) (found : ℕ) → FinishesSource es options many some source own_given mid new end found → (options.quiet && nat_lt 0 found) ≡ false → RunSoFar (before ++ source ∷ []) all_given old new (some || nat_lt 0 found) (faulty || is_fault end)
@@ -145,11 +145,11 @@ module _ (es : List Expression) (options : Options) (many : Bool) where
           is_output = subst (λ fs. GroupedAs es options many (form options) fs (s.output ++ f.rows)) (sym all) (GroupedAs-append es options many (form options) files (file ∷ []) s.output f.rows s.is_output f.are_rows);
           wrote = takes_both new.out f.rows f.wrote;
           messages = s.messages ++ f.messages;
-          are_told = subst (λ fs. Told es options fs (s.messages ++ f.messages)) (sym all) (Told-append es options files (file ∷ []) s.messages f.messages s.are_told f.are_messages);
-          told = TakesAll-more old.messages mid.messages new.messages s.messages f.messages s.told f.told;
+          are_reported = subst (λ fs. Reported es options fs (s.messages ++ f.messages)) (sym all) (Reported-append es options files (file ∷ []) s.messages f.messages s.are_reported f.are_messages);
+          reported = TakesAll-more old.messages mid.messages new.messages s.messages f.messages s.reported f.reported;
           goes_on = subst (λ fs. Any (Stops es options) fs → ⊥) (sym all) (none_more (Stops es options) files file s.goes_on not_here);
-          some_told = subst (λ fs. Decides (some || nat_lt 0 found) (AnySelected es options fs)) (sym all) (any_tells (HasSelected es options) files file some (nat_lt 0 found) s.some_told f.some);
-          faulty_told = subst (λ fs. Decides (faulty || is_fault end) (Any (FaultMet es options) fs)) (sym all) (any_tells (FaultMet es options) files file faulty (is_fault end) s.faulty_told f.fault);
+          some_reported = subst (λ fs. Decides (some || nat_lt 0 found) (AnySelected es options fs)) (sym all) (any_decides (HasSelected es options) files file some (nat_lt 0 found) s.some_reported f.some);
+          faulty_reported = subst (λ fs. Decides (faulty || is_fault end) (Any (FaultMet es options) fs)) (sym all) (any_decides (FaultMet es options) files file faulty (is_fault end) s.faulty_reported f.fault);
           failures = s.failures + f.failures.own;
           are_failures = FailuresMet-append es options before (source ∷ []) s.readings (f.reading ∷ []) s.failures f.failures.own s.are_readings s.goes_on s.are_failures (FailuresMet-one es options source f.reading f.failures.own f.failures.are_own);
           counted = f.failures.counted ∙ ap (λ n. count_more n f.failures.own) s.counted ∙ sym (count_more-add old.source_failures s.failures f.failures.own);
@@ -173,8 +173,8 @@ module _ (es : List Expression) (options : Options) (many : Bool) where
       abbrev first : List File
       first = files_of before s.readings
 
-      abbrev behind : List File
-      behind = files_of after rest.0
+      abbrev recent : List File
+      recent = files_of after rest.0
 
       abbrev all_sources : List Source
       all_sources = before ++ source ∷ after
@@ -182,7 +182,7 @@ module _ (es : List Expression) (options : Options) (many : Bool) where
       are_all : AreReadings all_sources readings
       are_all = AreReadings-append before (source ∷ after) s.readings (r ∷ rest.0) s.are_readings (is_reading, rest.1)
 
-      all_files : files_of all_sources readings ≡ first ++ file ∷ behind
+      all_files : files_of all_sources readings ≡ first ++ file ∷ recent
       all_files = files_of-append before (source ∷ after) s.readings (r ∷ rest.0) s.are_readings
 
       all_many : many ≡ are_many (files_of all_sources readings)
@@ -190,7 +190,7 @@ module _ (es : List Expression) (options : Options) (many : Bool) where
 
       -- the steps for the first sources and this one are within the cost of all
       spent : (new : Devices) → SearchesLines es options (length es) file.lines mid.steps new.steps → SearchesFiles es options (length es) (files_of all_sources readings) old.steps new.steps
-      spent new steps = subst (λ fs. SearchesFiles es options (length es) fs old.steps new.steps) (sym all_files) (searched_up_to es options (length es) first file behind old.steps mid.steps new.steps s.steps steps)
+      spent new steps = subst (λ fs. SearchesFiles es options (length es) fs old.steps new.steps) (sym all_files) (searched_up_to es options (length es) first file recent old.steps mid.steps new.steps s.steps steps)
 
       -- the first sources and this one
       up_to_here : take (suc (length before)) all_sources ≡ before ++ source ∷ []
@@ -210,16 +210,16 @@ module _ (es : List Expression) (options : Options) (many : Bool) where
       as_many = length-files_of before s.readings s.are_readings
 
       front : take (length before) (files_of all_sources readings) ≡ first
-      front = ap (λ k. take k (files_of all_sources readings)) (sym as_many) ∙ ap (take (length first)) all_files ∙ take-append_seam first (file ∷ behind)
+      front = ap (λ k. take k (files_of all_sources readings)) (sym as_many) ∙ ap (take (length first)) all_files ∙ take-append_seam first (file ∷ recent)
 
       -- what was written and reported of them
-      out_before : OutAs es options (are_many (files_of all_sources readings)) (form options) (take (length before) (files_of all_sources readings)) (behind_rows (form options) false s.output)
+      out_before : OutAs es options (are_many (files_of all_sources readings)) (form options) (take (length before) (files_of all_sources readings)) (rows_after (form options) false s.output)
       out_before =
-          subst (λ m. OutAs es options m (form options) (take (length before) (files_of all_sources readings)) (behind_rows (form options) false s.output)) all_many
-          (subst (λ fs. OutAs es options many (form options) fs (behind_rows (form options) false s.output)) (sym front) (grouped_out es options many (form options) first s.output s.is_output))
+          subst (λ m. OutAs es options m (form options) (take (length before) (files_of all_sources readings)) (rows_after (form options) false s.output)) all_many
+          (subst (λ fs. OutAs es options many (form options) fs (rows_after (form options) false s.output)) (sym front) (grouped_out es options many (form options) first s.output s.is_output))
 
-      told_before : Messages es options (take (length before) (files_of all_sources readings)) s.messages
-      told_before = subst (λ fs. Messages es options fs s.messages) (sym front) (Messages-reached es options first first s.messages (Reached-all es options first s.goes_on) s.are_told)
+      reported_before : Messages es options (take (length before) (files_of all_sources readings)) s.messages
+      reported_before = subst (λ fs. Messages es options fs s.messages) (sym front) (Messages-reached es options first first s.messages (Reached-all es options first s.goes_on) s.are_reported)
 
       -- how often the devices failed in the first sources
       met_before : FailuresMet es options (take (length before) all_sources) readings s.failures
@@ -257,43 +257,43 @@ module _ (es : List Expression) (options : Options) (many : Bool) where
       counted_here new own counted = counted ∙ ap (λ n. count_more n own) s.counted ∙ sym (count_more-add old.source_failures s.failures own)
 
       -- the output for the first sources and this one is a beginning of the output
-      out_front : (rows : List Text) → GroupedAs es options many (form options) (file ∷ []) rows → (more : List Text) × Out es options (files_of all_sources readings) (behind_rows (form options) false s.output ++ (behind_rows (form options) some rows ++ more))
+      out_front : (rows : List Text) → GroupedAs es options many (form options) (file ∷ []) rows → (more : List Text) × Out es options (files_of all_sources readings) (rows_after (form options) false s.output ++ (rows_after (form options) some rows ++ more))
       out_front rows is =
           let both = GroupedAs-append es options many (form options) first (file ∷ []) s.output rows s.is_output is in
-          let more = GroupedAs-front es options many (form options) (first ++ file ∷ []) behind (s.output ++ rows) both in
-          let all = grouped_out es options many (form options) ((first ++ file ∷ []) ++ behind) ((s.output ++ rows) ++ more.0) more.1 in
-          let longer = behind_longer (form options) false (s.output ++ rows) more.0 in
-          let regroup : (first ++ file ∷ []) ++ behind ≡ first ++ file ∷ behind = append_assoc first (file ∷ []) behind in
-          let parted : behind_rows (form options) false (s.output ++ rows) ++ longer.0 ≡ behind_rows (form options) false s.output ++ (behind_rows (form options) some rows ++ longer.0) =
-          ap (λ l. l ++ longer.0) (wrote_both rows) ∙ append_assoc (behind_rows (form options) false s.output) (behind_rows (form options) some rows) longer.0 in (
+          let more = GroupedAs-front es options many (form options) (first ++ file ∷ []) recent (s.output ++ rows) both in
+          let all = grouped_out es options many (form options) ((first ++ file ∷ []) ++ recent) ((s.output ++ rows) ++ more.0) more.1 in
+          let longer = after_longer (form options) false (s.output ++ rows) more.0 in
+          let regroup : (first ++ file ∷ []) ++ recent ≡ first ++ file ∷ recent = append_assoc first (file ∷ []) recent in
+          let with_parts : rows_after (form options) false (s.output ++ rows) ++ longer.0 ≡ rows_after (form options) false s.output ++ (rows_after (form options) some rows ++ longer.0) =
+          ap (λ l. l ++ longer.0) (wrote_both rows) ∙ append_assoc (rows_after (form options) false s.output) (rows_after (form options) some rows) longer.0 in (
             longer.0,
-            subst (λ m. OutAs es options m (form options) (files_of all_sources readings) (behind_rows (form options) false s.output ++ (behind_rows (form options) some rows ++ longer.0))) all_many
-                (subst (λ fs. OutAs es options many (form options) fs (behind_rows (form options) false s.output ++ (behind_rows (form options) some rows ++ longer.0))) (regroup ∙ sym all_files)
-                (subst (OutAs es options many (form options) ((first ++ file ∷ []) ++ behind)) (longer.1 ∙ parted) all)),
+            subst (λ m. OutAs es options m (form options) (files_of all_sources readings) (rows_after (form options) false s.output ++ (rows_after (form options) some rows ++ longer.0))) all_many
+                (subst (λ fs. OutAs es options many (form options) fs (rows_after (form options) false s.output ++ (rows_after (form options) some rows ++ longer.0))) (regroup ∙ sym all_files)
+                (subst (OutAs es options many (form options) ((first ++ file ∷ []) ++ recent)) (longer.1 ∙ with_parts) all)),
           )
 
       -- a write failed within the output for this source
-      breaks_out : (new : Devices) (rows : List Text) → GroupedAs es options many (form options) (file ∷ []) rows → TakesFront mid.out new.out (behind_rows (form options) some rows) → new.messages ≡ mid.messages
+      breaks_out : (new : Devices) (rows : List Text) → GroupedAs es options many (form options) (file ∷ []) rows → TakesFront mid.out new.out (rows_after (form options) some rows) → new.messages ≡ mid.messages
           → CountsSource es options many some source own_given r mid.source_failures new.source_failures → SearchesLines es options (length es) file.lines mid.steps new.steps
           → BreaksOff es options all_sources all_given old new
       breaks_out new rows is front_here same failed steps =
           let out = out_front rows is in
-          let told = Messages-front es options first (file ∷ behind) s.messages s.goes_on s.are_told in
+          let reported = Messages-front es options first (file ∷ recent) s.messages s.goes_on s.are_reported in
           record {
             readings = readings;
             are_readings = are_all;
             at = length before;
             in_sources = within;
-            output_before = behind_rows (form options) false s.output;
+            output_before = rows_after (form options) false s.output;
             is_before = out_before;
-            output = behind_rows (form options) false s.output ++ (behind_rows (form options) some rows ++ out.0);
+            output = rows_after (form options) false s.output ++ (rows_after (form options) some rows ++ out.0);
             is_output = out.1;
-            wrote = TakesPast-more old.out mid.out new.out (behind_rows (form options) false s.output) (behind_rows (form options) some rows ++ out.0) s.wrote (TakesFront-longer mid.out new.out (behind_rows (form options) some rows) out.0 front_here);
+            wrote = TakesPast-more old.out mid.out new.out (rows_after (form options) false s.output) (rows_after (form options) some rows ++ out.0) s.wrote (TakesFront-longer mid.out new.out (rows_after (form options) some rows) out.0 front_here);
             messages_before = s.messages;
-            are_before = told_before;
-            messages = s.messages ++ told.0;
-            are_messages = subst (λ fs. Messages es options fs (s.messages ++ told.0)) (sym all_files) told.1;
-            told = subst (λ w. TakesPast old.messages w s.messages (s.messages ++ told.0)) (sym same) (TakesPast-all old.messages mid.messages s.messages told.0 s.told);
+            are_before = reported_before;
+            messages = s.messages ++ reported.0;
+            are_messages = subst (λ fs. Messages es options fs (s.messages ++ reported.0)) (sym all_files) reported.1;
+            reported = subst (λ w. TakesPast old.messages w s.messages (s.messages ++ reported.0)) (sym same) (TakesPast-all old.messages mid.messages s.messages reported.0 s.reported);
             failures = s.failures + failed.own;
             are_failures = met_here failed.own failed.are_own;
             counted = counted_here new failed.own failed.counted;
@@ -304,43 +304,43 @@ module _ (es : List Expression) (options : Options) (many : Bool) where
           }
 
       -- the messages about the first sources and this one are a beginning of all messages
-      told_front : (messages : List Text) → Told es options (file ∷ []) messages → (more : List Text) × Messages es options (files_of all_sources readings) ((s.messages ++ messages) ++ more)
-      told_front messages tells =
+      says_front : (messages : List Text) → Reported es options (file ∷ []) messages → (more : List Text) × Messages es options (files_of all_sources readings) ((s.messages ++ messages) ++ more)
+      says_front messages reported_too =
           elim (dec_stops es options file) [
             | yes here ↦ (
               [],
-              subst (λ fs. Messages es options fs ((s.messages ++ messages) ++ [])) (sym all_files) (subst (Messages es options (first ++ file ∷ behind)) (sym (append-nil (s.messages ++ messages)))
-                  (Messages-reached es options (first ++ file ∷ behind) (first ++ file ∷ []) (s.messages ++ messages) (Reached-stopped es options first behind file s.goes_on here) both)),
+              subst (λ fs. Messages es options fs ((s.messages ++ messages) ++ [])) (sym all_files) (subst (Messages es options (first ++ file ∷ recent)) (sym (append-nil (s.messages ++ messages)))
+                  (Messages-reached es options (first ++ file ∷ recent) (first ++ file ∷ []) (s.messages ++ messages) (Reached-stopped es options first recent file s.goes_on here) both)),
             )
-            | no goes ↦ (let more = Messages-front es options (first ++ file ∷ []) behind (s.messages ++ messages) (none_more (Stops es options) first file s.goes_on goes) both in
-                (more.0, subst (λ fs. Messages es options fs ((s.messages ++ messages) ++ more.0)) (append_assoc first (file ∷ []) behind ∙ sym all_files) more.1))
+            | no goes ↦ (let more = Messages-front es options (first ++ file ∷ []) recent (s.messages ++ messages) (none_more (Stops es options) first file s.goes_on goes) both in
+                (more.0, subst (λ fs. Messages es options fs ((s.messages ++ messages) ++ more.0)) (append_assoc first (file ∷ []) recent ∙ sym all_files) more.1))
           ]
         where
-          both : Told es options (first ++ file ∷ []) (s.messages ++ messages)
-          both = Told-append es options first (file ∷ []) s.messages messages s.are_told tells
+          both : Reported es options (first ++ file ∷ []) (s.messages ++ messages)
+          both = Reported-append es options first (file ∷ []) s.messages messages s.are_reported reported_too
 
       -- a write failed within its message
-      breaks_told : (new : Devices) (rows messages : List Text) → GroupedAs es options many (form options) (file ∷ []) rows → TakesAll mid.out new.out (behind_rows (form options) some rows)
-          → Told es options (file ∷ []) messages → TakesFront mid.messages new.messages messages
+      breaks_reported : (new : Devices) (rows messages : List Text) → GroupedAs es options many (form options) (file ∷ []) rows → TakesAll mid.out new.out (rows_after (form options) some rows)
+          → Reported es options (file ∷ []) messages → TakesFront mid.messages new.messages messages
           → CountsSource es options many some source own_given r mid.source_failures new.source_failures → SearchesLines es options (length es) file.lines mid.steps new.steps → BreaksOff es options all_sources all_given old new
-      breaks_told new rows messages is took tells front_here failed steps =
+      breaks_reported new rows messages is took reported_too front_here failed steps =
           let out = out_front rows is in
-          let told = told_front messages tells in
+          let reported = says_front messages reported_too in
           record {
             readings = readings;
             are_readings = are_all;
             at = length before;
             in_sources = within;
-            output_before = behind_rows (form options) false s.output;
+            output_before = rows_after (form options) false s.output;
             is_before = out_before;
-            output = behind_rows (form options) false s.output ++ (behind_rows (form options) some rows ++ out.0);
+            output = rows_after (form options) false s.output ++ (rows_after (form options) some rows ++ out.0);
             is_output = out.1;
-            wrote = TakesPast-more old.out mid.out new.out (behind_rows (form options) false s.output) (behind_rows (form options) some rows ++ out.0) s.wrote (TakesFront-all mid.out new.out (behind_rows (form options) some rows) out.0 took);
+            wrote = TakesPast-more old.out mid.out new.out (rows_after (form options) false s.output) (rows_after (form options) some rows ++ out.0) s.wrote (TakesFront-all mid.out new.out (rows_after (form options) some rows) out.0 took);
             messages_before = s.messages;
-            are_before = told_before;
-            messages = s.messages ++ (messages ++ told.0);
-            are_messages = subst (Messages es options (files_of all_sources readings)) (append_assoc s.messages messages told.0) told.1;
-            told = TakesPast-more old.messages mid.messages new.messages s.messages (messages ++ told.0) s.told (TakesFront-longer mid.messages new.messages messages told.0 front_here);
+            are_before = reported_before;
+            messages = s.messages ++ (messages ++ reported.0);
+            are_messages = subst (Messages es options (files_of all_sources readings)) (append_assoc s.messages messages reported.0) reported.1;
+            reported = TakesPast-more old.messages mid.messages new.messages s.messages (messages ++ reported.0) s.reported (TakesFront-longer mid.messages new.messages messages reported.0 front_here);
             failures = s.failures + failed.own;
             are_failures = met_here failed.own failed.are_own;
             counted = counted_here new failed.own failed.counted;
@@ -351,26 +351,26 @@ module _ (es : List Expression) (options : Options) (many : Bool) where
           }
 
       -- out of memory after n of its lines
-      stops : (new : Devices) (n : ℕ) (rows : List Text) (last : Option Text) → n ≤ length file.lines → HasRead source last (take n file.lines) → GroupedAs es options many (form options) (begun (form options) n file) rows → TakesAll mid.out new.out (behind_rows (form options) some rows) → new.messages ≡ mid.messages
-          → new.source_failures ≡ mid.source_failures → own_given (last ∷ []) → SearchesLines es options (length es) file.lines mid.steps new.steps → StopsBehind es options all_sources all_given old new (length before) n
+      stops : (new : Devices) (n : ℕ) (rows : List Text) (last : Option Text) → n ≤ length file.lines → HasRead source last (take n file.lines) → GroupedAs es options many (form options) (begun (form options) n file) rows → TakesAll mid.out new.out (rows_after (form options) some rows) → new.messages ≡ mid.messages
+          → new.source_failures ≡ mid.source_failures → own_given (last ∷ []) → SearchesLines es options (length es) file.lines mid.steps new.steps → StopsAfter es options all_sources all_given old new (length before) n
       stops new n rows last inside read are took same none_failed gives steps =
           let first_rows = GroupedAs-append es options many (form options) first (begun (form options) n file) s.output rows s.is_output are in
           let here : file_at (files_of all_sources readings) (length before) ≡ file =
-          ap (file_at (files_of all_sources readings)) (sym as_many) ∙ ap (λ fs. file_at fs (length first)) all_files ∙ get_or-append_seam first file behind (record { name = []; lines = []; ending = missing }) in
+          ap (file_at (files_of all_sources readings)) (sym as_many) ∙ ap (λ fs. file_at fs (length first)) all_files ∙ get_or-append_seam first file recent (record { name = []; lines = []; ending = missing }) in
           record {
             readings = readings;
             are_readings = are_all;
             in_sources = within;
             in_file = subst (λ f. n ≤ length f.lines) (sym here) inside;
-            output = behind_rows (form options) false (s.output ++ rows);
-            is_output = subst (λ m. OutAs es options m (form options) (take (length before) (files_of all_sources readings) ++ begun (form options) n (file_at (files_of all_sources readings) (length before))) (behind_rows (form options) false (s.output ++ rows))) all_many
-                (subst (λ fs. OutAs es options many (form options) (fs ++ begun (form options) n (file_at (files_of all_sources readings) (length before))) (behind_rows (form options) false (s.output ++ rows))) (sym front)
-                (subst (λ f. OutAs es options many (form options) (first ++ begun (form options) n f) (behind_rows (form options) false (s.output ++ rows))) (sym here)
+            output = rows_after (form options) false (s.output ++ rows);
+            is_output = subst (λ m. OutAs es options m (form options) (take (length before) (files_of all_sources readings) ++ begun (form options) n (file_at (files_of all_sources readings) (length before))) (rows_after (form options) false (s.output ++ rows))) all_many
+                (subst (λ fs. OutAs es options many (form options) (fs ++ begun (form options) n (file_at (files_of all_sources readings) (length before))) (rows_after (form options) false (s.output ++ rows))) (sym front)
+                (subst (λ f. OutAs es options many (form options) (first ++ begun (form options) n f) (rows_after (form options) false (s.output ++ rows))) (sym here)
                 (grouped_out es options many (form options) (first ++ begun (form options) n file) (s.output ++ rows) first_rows)));
             messages = s.messages;
-            are_messages = told_before;
+            are_messages = reported_before;
             wrote = takes_both new.out rows took;
-            told = subst (λ w. TakesAll old.messages w s.messages) (sym same) s.told;
+            reported = subst (λ w. TakesAll old.messages w s.messages) (sym same) s.reported;
             failures = s.failures;
             are_failures = met_before;
             counted = none_failed ∙ s.counted;
@@ -383,28 +383,28 @@ module _ (es : List Expression) (options : Options) (many : Bool) where
           }
 
       -- under `-q` a line of this source is selected
-      finishes_here : (new : Devices) (end : FileEnd) (found : ℕ) (rows messages : List Text) (own : ℕ) → Stops es options file → GroupedAs es options many (form options) (file ∷ []) rows → TakesAll mid.out new.out (behind_rows (form options) some rows)
-          → Told es options (file ∷ []) messages → TakesAll mid.messages new.messages messages → IfHolds (FaultMet es options file) (own ≡ failures_of r) (own ≡ 0)
+      finishes_here : (new : Devices) (end : FileEnd) (found : ℕ) (rows messages : List Text) (own : ℕ) → Stops es options file → GroupedAs es options many (form options) (file ∷ []) rows → TakesAll mid.out new.out (rows_after (form options) some rows)
+          → Reported es options (file ∷ []) messages → TakesAll mid.messages new.messages messages → IfHolds (FaultMet es options file) (own ≡ failures_of r) (own ≡ 0)
           → new.source_failures ≡ count_more mid.source_failures own → (own_left : List (Option Text)) → AreLeft source r own_left → own_given own_left → SearchesLines es options (length es) file.lines mid.steps new.steps → Finishes es options all_sources all_given old new selected
-      finishes_here new end found rows messages own here is took tells told are_own counted own_left is_left gives steps =
+      finishes_here new end found rows messages own here is took reported_too reported are_own counted own_left is_left gives steps =
           let quiet_form : form options ≡ nothing = cond-true _ _ _ here.0 in
           let none_out : (xs : List File) → GroupedAs es options many (form options) xs [] = λ xs. subst (λ shape. GroupedAs es options many shape xs []) (sym quiet_form) refl in
-          let grouped = GroupedAs-append es options many (form options) (first ++ file ∷ []) behind (s.output ++ rows) [] (GroupedAs-append es options many (form options) first (file ∷ []) s.output rows s.is_output is) (none_out behind) in
-          let output = grouped_out es options many (form options) ((first ++ file ∷ []) ++ behind) (s.output ++ rows) (subst (GroupedAs es options many (form options) ((first ++ file ∷ []) ++ behind)) (append-nil (s.output ++ rows)) grouped) in
-          let regroup : (first ++ file ∷ []) ++ behind ≡ first ++ file ∷ behind = append_assoc first (file ∷ []) behind in
-          let reached = Reached-stopped es options first behind file s.goes_on here in
-          let all_told = Messages-reached es options (first ++ file ∷ behind) (first ++ file ∷ []) (s.messages ++ messages) reached (Told-append es options first (file ∷ []) s.messages messages s.are_told tells) in
+          let grouped = GroupedAs-append es options many (form options) (first ++ file ∷ []) recent (s.output ++ rows) [] (GroupedAs-append es options many (form options) first (file ∷ []) s.output rows s.is_output is) (none_out recent) in
+          let output = grouped_out es options many (form options) ((first ++ file ∷ []) ++ recent) (s.output ++ rows) (subst (GroupedAs es options many (form options) ((first ++ file ∷ []) ++ recent)) (append-nil (s.output ++ rows)) grouped) in
+          let regroup : (first ++ file ∷ []) ++ recent ≡ first ++ file ∷ recent = append_assoc first (file ∷ []) recent in
+          let reached = Reached-stopped es options first recent file s.goes_on here in
+          let all_reported = Messages-reached es options (first ++ file ∷ recent) (first ++ file ∷ []) (s.messages ++ messages) reached (Reported-append es options first (file ∷ []) s.messages messages s.are_reported reported_too) in
           record {
             readings = readings;
             are_readings = are_all;
-            output = behind_rows (form options) false (s.output ++ rows);
-            is_output = subst (λ m. OutAs es options m (form options) (files_of all_sources readings) (behind_rows (form options) false (s.output ++ rows))) all_many
-                (subst (λ fs. OutAs es options many (form options) fs (behind_rows (form options) false (s.output ++ rows))) (regroup ∙ sym all_files) output);
+            output = rows_after (form options) false (s.output ++ rows);
+            is_output = subst (λ m. OutAs es options m (form options) (files_of all_sources readings) (rows_after (form options) false (s.output ++ rows))) all_many
+                (subst (λ fs. OutAs es options many (form options) fs (rows_after (form options) false (s.output ++ rows))) (regroup ∙ sym all_files) output);
             messages = s.messages ++ messages;
-            are_messages = subst (λ fs. Messages es options fs (s.messages ++ messages)) (sym all_files) all_told;
-            is_status = subst (λ fs. StatusOf es options fs selected) (sym all_files) (StatusOf-stopped es options first behind file here.0 here.1);
+            are_messages = subst (λ fs. Messages es options fs (s.messages ++ messages)) (sym all_files) all_reported;
+            is_status = subst (λ fs. StatusOf es options fs selected) (sym all_files) (StatusOf-stopped es options first recent file here.0 here.1);
             wrote = takes_both new.out rows took;
-            told = TakesAll-more old.messages mid.messages new.messages s.messages messages s.told told;
+            reported = TakesAll-more old.messages mid.messages new.messages s.messages messages s.reported reported;
             failures = s.failures + own;
             are_failures = FailuresMet-append es options before (source ∷ after) s.readings (r ∷ rest.0) s.failures own s.are_readings s.goes_on s.are_failures (FailuresMet-stopped es options source after r rest.0 own here are_own);
             counted = counted_here new own counted;
@@ -424,30 +424,30 @@ module _ (es : List Expression) (options : Options) (many : Bool) where
       run_unwritten b same = (
         subst (λ l. BreaksOff es options l all_given old new) (sym cut) (breaks_out after many_here b.reading b.is_reading new b.rows b.are_rows b.wrote same b.failures b.steps),
         b.counted ∙ ap one_more s.wrote.none_failed,
-        ap (λ (w : Writer). w.failures) same ∙ s.told.none_failed,
+        ap (λ (w : Writer). w.failures) same ∙ s.reported.none_failed,
       )
 
-      pub run_untold : BreaksMessage es options many some source own_given mid new → BreaksOff es options sources all_given old new × (new.out.failures ≡ old.out.failures) × (new.messages.failures ≡ one_more old.messages.failures)
-      run_untold b = (
-        subst (λ l. BreaksOff es options l all_given old new) (sym cut) (breaks_told after many_here b.reading b.is_reading new b.rows b.messages b.are_rows b.wrote b.are_messages b.told b.failures b.steps),
+      pub run_unreported : BreaksMessage es options many some source own_given mid new → BreaksOff es options sources all_given old new × (new.out.failures ≡ old.out.failures) × (new.messages.failures ≡ one_more old.messages.failures)
+      run_unreported b = (
+        subst (λ l. BreaksOff es options l all_given old new) (sym cut) (breaks_reported after many_here b.reading b.is_reading new b.rows b.messages b.are_rows b.wrote b.are_messages b.reported b.failures b.steps),
         b.wrote.none_failed ∙ s.wrote.none_failed,
-        b.counted ∙ ap one_more s.told.none_failed,
+        b.counted ∙ ap one_more s.reported.none_failed,
       )
 
-      pub run_out_of_memory : (k n : ℕ) → k ≡ length before → StopsSource es options many some source own_given n mid.source_failures new.source_failures mid.out new.out mid.steps new.steps → new.messages ≡ mid.messages → StopsBehind es options sources all_given old new k n
+      pub run_out_of_memory : (k n : ℕ) → k ≡ length before → StopsSource es options many some source own_given n mid.source_failures new.source_failures mid.out new.out mid.steps new.steps → new.messages ≡ mid.messages → StopsAfter es options sources all_given old new k n
       run_out_of_memory k n place b same =
-          subst (λ j. StopsBehind es options sources all_given old new j n) (sym place)
-          (subst (λ l. StopsBehind es options l all_given old new (length before) n) (sym cut) (stops after many_here b.reading b.is_reading new n b.rows b.rest b.in_file b.read b.are_rows b.wrote same b.none_failed b.gave_back b.steps))
+          subst (λ j. StopsAfter es options sources all_given old new j n) (sym place)
+          (subst (λ l. StopsAfter es options l all_given old new (length before) n) (sym cut) (stops after many_here b.reading b.is_reading new n b.rows b.rest b.in_file b.read b.are_rows b.wrote same b.none_failed b.gave_back b.steps))
 
       pub run_stopped : (end : FileEnd) (found : ℕ) → FinishesSource es options many some source own_given mid new end found → (options.quiet && nat_lt 0 found) ≡ true → Finishes es options sources all_given old new selected
       run_stopped end found f both =
           subst (λ l. Finishes es options l all_given old new selected) (sym cut)
-          (finishes_here after many_here f.reading f.is_reading new end found f.rows f.messages f.failures.own (both_hold options.quiet (nat_lt 0 found) both f.some) f.are_rows f.wrote f.are_messages f.told f.failures.are_own f.failures.counted f.failures.left f.failures.are_left f.failures.gave_back f.steps)
+          (finishes_here after many_here f.reading f.is_reading new end found f.rows f.messages f.failures.own (both_hold options.quiet (nat_lt 0 found) both f.some) f.are_rows f.wrote f.are_messages f.reported f.failures.are_own f.failures.counted f.failures.left f.failures.are_left f.failures.gave_back f.steps)
 
       -- the search of the source was given up
       pub run_fault : (k : ℕ) (fault : RunFault) → k ≡ length before → SourceGives es options many some source own_given k mid new (Err fault) → RunGives es options sources all_given old new (Err fault)
       run_fault k Write place h = run_unwritten h.0 h.1
-      run_fault k MessageWrite place h = run_untold h
+      run_fault k MessageWrite place h = run_unreported h
       run_fault k (Memory at n) place h = run_out_of_memory at n (h.0 ∙ place) h.1 h.2
 
   -- all sources were read
@@ -457,13 +457,13 @@ module _ (es : List Expression) (options : Options) (many : Bool) where
       record {
         readings = s.readings;
         are_readings = s.are_readings;
-        output = behind_rows (form options) false s.output;
-        is_output = subst (λ m. OutAs es options m (form options) files (behind_rows (form options) false s.output)) (is_many ∙ ap (nat_le 2) (sym (length-files_of sources s.readings s.are_readings))) (grouped_out es options many (form options) files s.output s.is_output);
+        output = rows_after (form options) false s.output;
+        is_output = subst (λ m. OutAs es options m (form options) files (rows_after (form options) false s.output)) (is_many ∙ ap (nat_le 2) (sym (length-files_of sources s.readings s.are_readings))) (grouped_out es options many (form options) files s.output s.is_output);
         messages = s.messages;
-        are_messages = Messages-reached es options files files s.messages (Reached-all es options files s.goes_on) s.are_told;
-        is_status = status some faulty s.some_told s.faulty_told;
+        are_messages = Messages-reached es options files files s.messages (Reached-all es options files s.goes_on) s.are_reported;
+        is_status = status some faulty s.some_reported s.faulty_reported;
         wrote = s.wrote;
-        told = s.told;
+        reported = s.reported;
         failures = s.failures;
         are_failures = s.are_failures;
         counted = s.counted;
@@ -490,15 +490,15 @@ module _ (es : List Expression) (options : Options) (many : Bool) where
     place = sym (length-take-le k sources (omega (arith, inside)))
 
     -- source k was searched, and the run continues
-    pub run_further : (end : FileEnd) (found : ℕ) (here told fault : Bool) → FinishesSource es options many some (source_at sources k) own_given mid new end found → here ≡ nat_lt 0 found → (options.quiet && here) ≡ false → told ≡ nat_lt 0 found → fault ≡ is_fault end
-        → RunSoFar (take (k + 1) sources) all_given old new (some || told) (faulty || fault)
-    run_further end found here told fault f here_is goes told_is fault_is =
+    pub run_further : (end : FileEnd) (found : ℕ) (here reported fault : Bool) → FinishesSource es options many some (source_at sources k) own_given mid new end found → here ≡ nat_lt 0 found → (options.quiet && here) ≡ false → reported ≡ nat_lt 0 found → fault ≡ is_fault end
+        → RunSoFar (take (k + 1) sources) all_given old new (some || reported) (faulty || fault)
+    run_further end found here reported fault f here_is goes reported_is fault_is =
         let next = run_next (take k sources) (source_at sources k) given own_given all_given join old mid some faulty s new end found f (ap (λ b. options.quiet && b) (sym here_is) ∙ goes) in
         let one : k + 1 ≡ suc k = omega arith in
         let longer : take (k + 1) sources ≡ take k sources ++ source_at sources k ∷ [] = ap (λ n. take n sources) one ∙ take-suc sources k (record { name = []; opens = None; bytes = None }) inside in
-        let verdicts = subst (λ b. RunSoFar (take k sources ++ source_at sources k ∷ []) all_given old new (some || b) (faulty || is_fault end)) (sym told_is) next in
-        let both = subst (λ b. RunSoFar (take k sources ++ source_at sources k ∷ []) all_given old new (some || told) (faulty || b)) (sym fault_is) verdicts in
-        subst (λ l. RunSoFar l all_given old new (some || told) (faulty || fault)) (sym longer) both
+        let verdicts = subst (λ b. RunSoFar (take k sources ++ source_at sources k ∷ []) all_given old new (some || b) (faulty || is_fault end)) (sym reported_is) next in
+        let both = subst (λ b. RunSoFar (take k sources ++ source_at sources k ∷ []) all_given old new (some || reported) (faulty || b)) (sym fault_is) verdicts in
+        subst (λ l. RunSoFar l all_given old new (some || reported) (faulty || fault)) (sym longer) both
 
     module _ (is_many : many ≡ nat_le 2 (length sources)) where
       -- under `-q` a line of it is selected

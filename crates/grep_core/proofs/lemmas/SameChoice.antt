@@ -21,7 +21,7 @@ use Rattle.grep_core.specs.Files.{File, Ending, whole, missing, broken, Matched,
 use Rattle.grep_core.specs.Messages.{FaultMetBy, FaultMet, Stops, Reached, Message, Messages, AnySelected, StatusOf}
 use Rattle.grep_core.specs.Output.{Form, nothing, names, counts, parts, lines, around, form, shown_name, shown_number, GroupsOf, SelectedLines, CountOf, RowsOf, PartsOfLine, PartRowsOf, OutAs}
 use Rattle.grep_io.specs.Reading.{Source, Reading, file_of}
-use Rattle.grep_core.specs.Run.{Devices, FailuresMet, LeftMet, Finishes, BreaksOff, StopsBehind, RunGives}
+use Rattle.grep_core.specs.Run.{Devices, FailuresMet, LeftMet, Finishes, BreaksOff, StopsAfter, RunGives}
 use Rattle.grep_core.specs.Working.SameChoice.{IsSameChoice, ServesForOthers}
 
 -- ---- what holds of some element
@@ -97,7 +97,7 @@ EachGives-map R S f (x ∷ xs) ys h = (h.0, h.1, f x h.0 h.2, EachGives-map R S 
 
 module _ (options : Options) (context : Context) where
   IsShown-same : (ds es : List Expression) → IsSameChoice ds es → (text : List Text) (k : ℕ) → IsShown ds options context text k → IsShown es options context text k
-  IsShown-same ds es same text k s = record { place = s.place; on = s.on; selected = Selected-same ds es options same (get_or text s.place []) s.selected; before = s.before; behind = s.behind }
+  IsShown-same ds es same text k s = record { place = s.place; on = s.on; selected = Selected-same ds es options same (get_or text s.place []) s.selected; before = s.before; recent = s.recent }
 
   BeginsGroup-same : (ds es : List Expression) → IsSameChoice ds es → (text : List Text) (k : ℕ) → BeginsGroup ds options context text k → BeginsGroup es options context text k
   BeginsGroup-same ds es same text zero begins = begins
@@ -174,13 +174,13 @@ module _ (options : Options) where
     Reached-same [] reached h = h
     Reached-same (file ∷ files) reached h = (h.0, h.1, for_stops file (λ a. a) (Reached-same files h.0) h.2)
 
-    Messages-same : (files : List File) (told : List Text) → Messages ds options files told → Messages es options files told
-    Messages-same files told = go options.no_messages
+    Messages-same : (files : List File) (reported : List Text) → Messages ds options files reported → Messages es options files reported
+    Messages-same files reported = go options.no_messages
       where
-        go : (b : Bool) → MatchBool b (told ≡ []) ((reached : List File) × Reached ds options files reached × EachGives (Message ds options) reached told)
-            → MatchBool b (told ≡ []) ((reached : List File) × Reached es options files reached × EachGives (Message es options) reached told)
+        go : (b : Bool) → MatchBool b (reported ≡ []) ((reached : List File) × Reached ds options files reached × EachGives (Message ds options) reached reported)
+            → MatchBool b (reported ≡ []) ((reached : List File) × Reached es options files reached × EachGives (Message es options) reached reported)
         go true h = h
-        go false h = (h.0, Reached-same files h.0 h.1, EachGives-map (Message ds options) (Message es options) (λ file told. for_fault file (λ a. a) (λ b. b)) h.0 told h.2)
+        go false h = (h.0, Reached-same files h.0 h.1, EachGives-map (Message ds options) (Message es options) (λ file reported. for_fault file (λ a. a) (λ b. b)) h.0 reported h.2)
 
     StatusOf-same : (files : List File) (status : Status) → StatusOf ds options files status → StatusOf es options files status
     StatusOf-same files status h =
@@ -250,7 +250,7 @@ module _ (options : Options) where
         are_messages = Messages-same _ f.messages f.are_messages;
         is_status = StatusOf-same _ status f.is_status;
         wrote = f.wrote;
-        told = f.told;
+        reported = f.reported;
         failures = f.failures;
         are_failures = FailuresMet-same sources f.readings f.failures f.are_failures;
         counted = f.counted;
@@ -275,7 +275,7 @@ module _ (options : Options) where
         messages = b.messages;
         are_messages = Messages-same _ b.messages b.are_messages;
         wrote = b.wrote;
-        told = b.told;
+        reported = b.reported;
         failures = b.failures;
         are_failures = FailuresMet-same (take (suc b.at) sources) b.readings b.failures b.are_failures;
         counted = b.counted;
@@ -285,8 +285,8 @@ module _ (options : Options) where
         steps = SearchesFiles-same (length ds) (length es) fewer _ old.steps new.steps b.steps;
       }
 
-      StopsBehind-same : (k n : ℕ) → StopsBehind ds options sources given old new k n → StopsBehind es options sources given old new k n
-      StopsBehind-same k n s = record {
+      StopsAfter-same : (k n : ℕ) → StopsAfter ds options sources given old new k n → StopsAfter es options sources given old new k n
+      StopsAfter-same k n s = record {
         readings = s.readings;
         are_readings = s.are_readings;
         in_sources = s.in_sources;
@@ -296,7 +296,7 @@ module _ (options : Options) where
         messages = s.messages;
         are_messages = Messages-same _ s.messages s.are_messages;
         wrote = s.wrote;
-        told = s.told;
+        reported = s.reported;
         failures = s.failures;
         are_failures = FailuresMet-same (take k sources) s.readings s.failures s.are_failures;
         counted = s.counted;
@@ -312,7 +312,7 @@ module _ (options : Options) where
       RunGives-same (Ok status) f = Finishes-same status f
       RunGives-same (Err Write) b = (BreaksOff-same b.0, b.1, b.2)
       RunGives-same (Err MessageWrite) b = (BreaksOff-same b.0, b.1, b.2)
-      RunGives-same (Err (Memory k n)) s = StopsBehind-same k n s
+      RunGives-same (Err (Memory k n)) s = StopsAfter-same k n s
 
 -- a run for expressions that are the same choice as others, and no more, is a run for these
 pub serves_for_others : (options : Options) → ServesForOthers options

@@ -8,7 +8,7 @@ use Rattle.grep_core.specs.Choose.{IfHolds}
 use Rattle.grep_core.specs.Messages.{FaultMet, Stops}
 use Rattle.grep_io.specs.Reading.{Source, Reading, file_of, failures_of, AreLeft}
 use Rattle.grep_core.specs.Run.{files_of, AreReadings, FailuresMet, LeftMet, count_more}
-use Rattle.grep_core.specs.Sources.{GivesBack}
+use Rattle.grep_core.specs.Sources.{Returns}
 use Rattle.re_syntax.specs.Bytes.{Text}
 use Rattle.grep_core.proofs.lemmas.Decided.{dec_stops}
 
@@ -112,11 +112,11 @@ module _ (es : List Expression) (options : Options) where
 
 -- ---- readers that were returned
 
-module _ {S : Type 0} (given_back : S → List (Option Text) → Type 0) where
+module _ {S : Type 0} (returned_readers : S → List (Option Text) → Type 0) where
   -- none was
-  pub gives_none : (state : S) → GivesBack given_back state state []
-  gives_none state before h = subst (given_back state) (sym (append-nil before)) h
+  pub gives_none : (state : S) → Returns returned_readers state state []
+  gives_none state before h = subst (returned_readers state) (sym (append-nil before)) h
 
   -- some were, and then others
-  pub gives_both : (old mid new : S) (a b : List (Option Text)) → GivesBack given_back old mid a → GivesBack given_back mid new b → GivesBack given_back old new (a ++ b)
-  gives_both old mid new a b f g before h = subst (given_back new) (append_assoc before a b) (g (before ++ a) (f before h))
+  pub gives_both : (old mid new : S) (a b : List (Option Text)) → Returns returned_readers old mid a → Returns returned_readers mid new b → Returns returned_readers old new (a ++ b)
+  gives_both old mid new a b f g before h = subst (returned_readers new) (append_assoc before a b) (g (before ++ a) (f before h))

@@ -85,14 +85,14 @@ module _ (es : List Expression) (options : Options) (many : Bool) (name : Text) 
   -- one line more
   pub rows_one_more : (number : ℕ) (ls : List Text) (line : Text) (rows own : List Text) (found : ℕ) (selected : Bool) → RowsOfLines es options many name number ls rows found → RowsOfLine es options many name (number + length ls) line own → Decides selected (Selected es options line)
       → RowsOfLines es options many name number (ls ++ line ∷ []) (rows ++ own) (if selected then found + 1 else found)
-  rows_one_more number [] line rows own found selected (none, zero) one told =
+  rows_one_more number [] line rows own found selected (none, zero) one reported =
       let at : number + 0 ≡ number = omega arith in
       let counted : (if selected then found + 1 else found) ≡ (if selected then 0 + 1 else 0) = ap (λ n. if selected then n + 1 else n) zero in
-      (own, [], selected, 0, subst (λ n. RowsOfLine es options many name n line own) at one, told, (refl, refl), ap (λ r. r ++ own) none ∙ sym (append-nil own), counted)
-  rows_one_more number (l ∷ ls) line rows own found selected (first, rest, b, others, is_first, tells, are_rest, joined, counted) one told =
+      (own, [], selected, 0, subst (λ n. RowsOfLine es options many name n line own) at one, reported, (refl, refl), ap (λ r. r ++ own) none ∙ sym (append-nil own), counted)
+  rows_one_more number (l ∷ ls) line rows own found selected (first, rest, b, others, is_first, reported_too, are_rest, joined, counted) one reported =
       let at : number + length (l ∷ ls) ≡ number + 1 + length ls = omega arith in
-      let later = rows_one_more (number + 1) ls line rest own others selected are_rest (subst (λ n. RowsOfLine es options many name n line own) at one) told in
-      (first, rest ++ own, b, (if selected then others + 1 else others), is_first, tells, later, ap (λ r. r ++ own) joined ∙ append_assoc first rest own, both b selected counted)
+      let later = rows_one_more (number + 1) ls line rest own others selected are_rest (subst (λ n. RowsOfLine es options many name n line own) at one) reported in
+      (first, rest ++ own, b, (if selected then others + 1 else others), is_first, reported_too, later, ap (λ r. r ++ own) joined ∙ append_assoc first rest own, both b selected counted)
     where
       both : (b s : Bool) → found ≡ (if b then others + 1 else others) → (if s then found + 1 else found) ≡ (if b then (if s then others + 1 else others) + 1 else (if s then others + 1 else others))
       both true true e = omega (arith, e)
@@ -112,7 +112,7 @@ module _ (es : List Expression) (options : Options) (many : Bool) (name : Text) 
   -- no more lines are selected than there are
   pub found_within : (number : ℕ) (ls rows : List Text) (found : ℕ) → RowsOfLines es options many name number ls rows found → found ≤ length ls
   found_within number [] rows found (none, zero) = omega (arith, zero)
-  found_within number (l ∷ ls) rows found (own, later, b, others, is, tells, are, joined, counted) = at_most b counted (found_within (number + 1) ls later others are)
+  found_within number (l ∷ ls) rows found (own, later, b, others, is, reported_too, are, joined, counted) = at_most b counted (found_within (number + 1) ls later others are)
     where
       at_most : (b : Bool) → found ≡ (if b then others + 1 else others) → others ≤ length ls → found ≤ length (l ∷ ls)
       at_most true e few = omega (arith, e, few)

@@ -12,13 +12,13 @@ use Rattle.grep_io.specs.Counted.{one_more}
 use Rattle.grep_core.specs.Choose.{EachGives}
 use Rattle.grep_core.specs.Files.{File, Ending, whole, broken}
 use Rattle.grep_core.specs.Output.{form}
-use Rattle.grep_core.specs.Messages.{message, FaultMet, Message, Told}
+use Rattle.grep_core.specs.Messages.{message, FaultMet, Message, Reported}
 use Rattle.grep_io.specs.Reading.{Source, Reading, not_opened, fails_after, ends_after, most_lines, up_to_limit, file_of}
 use Rattle.grep_core.specs.Run.{Devices, Writer, TakesAll, TakesFront}
-use Rattle.grep_core.specs.Working.Groups.{behind_rows}
-use Rattle.grep_core.specs.Working.Searched.{is_fault, ending_of, summary_as, told_of, SearchesSource, FinishesSource, BreaksSource, BreaksMessage}
+use Rattle.grep_core.specs.Working.Groups.{rows_after}
+use Rattle.grep_core.specs.Working.Searched.{is_fault, ending_of, summary_as, reported_of, SearchesSource, FinishesSource, BreaksSource, BreaksMessage}
 use Rattle.grep_core.proofs.lemmas.ChooseLaws.{EachGives-one}
-use Rattle.grep_core.proofs.lemmas.GroupLaws.{behind_summary}
+use Rattle.grep_core.proofs.lemmas.GroupLaws.{after_summary}
 use Rattle.grep_core.proofs.lemmas.WriterLaws.{TakesAll-more, TakesFront-more}
 
 limit_named : (name : Text) (ls : List Text) (ending : Ending) → (up_to_limit name ls ending).name ≡ name
@@ -33,17 +33,17 @@ file_named name (ends_after bytes) = limit_named name (lines_of bytes) whole
 
 module _ (es : List Expression) (options : Options) where
   -- the message about one file
-  one_told : (end : FileEnd) (file : File) (name : Text) → Decides (is_fault end) (FaultMet es options file) → (IsTrue (is_fault end) → file.ending ≡ ending_of end) → file.name ≡ name → Message es options file (message (ending_of end) name)
-  one_told Missing file name d e n = inl (d.0 refl, λ i. message (sym (e refl) i) (sym n i))
-  one_told Whole file name d e n = inr ((λ m. false≢true (d.1 m)), refl)
-  one_told Broken file name d e n = inl (d.0 refl, λ i. message (sym (e refl) i) (sym n i))
-  one_told Left file name d e n = inr ((λ m. false≢true (d.1 m)), refl)
+  one_reported : (end : FileEnd) (file : File) (name : Text) → Decides (is_fault end) (FaultMet es options file) → (IsTrue (is_fault end) → file.ending ≡ ending_of end) → file.name ≡ name → Message es options file (message (ending_of end) name)
+  one_reported Missing file name d e n = inl (d.0 refl, λ i. message (sym (e refl) i) (sym n i))
+  one_reported Whole file name d e n = inr ((λ m. false≢true (d.1 m)), refl)
+  one_reported Broken file name d e n = inl (d.0 refl, λ i. message (sym (e refl) i) (sym n i))
+  one_reported Left file name d e n = inr ((λ m. false≢true (d.1 m)), refl)
 
   -- and nothing under `-s`
-  file_told : (end : FileEnd) (file : File) (name : Text) → Message es options file (message (ending_of end) name) → Told es options (file ∷ []) (told_of options.no_messages end name)
-  file_told end file name m = by_flag options.no_messages
+  file_reported : (end : FileEnd) (file : File) (name : Text) → Message es options file (message (ending_of end) name) → Reported es options (file ∷ []) (reported_of options.no_messages end name)
+  file_reported end file name m = by_flag options.no_messages
     where
-      by_flag : (silent : Bool) → MatchBool silent (told_of silent end name ≡ []) (EachGives (Message es options) (file ∷ []) (told_of silent end name))
+      by_flag : (silent : Bool) → MatchBool silent (reported_of silent end name ≡ []) (EachGives (Message es options) (file ∷ []) (reported_of silent end name))
       by_flag true = refl
       by_flag false = EachGives-one (Message es options) file (message (ending_of end) name) m
 
@@ -60,7 +60,7 @@ module _ (es : List Expression) (options : Options) where
           failures = s.failures;
           rows = s.rows ++ summary;
           are_rows = s.are_rows;
-          wrote = subst (TakesFront old new) (sym (behind_summary (form options) shown many source.name end found s.rows)) (TakesFront-more old mid new (behind_rows (form options) shown s.rows) summary s.wrote front_here);
+          wrote = subst (TakesFront old new) (sym (after_summary (form options) shown many source.name end found s.rows)) (TakesFront-more old mid new (rows_after (form options) shown s.rows) summary s.wrote front_here);
           counted = failed ∙ ap one_more s.wrote.none_failed;
           steps = s.steps;
         }
@@ -70,17 +70,17 @@ module _ (es : List Expression) (options : Options) where
       abbrev summary : List Text
       summary = summary_as (form options) many source.name end found
 
-      all_out : TakesAll old.out new.out (behind_rows (form options) shown (s.rows ++ summary))
+      all_out : TakesAll old.out new.out (rows_after (form options) shown (s.rows ++ summary))
       all_out =
-          subst (TakesAll old.out new.out) (sym (behind_summary (form options) shown many source.name end found s.rows))
-          (TakesAll-more old.out mid new.out (behind_rows (form options) shown s.rows) summary s.wrote (subst (λ n. TakesAll mid new.out (summary_as (form options) many n end found)) named took))
+          subst (TakesAll old.out new.out) (sym (after_summary (form options) shown many source.name end found s.rows))
+          (TakesAll-more old.out mid new.out (rows_after (form options) shown s.rows) summary s.wrote (subst (λ n. TakesAll mid new.out (summary_as (form options) many n end found)) named took))
 
-      tells : Told es options (file_of source.name s.reading ∷ []) (told_of options.no_messages end source.name)
-      tells = file_told end (file_of source.name s.reading) source.name (one_told end (file_of source.name s.reading) source.name s.fault s.ends (file_named source.name s.reading))
+      reported_too : Reported es options (file_of source.name s.reading ∷ []) (reported_of options.no_messages end source.name)
+      reported_too = file_reported end (file_of source.name s.reading) source.name (one_reported end (file_of source.name s.reading) source.name s.fault s.ends (file_named source.name s.reading))
 
       -- all was written
-      pub source_done : TakesAll old.messages new.messages (told_of options.no_messages end name) → FinishesSource es options many shown source given old new end found
-      source_done told = record {
+      pub source_done : TakesAll old.messages new.messages (reported_of options.no_messages end name) → FinishesSource es options many shown source given old new end found
+      source_done reported = record {
         reading = s.reading;
         is_reading = s.is_reading;
         failures = s.failures;
@@ -89,24 +89,24 @@ module _ (es : List Expression) (options : Options) where
         rows = s.rows ++ summary;
         are_rows = s.are_rows;
         wrote = all_out;
-        messages = told_of options.no_messages end source.name;
-        are_messages = tells;
-        told = subst (λ n. TakesAll old.messages new.messages (told_of options.no_messages end n)) named told;
+        messages = reported_of options.no_messages end source.name;
+        are_messages = reported_too;
+        reported = subst (λ n. TakesAll old.messages new.messages (reported_of options.no_messages end n)) named reported;
         steps = s.steps;
       }
 
       -- the message could not be written
-      pub source_untold : TakesFront old.messages new.messages (told_of options.no_messages end name) → new.messages.failures ≡ one_more old.messages.failures → BreaksMessage es options many shown source given old new
-      source_untold told failed = record {
+      pub source_unreported : TakesFront old.messages new.messages (reported_of options.no_messages end name) → new.messages.failures ≡ one_more old.messages.failures → BreaksMessage es options many shown source given old new
+      source_unreported reported failed = record {
         reading = s.reading;
         is_reading = s.is_reading;
         failures = s.failures;
         rows = s.rows ++ summary;
         are_rows = s.are_rows;
         wrote = all_out;
-        messages = told_of options.no_messages end source.name;
-        are_messages = tells;
-        told = subst (λ n. TakesFront old.messages new.messages (told_of options.no_messages end n)) named told;
+        messages = reported_of options.no_messages end source.name;
+        are_messages = reported_too;
+        reported = subst (λ n. TakesFront old.messages new.messages (reported_of options.no_messages end n)) named reported;
         counted = failed;
         steps = s.steps;
       }

@@ -16,7 +16,7 @@ use Rattle.std.specs.Result.{IsErrAnd}
 use Rattle.grep_core.specs.Row.{hyphen, output_line}
 use Rattle.grep_core.specs.Output.{written}
 use Rattle.grep_io.specs.Written.{GoesOut, StopsWithin, Writes}
-use Rattle.grep_core.specs.Working.Progress.{next_shown, behind_line, with_waiting, last_of, row_with, rows_around}
+use Rattle.grep_core.specs.Working.Progress.{next_shown, after_line, with_waiting, last_of, row_with, rows_around}
 use Rattle.grep_core.proofs.lemmas.RowLemmas.{goes_nowhere, goes_on, stops_early, stops_later, writes_last}
 use Rattle.grep_core.proofs.lemmas.WriterLaws.{written-append}
 
@@ -59,18 +59,18 @@ waits_not_by : (p : Progress) (more : Bool) → nat_lt 0 p.left ≡ more → Wai
 waits_not_by p true e h = λ some. h (omega (arith, some))
 waits_not_by p false e h = λ some. absurd (omega (arith, some, ltb-false 0 p.left e))
 
-pub waits_not_next : (p : Progress) (selected : Bool) → WaitsNot p → WaitsNot (behind_line p selected)
+pub waits_not_next : (p : Progress) (selected : Bool) → WaitsNot p → WaitsNot (after_line p selected)
 waits_not_next p true h = λ _. refl
 waits_not_next p false h = waits_not_by p (nat_lt 0 p.left) refl h
 
-module _ (p : Progress) (lines : List Text) (line : Text) (behind new : List Text) (held : behind ≡ last_of p.waiting lines) (few : p.waiting ≤ p.context.before) (within : p.waiting ≤ length lines) (apart : WaitsNot p) where
-  held_by : (more : Bool) → nat_lt 0 p.left ≡ more → new ≡ (if more then [] else last_of p.context.before (behind ++ line ∷ []))
+module _ (p : Progress) (lines : List Text) (line : Text) (recent new : List Text) (held : recent ≡ last_of p.waiting lines) (few : p.waiting ≤ p.context.before) (within : p.waiting ≤ length lines) (apart : WaitsNot p) where
+  held_by : (more : Bool) → nat_lt 0 p.left ≡ more → new ≡ (if more then [] else last_of p.context.before (recent ++ line ∷ []))
       → new ≡ last_of (let q : Progress = if more then record p { left = p.left - 1 } else with_waiting 1 p in q.waiting) (lines ++ line ∷ [])
   held_by true e is = is ∙ sym (last_of-none (lines ++ line ∷ [])) ∙ ap (λ n. last_of n (lines ++ line ∷ [])) (sym (apart (ltb-true 0 p.left e)))
   held_by false e is = is ∙ ap (λ ls. last_of p.context.before (ls ++ line ∷ [])) held ∙ last_of-more p.context.before p.waiting lines line within few
 
   -- the lines that are held are those that wait
-  pub held_next : (selected : Bool) → new ≡ (if (next_shown p selected).itself then [] else last_of p.context.before (behind ++ line ∷ [])) → new ≡ last_of (behind_line p selected).waiting (lines ++ line ∷ [])
+  pub held_next : (selected : Bool) → new ≡ (if (next_shown p selected).itself then [] else last_of p.context.before (recent ++ line ∷ [])) → new ≡ last_of (after_line p selected).waiting (lines ++ line ∷ [])
   held_next true is = is ∙ sym (last_of-none (lines ++ line ∷ []))
   held_next false is = held_by (nat_lt 0 p.left) refl is
 
@@ -105,8 +105,8 @@ module _ {W : Type 0} (contents : W → Option Text) (failures : W → ℕ) wher
     pub row_stops : StopsWithin contents failures b c (output_line [] row) → StopsWithin contents failures a c (written [] rows)
     row_stops stop =
         let one : take (k + 1) rows ≡ take k rows ++ row ∷ [] = take_more rows k [] within ∙ ap (λ r. take k rows ++ r ∷ []) is in
-        let parted : rows ≡ take k rows ++ row ∷ drop (k + 1) rows = sym (take-append-drop (k + 1) rows) ∙ ap (λ t. t ++ drop (k + 1) rows) one ∙ append_assoc (take k rows) (row ∷ []) (drop (k + 1) rows) in
-        let bytes : written [] rows ≡ written [] (take k rows) ++ (output_line [] row ++ written [] (drop (k + 1) rows)) = ap (written []) parted ∙ written-append [] (take k rows) (row ∷ drop (k + 1) rows) in
+        let with_parts : rows ≡ take k rows ++ row ∷ drop (k + 1) rows = sym (take-append-drop (k + 1) rows) ∙ ap (λ t. t ++ drop (k + 1) rows) one ∙ append_assoc (take k rows) (row ∷ []) (drop (k + 1) rows) in
+        let bytes : written [] rows ≡ written [] (take k rows) ++ (output_line [] row ++ written [] (drop (k + 1) rows)) = ap (written []) with_parts ∙ written-append [] (take k rows) (row ∷ drop (k + 1) rows) in
         subst (StopsWithin contents failures a c) (sym bytes)
         (stops_later contents failures a b c (written [] (take k rows)) (output_line [] row ++ written [] (drop (k + 1) rows)) before
         (stops_early contents failures b c (output_line [] row) (written [] (drop (k + 1) rows)) stop))
@@ -149,7 +149,7 @@ module _ {W : Type 0} (contents : W → Option Text) (failures : W → ℕ) wher
         (writes_last contents failures a b d (written [] between) (written [] waiting ++ output_line [] row) r g (writes_last contents failures b c d (written [] waiting) (output_line [] row) r h w)))
 
 -- a write failed in what is shown at a line, and that is returned
-pub breaks_shown : (options : Options) (many : Bool) (name : Text) (found : Bool) (number : ℕ) (line : Text) (p q : Progress) (behind held : LastLines) (old new : Writer) → {T : Type 0} → (r : Result T SearchFault) → IsErrAnd r (λ fault. fault ≡ Write)
-    → BreaksShown options many name found number line p behind old new → ShowGives options many name found number line p q behind held old new r
-breaks_shown options many name found number line p q behind held old new {T} (Ok v) kept broke = absurd kept
-breaks_shown options many name found number line p q behind held old new {T} (Err fault) kept broke = subst (λ f. ShowGives options many name found number line {T = T} p q behind held old new (Err f)) (sym kept) broke
+pub breaks_shown : (options : Options) (many : Bool) (name : Text) (found : Bool) (number : ℕ) (line : Text) (p q : Progress) (recent held : LastLines) (old new : Writer) → {T : Type 0} → (r : Result T SearchFault) → IsErrAnd r (λ fault. fault ≡ Write)
+    → BreaksShown options many name found number line p recent old new → ShowGives options many name found number line p q recent held old new r
+breaks_shown options many name found number line p q recent held old new {T} (Ok v) kept broke = absurd kept
+breaks_shown options many name found number line p q recent held old new {T} (Err fault) kept broke = subst (λ f. ShowGives options many name found number line {T = T} p q recent held old new (Err f)) (sym kept) broke

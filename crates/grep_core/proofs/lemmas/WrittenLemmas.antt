@@ -18,8 +18,8 @@ module _ {W : Type 0} (contents : W → Option Text) (failures : W → ℕ) wher
   writes_one_line a b margin text r w = subst (λ bytes. Writes contents failures a b bytes r) (sym (append-nil (output_line margin text))) w
 
   -- the margin, and then a line without one
-  pub writes_behind_margin : {T E : Type 0} (a b c : W) (margin text : Text) (r : Result T E) → GoesOut contents failures a b margin → Writes contents failures b c (output_line [] text) r → Writes contents failures a c (output_line margin text) r
-  writes_behind_margin a b c margin text r g w =
+  pub writes_after_margin : {T E : Type 0} (a b c : W) (margin text : Text) (r : Result T E) → GoesOut contents failures a b margin → Writes contents failures b c (output_line [] text) r → Writes contents failures a c (output_line margin text) r
+  writes_after_margin a b c margin text r g w =
       subst (λ bytes. Writes contents failures a c bytes r) (sym (append_assoc margin text (newline ∷ []))) (writes_last contents failures a b c margin (output_line [] text) r g w)
 
   -- a write failed within the margin
@@ -34,4 +34,4 @@ module _ {W : Type 0} (contents : W → Option Text) (failures : W → ℕ) wher
   pub TakesFront-written : (a b : W) (text : List Text) → StopsWithin contents failures a b (written [] text) → TakesFront (writer contents failures a) (writer contents failures b) text
   TakesFront-written a b text s = record { front = s.front; rest = s.rest; cut = s.cut; written_front = s.written }
 
-pub ruleset as_written = (writes_no_line, writes_one_line, writes_behind_margin, stops_in_margin)
+pub ruleset as_written = (writes_no_line, writes_one_line, writes_after_margin, stops_in_margin)

@@ -14,6 +14,6 @@ module _ (es : List Expression) (options : Options) (many : Bool) where
   GroupedAs shape files rows = OutAs es options many shape files rows
 
 -- what is written of such output: where no group is before it, the first separator is left out
-abbrev pub behind_rows : Form → Bool → List Text → List Text
-behind_rows (around context) some rows = if some then rows else drop 1 rows
-behind_rows _ some rows = rows
+abbrev pub rows_after : Form → Bool → List Text → List Text
+rows_after (around context) some rows = if some then rows else drop 1 rows
+rows_after _ some rows = rows

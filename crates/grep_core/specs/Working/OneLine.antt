@@ -74,7 +74,7 @@ module _ (es : List Expression) (options : Options) (many : Bool) where
       pub rows : List Text
       pub are_rows : RowsOfLine name number line rows
       pub wrote : TakesAll old new rows
-      pub told : IsTrue found ↔ Selected es options line
+      pub reported : IsTrue found ↔ Selected es options line
 
     -- a beginning of the rows of a line was written, and a write failed
     pub record BreaksLine : Type 0 where

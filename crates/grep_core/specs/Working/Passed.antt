@@ -19,10 +19,10 @@ AreUnselected es options lines = All (λ line. ¬ Selected es options line) line
 
 -- lines wait where none is shown after the last selected one, and the last of them are held
 abbrev pub Waits : List Text → Progress → Progress → LastLines → LastLines → Type 0
-Waits passed old new behind held =
-    ((passed ≡ []) × (new ≡ old) × (held ≡ behind)) ⊎
+Waits passed old new recent held =
+    ((passed ≡ []) × (new ≡ old) × (held ≡ recent)) ⊎
     ((old.left ≡ 0) × (new ≡ with_waiting (length passed) old)
-    × (held ≡ with_lines behind passed))
+    × (held ≡ with_lines recent passed))
 
 module _ {R : Type 0} (remaining : R → Option Text) (failures : R → ℕ) (es : List Expression)
     (options : Options) where

@@ -31,10 +31,10 @@ with_waiting n p =
     }
 
 -- after that line
-abbrev pub behind_line : Progress → Bool → Progress
-behind_line p true =
+abbrev pub after_line : Progress → Bool → Progress
+after_line p true =
     record p { shown = true; gap = false; waiting = 0; left = p.context.after }
-behind_line p false = if nat_lt 0 p.left then record p { left = p.left - 1 } else with_waiting 1 p
+after_line p false = if nat_lt 0 p.left then record p { left = p.left - 1 } else with_waiting 1 p
 
 -- the last n of some lines
 abbrev pub last_of : {A : Type 0} → ℕ → List A → List A

@@ -18,11 +18,11 @@ use Rattle.grep_core.specs.Choose.{IfHolds}
 use Rattle.grep_core.specs.Row.{colon, prefix}
 use Rattle.grep_core.specs.Files.{Ending, whole, missing, broken, HasSelected}
 use Rattle.grep_core.specs.Output.{Form, names, counts, form}
-use Rattle.grep_core.specs.Messages.{message, FaultMet, Told}
+use Rattle.grep_core.specs.Messages.{message, FaultMet, Reported}
 use Rattle.grep_io.specs.Reading.{Source, Reading, IsReadingOf, file_of, failures_of, AreLeft}
 use Rattle.grep_io.specs.Reading.{HasRead}
 use Rattle.grep_core.specs.Run.{Writer, Devices, TakesAll, TakesFront, begun, count_more}
-use Rattle.grep_core.specs.Working.Groups.{GroupedAs, behind_rows}
+use Rattle.grep_core.specs.Working.Groups.{GroupedAs, rows_after}
 use Rattle.grep_core.specs.Working.Requests.{name_shown}
 use Rattle.grep_core.specs.Cost.{SearchesLines}
 
@@ -61,8 +61,8 @@ summary_as counts many name end selected = count_line many name end selected
 summary_as _ many name end selected = []
 
 -- the messages about a file that ended so, and none under `-s`
-abbrev pub told_of : Bool → FileEnd → Text → List Text
-told_of silent end name = if silent then [] else message (ending_of end) name
+abbrev pub reported_of : Bool → FileEnd → Text → List Text
+reported_of silent end name = if silent then [] else message (ending_of end) name
 
 -- the status of a run that did not stop on its way: a fault takes precedence over a selected line
 abbrev pub status_by : Bool → Bool → Status
@@ -93,7 +93,7 @@ module _ (es : List Expression) (options : Options) (many shown : Bool) (source 
     pub failures : CountsSource reading failed_before failed
     pub rows : List Text
     pub are_rows : GroupedAs es options many (form options) (file_of source.name reading ∷ []) rows
-    pub wrote : TakesFront old new (behind_rows (form options) shown rows)
+    pub wrote : TakesFront old new (rows_after (form options) shown rows)
     pub counted : new.failures ≡ one_more old.failures
     pub steps : SearchesLines es options (length es) (file_of source.name reading).lines began ended
 
@@ -110,7 +110,7 @@ module _ (es : List Expression) (options : Options) (many shown : Bool) (source 
     pub rows : List Text
     pub are_rows : GroupedAs es options many (form options)
         (begun (form options) n (file_of source.name reading)) rows
-    pub wrote : TakesAll old new (behind_rows (form options) shown rows)
+    pub wrote : TakesAll old new (rows_after (form options) shown rows)
     pub steps : SearchesLines es options (length es) (file_of source.name reading).lines began ended
 
   -- the source was searched: it stands for a file, the rows of its output were written, and the
@@ -126,7 +126,7 @@ module _ (es : List Expression) (options : Options) (many shown : Bool) (source 
     pub rows : List Text
     pub are_rows : GroupedAs es options many (form options) (file_of source.name reading ∷ [])
         (rows ++ summary_as (form options) many source.name end selected)
-    pub wrote : TakesAll old new (behind_rows (form options) shown rows)
+    pub wrote : TakesAll old new (rows_after (form options) shown rows)
     pub steps : SearchesLines es options (length es) (file_of source.name reading).lines began ended
 
   -- output and messages for the source's file were written
@@ -138,10 +138,10 @@ module _ (es : List Expression) (options : Options) (many shown : Bool) (source 
     pub fault : IsTrue (is_fault end) ↔ FaultMet es options (file_of source.name reading)
     pub rows : List Text
     pub are_rows : GroupedAs es options many (form options) (file_of source.name reading ∷ []) rows
-    pub wrote : TakesAll old.out new.out (behind_rows (form options) shown rows)
+    pub wrote : TakesAll old.out new.out (rows_after (form options) shown rows)
     pub messages : List Text
-    pub are_messages : Told es options (file_of source.name reading ∷ []) messages
-    pub told : TakesAll old.messages new.messages messages
+    pub are_messages : Reported es options (file_of source.name reading ∷ []) messages
+    pub reported : TakesAll old.messages new.messages messages
     pub steps : SearchesLines es options (length es) (file_of source.name reading).lines old.steps
         new.steps
 
@@ -152,10 +152,10 @@ module _ (es : List Expression) (options : Options) (many shown : Bool) (source 
     pub failures : CountsSource reading old.source_failures new.source_failures
     pub rows : List Text
     pub are_rows : GroupedAs es options many (form options) (file_of source.name reading ∷ []) rows
-    pub wrote : TakesAll old.out new.out (behind_rows (form options) shown rows)
+    pub wrote : TakesAll old.out new.out (rows_after (form options) shown rows)
     pub messages : List Text
-    pub are_messages : Told es options (file_of source.name reading ∷ []) messages
-    pub told : TakesFront old.messages new.messages messages
+    pub are_messages : Reported es options (file_of source.name reading ∷ []) messages
+    pub reported : TakesFront old.messages new.messages messages
     pub counted : new.messages.failures ≡ one_more old.messages.failures
     pub steps : SearchesLines es options (length es) (file_of source.name reading).lines old.steps
         new.steps

@@ -8,35 +8,35 @@ use Rattle.grep_core.specs.declared.status.SearchFault.TheVariants.{Write, Memor
 use Rattle.grep_io.specs.Counted.{one_more}
 use Rattle.grep_core.specs.Run.{Writer, TakesAll, TakesFront}
 use Rattle.grep_core.specs.Working.LastLines.{LastLines}
-use Rattle.grep_core.specs.Working.Progress.{next_shown, behind_line, last_of, rows_at}
+use Rattle.grep_core.specs.Working.Progress.{next_shown, after_line, last_of, rows_at}
 
 module _ (options : Options) (many : Bool) (name : Text) (selected : Bool) (number : ℕ)
     (line : Text) where
   -- what is shown at the line was written, and it is held if it is not shown
-  pub record ShowsLine (before after : Progress) (behind held : LastLines)
+  pub record ShowsLine (before after : Progress) (recent held : LastLines)
       (old new : Writer) : Type 0 where
     pub wrote : TakesAll old new (rows_at options many name selected (next_shown before selected)
-        behind.lines number line)
-    pub goes_on : after ≡ behind_line before selected
+        recent.lines number line)
+    pub goes_on : after ≡ after_line before selected
     pub holds : held.lines ≡ (if (next_shown before selected).itself then []
-        else last_of behind.limit (behind.lines ++ line ∷ []))
-    pub same_limit : held.limit ≡ behind.limit
+        else last_of recent.limit (recent.lines ++ line ∷ []))
+    pub same_limit : held.limit ≡ recent.limit
 
   -- a beginning of it was written, and a write failed
-  pub record BreaksShown (before : Progress) (behind : LastLines) (old new : Writer) : Type 0 where
+  pub record BreaksShown (before : Progress) (recent : LastLines) (old new : Writer) : Type 0 where
     pub wrote : TakesFront old new (rows_at options many name selected
-        (next_shown before selected) behind.lines number line)
+        (next_shown before selected) recent.lines number line)
     pub counted : new.failures ≡ one_more old.failures
 
   -- why a line is not done: a write failed, or what is shown was written and the line could not be
   -- held
   abbrev pub ShowStops : Progress → LastLines → Writer → Writer → SearchFault → Type 0
-  ShowStops before behind old new Write = BreaksShown before behind old new
-  ShowStops before behind old new (Memory n) = (number ≡ n) ×
+  ShowStops before recent old new Write = BreaksShown before recent old new
+  ShowStops before recent old new (Memory n) = (number ≡ n) ×
       TakesAll old new (rows_at options many name selected (next_shown before selected)
-      behind.lines number line)
+      recent.lines number line)
 
   abbrev pub ShowGives : {T : Type 0} → Progress → Progress → LastLines → LastLines → Writer →
       Writer → Result T SearchFault → Type 0
-  ShowGives before after behind held old new (Ok v) = ShowsLine before after behind held old new
-  ShowGives before after behind held old new (Err fault) = ShowStops before behind old new fault
+  ShowGives before after recent held old new (Ok v) = ShowsLine before after recent held old new
+  ShowGives before after recent held old new (Err fault) = ShowStops before recent old new fault

@@ -1,7 +1,7 @@
 //! Which lines around selected ones are shown, and when.
 ghost use Rattle.std.specs.Prelude.{◌≡◌, ◌+◌, ◌≤◌};
 ghost use Rattle.grep_core.specs.Working.Progress.{progress_from, next_shown, with_waiting};
-ghost use Rattle.grep_core.specs.Working.Progress.{behind_line};
+ghost use Rattle.grep_core.specs.Working.Progress.{after_line};
 
 use crate::options::Context;
 
@@ -51,7 +51,7 @@ impl Progress {
     pub fn step(&mut self, selected: bool) -> Shown
         requires few { self.old.waiting ≤ self.old.context.before }
         ensures shown { result ≡ next_shown self.old selected }
-        ensures now { self.new ≡ behind_line self.old selected }
+        ensures now { self.new ≡ after_line self.old selected }
     {
         if selected {
             let shown = Shown {

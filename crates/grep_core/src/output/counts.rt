@@ -6,7 +6,7 @@ ghost use Rattle.grep_core.specs.Row.{colon, prefix, output_line};
 ghost use Rattle.grep_io.specs.Written.{Writes};
 ghost use Rattle.re_syntax.specs.Lines.{newline};
 
-use crate::output::rows::{write_decimal, write_line_behind, write_prefix};
+use crate::output::rows::{write_decimal, write_line_after, write_prefix};
 use grep_io::{CountedWrite, WriteFault, push_all};
 
 fn write_decimal_line<W: CountedWrite>(out: &mut W, number: u64) -> Result<(), WriteFault>
@@ -56,5 +56,5 @@ pub fn write_name<W: CountedWrite>(
     ensures { Writes W.contents W.failures out.old out.new (output_line margin.now name.now)
         result }
 {
-    write_line_behind(out, margin, name)
+    write_line_after(out, margin, name)
 }

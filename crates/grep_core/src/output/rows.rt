@@ -75,7 +75,7 @@ pub fn write_line<W: CountedWrite>(out: &mut W, text: &[u8]) -> Result<(), Write
 /// Writes the margin, the line and a newline.
 ///
 /// Returns `WriteFault` if a write fails. It is not tried again.
-pub fn write_line_behind<W: CountedWrite>(
+pub fn write_line_after<W: CountedWrite>(
     out: &mut W,
     margin: &[u8],
     line: &[u8],
@@ -94,7 +94,7 @@ pub fn write_separator<W: CountedWrite>(out: &mut W, margin: &[u8]) -> Result<()
     ensures { Writes W.contents W.failures out.old out.new
         (output_line margin.now group_separator) result }
 {
-    write_line_behind(out, margin, b"--")
+    write_line_after(out, margin, b"--")
 }
 
 fn write_headed<W: CountedWrite>(

@@ -4,7 +4,7 @@ ghost use Rattle.std.specs.Prelude.{◌≡◌};
 ghost use Rattle.grep_core.specs.Messages.{cannot_open, read_error};
 ghost use Rattle.grep_core.specs.Output.{form, written};
 ghost use Rattle.grep_core.specs.Row.{output_line};
-ghost use Rattle.grep_core.specs.Working.Searched.{summary_as, told_of, status_by};
+ghost use Rattle.grep_core.specs.Working.Searched.{summary_as, reported_of, status_by};
 ghost use Rattle.grep_io.specs.Written.{Writes};
 
 use crate::options::Form;
@@ -49,7 +49,7 @@ pub fn write_summary<W: CountedWrite>(
     }
 }
 
-fn tell_missing<N: CountedWrite>(
+fn report_missing<N: CountedWrite>(
     name: &[u8],
     messages: &mut N,
     margin: &[u8],
@@ -61,7 +61,7 @@ fn tell_missing<N: CountedWrite>(
     write_cannot_open(messages, name)
 }
 
-fn tell_broken<N: CountedWrite>(
+fn report_broken<N: CountedWrite>(
     name: &[u8],
     messages: &mut N,
     margin: &[u8],
@@ -78,7 +78,7 @@ fn tell_broken<N: CountedWrite>(
 ///
 /// Returns `WriteFault` if a write fails. It is not tried again.
 #[tactic(auto, using(crate::proofs::lemmas::WrittenLemmas::as_written))]
-pub fn tell_fault<N: CountedWrite>(
+pub fn report_fault<N: CountedWrite>(
     silent: bool,
     name: &[u8],
     end: FileEnd,
@@ -86,14 +86,14 @@ pub fn tell_fault<N: CountedWrite>(
     margin: &[u8],
 ) -> Result<(), WriteFault>
     ensures { Writes N.contents N.failures messages.old messages.new
-        (written margin.now (told_of silent end name.now)) result }
+        (written margin.now (reported_of silent end name.now)) result }
 {
     if silent {
         return Ok(());
     }
     match end {
-        FileEnd::Missing => tell_missing(name, messages, margin),
-        FileEnd::Broken => tell_broken(name, messages, margin),
+        FileEnd::Missing => report_missing(name, messages, margin),
+        FileEnd::Broken => report_broken(name, messages, margin),
         FileEnd::Whole => Ok(()),
         FileEnd::Left => Ok(()),
     }

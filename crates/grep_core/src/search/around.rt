@@ -20,10 +20,10 @@ use crate::options::Context;
 use crate::output::around::{Progress, Shown};
 use crate::output::request::FileRequest;
 use crate::output::rows::write_separator;
-use crate::search::behind::Behind;
 use crate::search::file::count_found;
 use crate::search::held::next_held;
 use crate::search::matching::is_selected;
+use crate::search::recent::RecentLines;
 use crate::search::taking::take_next;
 use crate::status::{FileEnd, FileFound, SearchFault};
 use grep_io::{CountedRead, CountedWrite, Lines, ReadFault, Stage, WriteFault};
@@ -34,7 +34,7 @@ use std::alloc::{AllocError, Global};
 #[derive(Drop)]
 pub struct Surroundings {
     progress: Progress,
-    behind: Behind,
+    recent: RecentLines,
 }
 
 impl Surroundings {
@@ -42,12 +42,12 @@ impl Surroundings {
     pub fn new(alloc: Global, context: Context, shown: bool) -> Surroundings
         ensures { result ≡ record {
           progress = progress_from context shown;
-          behind = record { limit = context.before; lines = [] };
+          recent = record { limit = context.before; lines = [] };
         } }
     {
         Surroundings {
             progress: Progress::new(context, shown),
-            behind: Behind::new(alloc, context.before),
+            recent: RecentLines::new(alloc, context.before),
         }
     }
 }
@@ -75,19 +75,19 @@ fn write_between<W: CountedWrite>(separated: bool, out: &mut W) -> Result<(), Wr
 // Writes the rows of the lines that wait before the line of this number.
 fn write_waiting<W: CountedWrite>(
     request: &FileRequest,
-    behind: &Behind,
+    recent: &RecentLines,
     number: u64,
     out: &mut W,
 ) -> Result<(), WriteFault>
-    requires { length behind.now.lines ≤ number }
+    requires { length recent.now.lines ≤ number }
     ensures { Writes W.contents W.failures out.old out.new
         (written [] (rows_around request.now.options request.now.many request.now.name.now
-        (number - length behind.now.lines) behind.now.lines)) result }
+        (number - length recent.now.lines) recent.now.lines)) result }
 {
-    let count = behind.len();
+    let count = recent.len();
     for k in 0..count {
         let at = number - (count - k) as u64;
-        request.write_around(at, behind.line(k), out, b"")?;
+        request.write_around(at, recent.line(k), out, b"")?;
     }
     Ok(())
 }
@@ -113,35 +113,35 @@ fn write_itself<W: CountedWrite>(
 // Writes what is shown at a line.
 fn write_shown<W: CountedWrite>(
     request: &FileRequest,
-    behind: &Behind,
+    recent: &RecentLines,
     shown: Shown,
     line: &SearchedLine,
     out: &mut W,
 ) -> Result<(), WriteFault>
-    requires { length behind.now.lines ≤ line.now.number }
+    requires { length recent.now.lines ≤ line.now.number }
     ensures { Writes W.contents W.failures out.old out.new
         (written [] (rows_at request.now.options request.now.many request.now.name.now line.now.selected
-        shown behind.now.lines line.now.number line.now.text.now)) result }
+        shown recent.now.lines line.now.number line.now.text.now)) result }
 {
     write_between(shown.separated, out)?;
     if !shown.itself {
         return Ok(());
     }
-    write_waiting(request, behind, line.number, out)?;
+    write_waiting(request, recent, line.number, out)?;
     write_itself(request, line, out)
 }
 
 // Keeps a line that is not shown, and forgets all kept lines if it is shown.
-fn keep(behind: &mut Behind, shown: bool, line: &[u8]) -> Result<(), AllocError>
-    ensures lines { IfOk result (λ _. behind.new.lines ≡ (if shown then []
-        else last_of behind.old.limit (behind.old.lines ++ line.now ∷ []))) }
-    ensures same_limit { behind.new.limit ≡ behind.old.limit }
+fn keep(recent: &mut RecentLines, shown: bool, line: &[u8]) -> Result<(), AllocError>
+    ensures lines { IfOk result (λ _. recent.new.lines ≡ (if shown then []
+        else last_of recent.old.limit (recent.old.lines ++ line.now ∷ []))) }
+    ensures same_limit { recent.new.limit ≡ recent.old.limit }
 {
     if shown {
-        behind.clear();
+        recent.clear();
         return Ok(());
     }
-    behind.push(line)
+    recent.push(line)
 }
 
 // Lets whole lines wait that are not shown after a selected one; the last of them are held.
@@ -151,12 +151,12 @@ fn wait(block: &[u8], count: u64, surroundings: &mut Surroundings) -> Result<(),
     requires few { surroundings.old.progress.waiting ≤ surroundings.old.progress.context.before }
     requires due { (count ≡ 0) ⊎ (surroundings.old.progress.left ≡ 0) }
     ensures { IfOk result (λ _. Waits (lines_of block.now) surroundings.old.progress
-        surroundings.new.progress surroundings.old.behind surroundings.new.behind) }
+        surroundings.new.progress surroundings.old.recent surroundings.new.recent) }
 {
     if count == 0 {
         return Ok(());
     }
-    surroundings.behind.push_block(block)?;
+    surroundings.recent.push_block(block)?;
     surroundings.progress.wait(count);
     Ok(())
 }
@@ -169,15 +169,15 @@ fn show_line<W: CountedWrite>(
     out: &mut W,
 ) -> Result<(), SearchFault>
     requires few { surroundings.old.progress.waiting ≤ surroundings.old.progress.context.before }
-    requires held { length surroundings.old.behind.lines ≤ line.now.number }
+    requires held { length surroundings.old.recent.lines ≤ line.now.number }
     ensures { ShowGives request.now.options request.now.many request.now.name.now line.now.selected
         line.now.number line.now.text.now surroundings.old.progress surroundings.new.progress
-        surroundings.old.behind surroundings.new.behind (writer W.contents W.failures out.old)
+        surroundings.old.recent surroundings.new.recent (writer W.contents W.failures out.old)
         (writer W.contents W.failures out.new) result }
 {
     let at = surroundings.progress.step(line.selected);
-    write_shown(request, &surroundings.behind, at, line, out)?;
-    if keep(&mut surroundings.behind, at.itself, line.text).is_err() {
+    write_shown(request, &surroundings.recent, at, line, out)?;
+    if keep(&mut surroundings.recent, at.itself, line.text).is_err() {
         return Err(SearchFault::Memory(line.number));
     }
     Ok(())
@@ -200,7 +200,7 @@ pub fn search_around<R: CountedRead, M: LineMatch, W: CountedWrite>(
     requires whole { asks_whole searchers.old ≡ request.now.options.line_regexp }
     requires none_done { surroundings.old.progress
         ≡ progress_from surroundings.old.progress.context surroundings.old.progress.shown }
-    requires none_behind { surroundings.old.behind
+    requires none_after { surroundings.old.recent
         ≡ record { limit = surroundings.old.progress.context.before; lines = [] } }
     ensures given { SearchGives (expressions_by M.expression searchers.old) request.now.options
         request.now.many surroundings.old.progress.shown

@@ -5,7 +5,7 @@ ghost use Rattle.re_search.specs.Working.Asking.{SameSearchers, asks_whole, expr
 ghost use Rattle.grep_core.specs.Output.{form};
 ghost use Rattle.grep_io.specs.Reading.{open_source, OneLeft};
 ghost use Rattle.grep_core.specs.Run.{writer};
-ghost use Rattle.grep_core.specs.Sources.{source_at, GivesBack};
+ghost use Rattle.grep_core.specs.Sources.{source_at, Returns};
 ghost use Rattle.grep_core.specs.Working.OneLine.{IsPlain};
 ghost use Rattle.grep_core.specs.Working.Given.{SearchGives};
 
@@ -129,7 +129,7 @@ pub fn search_file<S: Sources, M: LineMatch, W: CountedWrite>(
     ensures same_loan { S.loan sources.new ≡ S.loan sources.old }
     ensures given { SearchGives (expressions_by M.expression searchers.old)
         source.now.request.options source.now.many source.now.shown
-        (source_at (S.listed sources.old) source.now.place) (GivesBack S.given_back sources.old sources.new)
+        (source_at (S.listed sources.old) source.now.place) (Returns S.returned_readers sources.old sources.new)
         (S.failures sources.old) (S.failures sources.new)
         (writer W.contents W.failures out.old) (writer W.contents W.failures out.new)
         meter.old meter.new result }

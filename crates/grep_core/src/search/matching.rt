@@ -18,7 +18,7 @@ pub fn is_selected<M: LineMatch>(
     meter: &mut Meter,
 ) -> bool
     requires whole { asks_whole searchers.old ≡ options.line_regexp }
-    ensures told { IsTrue result ↔ Selected (expressions_by M.expression searchers.old) options
+    ensures reported { IsTrue result ↔ Selected (expressions_by M.expression searchers.old) options
         line.now }
     ensures same { SameSearchers M.expression M.whole searchers.old searchers.new }
     ensures steps { AddsAtMost

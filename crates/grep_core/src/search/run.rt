@@ -6,13 +6,13 @@ ghost use Rattle.re_search.specs.Working.Filters.{AreNeeded};
 ghost use Rattle.re_search.specs.Searching.{AllAnswer, SameMatchers};
 ghost use Rattle.grep_core.specs.Output.{form, written};
 ghost use Rattle.grep_core.specs.Run.{writer, RunGives, devices};
-ghost use Rattle.grep_core.specs.Sources.{source_at, GivesBack};
+ghost use Rattle.grep_core.specs.Sources.{source_at, Returns};
 ghost use Rattle.grep_core.specs.Working.Searched.{summary_as, SourceGives};
 ghost use Rattle.grep_io.specs.Written.{Writes};
 
 use crate::options::Options;
 use crate::output::request::FileRequest;
-use crate::output::summary::{status_of, tell_fault, write_summary};
+use crate::output::summary::{report_fault, status_of, write_summary};
 use crate::search::file::search_file;
 use crate::search::requests::{SearchRequest, SourceRequest};
 use crate::sources::Sources;
@@ -56,7 +56,7 @@ fn search_source<S: Sources, M: LineMatch, W: CountedWrite, N: CountedWrite>(
     ensures same_loan { S.loan sources.new ≡ S.loan sources.old }
     ensures given { SourceGives (expressions_by M.expression searchers.old) source.now.request.options
         source.now.many source.now.shown (source_at (S.listed sources.old) source.now.place)
-        (GivesBack S.given_back sources.old sources.new) source.now.place
+        (Returns S.returned_readers sources.old sources.new) source.now.place
         (devices (writer W.contents W.failures out.old) (writer N.contents N.failures messages.old)
         (S.failures sources.old) meter.old)
         (devices (writer W.contents W.failures out.new) (writer N.contents N.failures messages.new)
@@ -81,7 +81,7 @@ fn search_source<S: Sources, M: LineMatch, W: CountedWrite, N: CountedWrite>(
         Ok(()) => {}
         Err(WriteFault) => return Err(RunFault::Write),
     }
-    match tell_fault(
+    match report_fault(
         request.options.no_messages,
         request.name,
         found.end,
@@ -127,7 +127,7 @@ pub fn search_all<S: Sources, M: LineMatch, W: CountedWrite, N: CountedWrite>(
     requires whole { AllAnswer options.now.line_regexp (map M.whole matchers.old) }
     ensures same_loan { S.loan sources.new ≡ S.loan sources.old }
     ensures run { RunGives (map M.expression matchers.old) options.now (S.listed sources.old)
-        (GivesBack S.given_back sources.old sources.new)
+        (Returns S.returned_readers sources.old sources.new)
         (devices (writer W.contents W.failures out.old) (writer N.contents N.failures messages.old)
         (S.failures sources.old) meter.old)
         (devices (writer W.contents W.failures out.new) (writer N.contents N.failures messages.new)
@@ -164,7 +164,7 @@ pub fn search_filtered<S: Sources, M: LineMatch, W: CountedWrite, N: CountedWrit
         (λ strings. AreNeeded strings (map M.expression matchers.old)) }
     ensures same_loan { S.loan sources.new ≡ S.loan sources.old }
     ensures run { RunGives (map M.expression matchers.old) request.now.options (S.listed sources.old)
-        (GivesBack S.given_back sources.old sources.new)
+        (Returns S.returned_readers sources.old sources.new)
         (devices (writer W.contents W.failures out.old) (writer N.contents N.failures messages.old)
         (S.failures sources.old) meter.old)
         (devices (writer W.contents W.failures out.new) (writer N.contents N.failures messages.new)
@@ -189,7 +189,7 @@ fn search_sources<S: Sources, M: LineMatch, W: CountedWrite, N: CountedWrite>(
     requires whole { asks_whole searchers.old ≡ request.now.options.line_regexp }
     ensures same_loan { S.loan sources.new ≡ S.loan sources.old }
     ensures run { RunGives (expressions_by M.expression searchers.old) request.now.options
-        (S.listed sources.old) (GivesBack S.given_back sources.old sources.new)
+        (S.listed sources.old) (Returns S.returned_readers sources.old sources.new)
         (devices (writer W.contents W.failures out.old) (writer N.contents N.failures messages.old)
         (S.failures sources.old) meter.old)
         (devices (writer W.contents W.failures out.new) (writer N.contents N.failures messages.new)

@@ -78,13 +78,13 @@ module _ {W : Type 0} (contents : W → Option Text) (failures : W → ℕ) wher
   }
 
   -- all that waited was sent, and then the inner writer was flushed
-  flushed_behind : {T E : Type 0} (old : BufferedWriter W) (inner last : W) (waiting : Text) (r : Result T E) → SendsAll contents failures old (record { inner = inner; waiting = waiting })
+  flushed_after : {T E : Type 0} (old : BufferedWriter W) (inner last : W) (waiting : Text) (r : Result T E) → SendsAll contents failures old (record { inner = inner; waiting = waiting })
       → Writes contents failures inner last [] r → Writes (all_contents contents) (λ out. failures out.inner) old (record { inner = last; waiting = waiting }) [] r
-  flushed_behind old inner last waiting (Ok v) sent went = record {
+  flushed_after old inner last waiting (Ok v) sent went = record {
     written = append_known-passed (all_contents contents old) (contents inner) (contents last) waiting waiting [] [] (kept_by_all old (record { inner = inner; waiting = waiting }) sent) sent.none_waits went.written (sym (append-nil waiting));
     none_failed = went.none_failed ∙ sent.none_failed;
   }
-  flushed_behind old inner last waiting (Err e) sent went =
+  flushed_after old inner last waiting (Err e) sent went =
       let kept = kept_by_all old (record { inner = inner; waiting = waiting }) sent in record {
         front = went.front;
         rest = went.rest;
@@ -97,15 +97,15 @@ module _ {W : Type 0} (contents : W → Option Text) (failures : W → ℕ) wher
       → SendsAll contents failures old mid → Writes contents failures inner last [] r
       → Writes (all_contents contents) (λ out. failures out.inner) old (record { inner = last; waiting = waiting }) [] r
   flushed old mid inner last waiting r is sent went =
-      flushed_behind old inner last waiting r (subst (λ m. SendsAll contents failures old m) (sym is) sent) went
+      flushed_after old inner last waiting r (subst (λ m. SendsAll contents failures old m) (sym is) sent) went
 
   -- nothing waits in the buffer, nor in a writer that was flushed
-  pub none_waits_behind : {T E : Type 0} (waits : W → ℕ) (old mid : BufferedWriter W) (inner last : W) (waiting : Text) (r : Result T E) → (let now : BufferedWriter W = record { inner = inner; waiting = waiting } in now ≡ mid)
+  pub none_waits_after : {T E : Type 0} (waits : W → ℕ) (old mid : BufferedWriter W) (inner last : W) (waiting : Text) (r : Result T E) → (let now : BufferedWriter W = record { inner = inner; waiting = waiting } in now ≡ mid)
       → SendsAll contents failures old mid → IfOk r (λ _. waits last ≡ 0) → IfOk r (λ _. length waiting + waits last ≡ 0)
-  none_waits_behind waits old mid inner last waiting (Ok v) is sent none =
+  none_waits_after waits old mid inner last waiting (Ok v) is sent none =
       let empty : waiting ≡ [] = ap (λ (b : BufferedWriter W). b.waiting) is ∙ sent.none_waits in
       let short : length waiting ≡ 0 = ap length empty in
       omega (arith, short, none)
-  none_waits_behind waits old mid inner last waiting (Err e) is sent none = tt
+  none_waits_after waits old mid inner last waiting (Err e) is sent none = tt
 
 pub ruleset moving = (all_sent, kept_by_all, kept_by_rows, kept_by_some, append_known-grown)

@@ -13,10 +13,10 @@ abbrev pub file_with : Text → List Text → Ending → File
 file_with name lines ending = record { name = name; lines = lines; ending = ending }
 
 -- after lines that a newline ends the lines of the rest follow
-pub lines_of-behind : (ts : List Text) (rest : Text) → All HasNoNewline ts → lines_of (terminated ts ++ rest) ≡ ts ++ lines_of rest
-lines_of-behind [] rest h = refl
-lines_of-behind (t ∷ ts) rest h =
-    ap lines_of (append_assoc t (newline ∷ terminated ts) rest) ∙ lines_of-line t (terminated ts ++ rest) (all_head t ts h) ∙ ap (λ us. t ∷ us) (lines_of-behind ts rest (all_tail t ts h))
+pub lines_of-beyond : (ts : List Text) (rest : Text) → All HasNoNewline ts → lines_of (terminated ts ++ rest) ≡ ts ++ lines_of rest
+lines_of-beyond [] rest h = refl
+lines_of-beyond (t ∷ ts) rest h =
+    ap lines_of (append_assoc t (newline ∷ terminated ts) rest) ∙ lines_of-line t (terminated ts ++ rest) (all_head t ts h) ∙ ap (λ us. t ∷ us) (lines_of-beyond ts rest (all_tail t ts h))
 
 -- no more lines than can be counted are all lines of the file
 pub up_to_limit-few : (name : Text) (lines : List Text) (ending : Ending) → length lines ≤ most_lines → up_to_limit name lines ending ≡ file_with name lines ending
@@ -31,9 +31,9 @@ up_to_limit-over name lines more line ending full =
 
 -- a file of which some lines were read begins with them, and a failed read is the only other ending
 -- that it can have
-pub up_to_limit-behind : (name : Text) (lines more : List Text) (ending : Ending) → length lines ≤ most_lines →
+pub up_to_limit-beyond : (name : Text) (lines more : List Text) (ending : Ending) → length lines ≤ most_lines →
     (kept : List Text) × (end : Ending) × (up_to_limit name (lines ++ more) ending ≡ file_with name (lines ++ kept) end) × ((end ≡ ending) ⊎ (end ≡ broken))
-up_to_limit-behind name lines more ending few =
+up_to_limit-beyond name lines more ending few =
     elim (cases_Bool (nat_le (length (lines ++ more)) most_lines)) [
       | inl within ↦ (more, ending, cond-true _ _ _ within, inl refl)
       | inr over ↦ (take (most_lines - length lines) more, broken, cond-false _ _ _ over ∙ ap (λ ls. file_with name ls broken) kept, inr refl)

@@ -15,7 +15,7 @@ use Rattle.grep_io.specs.declared.input.lines.Stage.TheVariants.{Open, Ended, Fa
 use Rattle.grep_io.specs.File.{File, whole, broken}
 use Rattle.grep_io.specs.Reading.{fails_after, ends_after, most_lines, up_to_limit, file_of, open_source, IsOneLineAndFew, HasRead}
 use Rattle.grep_io.proofs.lemmas.PassedLemmas.{terminated-append}
-use Rattle.grep_io.proofs.lemmas.FileLaws.{lines_of-behind, up_to_limit-few, up_to_limit-over, up_to_limit-behind}
+use Rattle.grep_io.proofs.lemmas.FileLaws.{lines_of-beyond, up_to_limit-few, up_to_limit-over, up_to_limit-beyond}
 use Rattle.grep_io.specs.Working.Handed.{AreHanded, HandsLines, StandsFor, BeginsWith}
 
 -- ---- texts
@@ -47,7 +47,7 @@ Consumes-front (Some rest) given = refl
 
 -- what the lines of a source begin with
 lines_front : (stage : Stage) (given : Text) (handed : List Text) (rest : Text) → AreHanded stage given handed → (stage ≡ Ended → rest ≡ []) → (more : List Text) × (lines_of (given ++ rest) ≡ handed ++ more)
-lines_front Open given handed rest h end = (lines_of rest, ap (λ l. lines_of (l ++ rest)) h.0 ∙ lines_of-behind handed rest h.1)
+lines_front Open given handed rest h end = (lines_of rest, ap (λ l. lines_of (l ++ rest)) h.0 ∙ lines_of-beyond handed rest h.1)
 lines_front Ended given handed rest h end = ([], ap (λ l. lines_of (given ++ l)) (end refl) ∙ ap lines_of (append-nil given) ∙ h ∙ sym (append-nil handed))
 lines_front Failed given handed rest h end = absurd h
 
@@ -100,7 +100,7 @@ module _ {R : Type 0} (remaining : R → Option Text) (failures : R → ℕ) whe
     (
       Consumes-trans _ (to_come remaining failures old) _ given new.line gave taken.0,
       (
-        ap (λ l. lines_of (l ++ new.line)) is ∙ lines_of-behind handed new.line all ∙ ap (λ l. handed ++ l) (one_line new.line free taken.2),
+        ap (λ l. lines_of (l ++ new.line)) is ∙ lines_of-beyond handed new.line all ∙ ap (λ l. handed ++ l) (one_line new.line free taken.2),
         λ e. taken.1,
       ),
     ),
@@ -133,7 +133,7 @@ module _ {R : Type 0} (remaining : R → Option Text) (failures : R → ℕ) whe
   begins_with name reader now handed s few =
       let left = all_of (remaining reader) (to_come remaining failures now) s.given s.gave in
       let front = lines_front now.stage s.given handed left.0 s.are_handed (λ e. left.1.1 (s.all_given e)) in
-      let cut = up_to_limit-behind name handed front.0 whole few in
+      let cut = up_to_limit-beyond name handed front.0 whole few in
       let same : file_of name (ends_after (s.given ++ left.0)) ≡ up_to_limit name (handed ++ front.0) whole = ap (λ ls. up_to_limit name ls whole) front.1 in
       record {
         reading = ends_after (s.given ++ left.0);

@@ -13,8 +13,8 @@ use Rattle.grep_io.specs.Working.Sent.{SendsFront, SendsLine}
 use Rattle.grep_io.proofs.lemmas.BufferLemmas.{kept_by_some}
 
 -- the first bytes of two texts, more than the first text has
-take_behind : (held line : Text) (n : ℕ) → length held ≤ n → take n (held ++ line) ≡ held ++ take (n - length held) line
-take_behind held line n h =
+take_after : (held line : Text) (n : ℕ) → length held ≤ n → take n (held ++ line) ≡ held ++ take (n - length held) line
+take_after held line n h =
     let split : n ≡ length held + (n - length held) = omega (arith, h) in
     ap (λ k. take k (held ++ line)) split ∙ take-append-add held line (n - length held)
 
@@ -46,20 +46,20 @@ module _ {W : Type 0} (contents : W → Option Text) (failures : W → ℕ) wher
         omega (arith, high, long, is),
         none,
         same,
-        subst (Appends (contents a) (contents b)) (ap (take n) joined ∙ take_behind held line n (omega (arith, low, is)) ∙ ap (λ m. held ++ take m line) place) went,
+        subst (Appends (contents a) (contents b)) (ap (take n) joined ∙ take_after held line n (omega (arith, low, is)) ∙ ap (λ m. held ++ take m line) place) went,
       )
 
 -- a text was written after what waited
-passed_behind : (a b c : Option Text) (held rest bytes : Text) → Keeps a (append_known b held) → Appends b c (held ++ bytes) → rest ≡ [] → Appends a (append_known c rest) bytes
-passed_behind None b c held rest bytes p q none = tt
-passed_behind (Some x) None c held rest bytes p q none = absurd p
-passed_behind (Some x) (Some y) None held rest bytes p q none = absurd q
-passed_behind (Some x) (Some y) (Some z) held rest bytes p q none =
+passed_after : (a b c : Option Text) (held rest bytes : Text) → Keeps a (append_known b held) → Appends b c (held ++ bytes) → rest ≡ [] → Appends a (append_known c rest) bytes
+passed_after None b c held rest bytes p q none = tt
+passed_after (Some x) None c held rest bytes p q none = absurd p
+passed_after (Some x) (Some y) None held rest bytes p q none = absurd q
+passed_after (Some x) (Some y) (Some z) held rest bytes p q none =
     ap (λ l. z ++ l) none ∙ append-nil z ∙ q ∙ sym (append_assoc y held bytes) ∙ ap (λ l. l ++ bytes) p
 
 -- the end of a text without newline has none
-no_newline_behind : (text front rest : Text) → text ≡ front ++ rest → HasNoNewline text → HasNoNewline rest
-no_newline_behind text front rest cut none =
+no_newline_after : (text front rest : Text) → text ≡ front ++ rest → HasNoNewline text → HasNoNewline rest
+no_newline_after text front rest cut none =
     subst HasNoNewline (ap (drop (length front)) cut ∙ drop-append_seam front rest) (All-drop (λ b. b ≢ newline) (length front) text none)
 
 -- two texts without newline have none together
@@ -71,14 +71,14 @@ no_newline_in_none rest none = subst HasNoNewline (sym none) (All-nil (λ b. b �
 
 module _ {W : Type 0} (contents : W → Option Text) (failures : W → ℕ) where
   -- no newline waits after a beginning that was to be sent
-  pub no_newline_behind_front : {T E : Type 0} (old new : BufferedWriter W) (n : ℕ) (r : Result T E)
+  pub no_newline_after_front : {T E : Type 0} (old new : BufferedWriter W) (n : ℕ) (r : Result T E)
       → MatchResult r (λ _. SendsFront contents failures n old new) (λ _. SendsSome contents failures old new) → HasNoNewline old.waiting → HasNoNewline new.waiting
-  no_newline_behind_front old new n (Ok v) went none = subst HasNoNewline (sym went.rest) (All-drop (λ b. b ≢ newline) n old.waiting none)
-  no_newline_behind_front old new n (Err e) went none = no_newline_behind old.waiting went.front new.waiting went.cut none
+  no_newline_after_front old new n (Ok v) went none = subst HasNoNewline (sym went.rest) (All-drop (λ b. b ≢ newline) n old.waiting none)
+  no_newline_after_front old new n (Err e) went none = no_newline_after old.waiting went.front new.waiting went.cut none
 
   -- no newline waits after a line that was to be sent
   pub no_newline_waits : (old new : BufferedWriter W) (line : Text) (sent : Option ℕ) → SendsLine contents failures old new line sent → HasNoNewline old.waiting → HasNoNewline new.waiting
-  no_newline_waits old new line None went none = no_newline_behind old.waiting went.front new.waiting went.cut none
+  no_newline_waits old new line None went none = no_newline_after old.waiting went.front new.waiting went.cut none
   no_newline_waits old new line (Some n) went none = no_newline_in_none new.waiting went.2
 
   pub line_taken : (old new : BufferedWriter W) (line : Text) (sent : Option ℕ) → SendsLine contents failures old new line sent → IfSome sent (λ n. 0 < n)
@@ -89,14 +89,14 @@ module _ {W : Type 0} (contents : W → Option Text) (failures : W → ℕ) wher
   line_within old new from m None went = tt
   line_within old new from m (Some n) went = omega (arith, went.1, length-take m from)
 
-  line_written_behind : (old : BufferedWriter W) (inner last : W) (waiting rest from : Text) (m : ℕ) (sent : Option ℕ) → Keeps (all_contents contents old) (append_known (contents inner) waiting)
+  line_written_after : (old : BufferedWriter W) (inner last : W) (waiting rest from : Text) (m : ℕ) (sent : Option ℕ) → Keeps (all_contents contents old) (append_known (contents inner) waiting)
       → SendsLine contents failures (record { inner = inner; waiting = waiting }) (record { inner = last; waiting = rest }) (take m from) sent → PushAppends (all_contents contents old) (append_known (contents last) rest) sent from
-  line_written_behind old inner last waiting rest from m None kept went =
+  line_written_after old inner last waiting rest from m None kept went =
       Keeps-trans (all_contents contents old) (append_known (contents inner) waiting) (append_known (contents last) rest) kept
       (kept_by_some contents failures (record { inner = inner; waiting = waiting }) (record { inner = last; waiting = rest }) went)
-  line_written_behind old inner last waiting rest from m (Some n) kept went =
+  line_written_after old inner last waiting rest from m (Some n) kept went =
       let part : take n (take m from) ≡ take n from = take-take n m from (omega (arith, went.1, length-take m from)) in
-      passed_behind (all_contents contents old) (contents inner) (contents last) waiting rest (take n from) kept
+      passed_after (all_contents contents old) (contents inner) (contents last) waiting rest (take n from) kept
       (subst (λ l. Appends (contents inner) (contents last) (waiting ++ l)) part went.4) went.2
 
   -- what was given before and the line are the bytes of the whole call
@@ -104,21 +104,21 @@ module _ {W : Type 0} (contents : W → Option Text) (failures : W → ℕ) wher
       → Keeps (all_contents contents old) (all_contents contents mid) → SendsLine contents failures (record { inner = inner; waiting = waiting }) (record { inner = last; waiting = rest }) (take m from) sent
       → PushAppends (all_contents contents old) (append_known (contents last) rest) sent from
   line_written old mid inner last waiting rest from m sent is kept went =
-      line_written_behind old inner last waiting rest from m sent (subst (λ b. Keeps (all_contents contents old) (all_contents contents b)) (sym is) kept) went
+      line_written_after old inner last waiting rest from m sent (subst (λ b. Keeps (all_contents contents old) (all_contents contents b)) (sym is) kept) went
 
-  line_counted_behind : (old : BufferedWriter W) (inner last : W) (waiting rest line : Text) (sent : Option ℕ) → failures inner ≡ failures old.inner
+  line_counted_after : (old : BufferedWriter W) (inner last : W) (waiting rest line : Text) (sent : Option ℕ) → failures inner ≡ failures old.inner
       → SendsLine contents failures (record { inner = inner; waiting = waiting }) (record { inner = last; waiting = rest }) line sent → Counts (failures old.inner) (failures last) sent
-  line_counted_behind old inner last waiting rest line None same went = went.counted ∙ ap one_more same
-  line_counted_behind old inner last waiting rest line (Some n) same went = went.3 ∙ same
+  line_counted_after old inner last waiting rest line None same went = went.counted ∙ ap one_more same
+  line_counted_after old inner last waiting rest line (Some n) same went = went.3 ∙ same
 
   pub line_counted : (old mid : BufferedWriter W) (inner last : W) (waiting rest line : Text) (sent : Option ℕ) → (let now : BufferedWriter W = record { inner = inner; waiting = waiting } in now ≡ mid)
       → failures mid.inner ≡ failures old.inner
       → SendsLine contents failures (record { inner = inner; waiting = waiting }) (record { inner = last; waiting = rest }) line sent → Counts (failures old.inner) (failures last) sent
   line_counted old mid inner last waiting rest line sent is same went =
-      line_counted_behind old inner last waiting rest line sent (ap (λ (b : BufferedWriter W). failures b.inner) is ∙ same) went
+      line_counted_after old inner last waiting rest line sent (ap (λ (b : BufferedWriter W). failures b.inner) is ∙ same) went
 
   -- bytes were put after what waited
-  pub text_gathered : (old mid : BufferedWriter W) (inner : W) (waiting more bytes : Text) → (let now : BufferedWriter W = record { inner = inner; waiting = waiting } in now ≡ mid)
+  pub text_collected : (old mid : BufferedWriter W) (inner : W) (waiting more bytes : Text) → (let now : BufferedWriter W = record { inner = inner; waiting = waiting } in now ≡ mid)
       → Keeps (all_contents contents old) (all_contents contents mid) → more ≡ waiting ++ bytes → Appends (all_contents contents old) (append_known (contents inner) more) bytes
-  text_gathered old mid inner waiting more bytes is kept joined =
+  text_collected old mid inner waiting more bytes is kept joined =
       append_known-grown (all_contents contents old) (contents inner) waiting more bytes (subst (λ b. Keeps (all_contents contents old) (all_contents contents b)) (sym is) kept) joined

@@ -15,13 +15,13 @@ pub no_row_ends : (bytes : Text) → Nowhere (Passes (is_byte newline) bytes) 0 
 no_row_ends bytes none = All-from_get_or (λ b. b ≢ newline) bytes 0 (λ i lt same. none i (omega arith) lt (eq-eqb _ newline same))
 
 -- the rows end after the last newline
-pub rows_end_behind : (bytes : Text) (k : ℕ) → NoneAfter (Passes (is_byte newline) bytes) 0 (length bytes) k → Passes (is_byte newline) bytes k → EndsRows bytes (k + 1)
-rows_end_behind bytes k last is = record {
+pub rows_end_after : (bytes : Text) (k : ℕ) → NoneAfter (Passes (is_byte newline) bytes) 0 (length bytes) k → Passes (is_byte newline) bytes k → EndsRows bytes (k + 1)
+rows_end_after bytes k last is = record {
   some = omega arith;
   within = omega (arith, last.high);
   front = take k bytes;
   ended = take_more bytes k 0 last.high ∙ ap (λ b. take k bytes ++ b ∷ []) (eqb-true _ newline is);
-  none_behind = All-from_get_or (λ b. b ≢ newline) (drop (k + 1) bytes) 0
+  none_after = All-from_get_or (λ b. b ≢ newline) (drop (k + 1) bytes) 0
       (λ i lt same. last.after (k + 1 + i) (omega arith) (omega (arith, lt, length-drop (k + 1) bytes)) (eq-eqb _ newline (sym (get_or-drop (k + 1) bytes i 0) ∙ same)));
 }
 
@@ -48,4 +48,4 @@ module _ {W : Type 0} (contents : W → Option Text) (failures : W → ℕ) wher
     counted = more;
   }
 
-pub ruleset ending = (no_row_ends, rows_end_behind)
+pub ruleset ending = (no_row_ends, rows_end_after)

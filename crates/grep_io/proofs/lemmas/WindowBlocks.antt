@@ -164,8 +164,8 @@ module _ (buffer before : Text) (start last end count : ℕ) (within : end ≤ l
       omega (arith, newline_before buffer start last end k within cut_off below here, past_waiting)
 
   -- and what follows them is ahead
-  pub ahead_behind : last ≤ end → before ++ part ≡ take count (before ++ part) ++ slice_range buffer (start + (count - length before)) end
-  ahead_behind inside =
+  pub ahead_after : last ≤ end → before ++ part ≡ take count (before ++ part) ++ slice_range buffer (start + (count - length before)) end
+  ahead_after inside =
       let rest : drop count (before ++ part) ≡ slice_range buffer (start + (count - length before)) end =
       ap (λ n. drop n (before ++ part)) (omega (arith, past_waiting)) ∙ drop_past before part (count - length before) ∙ drop_range buffer start end (count - length before) (omega (arith, passed_before, inside)) in
       sym (take-append-drop count (before ++ part)) ∙ ap (λ l. take count (before ++ part) ++ l) rest

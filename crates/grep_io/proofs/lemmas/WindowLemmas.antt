@@ -60,14 +60,14 @@ pub none_in_nothing : HasNoNewline []
 none_in_nothing i d below = absurd (omega arith)
 
 -- no newline is in what follows
-none_behind : (first more : Text) → HasNoNewline (first ++ more) → HasNoNewline more
-none_behind [] more h = h
-none_behind (b ∷ first) more h = none_behind first more (All-tail (λ c. c ≢ newline) b (first ++ more) h)
+none_after : (first more : Text) → HasNoNewline (first ++ more) → HasNoNewline more
+none_after [] more h = h
+none_after (b ∷ first) more h = none_after first more (All-tail (λ c. c ≢ newline) b (first ++ more) h)
 
 -- what follows the first bytes of such
-pub few_behind : (first more : Text) → IsOneLineAndFew (first ++ more) → IsOneLineAndFew more
-few_behind first more h = elim (cases_lt (length more) 65536) [
-  | inr long ↦ none_behind first (take (length more - 65536) more) (subst HasNoNewline (all_before long) h)
+pub few_after : (first more : Text) → IsOneLineAndFew (first ++ more) → IsOneLineAndFew more
+few_after first more h = elim (cases_lt (length more) 65536) [
+  | inr long ↦ none_after first (take (length more - 65536) more) (subst HasNoNewline (all_before long) h)
   | inl short ↦ subst HasNoNewline (sym (ap (λ n. take n more) (none_before short))) none_in_nothing
 ]
   where

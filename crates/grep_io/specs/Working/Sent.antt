@@ -12,7 +12,7 @@ pub record EndsRows (bytes : Text) (n : ℕ) : Type 0 where
   pub within : n ≤ length bytes
   pub front : Text
   pub ended : take n bytes ≡ front ++ newline ∷ []
-  pub none_behind : HasNoNewline (drop n bytes)
+  pub none_after : HasNoNewline (drop n bytes)
 
 module _ {W : Type 0} (contents : W → Option Text) (failures : W → ℕ) where
   -- the first n bytes that waited were sent to the inner writer, and no write failed; the others

@@ -6,7 +6,7 @@ ghost use Rattle.grep_io.specs.Buffer.{Sends, all_contents};
 ghost use Rattle.grep_io.specs.Working.Sent.{SendsRows};
 
 use crate::devices::counted::{CountedWrite, WriteFault};
-use crate::devices::sending::{gather, rows_end, send_front};
+use crate::devices::sending::{collect_text, rows_end, send_front};
 use std::alloc::{AllocError, Global};
 use std::marker::Model;
 
@@ -114,7 +114,7 @@ impl<W: CountedWrite> CountedWrite for Buffered<W> {
             return None;
         }
         let count = from.len().min(ROOM - self.buffer.len());
-        gather(&mut self.buffer, &from[..count]);
+        collect_text(&mut self.buffer, &from[..count]);
         Some(count)
     }
 

@@ -22,7 +22,7 @@ pub fn rows_end(bytes: &[u8]) -> Option<usize>
 
 /// Appends bytes to a buffer that has room for them.
 #[inline]
-pub fn gather(buffer: &mut Vec<u8>, bytes: &[u8])
+pub fn collect_text(buffer: &mut Vec<u8>, bytes: &[u8])
     requires { vec_len buffer.old + length bytes.now ≤ vec_capacity buffer.old }
     ensures items { buffer.new.items ≡ buffer.old.items ++ bytes.now }
     ensures capacity { vec_capacity buffer.old ≤ vec_capacity buffer.new }

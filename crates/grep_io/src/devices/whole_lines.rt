@@ -8,7 +8,7 @@ ghost use Rattle.grep_io.specs.Buffer.{Sends, all_contents};
 ghost use Rattle.grep_io.specs.Working.Sent.{SendsLine};
 
 use crate::devices::counted::{CountedWrite, WriteFault};
-use crate::devices::sending::{gather, rows_end, send_front, take_off};
+use crate::devices::sending::{collect_text, rows_end, send_front, take_off};
 use std::alloc::{AllocError, Global};
 use std::marker::Model;
 
@@ -122,7 +122,7 @@ fn push_line<W: CountedWrite>(out: &mut W, buffer: &mut Vec<u8>, line: &[u8]) ->
     ensures capacity { vec_capacity buffer.old ≤ vec_capacity buffer.new }
 {
     let held = buffer.len();
-    gather(buffer, line);
+    collect_text(buffer, line);
     let sent = push_past(out, buffer, held);
     if sent <= held {
         buffer.truncate(held);
@@ -155,7 +155,7 @@ impl<W: CountedWrite> CountedWrite for WholeLines<W> {
         }
         let most = from.len().min(ROOM - self.buffer.len());
         let Some(end) = rows_end(&from[..most]) else {
-            gather(&mut self.buffer, &from[..most]);
+            collect_text(&mut self.buffer, &from[..most]);
             return Some(most);
         };
         push_line(&mut self.inner, &mut self.buffer, &from[..end])

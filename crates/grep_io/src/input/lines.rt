@@ -87,7 +87,7 @@ impl<R: CountedRead> Lines<R> {
               lines = record { reader = reader; ahead = []; line = []; stage = Stage.Open };
               number = 0;
             }) }
-        ensures err { IfErr result (λ given_back. given_back ≡ reader) }
+        ensures err { IfErr result (λ returned_readers. returned_readers ≡ reader) }
     {
         match Window::new(alloc) {
             Ok(window) => Ok(Lines {

@@ -105,7 +105,7 @@ no_more es inputs k place to left h hits =
 -- ---- lines cut at a place
 
 -- the hits before a place, and those from it on
-pub record Parted (es : List Expression) (inputs : Inputs) (k place mid to : ℕ) (hits : List Hit) : Type 0 where
+pub record WithParts (es : List Expression) (inputs : Inputs) (k place mid to : ℕ) (hits : List Hit) : Type 0 where
   pub front : List Hit
   pub back : List Hit
   pub is_front : HitsBetween es inputs k place mid front
@@ -121,8 +121,8 @@ split_from es options first next (x ∷ xs) ys hits e (front, rest, here, more, 
     let s = split_from es options (first + 1) next xs ys rest (omega (arith, e)) more in
     (front ++ s.0, s.1, (front, s.0, here, s.2, refl), s.3, joined ∙ ap (λ l. front ++ l) s.4 ∙ sym (append_assoc front s.0 s.1))
 
-pub parted : (es : List Expression) (inputs : Inputs) (k place mid to : ℕ) (hits : List Hit) → place ≤ mid → mid ≤ to → mid ≤ length (file_at inputs.files k).lines → HitsBetween es inputs k place to hits → Parted es inputs k place mid to hits
-parted es inputs k place mid to hits low high within h =
+pub with_parts : (es : List Expression) (inputs : Inputs) (k place mid to : ℕ) (hits : List Hit) → place ≤ mid → mid ≤ to → mid ≤ length (file_at inputs.files k).lines → HitsBetween es inputs k place to hits → WithParts es inputs k place mid to hits
+with_parts es inputs k place mid to hits low high within h =
     let lines = (file_at inputs.files k).lines in
     let far : to - place ≡ (mid - place) + (to - mid) = omega arith in
     let there : place + (mid - place) ≡ mid = omega arith in

@@ -15,7 +15,7 @@ use Rattle.grep_live.specs.Hits.{Hit, View, HitsFrom, AreHits}
 use Rattle.grep_live.specs.Rows.{total_row, page_row, page_rows, all_hits}
 use Rattle.grep_live.specs.Writing.{WritesPage}
 use Rattle.grep_live.specs.Working.Listing.{Mean, HitsBetween}
-use Rattle.grep_live.proofs.lemmas.ListingLemmas.{HitsFrom-exist, Next, no_more, Parted}
+use Rattle.grep_live.proofs.lemmas.ListingLemmas.{HitsFrom-exist, Next, no_more, WithParts}
 use Rattle.grep_live.proofs.lemmas.ListLemmas.{zip-at, zip-length}
 
 -- ---- a part of a list
@@ -148,7 +148,7 @@ module _ (inputs : Inputs) (k from to first count : ℕ) {W : Type 0} (contents 
           broken_off contents failures margin a b c (page_rows first count (map (λ hit. (k, hit)) all)) (page_rows skip left (map (λ hit. (k, hit)) s.rest)) (page_rows skip left ((k, hit) ∷ [])) (page_rows (skip - 1) (left - (1 - skip)) (map (λ hit. (k, hit)) n.rest)) next_shown s.wrote stopped
 
   -- the hits up to a later place are skipped or shown
-  module _ (es : List Expression) (all : List Hit) (a b c : W) (place mid skip left : ℕ) (s : ShownUpTo a b es place skip left all) (p : Parted es inputs k place mid to s.rest) where
+  module _ (es : List Expression) (all : List Hit) (a b c : W) (place mid skip left : ℕ) (s : ShownUpTo a b es place skip left all) (p : WithParts es inputs k place mid to s.rest) where
     part_shown : page_rows skip left (map (λ hit. (k, hit)) s.rest) ≡ page_rows skip left (map (λ hit. (k, hit)) p.front) ++ page_rows (skip - length p.front) (left - (length p.front - skip)) (map (λ hit. (k, hit)) p.back)
     part_shown =
         ap (λ l. page_rows skip left (map (λ hit. (k, hit)) l)) p.joined ∙ ap (page_rows skip left) (map-append (λ hit. (k, hit)) p.front p.back)

@@ -1,5 +1,5 @@
 //! What grep writes for a session that an editor watches, and its status.
-ghost use Rattle.grep_session.specs.Headline.{ReportsInputs, TellsInputs, IsStatusOfInputs};
+ghost use Rattle.grep_session.specs.Headline.{ReportsInputs, ReportsAllInputs, IsStatusOfInputs};
 
 use crate::live::Live;
 use crate::status::status;
@@ -28,7 +28,7 @@ impl Live {
     /// `WriteFault` if a write fails, which the writer counts. A beginning was written. The write
     /// is not tried again.
     pub fn messages<W: CountedWrite>(&self, margin: &[u8], out: &mut W) -> Result<(), WriteFault>
-        ensures { TellsInputs W.contents W.failures self.now.inputs margin.now out.old out.new
+        ensures { ReportsAllInputs W.contents W.failures self.now.inputs margin.now out.old out.new
             result }
     {
         self.session.messages(margin, out)

@@ -34,9 +34,9 @@ use Rattle.grep_session.specs.Touched.{NeedsNoMemory, is_of_output}
 -- some pattern was refused, or memory ran out
 pub refuses_again : (T : Type 0) (syntax : Syntax) (options : Options) (old : Inputs) (fault : EditFault) → RefusesFirst syntax options.ignore_case old.patterns fault → ReadsAgain {T = T} syntax options old old (Err fault)
 refuses_again T syntax options old fault (inl memory) = subst (λ f. ReadsAgain {T = T} syntax options old old (Err f)) (sym memory) refl
-refuses_again T syntax options old fault (inr told) =
-    let first = told.2 in
-    subst (λ f. ReadsAgain {T = T} syntax options old old (Err f)) (sym told.3) (inr ((λ all. first.unreadable (all told.0 [] first.in_texts)), (told.0, told.1, first, refl)), refl)
+refuses_again T syntax options old fault (inr reported) =
+    let first = reported.2 in
+    subst (λ f. ReadsAgain {T = T} syntax options old old (Err f)) (sym reported.3) (inr ((λ all. first.unreadable (all reported.0 [] first.in_texts)), (reported.0, reported.1, first, refl)), refl)
 
 -- another syntax
 pub sets_syntax : {T : Type 0} (syntax : Syntax) (old new : Inputs) (result : Result T EditFault) → ReadsAgain syntax old.options old new result → EditGives (SetSyntax syntax) old new result

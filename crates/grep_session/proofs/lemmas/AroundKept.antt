@@ -9,20 +9,20 @@ use Rattle.grep_core.specs.declared.options.Options.{Options}
 use Rattle.grep_core.specs.declared.output.around.Progress.{Progress}
 use Rattle.grep_core.specs.Around.{Groups}
 use Rattle.grep_core.specs.Output.{around, shown_number}
-use Rattle.grep_core.specs.Working.Groups.{behind_rows}
-use Rattle.grep_core.specs.Working.Progress.{progress_from, next_shown, with_waiting, behind_line, last_of, rows_at}
+use Rattle.grep_core.specs.Working.Groups.{rows_after}
+use Rattle.grep_core.specs.Working.Progress.{progress_from, next_shown, with_waiting, after_line, last_of, rows_at}
 use Rattle.grep_core.specs.Working.Requests.{name_shown}
 use Rattle.grep_core.proofs.lemmas.AroundLemmas.{Tracks, tracks_none, tracks_line, tracked_groups}
 use Rattle.grep_session.specs.declared.kept.KeptLine.{KeptLine}
 use Rattle.grep_session.specs.Working.Kept.{line_text, IsKept}
 use Rattle.grep_session.specs.Working.Report.{is_selected, shown_rows, around_rows}
-use Rattle.grep_session.proofs.lemmas.KeptLaws.{selected_told}
+use Rattle.grep_session.proofs.lemmas.KeptLaws.{selected_reported}
 
 -- while lines are shown after a selected one, none waits
 abbrev pub IsIdle : Progress → Type 0
 IsIdle p = 0 < p.left → p.waiting ≡ 0
 
-idle_line : (p : Progress) (found : Bool) → IsIdle p → IsIdle (behind_line p found)
+idle_line : (p : Progress) (found : Bool) → IsIdle p → IsIdle (after_line p found)
 idle_line p true idle = λ _. refl
 idle_line p false idle = by_left (nat_lt 0 p.left) refl
   where
@@ -52,10 +52,10 @@ module _ (es : List Expression) (options : Options) (many : Bool) (name : Text) 
   tracked (line ∷ text) k p before rows idle t =
       let found = is_selected options line in
       let here = shown_rows options many name found (next_shown p found) before line in
-      let next = subst (λ out. Tracks es options many name context some (behind_line p found) (before ++ line_text line ∷ []) (rows ++ out)) (same_rows options many name p found before line idle)
-      (tracks_line es options many name context some p before rows (line_text line) found (selected_told es options line (All-head (IsKept es options) line text k)) t) in
-      let rest = tracked text (All-tail (IsKept es options) line text k) (behind_line p found) (before ++ line_text line ∷ []) (rows ++ here) (idle_line p found idle) next in
-      let further = around_rows options many name (behind_line p found) (before ++ line_text line ∷ []) text in (
+      let next = subst (λ out. Tracks es options many name context some (after_line p found) (before ++ line_text line ∷ []) (rows ++ out)) (same_rows options many name p found before line idle)
+      (tracks_line es options many name context some p before rows (line_text line) found (selected_reported es options line (All-head (IsKept es options) line text k)) t) in
+      let rest = tracked text (All-tail (IsKept es options) line text k) (after_line p found) (before ++ line_text line ∷ []) (rows ++ here) (idle_line p found idle) next in
+      let further = around_rows options many name (after_line p found) (before ++ line_text line ∷ []) text in (
         rest.0,
         subst (λ ls. Tracks es options many name context some rest.0 ls (rows ++ (here ++ further))) (append_assoc before (line_text line ∷ []) (map line_text text))
             (subst (Tracks es options many name context some rest.0 ((before ++ line_text line ∷ []) ++ map line_text text)) (append_assoc rows here further) rest.1),
@@ -64,7 +64,7 @@ module _ (es : List Expression) (options : Options) (many : Bool) (name : Text) 
   -- over all lines of a file
   pub around_groups : (text : List KeptLine) → All (IsKept es options) text
       → (groups : List Text) × Groups es options context (name_shown many name) (shown_number options) (map line_text text) groups
-      × (around_rows options many name (progress_from context some) [] text ≡ behind_rows (around context) some groups)
+      × (around_rows options many name (progress_from context some) [] text ≡ rows_after (around context) some groups)
   around_groups text k =
       let all = tracked text k (progress_from context some) [] [] (λ _. refl) (tracks_none es options many name context some) in
       tracked_groups es options many name context some all.0 (map line_text text) (around_rows options many name (progress_from context some) [] text) all.1

@@ -9,12 +9,12 @@ use Rattle.grep_core.specs.declared.output.around.Shown.{Shown}
 use Rattle.grep_core.specs.Around.{group_separator}
 use Rattle.grep_core.specs.Row.{hyphen, output_line}
 use Rattle.grep_core.specs.Output.{written}
-use Rattle.grep_core.specs.Working.Progress.{next_shown, with_waiting, behind_line, last_of, row_with, rows_around, row_by}
+use Rattle.grep_core.specs.Working.Progress.{next_shown, with_waiting, after_line, last_of, row_with, rows_around, row_by}
 use Rattle.grep_core.specs.Written.{GoesOut, StopsWithin, Writes}
 use Rattle.grep_session.specs.declared.kept.KeptLine.{KeptLine}
 use Rattle.grep_session.specs.Working.Kept.{line_text}
 use Rattle.grep_session.specs.Working.Report.{is_selected, shown_rows, around_rows}
-use Rattle.grep_session.proofs.lemmas.Writing.{WrittenUpTo, drop-item, none_written, written_on, broken_off, all_written, writes_behind, stops_before, one_went, one_stopped}
+use Rattle.grep_session.proofs.lemmas.Writing.{WrittenUpTo, drop-item, none_written, written_on, broken_off, all_written, writes_after, stops_before, one_went, one_stopped}
 
 -- a line that is not left out is shown
 pub not_left_out : (itself : Bool) → not itself ≡ false → itself ≡ true
@@ -24,7 +24,7 @@ not_left_out false e = sym e
 -- ---- how many lines wait
 
 -- no more lines wait than may be shown before a selected one
-pub few_wait : (p : Progress) (found : Bool) → p.waiting ≤ p.context.before → (behind_line p found).waiting ≤ (behind_line p found).context.before
+pub few_wait : (p : Progress) (found : Bool) → p.waiting ≤ p.context.before → (after_line p found).waiting ≤ (after_line p found).context.before
 few_wait p true few = omega arith
 few_wait p false few = by_left (nat_lt 0 p.left)
   where
@@ -33,7 +33,7 @@ few_wait p false few = by_left (nat_lt 0 p.left)
     by_left false = omega arith
 
 -- no more lines wait than there are
-pub wait_within : (p : Progress) (found : Bool) (k : ℕ) → p.waiting ≤ k → (behind_line p found).waiting ≤ k + 1
+pub wait_within : (p : Progress) (found : Bool) (k : ℕ) → p.waiting ≤ k → (after_line p found).waiting ≤ k + 1
 wait_within p true k within = omega arith
 wait_within p false k within = by_left (nat_lt 0 p.left)
   where
@@ -114,17 +114,17 @@ module _ (options : Options) (many : Bool) (name : Text) where
           → StopsWithin contents failures a c (written margin (shown_rows options many name found shown (map line_text xs) line))
       before_stops a b c e g s =
           subst (λ l. StopsWithin contents failures a c (written margin l)) (sym (all_shown e))
-          (stops_behind a b c separator (before ++ itself ∷ []) g (stops_before contents failures margin b c before (itself ∷ []) s))
+          (stops_after a b c separator (before ++ itself ∷ []) g (stops_before contents failures margin b c before (itself ∷ []) s))
         where
-          stops_behind : (a b c : W) (us vs : List Text) → GoesOut contents failures a b (written margin us) → StopsWithin contents failures b c (written margin vs) → StopsWithin contents failures a c (written margin (us ++ vs))
-          stops_behind a b c us vs g s = writes_behind contents failures margin {T = Unit {0}} {E = Unit {0}} a b c us vs (Err tt) g s
+          stops_after : (a b c : W) (us vs : List Text) → GoesOut contents failures a b (written margin us) → StopsWithin contents failures b c (written margin vs) → StopsWithin contents failures a c (written margin (us ++ vs))
+          stops_after a b c us vs g s = writes_after contents failures margin {T = Unit {0}} {E = Unit {0}} a b c us vs (Err tt) g s
 
       pub itself_written : {T E : Type 0} (a b c d : W) (r : Result T E) → shown.itself ≡ true → GoesOut contents failures a b (written margin separator) → GoesOut contents failures b c (written margin before)
           → Writes contents failures c d (output_line margin itself) r → Writes contents failures a d (written margin (shown_rows options many name found shown (map line_text xs) line)) r
       itself_written a b c d r e g h w =
           subst (λ l. Writes contents failures a d (written margin l) r) (sym (all_shown e))
-          (writes_behind contents failures margin a b d separator (before ++ itself ∷ []) r g
-          (writes_behind contents failures margin b c d before (itself ∷ []) r h (subst (λ bytes. Writes contents failures c d bytes r) (sym (append-nil (output_line margin itself))) w)))
+          (writes_after contents failures margin a b d separator (before ++ itself ∷ []) r g
+          (writes_after contents failures margin b c d before (itself ∷ []) r h (subst (λ bytes. Writes contents failures c d bytes r) (sym (append-nil (output_line margin itself))) w)))
 
     -- ---- the next line
 
@@ -132,19 +132,19 @@ module _ (options : Options) (many : Bool) (name : Text) where
     pub around_all : (a b : W) (all before : List Text) (p : Progress) (k : ℕ) → length xs ≤ k → WrittenUpTo contents failures margin a b all (around_rows options many name p before (drop k xs)) → GoesOut contents failures a b (written margin all)
     around_all a b all before p k end s = all_written contents failures margin a b all (around_rows options many name p before (drop k xs)) (ap (around_rows options many name p before) (drop_all k xs end)) s
 
-    module _ (i : ℕ) (x : KeptLine) (inside : i < length xs) (is : x ≡ get_or xs i x) (p : Progress) (found : Bool) (told : found ≡ is_selected options x) (a b c : W) (all : List Text)
+    module _ (i : ℕ) (x : KeptLine) (inside : i < length xs) (is : x ≡ get_or xs i x) (p : Progress) (found : Bool) (reported : found ≡ is_selected options x) (a b c : W) (all : List Text)
         (s : WrittenUpTo contents failures margin a b all (around_rows options many name p (map line_text (take i xs)) (drop i xs))) where
       abbrev pub here : List Text
       here = shown_rows options many name found (next_shown p found) (map line_text (take i xs)) x
 
       abbrev pub later : List Text
-      later = around_rows options many name (behind_line p found) (map line_text (take (i + 1) xs)) (drop (i + 1) xs)
+      later = around_rows options many name (after_line p found) (map line_text (take (i + 1) xs)) (drop (i + 1) xs)
 
       next_around : around_rows options many name p (map line_text (take i xs)) (drop i xs) ≡ here ++ later
       next_around =
           ap (around_rows options many name p (map line_text (take i xs))) (drop-item xs i x inside is)
-          ∙ ap (λ f. shown_rows options many name f (next_shown p f) (map line_text (take i xs)) x ++ around_rows options many name (behind_line p f) (map line_text (take i xs) ++ line_text x ∷ []) (drop (i + 1) xs)) (sym told)
-          ∙ ap (λ l. here ++ around_rows options many name (behind_line p found) l (drop (i + 1) xs)) (sym (texts_on xs i x inside is))
+          ∙ ap (λ f. shown_rows options many name f (next_shown p f) (map line_text (take i xs)) x ++ around_rows options many name (after_line p f) (map line_text (take i xs) ++ line_text x ∷ []) (drop (i + 1) xs)) (sym reported)
+          ∙ ap (λ l. here ++ around_rows options many name (after_line p found) l (drop (i + 1) xs)) (sym (texts_on xs i x inside is))
 
       pub around_on : GoesOut contents failures b c (written margin here) → WrittenUpTo contents failures margin a c all later
       around_on g = written_on contents failures margin a b c all (around_rows options many name p (map line_text (take i xs)) (drop i xs)) here later next_around s g

@@ -39,32 +39,32 @@ module _ (line : Text) (entire : Bool) where
       elim a.1 [ inl c ↦ ap (list_any (λ n. nat_eq n p)) c.1 ∙ ap (λ b. b || list_any (λ n. nat_eq n p) a.0) other ∙ rest | inr c ↦ ap (list_any (λ n. nat_eq n p)) c.1 ∙ rest ]
 
   -- an expression's number is among the numbers if and only if it matches
-  pub number_tells : (first k : ℕ) (es : List Expression) (ns : List ℕ) (d : Expression) → k < length es → AreMatching line entire first es ns → Decides (list_any (λ n. nat_eq n (first + k)) ns) (Matches (get_or es k d) line entire)
-  number_tells first k [] ns d h a = absurd (let false : ⊥ = omega (arith, h) in false)
-  number_tells first zero (e ∷ es) ns d h a =
+  pub number_decides : (first k : ℕ) (es : List Expression) (ns : List ℕ) (d : Expression) → k < length es → AreMatching line entire first es ns → Decides (list_any (λ n. nat_eq n (first + k)) ns) (Matches (get_or es k d) line entire)
+  number_decides first k [] ns d h a = absurd (let false : ⊥ = omega (arith, h) in false)
+  number_decides first zero (e ∷ es) ns d h a =
       let place : first ≡ first + 0 = omega arith in
       subst (λ p. Decides (list_any (λ n. nat_eq n p) ns) (Matches e line entire)) place
       (elim a.1 [
         | inl c ↦ subst (λ b. Decides b (Matches e line entire)) (sym (ap (list_any (λ n. nat_eq n first)) c.1 ∙ ap (λ b. b || list_any (λ n. nat_eq n first) a.0) (eq_same first))) (decided_yes c.0)
         | inr c ↦ subst (λ b. Decides b (Matches e line entire)) (sym (ap (list_any (λ n. nat_eq n first)) c.1 ∙ none_below first (suc first) es a.0 (omega arith) a.2)) (decided_no c.0)
       ])
-  number_tells first (suc k) (e ∷ es) ns d h a =
+  number_decides first (suc k) (e ∷ es) ns d h a =
       let p = first + suc k in
       let place : suc first + k ≡ first + suc k = omega arith in
       let other : nat_eq first p ≡ false = eq_other first p (λ e. let no_less : ⊥ = omega (arith, e) in no_less) in
       let same : list_any (λ n. nat_eq n p) ns ≡ list_any (λ n. nat_eq n p) a.0 =
       elim a.1 [ inl c ↦ ap (list_any (λ n. nat_eq n p)) c.1 ∙ ap (λ b. b || list_any (λ n. nat_eq n p) a.0) other | inr c ↦ ap (list_any (λ n. nat_eq n p)) c.1 ] in
       subst (λ b. Decides b (Matches (get_or es k d) line entire)) (sym same)
-      (subst (λ q. Decides (list_any (λ n. nat_eq n q) a.0) (Matches (get_or es k d) line entire)) place (number_tells (suc first) k es a.0 d (let less : k < length es = omega (arith, h) in less) a.2))
+      (subst (λ q. Decides (list_any (λ n. nat_eq n q) a.0) (Matches (get_or es k d) line entire)) place (number_decides (suc first) k es a.0 d (let less : k < length es = omega (arith, h) in less) a.2))
 
 -- ---- the parts of a line that a removed expression does not match
 
 -- what holds of an element that is left holds of an element of the whole list
-Any-left_behind : {A : Type 0} (P : A → Type 0) (xs : List A) (k : ℕ) → Any P (remove xs k) → Any P xs
-Any-left_behind P [] zero h = h
-Any-left_behind P [] (suc k) h = h
-Any-left_behind P (x ∷ xs) zero h = Any-later P x xs h
-Any-left_behind P (x ∷ xs) (suc k) h = elim (Any-cases P x (remove xs k) h) [ inl p ↦ Any-first P x xs p | inr l ↦ Any-later P x xs (Any-left_behind P xs k l) ]
+Any-left_after_it : {A : Type 0} (P : A → Type 0) (xs : List A) (k : ℕ) → Any P (remove xs k) → Any P xs
+Any-left_after_it P [] zero h = h
+Any-left_after_it P [] (suc k) h = h
+Any-left_after_it P (x ∷ xs) zero h = Any-later P x xs h
+Any-left_after_it P (x ∷ xs) (suc k) h = elim (Any-cases P x (remove xs k) h) [ inl p ↦ Any-first P x xs p | inr l ↦ Any-later P x xs (Any-left_after_it P xs k l) ]
 
 -- the converse, where it does not hold of the removed element
 Any-without : {A : Type 0} (P : A → Type 0) (xs : List A) (k : ℕ) (d : A) → k < length xs → (P (get_or xs k d) → ⊥) → Any P xs → Any P (remove xs k)
@@ -84,7 +84,7 @@ module _ (line : Text) (entire : Bool) (es : List Expression) (k : ℕ) (d : Exp
   }
 
   was_found : (from i j : ℕ) → IsFound (remove es k) line entire from i j → IsFound es line entire from i j
-  was_found from i j f = record { begins = f.begins; not_empty = f.not_empty; on_line = f.on_line; is_whole = f.is_whole; holds = Any-left_behind (λ e. Holds line e i j) es k f.holds }
+  was_found from i j f = record { begins = f.begins; not_empty = f.not_empty; on_line = f.on_line; is_whole = f.is_whole; holds = Any-left_after_it (λ e. Holds line e i j) es k f.holds }
 
   pub parts_without : (from : ℕ) (ps : List (ℕ × ℕ)) → ArePartsFrom es line entire from ps → ArePartsFrom (remove es k) line entire from ps
   parts_without from ps p = same_parts es (remove es k) line entire still_found was_found from ps p
@@ -114,8 +114,8 @@ module _ (p : ℕ) (es before changed : List Expression) (options : Options) (li
   went_verdict =
       let text = line.text.items in
       let place : 0 + p ≡ p = omega arith in
-      let told = number_tells text options.line_regexp 0 p before line.found.numbers h.0 h.1 k.matching in
-      let here = subst (λ q. Decides (list_any (λ n. nat_eq n q) line.found.numbers) (Matches (get_or before p h.0) text options.line_regexp)) place told in
+      let reported = number_decides text options.line_regexp 0 p before line.found.numbers h.0 h.1 k.matching in
+      let here = subst (λ q. Decides (list_any (λ n. nat_eq n q) line.found.numbers) (Matches (get_or before p h.0) text options.line_regexp)) place reported in
       let one = subst (λ e. Decides (list_any (λ n. nat_eq n p) line.found.numbers) (Matches e text options.line_regexp)) (sym h.2) here in
       subst (λ c. Decides (list_any (λ n. nat_eq n p) line.found.numbers) (Matched c options text)) (sym h.4) (decided_single (λ e. Matches e text options.line_regexp) h.0 _ one)
 
@@ -126,8 +126,8 @@ module _ (p : ℕ) (es before changed : List Expression) (options : Options) (li
       let place : 0 + p ≡ p = omega arith in
       let fewer = AreMatching-drop text options.line_regexp 0 p before line.found.numbers h.1 k.matching in
       let numbers = subst (λ q. AreMatching text options.line_regexp 0 (remove before p) (without q line.found.numbers)) place fewer in
-      let told = number_tells text options.line_regexp 0 p before line.found.numbers h.0 h.1 k.matching in
-      let here = subst (λ q. Decides (list_any (λ n. nat_eq n q) line.found.numbers) (Matches (get_or before p h.0) text options.line_regexp)) place told in
+      let reported = number_decides text options.line_regexp 0 p before line.found.numbers h.0 h.1 k.matching in
+      let here = subst (λ q. Decides (list_any (λ n. nat_eq n q) line.found.numbers) (Matches (get_or before p h.0) text options.line_regexp)) place reported in
       let stay : list_any (λ n. nat_eq n p) line.found.numbers ≡ false → (ps : List (ℕ × ℕ)) → AreParts before text options.line_regexp ps → AreParts es text options.line_regexp ps =
       λ off ps are. subst (λ l. AreParts l text options.line_regexp ps) (sym h.3) (parts_without text options.line_regexp before p h.0 h.1 (λ m. false≢true (sym off ∙ here.1 m)) 0 ps are) in
       right_again options before es line (without p line.found.numbers) found _ stay k.parts (subst (λ l. AreMatching text options.line_regexp 0 l (without p line.found.numbers)) (sym h.3) numbers) again
@@ -145,11 +145,11 @@ module _ (line : Text) (entire : Bool) where
       ]
 
   -- there are more numbers if and only if some added expression matches
-  grown_tells : (first : ℕ) (es : List Expression) (old found : List ℕ) → AreMatching line entire first es found → Decides (nat_lt (length old) (length (old ++ found))) (Any (λ e. Matches e line entire) es)
-  grown_tells first es old [] a =
+  grown_decides : (first : ℕ) (es : List Expression) (old found : List ℕ) → AreMatching line entire first es found → Decides (nat_lt (length old) (length (old ++ found))) (Any (λ e. Matches e line entire) es)
+  grown_decides first es old [] a =
       let many = length-append old [] in
       subst (λ b. Decides b (Any (λ e. Matches e line entire) es)) (sym (lt_no (length old) (length (old ++ [])) (omega (arith, many)))) (decided_no (none_match line entire first es a))
-  grown_tells first es old (n ∷ ns) a =
+  grown_decides first es old (n ∷ ns) a =
       let many = length-append old (n ∷ ns) in
       subst (λ b. Decides b (Any (λ e. Matches e line entire) es)) (sym (lt_yes (length old) (length (old ++ (n ∷ ns))) (omega (arith, many)))) (decided_yes (some_at first es n ns a))
 
@@ -158,9 +158,9 @@ module _ (first : ℕ) (es before changed : List Expression) (options : Options)
   -- whether an added expression matches it
   pub came_verdict : Decides (nat_lt (length line.found.numbers) (length new)) (Matched changed options line.text.items)
   came_verdict =
-      let told = grown_tells line.text.items options.line_regexp first (drop first es) line.found.numbers a.found a.are_found in
+      let reported = grown_decides line.text.items options.line_regexp first (drop first es) line.found.numbers a.found a.are_found in
       subst (λ c. Decides (nat_lt (length line.found.numbers) (length new)) (Matched c options line.text.items)) (sym h.1)
-      (subst (λ ns. Decides (nat_lt (length line.found.numbers) (length ns)) (Matched (drop first es) options line.text.items)) (sym a.added) told)
+      (subst (λ ns. Decides (nat_lt (length line.found.numbers) (length ns)) (Matched (drop first es) options line.text.items)) (sym a.added) reported)
 
   -- what is found in it after the change is right
   pub came_right : first ≤ length es → (found : Finds) → IsFoundAgain (nat_lt (length line.found.numbers) (length new)) es options line new found → IsRight es options line.text.items found
@@ -170,8 +170,8 @@ module _ (first : ℕ) (es before changed : List Expression) (options : Options)
       let many : length before ≡ length (take first es) = ap length h.0 in
       let place : first ≡ 0 + length before = omega (arith, many, within, length-take first es) in
       let numbers = AreMatching-append text options.line_regexp 0 before (drop first es) line.found.numbers a.found k.matching (subst (λ n. AreMatching text options.line_regexp n (drop first es) a.found) place a.are_found) in
-      let told = grown_tells text options.line_regexp first (drop first es) line.found.numbers a.found a.are_found in
-      let here = subst (λ ns. Decides (nat_lt (length line.found.numbers) (length ns)) (Matched (drop first es) options text)) (sym a.added) told in
+      let reported = grown_decides text options.line_regexp first (drop first es) line.found.numbers a.found a.are_found in
+      let here = subst (λ ns. Decides (nat_lt (length line.found.numbers) (length ns)) (Matched (drop first es) options text)) (sym a.added) reported in
       let stay : nat_lt (length line.found.numbers) (length new) ≡ false → (ps : List (ℕ × ℕ)) → AreParts before text options.line_regexp ps → AreParts es text options.line_regexp ps =
       λ off ps are. subst (λ l. AreParts l text options.line_regexp ps) both (parts_survive text options.line_regexp before (drop first es) (λ m. false≢true (sym off ∙ here.1 m)) 0 ps are) in
       right_again options before es line new found _ stay k.parts

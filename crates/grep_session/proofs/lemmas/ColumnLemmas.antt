@@ -26,8 +26,8 @@ module _ {X Y : Type 0} (f : X → Y) (xs : List X) (i : ℕ) (x : X) (h : i < l
   map_next = ap (λ n. map f (take n xs)) (add-one i) ∙ ap (map f) (take-suc xs i x h) ∙ map-append f (take i xs) (get_or xs i x ∷ []) ∙ ap (λ y. map f (take i xs) ++ f y ∷ []) (sym is)
 
   -- the first, the next, and the rest
-  pub map_parted : map f (take i xs) ++ (f x ∷ map f (drop (suc i) xs)) ≡ map f xs
-  map_parted =
+  pub map_with_parts : map f (take i xs) ++ (f x ∷ map f (drop (suc i) xs)) ≡ map f xs
+  map_with_parts =
       ap (λ y. map f (take i xs) ++ (f y ∷ map f (drop (suc i) xs))) is ∙ sym (map-append f (take i xs) (get_or xs i x ∷ drop (suc i) xs)) ∙ ap (λ l. map f (take i xs ++ l)) (sym (drop-cons xs i x h)) ∙ ap (map f) (front_and_rest i xs)
 
 -- what holds of all holds of the next
@@ -61,7 +61,7 @@ module _ {X : Type 0} (f : X → File) (xs : List X) (i : ℕ) (x : X) (h : i < 
   files_next = ap lines_of_files (map_next f xs i x h is) ∙ flat_map-append (λ (file : File). file.lines) (map f (take i xs)) (f x ∷ []) ∙ ap (λ l. lines_of_files (map f (take i xs)) ++ l) (append-nil (f x).lines)
 
   -- the lines of the first files, of the next, and of the rest
-  pub files_parted : (lines_of_files (map f (take i xs)) ++ (f x).lines) ++ lines_of_files (map f (drop (suc i) xs)) ≡ lines_of_files (map f xs)
-  files_parted =
+  pub files_with_parts : (lines_of_files (map f (take i xs)) ++ (f x).lines) ++ lines_of_files (map f (drop (suc i) xs)) ≡ lines_of_files (map f xs)
+  files_with_parts =
       append_assoc (lines_of_files (map f (take i xs))) (f x).lines (lines_of_files (map f (drop (suc i) xs)))
-      ∙ sym (flat_map-append (λ (file : File). file.lines) (map f (take i xs)) (f x ∷ map f (drop (suc i) xs))) ∙ ap lines_of_files (map_parted f xs i x h is)
+      ∙ sym (flat_map-append (λ (file : File). file.lines) (map f (take i xs)) (f x ∷ map f (drop (suc i) xs))) ∙ ap lines_of_files (map_with_parts f xs i x h is)

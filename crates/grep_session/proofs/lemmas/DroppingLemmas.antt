@@ -107,8 +107,8 @@ module _ (es : List Expression) (options : Options) (p : ℕ) (h : p < length es
       }
 
 -- one element was replaced by another: what holds of those after it still does
-pub behind_set : {X : Type 0} (P : X → Type 0) (xs : List X) (i n : ℕ) (x : X) → AllWithin P xs i n → AllWithin P (set xs i x) (suc i) n
-behind_set P xs i n x h = λ k d low high. subst P (sym (get_or-set_other xs i k x d (λ e. let apart : ⊥ = omega (arith, e, low) in apart))) (h k d (omega (arith, low)) high)
+pub after_set : {X : Type 0} (P : X → Type 0) (xs : List X) (i n : ℕ) (x : X) → AllWithin P xs i n → AllWithin P (set xs i x) (suc i) n
+after_set P xs i n x h = λ k d low high. subst P (sym (get_or-set_other xs i k x d (λ e. let apart : ⊥ = omega (arith, e, low) in apart))) (h k d (omega (arith, low)) high)
 
 -- ---- patterns
 

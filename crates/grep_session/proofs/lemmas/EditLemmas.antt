@@ -82,12 +82,12 @@ refuses_splice old k start count lines p newline =
     inr ((λ h. absurd (let false : ⊥ = omega (arith, h, p.in_files) in false)), inr (p.opens, inr ((λ h. absurd (let false : ⊥ = omega (arith, h, p.in_file) in false)), inr (newline, refl))))
 
 -- a newline is reported as a newline
-abbrev tells_newline : EditFault → Type 0
-tells_newline LineHasNewline = ⊤
-tells_newline _ = ⊥
+abbrev says_newline : EditFault → Type 0
+says_newline LineHasNewline = ⊤
+says_newline _ = ⊥
 
 pub newline_not_memory : LineHasNewline ≡ Memory → ⊥
-newline_not_memory same = subst tells_newline same tt
+newline_not_memory same = subst says_newline same tt
 
 -- memory is needed
 pub needs_for_lines : (old : Inputs) (k start count : ℕ) (lines : List Text) → HasPlace old.files k start count → All HasNoNewline lines → (lines ≡ [] → ⊥) → NeedsNoMemory (Splice k start count lines) old → ⊥

@@ -5,12 +5,12 @@ use Rattle.re_syntax.specs.Bytes.{Text}
 use Rattle.grep_core.specs.declared.options.Options.{Options}
 use Rattle.grep_core.specs.declared.status.FileEnd.TheVariants.{Missing, Whole}
 use Rattle.grep_core.specs.Output.{form, written}
-use Rattle.grep_core.specs.Working.Searched.{summary_as, told_of}
+use Rattle.grep_core.specs.Working.Searched.{summary_as, reported_of}
 use Rattle.grep_core.specs.Written.{GoesOut, StopsWithin, Writes}
 use Rattle.grep_session.specs.declared.kept.KeptLine.{KeptLine}
 use Rattle.grep_session.specs.declared.kept.KeptFile.{KeptFile}
-use Rattle.grep_session.specs.Working.Report.{is_selected, some_selected, selected_count, text_rows, rows_with, file_rows, rows_behind, told_from, end_of, has_selected}
-use Rattle.grep_session.proofs.lemmas.Writing.{WrittenUpTo, drop-item, writes_behind, stops_before, written_on, broken_off, all_written}
+use Rattle.grep_session.specs.Working.Report.{is_selected, some_selected, selected_count, text_rows, rows_with, file_rows, rows_after_laws, reported_from, end_of, has_selected}
+use Rattle.grep_session.proofs.lemmas.Writing.{WrittenUpTo, drop-item, writes_after, stops_before, written_on, broken_off, all_written}
 
 -- the number of selected lines is above 0 if and only if some line is selected
 pub counted_some : (options : Options) (text : List KeptLine) → nat_lt 0 (selected_count options text) ≡ some_selected options text
@@ -30,7 +30,7 @@ module _ {W : Type 0} (contents : W → Option Text) (failures : W → ℕ) (mar
     file_written a b c r text selected is count g w =
         let summary = subst (λ n. Writes contents failures b c (written margin (summary_as (form options) many name Whole n)) r) count w in
         subst (λ k. Writes contents failures a c (written margin (rows_with options many name some k)) r) (sym is)
-        (writes_behind contents failures margin a b c (text_rows options many name (form options) some text) (summary_as (form options) many name Whole (selected_count options text)) r g summary)
+        (writes_after contents failures margin a b c (text_rows options many name (form options) some text) (summary_as (form options) many name Whole (selected_count options text)) r g summary)
 
     -- a write failed within the rows of the lines
     pub file_stopped : (a b : W) (text : List KeptLine) → kept ≡ Some text → StopsWithin contents failures a b (written margin (text_rows options many name (form options) some text)) → StopsWithin contents failures a b (written margin (rows_with options many name some kept))
@@ -43,41 +43,41 @@ module _ {W : Type 0} (contents : W → Option Text) (failures : W → ℕ) (mar
     file_unopened a b r is w = subst (λ k. Writes contents failures a b (written margin (rows_with options many name some k)) r) (sym is) w
 
   -- output: the next file
-  module _ (many some : Bool) (xs : List KeptFile) (i : ℕ) (x : KeptFile) (inside : i < length xs) (is : x ≡ get_or xs i x) (a b c : W) (all : List Text) (s : WrittenUpTo contents failures margin a b all (rows_behind options many some (drop i xs))) where
-    next_output : rows_behind options many some (drop i xs) ≡ file_rows options many some x ++ rows_behind options many (some || has_selected options x) (drop (i + 1) xs)
-    next_output = ap (rows_behind options many some) (drop-item xs i x inside is)
+  module _ (many some : Bool) (xs : List KeptFile) (i : ℕ) (x : KeptFile) (inside : i < length xs) (is : x ≡ get_or xs i x) (a b c : W) (all : List Text) (s : WrittenUpTo contents failures margin a b all (rows_after_laws options many some (drop i xs))) where
+    next_output : rows_after_laws options many some (drop i xs) ≡ file_rows options many some x ++ rows_after_laws options many (some || has_selected options x) (drop (i + 1) xs)
+    next_output = ap (rows_after_laws options many some) (drop-item xs i x inside is)
 
-    pub output_on : (now : Bool) → now ≡ (some || has_selected options x) → GoesOut contents failures b c (written margin (file_rows options many some x)) → WrittenUpTo contents failures margin a c all (rows_behind options many now (drop (i + 1) xs))
+    pub output_on : (now : Bool) → now ≡ (some || has_selected options x) → GoesOut contents failures b c (written margin (file_rows options many some x)) → WrittenUpTo contents failures margin a c all (rows_after_laws options many now (drop (i + 1) xs))
     output_on now e g =
-        subst (λ v. WrittenUpTo contents failures margin a c all (rows_behind options many v (drop (i + 1) xs))) (sym e)
-        (written_on contents failures margin a b c all (rows_behind options many some (drop i xs)) (file_rows options many some x) (rows_behind options many (some || has_selected options x) (drop (i + 1) xs)) next_output s g)
+        subst (λ v. WrittenUpTo contents failures margin a c all (rows_after_laws options many v (drop (i + 1) xs))) (sym e)
+        (written_on contents failures margin a b c all (rows_after_laws options many some (drop i xs)) (file_rows options many some x) (rows_after_laws options many (some || has_selected options x) (drop (i + 1) xs)) next_output s g)
 
     pub output_stopped : StopsWithin contents failures b c (written margin (file_rows options many some x)) → StopsWithin contents failures a c (written margin all)
-    output_stopped g = broken_off contents failures margin a b c all (rows_behind options many some (drop i xs)) (file_rows options many some x) (rows_behind options many (some || has_selected options x) (drop (i + 1) xs)) next_output s g
+    output_stopped g = broken_off contents failures margin a b c all (rows_after_laws options many some (drop i xs)) (file_rows options many some x) (rows_after_laws options many (some || has_selected options x) (drop (i + 1) xs)) next_output s g
 
   -- messages: the next file
-  module _ (xs : List KeptFile) (i : ℕ) (x : KeptFile) (inside : i < length xs) (is : x ≡ get_or xs i x) (a b c : W) (all : List Text) (s : WrittenUpTo contents failures margin a b all (told_from options (drop i xs))) where
+  module _ (xs : List KeptFile) (i : ℕ) (x : KeptFile) (inside : i < length xs) (is : x ≡ get_or xs i x) (a b c : W) (all : List Text) (s : WrittenUpTo contents failures margin a b all (reported_from options (drop i xs))) where
     abbrev here : List Text
-    here = told_of options.no_messages (end_of x) x.name.items
+    here = reported_of options.no_messages (end_of x) x.name.items
 
-    next_told : told_from options (drop i xs) ≡ here ++ (if options.quiet && has_selected options x then [] else told_from options (drop (i + 1) xs))
-    next_told = ap (told_from options) (drop-item xs i x inside is)
+    next_reported : reported_from options (drop i xs) ≡ here ++ (if options.quiet && has_selected options x then [] else reported_from options (drop (i + 1) xs))
+    next_reported = ap (reported_from options) (drop-item xs i x inside is)
 
-    pub told_on : (stops : Bool) → stops ≡ (options.quiet && has_selected options x) → GoesOut contents failures b c (written margin here)
-        → WrittenUpTo contents failures margin a c all (if stops then [] else told_from options (drop (i + 1) xs))
-    told_on stops e g =
-        subst (λ v. WrittenUpTo contents failures margin a c all (if v then [] else told_from options (drop (i + 1) xs))) (sym e)
-        (written_on contents failures margin a b c all (told_from options (drop i xs)) here (if options.quiet && has_selected options x then [] else told_from options (drop (i + 1) xs)) next_told s g)
+    pub reported_onward : (stops : Bool) → stops ≡ (options.quiet && has_selected options x) → GoesOut contents failures b c (written margin here)
+        → WrittenUpTo contents failures margin a c all (if stops then [] else reported_from options (drop (i + 1) xs))
+    reported_onward stops e g =
+        subst (λ v. WrittenUpTo contents failures margin a c all (if v then [] else reported_from options (drop (i + 1) xs))) (sym e)
+        (written_on contents failures margin a b c all (reported_from options (drop i xs)) here (if options.quiet && has_selected options x then [] else reported_from options (drop (i + 1) xs)) next_reported s g)
 
     -- the run continues
-    pub told_further : (stops : Bool) → stops ≡ (options.quiet && has_selected options x) → stops ≡ false → GoesOut contents failures b c (written margin here) → WrittenUpTo contents failures margin a c all (told_from options (drop (i + 1) xs))
-    told_further stops e goes g = subst (λ v. WrittenUpTo contents failures margin a c all (if v then [] else told_from options (drop (i + 1) xs))) goes (told_on stops e g)
+    pub reported_further : (stops : Bool) → stops ≡ (options.quiet && has_selected options x) → stops ≡ false → GoesOut contents failures b c (written margin here) → WrittenUpTo contents failures margin a c all (reported_from options (drop (i + 1) xs))
+    reported_further stops e goes g = subst (λ v. WrittenUpTo contents failures margin a c all (if v then [] else reported_from options (drop (i + 1) xs))) goes (reported_onward stops e g)
 
     -- the run stops here
-    pub told_last : (stops : Bool) → stops ≡ (options.quiet && has_selected options x) → stops ≡ true → GoesOut contents failures b c (written margin here) → GoesOut contents failures a c (written margin all)
-    told_last stops e here_stops g =
-        all_written contents failures margin a c all [] refl (subst (λ v. WrittenUpTo contents failures margin a c all (if v then [] else told_from options (drop (i + 1) xs))) here_stops (told_on stops e g))
+    pub reported_last : (stops : Bool) → stops ≡ (options.quiet && has_selected options x) → stops ≡ true → GoesOut contents failures b c (written margin here) → GoesOut contents failures a c (written margin all)
+    reported_last stops e here_stops g =
+        all_written contents failures margin a c all [] refl (subst (λ v. WrittenUpTo contents failures margin a c all (if v then [] else reported_from options (drop (i + 1) xs))) here_stops (reported_onward stops e g))
 
-    pub told_stopped : StopsWithin contents failures b c (written margin here) → StopsWithin contents failures a c (written margin all)
-    told_stopped f =
-        broken_off contents failures margin a b c all (told_from options (drop i xs)) here (if options.quiet && has_selected options x then [] else told_from options (drop (i + 1) xs)) next_told s f
+    pub reported_stopped : StopsWithin contents failures b c (written margin here) → StopsWithin contents failures a c (written margin all)
+    reported_stopped f =
+        broken_off contents failures margin a b c all (reported_from options (drop i xs)) here (if options.quiet && has_selected options x then [] else reported_from options (drop (i + 1) xs)) next_reported s f

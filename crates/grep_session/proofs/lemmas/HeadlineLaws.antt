@@ -13,37 +13,37 @@ use Rattle.grep_core.proofs.lemmas.LawsHold.{means_one}
 use Rattle.grep_session.specs.declared.fault.EditFault.{EditFault}
 use Rattle.grep_session.specs.declared.fault.EditFault.TheVariants.{NoSuchFile, FileIsMissing, OutOfRange, LineHasNewline, NoSuchPattern, Pattern, TooManyPatterns, Memory}
 use Rattle.grep_session.specs.Edits.{Edit, EditGives, no_inputs}
-use Rattle.grep_session.specs.Headline.{GrepGives, ReportsInputs, TellsInputs, IsStatusOfInputs, Attempt, ComesTo, with_accepted, accepted, Makes, AcceptedEditsDecide}
-use Rattle.grep_session.specs.Working.Report.{Reports, TellsMessages}
+use Rattle.grep_session.specs.Headline.{GrepGives, ReportsInputs, ReportsAllInputs, IsStatusOfInputs, Attempt, ComesTo, with_accepted, accepted, Makes, AcceptedEditsDecide}
+use Rattle.grep_session.specs.Working.Report.{Reports, ReportsMessages}
 use Rattle.grep_session.proofs.lemmas.EditLaws.{Applies-once}
 
 -- ---- the report, the messages and the status
 
 module _ (inputs : Inputs) (es : List Expression) (are_meant : AreMeant inputs.syntax inputs.options inputs.patterns es) where
-  gives_with : (out told : List Text) (status : Status) → Out es inputs.options inputs.files out → Messages es inputs.options inputs.files told → StatusOf es inputs.options inputs.files status → GrepGives inputs out told status
-  gives_with out told status is_output are_messages is_status = record { es = es; are_meant = are_meant; is_output = is_output; are_messages = are_messages; is_status = is_status }
+  gives_with : (out reported : List Text) (status : Status) → Out es inputs.options inputs.files out → Messages es inputs.options inputs.files reported → StatusOf es inputs.options inputs.files status → GrepGives inputs out reported status
+  gives_with out reported status is_output are_messages is_status = record { es = es; are_meant = are_meant; is_output = is_output; are_messages = are_messages; is_status = is_status }
 
   module _ {W : Type 0} (contents : W → Option Text) (failures : W → ℕ) (margin : Text) (old new : W) where
     pub reports_inputs : {E : Type 0} (result : Result Status E) → Reports contents failures es inputs.options inputs.files margin old new result → ReportsInputs contents failures inputs margin old new result
     reports_inputs (Ok status) r =
-        let told = Messages-exist es inputs.options inputs.files in
-        record { out = r.out; told = told.0; status = status; gives = gives_with r.out told.0 status r.is_output told.1 r.is_status; wrote = r.wrote; answered = refl }
+        let reported = Messages-exist es inputs.options inputs.files in
+        record { out = r.out; reported = reported.0; status = status; gives = gives_with r.out reported.0 status r.is_output reported.1 r.is_status; wrote = r.wrote; answered = refl }
     reports_inputs (Err fault) r =
-        let told = Messages-exist es inputs.options inputs.files in
+        let reported = Messages-exist es inputs.options inputs.files in
         let status = StatusOf-exist es inputs.options inputs.files in
-        record { out = r.out; told = told.0; status = status.0; gives = gives_with r.out told.0 status.0 r.is_output told.1 status.1; wrote = r.wrote; answered = tt }
+        record { out = r.out; reported = reported.0; status = status.0; gives = gives_with r.out reported.0 status.0 r.is_output reported.1 status.1; wrote = r.wrote; answered = tt }
 
-    pub tells_inputs : {T E : Type 0} (result : Result T E) → TellsMessages contents failures es inputs.options inputs.files margin old new result → TellsInputs contents failures inputs margin old new result
-    tells_inputs result t =
+    pub reports_all_inputs : {T E : Type 0} (result : Result T E) → ReportsMessages contents failures es inputs.options inputs.files margin old new result → ReportsAllInputs contents failures inputs margin old new result
+    reports_all_inputs result t =
         let out = Out-exist es inputs.options inputs.files in
         let status = StatusOf-exist es inputs.options inputs.files in
-        record { out = out.0; told = t.told; status = status.0; gives = gives_with out.0 t.told status.0 out.1 t.are_messages status.1; wrote = t.wrote }
+        record { out = out.0; reported = t.reported; status = status.0; gives = gives_with out.0 t.reported status.0 out.1 t.are_messages status.1; wrote = t.wrote }
 
   pub status_of_inputs : (status : Status) → StatusOf es inputs.options inputs.files status → IsStatusOfInputs inputs status
   status_of_inputs status is =
       let out = Out-exist es inputs.options inputs.files in
-      let told = Messages-exist es inputs.options inputs.files in
-      record { out = out.0; told = told.0; gives = gives_with out.0 told.0 status out.1 told.1 is }
+      let reported = Messages-exist es inputs.options inputs.files in
+      record { out = out.0; reported = reported.0; gives = gives_with out.0 reported.0 status out.1 reported.1 is }
 
 -- ---- lists of edits
 
@@ -82,11 +82,11 @@ last_from (attempt ∷ more) last old new c =
     (rest.0, (c.0, c.1, rest.1), rest.2)
 
 -- for given inputs grep's output, messages and status are unique
-pub one_report : (inputs : Inputs) (out more told tells : List Text) (status other : Status) → GrepGives inputs out told status → GrepGives inputs more tells other → (more ≡ out) × (tells ≡ told) × (other ≡ status)
-one_report inputs out more told tells status other g h =
+pub one_report : (inputs : Inputs) (out more reported reported_too : List Text) (status other : Status) → GrepGives inputs out reported status → GrepGives inputs more reported_too other → (more ≡ out) × (reported_too ≡ reported) × (other ≡ status)
+one_report inputs out more reported reported_too status other g h =
     let same : h.es ≡ g.es = means_one inputs.syntax inputs.options inputs.patterns h.es g.es h.are_meant g.are_meant in (
       Out-determined g.es inputs.options inputs.files more out (subst (λ es. Out es inputs.options inputs.files more) same h.is_output) g.is_output,
-      Messages-determined g.es inputs.options inputs.files tells told (subst (λ es. Messages es inputs.options inputs.files tells) same h.are_messages) g.are_messages,
+      Messages-determined g.es inputs.options inputs.files reported_too reported (subst (λ es. Messages es inputs.options inputs.files reported_too) same h.are_messages) g.are_messages,
       StatusOf-determined g.es inputs.options inputs.files other status (subst (λ es. StatusOf es inputs.options inputs.files other) same h.is_status) g.is_status,
     )
 

@@ -18,23 +18,23 @@ use Rattle.grep_core.specs.Choose.{EachGives}
 use Rattle.grep_core.specs.Files.{File, Selected, HasSelected}
 use Rattle.grep_core.specs.Messages.{message, FaultMet, Stops, Reached, Message, Messages, AnySelected, StatusOf}
 use Rattle.grep_core.specs.Working.Searched.{is_fault, ending_of, status_by}
-use Rattle.grep_core.proofs.lemmas.PassLemmas.{or_tells}
+use Rattle.grep_core.proofs.lemmas.PassLemmas.{or_decides}
 use Rattle.grep_core.proofs.lemmas.StatusLaws.{StatusOf-quiet, StatusOf-error, StatusOf-selected, StatusOf-none}
 use Rattle.grep_core.proofs.lemmas.Verdicts.{decided_yes, decided_no}
 use Rattle.grep_session.specs.declared.kept.KeptLine.{KeptLine}
 use Rattle.grep_session.specs.declared.kept.KeptFile.{KeptFile}
 use Rattle.grep_session.specs.Working.Kept.{line_text, span_places, kept_lines, file_with, kept_file, AreMatching, IsKept, IsFileKept}
-use Rattle.grep_session.specs.Working.Report.{matches_none, is_selected, has_selected_in, has_selected, end_with, end_of, OnLine, PartsFit, LinesFit, FileFits, told_as, told_from, is_faulty, any_selected, any_missing, status_by_files, status_given}
+use Rattle.grep_session.specs.Working.Report.{matches_none, is_selected, has_selected_in, has_selected, end_with, end_of, OnLine, PartsFit, LinesFit, FileFits, reported_like, reported_from, is_faulty, any_selected, any_missing, status_by_files, status_given}
 
 -- the status of a run that did not stop
 pub status_in_turn : (quiet some : Bool) (status : Status) → (quiet && some) ≡ false → status ≡ (if quiet && some then selected else status)
 status_in_turn quiet some status e = ap (λ b. if b then selected else status) (sym e)
 
 -- whether the verdict holds of some element of a mapped list
-mapped_told : {A B : Type 0} (f : A → B) (p : A → Bool) (P : B → Type 0) (K : A → Type 0) → ((x : A) → K x → Decides (p x) (P (f x))) → (xs : List A) → All K xs → Decides (list_any p xs) (Any P (map f xs))
-mapped_told f p P K tells [] k = decided_no (Any-none P)
-mapped_told f p P K tells (x ∷ xs) k =
-    or_tells (p x) (list_any p xs) (tells x (All-head K x xs k)) (mapped_told f p P K tells xs (All-tail K x xs k)) (λ h. Any-first P (f x) (map f xs) h) (λ h. Any-later P (f x) (map f xs) h)
+mapped_reported : {A B : Type 0} (f : A → B) (p : A → Bool) (P : B → Type 0) (K : A → Type 0) → ((x : A) → K x → Decides (p x) (P (f x))) → (xs : List A) → All K xs → Decides (list_any p xs) (Any P (map f xs))
+mapped_reported f p P K reported_too [] k = decided_no (Any-none P)
+mapped_reported f p P K reported_too (x ∷ xs) k =
+    or_decides (p x) (list_any p xs) (reported_too x (All-head K x xs k)) (mapped_reported f p P K reported_too xs (All-tail K x xs k)) (λ h. Any-first P (f x) (map f xs) h) (λ h. Any-later P (f x) (map f xs) h)
     (λ s none_here none_later. elim (Any-cases P (f x) (map f xs) s) [ inl h ↦ none_here h | inr h ↦ none_later h ])
 
 -- a list that has an element is not empty
@@ -42,12 +42,12 @@ not_empty : (x : ℕ) (xs : List ℕ) → not (length (x ∷ xs) == 0) ≡ true
 not_empty x xs = grind (arith, nat_tests)
 
 -- some expression matches a line if and only if the numbers of those that do are not empty
-matching_tells : (line : Text) (entire : Bool) (first : ℕ) (es : List Expression) (numbers : List ℕ) → AreMatching line entire first es numbers → IsTrue (not (length numbers == 0)) ↔ Any (λ e. Matches e line entire) es
-matching_tells line entire first [] numbers h = ((λ t. absurd (false≢true (ap (λ l. not (length l == 0)) (sym h) ∙ t))), (λ a. absurd (Any-none (λ e. Matches e line entire) a)))
-matching_tells line entire first (e ∷ es) numbers (rest, inl (matches, is), h) =
+matching_decides : (line : Text) (entire : Bool) (first : ℕ) (es : List Expression) (numbers : List ℕ) → AreMatching line entire first es numbers → IsTrue (not (length numbers == 0)) ↔ Any (λ e. Matches e line entire) es
+matching_decides line entire first [] numbers h = ((λ t. absurd (false≢true (ap (λ l. not (length l == 0)) (sym h) ∙ t))), (λ a. absurd (Any-none (λ e. Matches e line entire) a)))
+matching_decides line entire first (e ∷ es) numbers (rest, inl (matches, is), h) =
     ((λ _. Any-first (λ e. Matches e line entire) e es matches), (λ _. ap (λ l. not (length l == 0)) is ∙ not_empty first rest))
-matching_tells line entire first (e ∷ es) numbers (rest, inr (fails, is), h) =
-    let later = matching_tells line entire (suc first) es rest h in (
+matching_decides line entire first (e ∷ es) numbers (rest, inr (fails, is), h) =
+    let later = matching_decides line entire (suc first) es rest h in (
       (λ t. Any-later (λ e. Matches e line entire) e es (later.0 (ap (λ l. not (length l == 0)) (sym is) ∙ t))),
       (λ a. elim (Any-cases (λ e. Matches e line entire) e es a) [ inl here ↦ absurd (fails here) | inr there ↦ ap (λ l. not (length l == 0)) is ∙ later.1 there ]),
     )
@@ -62,24 +62,24 @@ module _ (es : List Expression) (options : Options) where
 
   -- ---- verdicts
 
-  pub selected_told : (line : KeptLine) → IsKept es options line → Decides (is_selected options line) (Selected es options (line_text line))
-  selected_told line k = by_flag options.invert_match (matches_none line) (matching_tells (line_text line) options.line_regexp 0 es line.found.numbers k.matching)
+  pub selected_reported : (line : KeptLine) → IsKept es options line → Decides (is_selected options line) (Selected es options (line_text line))
+  selected_reported line k = by_flag options.invert_match (matches_none line) (matching_decides (line_text line) options.line_regexp 0 es line.found.numbers k.matching)
     where
       by_flag : {M : Type 0} (inverted none : Bool) → IsTrue (not none) ↔ M → Decides (if inverted then not (not none) else not none) (MatchBool inverted (M → ⊥) M)
       by_flag false none m = m
       by_flag true true m = decided_yes (λ p. false≢true (m.1 p))
       by_flag true false m = decided_no (λ f. f (m.0 refl))
 
-  pub has_told : (name : Text) (kept : Option (List KeptLine)) → IfSome kept (All (IsKept es options)) → Decides (has_selected_in options kept) (HasSelected es options (file_with name kept))
-  has_told name None k = decided_no (Any-none (Selected es options))
-  has_told name (Some text) k = mapped_told line_text (is_selected options) (Selected es options) (IsKept es options) selected_told text k
+  pub has_reported : (name : Text) (kept : Option (List KeptLine)) → IfSome kept (All (IsKept es options)) → Decides (has_selected_in options kept) (HasSelected es options (file_with name kept))
+  has_reported name None k = decided_no (Any-none (Selected es options))
+  has_reported name (Some text) k = mapped_reported line_text (is_selected options) (Selected es options) (IsKept es options) selected_reported text k
 
-  fault_told : (name : Text) (kept : Option (List KeptLine)) → Decides (is_fault (end_with kept)) (FaultMet es options (file_with name kept))
-  fault_told name None = decided_yes tt
-  fault_told name (Some text) = decided_no (λ h. h)
+  fault_reported : (name : Text) (kept : Option (List KeptLine)) → Decides (is_fault (end_with kept)) (FaultMet es options (file_with name kept))
+  fault_reported name None = decided_yes tt
+  fault_reported name (Some text) = decided_no (λ h. h)
 
-  stops_told : (file : KeptFile) → IsFileKept es options file → Decides (options.quiet && has_selected options file) (Stops es options (kept_file file))
-  stops_told file k = both options.quiet (has_selected options file) (has_told file.name.items (kept_lines file) k)
+  stops_reported : (file : KeptFile) → IsFileKept es options file → Decides (options.quiet && has_selected options file) (Stops es options (kept_file file))
+  stops_reported file k = both options.quiet (has_selected options file) (has_reported file.name.items (kept_lines file) k)
     where
       both : {P : Type 0} (a b : Bool) → Decides b P → Decides (a && b) (IsTrue a × P)
       both true true d = decided_yes (refl, d.0 refl)
@@ -114,39 +114,39 @@ module _ (es : List Expression) (options : Options) where
   one_message name None = inl (tt, refl)
   one_message name (Some text) = inr ((λ h. h), refl)
 
-  silent_told : (files : List KeptFile) → told_as options true files ≡ []
-  silent_told [] = refl
-  silent_told (file ∷ files) = by_stop (options.quiet && has_selected options file) (told_as options true files) (silent_told files)
+  silent_reported : (files : List KeptFile) → reported_like options true files ≡ []
+  silent_reported [] = refl
+  silent_reported (file ∷ files) = by_stop (options.quiet && has_selected options file) (reported_like options true files) (silent_reported files)
     where
-      by_stop : (stop : Bool) (told : List Text) → told ≡ [] → (if stop then [] else told) ≡ []
-      by_stop true told e = refl
-      by_stop false told e = e
+      by_stop : (stop : Bool) (reported : List Text) → reported ≡ [] → (if stop then [] else reported) ≡ []
+      by_stop true reported e = refl
+      by_stop false reported e = e
 
   -- the files that are reached, and the messages about them
-  loud_told : (files : List KeptFile) → All (IsFileKept es options) files → (reached : List File) × Reached es options (map kept_file files) reached × EachGives (Message es options) reached (told_as options false files)
-  loud_told [] k = ([], refl, refl)
-  loud_told (file ∷ files) k =
-      by_stop (options.quiet && has_selected options file) (stops_told file (All-head (IsFileKept es options) file files k)) (told_as options false files) (loud_told files (All-tail (IsFileKept es options) file files k))
+  loud_reported : (files : List KeptFile) → All (IsFileKept es options) files → (reached : List File) × Reached es options (map kept_file files) reached × EachGives (Message es options) reached (reported_like options false files)
+  loud_reported [] k = ([], refl, refl)
+  loud_reported (file ∷ files) k =
+      by_stop (options.quiet && has_selected options file) (stops_reported file (All-head (IsFileKept es options) file files k)) (reported_like options false files) (loud_reported files (All-tail (IsFileKept es options) file files k))
     where
-      by_stop : (stop : Bool) → Decides stop (Stops es options (kept_file file)) → (told : List Text) → (rest : List File) × Reached es options (map kept_file files) rest × EachGives (Message es options) rest told
-          → (reached : List File) × Reached es options (kept_file file ∷ map kept_file files) reached × EachGives (Message es options) reached (message (ending_of (end_of file)) file.name.items ++ (if stop then [] else told))
-      by_stop true d told r = (kept_file file ∷ [], ([], refl, inl (d.0 refl, refl)), (message (ending_of (end_of file)) file.name.items, [], one_message file.name.items (kept_lines file), refl, refl))
-      by_stop false d told r =
-          (kept_file file ∷ r.0, (r.0, refl, inr ((λ s. false≢true (d.1 s)), r.1)), (message (ending_of (end_of file)) file.name.items, told, one_message file.name.items (kept_lines file), r.2, refl))
+      by_stop : (stop : Bool) → Decides stop (Stops es options (kept_file file)) → (reported : List Text) → (rest : List File) × Reached es options (map kept_file files) rest × EachGives (Message es options) rest reported
+          → (reached : List File) × Reached es options (kept_file file ∷ map kept_file files) reached × EachGives (Message es options) reached (message (ending_of (end_of file)) file.name.items ++ (if stop then [] else reported))
+      by_stop true d reported r = (kept_file file ∷ [], ([], refl, inl (d.0 refl, refl)), (message (ending_of (end_of file)) file.name.items, [], one_message file.name.items (kept_lines file), refl, refl))
+      by_stop false d reported r =
+          (kept_file file ∷ r.0, (r.0, refl, inr ((λ s. false≢true (d.1 s)), r.1)), (message (ending_of (end_of file)) file.name.items, reported, one_message file.name.items (kept_lines file), r.2, refl))
 
   -- the messages computed from what is kept are grep's messages
-  pub kept_messages : (files : List KeptFile) → All (IsFileKept es options) files → Messages es options (map kept_file files) (told_from options files)
+  pub kept_messages : (files : List KeptFile) → All (IsFileKept es options) files → Messages es options (map kept_file files) (reported_from options files)
   kept_messages files k = by_flag options.no_messages
     where
-      by_flag : (silent : Bool) → MatchBool silent (told_as options silent files ≡ []) ((reached : List File) × Reached es options (map kept_file files) reached × EachGives (Message es options) reached (told_as options silent files))
-      by_flag true = silent_told files
-      by_flag false = loud_told files k
+      by_flag : (silent : Bool) → MatchBool silent (reported_like options silent files ≡ []) ((reached : List File) × Reached es options (map kept_file files) reached × EachGives (Message es options) reached (reported_like options silent files))
+      by_flag true = silent_reported files
+      by_flag false = loud_reported files k
 
   -- the status is that of the files, where it is known whether some line is selected
   pub given_status : (files : List KeptFile) → All (IsFileKept es options) files → (known : Bool) → Decides known (AnySelected es options (map kept_file files)) → StatusOf es options (map kept_file files) (status_given options files known)
   given_status files k known d =
       by_verdicts options.quiet known (any_missing files) refl d
-      (mapped_told kept_file is_faulty (FaultMet es options) (IsFileKept es options) (λ file _. fault_told file.name.items (kept_lines file)) files k)
+      (mapped_reported kept_file is_faulty (FaultMet es options) (IsFileKept es options) (λ file _. fault_reported file.name.items (kept_lines file)) files k)
     where
       by_verdicts : (quiet some faulty : Bool) → quiet ≡ options.quiet → Decides some (AnySelected es options (map kept_file files)) → Decides faulty (Any (FaultMet es options) (map kept_file files))
           → StatusOf es options (map kept_file files) (if quiet && some then selected else status_by some faulty)
@@ -160,4 +160,4 @@ module _ (es : List Expression) (options : Options) where
   -- the status is that of the files
   pub kept_status : (files : List KeptFile) → All (IsFileKept es options) files → StatusOf es options (map kept_file files) (status_by_files options files)
   kept_status files k =
-      given_status files k (any_selected options files) (mapped_told kept_file (has_selected options) (HasSelected es options) (IsFileKept es options) (λ file. has_told file.name.items (kept_lines file)) files k)
+      given_status files k (any_selected options files) (mapped_reported kept_file (has_selected options) (HasSelected es options) (IsFileKept es options) (λ file. has_reported file.name.items (kept_lines file)) files k)

@@ -13,21 +13,21 @@ use Rattle.grep_core.specs.declared.status.FileEnd.TheVariants.{Missing, Whole}
 use Rattle.grep_core.specs.Choose.{EachGives, Chosen}
 use Rattle.grep_core.specs.Files.{File, Selected, HasSelected}
 use Rattle.grep_core.specs.Output.{Form, nothing, names, counts, parts, lines, around, lines_with, form, shown_name, shown_number, PartsOfLine, GroupsOf, OutAs, Out}
-use Rattle.grep_core.specs.Working.Groups.{GroupedAs, behind_rows}
+use Rattle.grep_core.specs.Working.Groups.{GroupedAs, rows_after}
 use Rattle.grep_core.specs.Working.Handed.{file_so_far}
 use Rattle.grep_core.specs.Working.Searched.{summary_as}
 use Rattle.grep_core.proofs.lemmas.AroundLaws.{groups_none, groups_some}
 use Rattle.grep_core.proofs.lemmas.ChooseLaws.{EachGives-one}
 use Rattle.grep_core.proofs.lemmas.FileOutput.{rows_none, output_all}
-use Rattle.grep_core.proofs.lemmas.GroupLaws.{behind_nothing}
+use Rattle.grep_core.proofs.lemmas.GroupLaws.{after_nothing}
 use Rattle.grep_core.proofs.lemmas.MoreFiles.{GroupedAs-append, grouped_out}
 use Rattle.grep_core.proofs.lemmas.Verdicts.{picked, IfHolds-by}
 use Rattle.grep_session.specs.declared.kept.KeptLine.{KeptLine}
 use Rattle.grep_session.specs.declared.kept.KeptFile.{KeptFile}
 use Rattle.grep_session.specs.Working.Kept.{line_text, span_places, kept_lines, file_with, kept_file, IsKept, IsFileKept}
-use Rattle.grep_session.specs.Working.Report.{is_selected, has_selected, selected_count, row, selected_rows, rows_as, text_rows, rows_with, rows_behind, report_rows}
+use Rattle.grep_session.specs.Working.Report.{is_selected, has_selected, selected_count, row, selected_rows, rows_as, text_rows, rows_with, rows_after_laws, report_rows}
 use Rattle.grep_session.proofs.lemmas.AroundKept.{around_groups}
-use Rattle.grep_session.proofs.lemmas.KeptLaws.{parts_asked, selected_told, has_told}
+use Rattle.grep_session.proofs.lemmas.KeptLaws.{parts_asked, selected_reported, has_reported}
 
 -- under `-o` alone parts are asked for
 pub asks_parts : (options : Options) → form options ≡ parts → IsTrue options.only_matching
@@ -44,12 +44,12 @@ asks_parts options e = by_flags options.quiet options.files_with_matches options
 -- ---- groups that are written one after the other
 
 -- after files without a selected line, the first group of two files has no separator before it
-two_behind : (context : Context) (found : Bool) (groups more : List Text) → (found ≡ true → groups ≡ [] → ⊥) → (found ≡ false → groups ≡ [])
-    → drop 1 groups ++ behind_rows (around context) found more ≡ drop 1 (groups ++ more)
-two_behind context true [] more there none = absurd (there refl refl)
-two_behind context true (g ∷ groups) more there none = refl
-two_behind context false [] more there none = refl
-two_behind context false (g ∷ groups) more there none = absurd (let e : g ∷ groups ≡ [] = none refl in let no : ⊥ = cc in no)
+two_after : (context : Context) (found : Bool) (groups more : List Text) → (found ≡ true → groups ≡ [] → ⊥) → (found ≡ false → groups ≡ [])
+    → drop 1 groups ++ rows_after (around context) found more ≡ drop 1 (groups ++ more)
+two_after context true [] more there none = absurd (there refl refl)
+two_after context true (g ∷ groups) more there none = refl
+two_after context false [] more there none = refl
+two_after context false (g ∷ groups) more there none = absurd (let e : g ∷ groups ≡ [] = none refl in let no : ⊥ = cc in no)
 
 module _ (es : List Expression) (options : Options) where
   -- ---- the output for one file
@@ -62,7 +62,7 @@ module _ (es : List Expression) (options : Options) where
   are_chosen : (number : ℕ) (text : List KeptLine) → All (IsKept es options) text → Chosen (λ l. Selected es options l.1) (enumerate_from number (map line_text text)) (picked_from number text)
   are_chosen number [] k = refl
   are_chosen number (line ∷ text) k =
-      (picked (is_selected options line) (number, line_text line), picked_from (number + 1) text, IfHolds-by (is_selected options line) (selected_told es options line (All-head (IsKept es options) line text k)), are_chosen (number + 1) text (All-tail (IsKept es options) line text k), refl)
+      (picked (is_selected options line) (number, line_text line), picked_from (number + 1) text, IfHolds-by (is_selected options line) (selected_reported es options line (All-head (IsKept es options) line text k)), are_chosen (number + 1) text (All-tail (IsKept es options) line text k), refl)
 
   picked_count : (number : ℕ) (text : List KeptLine) → length (picked_from number text) ≡ selected_count options text
   picked_count number [] = refl
@@ -116,7 +116,7 @@ module _ (es : List Expression) (options : Options) where
     -- selected line
     text_output : (shape : Form) → (shape ≡ parts → IsTrue options.only_matching) → (some : Bool) (text : List KeptLine) → All (IsKept es options) text
         → (groups : List Text) × GroupedAs es options many shape (file_with name (Some text) ∷ []) groups
-        × (text_rows options many name shape some text ++ summary_as shape many name Whole (selected_count options text) ≡ behind_rows shape some groups)
+        × (text_rows options many name shape some text ++ summary_as shape many name Whole (selected_count options text) ≡ rows_after shape some groups)
     text_output nothing asked some text k =
         (rows_as options many name nothing 1 text ++ [], counted nothing text (output_all es options many name (map line_text text) Whole nothing (rows_as options many name nothing 1 text) (picked_from 1 text) (no_rows nothing (λ number line. refl) 1 text) (are_chosen 1 text k)), refl)
     text_output names asked some text k = (
@@ -144,16 +144,16 @@ module _ (es : List Expression) (options : Options) where
         (all.0, EachGives-one (GroupsOf es options many context) (file_with name (Some text)) all.0 all.1, append-nil (text_rows options many name (around context) some text) ∙ all.2)
 
     -- the same for a file that cannot be opened
-    no_output : (shape : Form) (some : Bool) → (groups : List Text) × GroupedAs es options many shape (file_with name None ∷ []) groups × (summary_as shape many name Missing 0 ≡ behind_rows shape some groups)
+    no_output : (shape : Form) (some : Bool) → (groups : List Text) × GroupedAs es options many shape (file_with name None ∷ []) groups × (summary_as shape many name Missing 0 ≡ rows_after shape some groups)
     no_output nothing some = ([], output_all es options many name [] Missing nothing [] [] (rows_none es options many name nothing) refl, refl)
     no_output names some = ([], output_all es options many name [] Missing names [] [] (rows_none es options many name names) refl, refl)
     no_output counts some = ([], output_all es options many name [] Missing counts [] [] (rows_none es options many name counts) refl, refl)
     no_output parts some = ([], output_all es options many name [] Missing parts [] [] (rows_none es options many name parts) refl, refl)
     no_output lines some = ([], output_all es options many name [] Missing lines [] [] (rows_none es options many name lines) refl, refl)
-    no_output (around context) some = ([], EachGives-one (GroupsOf es options many context) (file_with name None) [] refl, sym (behind_nothing (around context) some))
+    no_output (around context) some = ([], EachGives-one (GroupsOf es options many context) (file_with name None) [] refl, sym (after_nothing (around context) some))
 
     file_output : (some : Bool) (kept : Option (List KeptLine)) → IfSome kept (All (IsKept es options))
-        → (groups : List Text) × GroupedAs es options many (form options) (file_with name kept ∷ []) groups × (rows_with options many name some kept ≡ behind_rows (form options) some groups)
+        → (groups : List Text) × GroupedAs es options many (form options) (file_with name kept ∷ []) groups × (rows_with options many name some kept ≡ rows_after (form options) some groups)
     file_output some None k = no_output (form options) some
     file_output some (Some text) k = text_output (form options) (asks_parts options) some text k
 
@@ -169,28 +169,28 @@ module _ (es : List Expression) (options : Options) where
     none_grouped (around context) = refl
 
     -- a group of a file is written if and only if a line of it is selected
-    file_behind : (context : Context) (found : Bool) (file : File) (groups more : List Text) → Decides found (HasSelected es options file) → EachGives (GroupsOf es options many context) (file ∷ []) groups
-        → drop 1 groups ++ behind_rows (around context) found more ≡ drop 1 (groups ++ more)
-    file_behind context found file groups more told gives =
+    file_after : (context : Context) (found : Bool) (file : File) (groups more : List Text) → Decides found (HasSelected es options file) → EachGives (GroupsOf es options many context) (file ∷ []) groups
+        → drop 1 groups ++ rows_after (around context) found more ≡ drop 1 (groups ++ more)
+    file_after context found file groups more reported gives =
         let same : groups ≡ gives.0 = gives.4 ∙ ap (λ l. gives.0 ++ l) gives.3 ∙ append-nil gives.0 in
-        two_behind context found groups more
-        (λ is none. groups_some es options context (shown_name many file) (shown_number options) file.lines gives.0 gives.2 (told.0 is) (sym same ∙ none))
-        (λ fails. same ∙ groups_none es options context (shown_name many file) (shown_number options) file.lines gives.0 gives.2 (λ has. false≢true (sym fails ∙ told.1 has)))
+        two_after context found groups more
+        (λ is none. groups_some es options context (shown_name many file) (shown_number options) file.lines gives.0 gives.2 (reported.0 is) (sym same ∙ none))
+        (λ fails. same ∙ groups_none es options context (shown_name many file) (shown_number options) file.lines gives.0 gives.2 (λ has. false≢true (sym fails ∙ reported.1 has)))
 
     -- what is written for a file, and for those after it
-    next_behind : (shape : Form) (some found : Bool) (file : File) (groups more : List Text) → Decides found (HasSelected es options file) → GroupedAs es options many shape (file ∷ []) groups
-        → behind_rows shape some groups ++ behind_rows shape (some || found) more ≡ behind_rows shape some (groups ++ more)
-    next_behind nothing some found file groups more told gives = refl
-    next_behind names some found file groups more told gives = refl
-    next_behind counts some found file groups more told gives = refl
-    next_behind parts some found file groups more told gives = refl
-    next_behind lines some found file groups more told gives = refl
-    next_behind (around context) true found file groups more told gives = refl
-    next_behind (around context) false found file groups more told gives = file_behind context found file groups more told gives
+    next_after : (shape : Form) (some found : Bool) (file : File) (groups more : List Text) → Decides found (HasSelected es options file) → GroupedAs es options many shape (file ∷ []) groups
+        → rows_after shape some groups ++ rows_after shape (some || found) more ≡ rows_after shape some (groups ++ more)
+    next_after nothing some found file groups more reported gives = refl
+    next_after names some found file groups more reported gives = refl
+    next_after counts some found file groups more reported gives = refl
+    next_after parts some found file groups more reported gives = refl
+    next_after lines some found file groups more reported gives = refl
+    next_after (around context) true found file groups more reported gives = refl
+    next_after (around context) false found file groups more reported gives = file_after context found file groups more reported gives
 
     files_output : (some : Bool) (files : List KeptFile) → All (IsFileKept es options) files
-        → (groups : List Text) × GroupedAs es options many (form options) (map kept_file files) groups × (rows_behind options many some files ≡ behind_rows (form options) some groups)
-    files_output some [] k = ([], none_grouped (form options), sym (behind_nothing (form options) some))
+        → (groups : List Text) × GroupedAs es options many (form options) (map kept_file files) groups × (rows_after_laws options many some files ≡ rows_after (form options) some groups)
+    files_output some [] k = ([], none_grouped (form options), sym (after_nothing (form options) some))
     files_output some (file ∷ files) k =
         let here = All-head (IsFileKept es options) file files k in
         let found = has_selected options file in
@@ -198,7 +198,7 @@ module _ (es : List Expression) (options : Options) where
         let rest = files_output (some || found) files (All-tail (IsFileKept es options) file files k) in (
           own.0 ++ rest.0,
           GroupedAs-append es options many (form options) (kept_file file ∷ []) (map kept_file files) own.0 rest.0 own.1 rest.1,
-          (λ i. own.2 i ++ rest.2 i) ∙ next_behind (form options) some found (kept_file file) own.0 rest.0 (has_told es options file.name.items (kept_lines file) here) own.1,
+          (λ i. own.2 i ++ rest.2 i) ∙ next_after (form options) some found (kept_file file) own.0 rest.0 (has_reported es options file.name.items (kept_lines file) here) own.1,
         )
 
     output_as : (files : List KeptFile) → All (IsFileKept es options) files → OutAs es options many (form options) (map kept_file files) (report_rows options many files)

@@ -16,7 +16,7 @@ count_few selected more number false e h = omega (arith, e, h)
 module _ (options : Options) (xs : List KeptLine) (i : ℕ) (x : KeptLine) (inside : i < length xs) (is : x ≡ get_or xs i x) where
   -- the next line counts where it is selected
   pub count_on : (all selected more : ℕ) (found : Bool) → found ≡ is_selected options x → more ≡ (if found then selected + 1 else selected) → all ≡ selected + selected_count options (drop i xs) → all ≡ more + selected_count options (drop (i + 1) xs)
-  count_on all selected more found told e sum = by_found (is_selected options x) (e ∙ ap (λ b. if b then selected + 1 else selected) told) (ap (selected_count options) (drop-item xs i x inside is))
+  count_on all selected more found reported e sum = by_found (is_selected options x) (e ∙ ap (λ b. if b then selected + 1 else selected) reported) (ap (selected_count options) (drop-item xs i x inside is))
     where
       by_found : (b : Bool) → more ≡ (if b then selected + 1 else selected) → selected_count options (drop i xs) ≡ (if b then 1 else 0) + selected_count options (drop (i + 1) xs) → all ≡ more + selected_count options (drop (i + 1) xs)
       by_found true m n = omega (arith, sum, m, n)

@@ -17,7 +17,7 @@ use Rattle.grep_session.specs.Listed.{ListedParts}
 use Rattle.grep_session.specs.Working.Kept.{line_text, span_places, kept_lines, kept_file, file_with, IsKept, IsFileKept}
 use Rattle.grep_session.specs.Working.Looking.{listed_spans}
 use Rattle.grep_session.specs.Working.Report.{is_selected}
-use Rattle.grep_session.proofs.lemmas.KeptLaws.{selected_told}
+use Rattle.grep_session.proofs.lemmas.KeptLaws.{selected_reported}
 
 module _ (es : List Expression) (options : Options) where
   -- the listed parts are those of the line
@@ -33,9 +33,9 @@ module _ (es : List Expression) (options : Options) where
   pub line_listed : {H : Type 0} (text : H → Text) (parts : H → List Span) (line : KeptLine) (result : Option H) → IsKept es options line
       → MatchOption result (is_selected options line ≡ false) (λ hit. (is_selected options line ≡ true) × (text hit ≡ line_text line) × (parts hit ≡ listed_spans options line))
       → MatchOption result (Selected es options (line_text line) → ⊥) (λ hit. Selected es options (line_text line) × (text hit ≡ line_text line) × ListedParts es options (line_text line) (map span_places (parts hit)))
-  line_listed text parts line None k h = λ s. false≢true (sym h ∙ (selected_told es options line k).1 s)
+  line_listed text parts line None k h = λ s. false≢true (sym h ∙ (selected_reported es options line k).1 s)
   line_listed text parts line (Some hit) k h = (
-    (selected_told es options line k).0 h.0,
+    (selected_reported es options line k).0 h.0,
     h.1,
     subst (λ spans. ListedParts es options (line_text line) (map span_places spans)) (sym h.2) (parts_listed line k),
   )
@@ -70,7 +70,7 @@ pub hit_listed : (es : List Expression) (options : Options) (files : List KeptFi
     → MatchOption result (is_selected options line ≡ false) (λ hit. (is_selected options line ≡ true) × (text hit ≡ line_text line) × (parts hit ≡ listed_spans options line))
     → let there = get_or (file_at (map kept_file files) k).lines place [] in
     MatchOption result (Selected es options there → ⊥) (λ hit. Selected es options there × (text hit ≡ there) × ListedParts es options there (map span_places (parts hit)))
-hit_listed es options files k place file lines line text parts result kept h at is here told =
+hit_listed es options files k place file lines line text parts result kept h at is here reported =
     let file_there = file_is files k place file (Some lines) h at is in
     let inside : place < length lines = omega (arith, subst (λ (f : File). place < length f.lines) file_there h, length-map lines line_text) in
     let kept_there : IfSome (kept_lines file) (All (IsKept es options)) = subst (λ (f : KeptFile). IsFileKept es options f) (sym at) (All-get_or (IsFileKept es options) files k file (there files k place h) kept) in
@@ -79,4 +79,4 @@ hit_listed es options files k place file lines line text parts result kept h at 
     let same : get_or (file_at (map kept_file files) k).lines place [] ≡ line_text line =
     ap (λ (f : File). get_or f.lines place []) file_there ∙ get_or-map line_text lines place line [] inside ∙ ap line_text (sym here) in
     subst (λ t. MatchOption result (Selected es options t → ⊥) (λ hit. Selected es options t × (text hit ≡ t) × ListedParts es options t (map span_places (parts hit)))) (sym same)
-    (line_listed es options text parts line result line_kept told)
+    (line_listed es options text parts line result line_kept reported)

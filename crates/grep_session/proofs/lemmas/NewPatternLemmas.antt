@@ -103,9 +103,9 @@ module _ (list : Text) (old : Inputs) (few : most_patterns < length old.patterns
   -- some pattern was refused, or memory ran out
   pub refuses_new : (T : Type 0) (fault : EditFault) → RefusesFirst old.syntax old.options.ignore_case (list_of list) fault → EditGives {T = T} (AddPatterns list) old old (Err fault)
   refuses_new T fault (inl memory) = subst (λ f. EditGives {T = T} (AddPatterns list) old old (Err f)) (sym memory) refl
-  refuses_new T fault (inr told) =
-      let first = told.2 in
-      subst (λ f. EditGives {T = T} (AddPatterns list) old old (Err f)) (sym told.3) (inr (few, inr ((λ all. first.unreadable (all told.0 [] first.in_texts)), (told.0, told.1, first, refl))), refl)
+  refuses_new T fault (inr reported) =
+      let first = reported.2 in
+      subst (λ f. EditGives {T = T} (AddPatterns list) old old (Err f)) (sym reported.3) (inr (few, inr ((λ all. first.unreadable (all reported.0 [] first.in_texts)), (reported.0, reported.1, first, refl))), refl)
 
   -- all lines were searched by the added patterns, and those that one of them matches for parts
   pub takes_new : (first : ℕ) (es changed : List Expression) (begun ended : Steps) → All (IsReadable old.syntax old.options.ignore_case) (list_of list) → AreMeant old.syntax old.options (old.patterns ++ list_of list) es → AreMeant old.syntax old.options (list_of list) changed

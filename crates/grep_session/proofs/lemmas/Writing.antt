@@ -53,8 +53,8 @@ module _ {W : Type 0} (contents : W → Option Text) (failures : W → ℕ) (mar
       (stops_early contents failures a c (written margin s.done ++ written margin here) (written margin rest) (stops_later contents failures a b c (written margin s.done) (written margin here) s.wrote f))
 
   -- some lines were written, and the others as the last call returned
-  pub writes_behind : {T E : Type 0} (a b c : W) (xs ys : List Text) (r : Result T E) → GoesOut contents failures a b (written margin xs) → Writes contents failures b c (written margin ys) r → Writes contents failures a c (written margin (xs ++ ys)) r
-  writes_behind a b c xs ys r g w =
+  pub writes_after : {T E : Type 0} (a b c : W) (xs ys : List Text) (r : Result T E) → GoesOut contents failures a b (written margin xs) → Writes contents failures b c (written margin ys) r → Writes contents failures a c (written margin (xs ++ ys)) r
+  writes_after a b c xs ys r g w =
       subst (λ bytes. Writes contents failures a c bytes r) (sym (written-append margin xs ys)) (writes_last contents failures a b c (written margin xs) (written margin ys) r g w)
 
   -- a write failed within the first of them

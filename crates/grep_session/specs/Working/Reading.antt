@@ -10,16 +10,16 @@ use Rattle.grep_session.specs.declared.fault.EditFault.TheVariants.{Pattern, Mem
 use Rattle.grep_core.specs.Matchers.{IsFirstRefused}
 
 -- the fault of an edit for a pattern's fault; out of memory is no fault of the pattern
-abbrev pub told_by : FaultKind → ℕ → PatternFault → EditFault
-told_by OutOfMemory place fault = Memory
-told_by _ place fault = Pattern place fault
+abbrev pub reported_by : FaultKind → ℕ → PatternFault → EditFault
+reported_by OutOfMemory place fault = Memory
+reported_by _ place fault = Pattern place fault
 
-abbrev pub told_at : ℕ → PatternFault → EditFault
-told_at place fault = told_by fault.kind place fault
+abbrev pub reported_at : ℕ → PatternFault → EditFault
+reported_at place fault = reported_by fault.kind place fault
 
 -- memory ran out, or the fault of the first text that is not readable is reported
 abbrev pub RefusesFirst : Syntax → Bool → List Text → EditFault → Type 0
-RefusesFirst syntax fold texts told =
-    (told ≡ Memory) ⊎
+RefusesFirst syntax fold texts reported =
+    (reported ≡ Memory) ⊎
     ((place : ℕ) × (fault : PatternFault) × IsFirstRefused syntax fold texts place fault ×
-    (told ≡ Pattern place fault))
+    (reported ≡ Pattern place fault))

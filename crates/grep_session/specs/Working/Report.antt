@@ -17,9 +17,9 @@ use Rattle.grep_core.specs.Row.{colon, head}
 use Rattle.grep_core.specs.Files.{File}
 use Rattle.grep_core.specs.Output.{Form, parts, lines, around, form, shown_number, Out, written}
 use Rattle.grep_core.specs.Messages.{Messages, StatusOf}
-use Rattle.grep_core.specs.Working.Progress.{progress_from, next_shown, behind_line, last_of}
+use Rattle.grep_core.specs.Working.Progress.{progress_from, next_shown, after_line, last_of}
 use Rattle.grep_core.specs.Working.Progress.{rows_at}
-use Rattle.grep_core.specs.Working.Searched.{is_fault, summary_as, told_of, status_by}
+use Rattle.grep_core.specs.Working.Searched.{is_fault, summary_as, reported_of, status_by}
 use Rattle.grep_core.specs.Working.Requests.{name_shown, selects}
 use Rattle.grep_core.specs.Written.{Writes}
 use Rattle.grep_session.specs.declared.kept.KeptLine.{KeptLine}
@@ -120,7 +120,7 @@ module _ (options : Options) (many : Bool) (name : Text) where
   around_rows p before [] = []
   around_rows p before (line ∷ more) =
       shown_rows (is_selected options line) (next_shown p (is_selected options line)) before line
-      ++ around_rows (behind_line p (is_selected options line)) (before ++ line_text line ∷ []) more
+      ++ around_rows (after_line p (is_selected options line)) (before ++ line_text line ∷ []) more
 
   -- what is written for a file's lines; `some` says whether a line of an earlier file is selected
   abbrev pub text_rows : Form → Bool → List KeptLine → List Text
@@ -138,27 +138,27 @@ abbrev pub file_rows : Options → Bool → Bool → KeptFile → List Text
 file_rows options many some file = rows_with options many file.name.items some (kept_lines file)
 
 -- what is written for files; `some` says whether a line of an earlier file is selected
-abbrev pub rows_behind : Options → Bool → Bool → List KeptFile → List Text
-rows_behind options many some [] = []
-rows_behind options many some (file ∷ files) =
+abbrev pub rows_after_laws : Options → Bool → Bool → List KeptFile → List Text
+rows_after_laws options many some [] = []
+rows_after_laws options many some (file ∷ files) =
     file_rows options many some file
-    ++ rows_behind options many (some || has_selected options file) files
+    ++ rows_after_laws options many (some || has_selected options file) files
 
 -- what is written for all files
 abbrev pub report_rows : Options → Bool → List KeptFile → List Text
-report_rows options many files = rows_behind options many false files
+report_rows options many files = rows_after_laws options many false files
 
 -- ---- messages and status
 
 -- the messages about files, up to the file at which a run stops under `-q`
-abbrev pub told_as : Options → Bool → List KeptFile → List Text
-told_as options silent [] = []
-told_as options silent (file ∷ files) =
-    told_of silent (end_of file) file.name.items
-    ++ (if options.quiet && has_selected options file then [] else told_as options silent files)
+abbrev pub reported_like : Options → Bool → List KeptFile → List Text
+reported_like options silent [] = []
+reported_like options silent (file ∷ files) =
+    reported_of silent (end_of file) file.name.items
+    ++ (if options.quiet && has_selected options file then [] else reported_like options silent files)
 
-abbrev pub told_from : Options → List KeptFile → List Text
-told_from options files = told_as options options.no_messages files
+abbrev pub reported_from : Options → List KeptFile → List Text
+reported_from options files = reported_like options options.no_messages files
 
 -- the file cannot be opened
 abbrev pub is_faulty : KeptFile → Bool
@@ -190,7 +190,7 @@ module _ {W : Type 0} (contents : W → Option Text) (failures : W → ℕ) (es 
     pub is_status : IfOk result (StatusOf es options files)
 
   -- the messages about the files were written, or a beginning of them
-  pub record TellsMessages {T E : Type 0} (result : Result T E) : Type 0 where
-    pub told : List Text
-    pub are_messages : Messages es options files told
-    pub wrote : Writes contents failures old new (written margin told) result
+  pub record ReportsMessages {T E : Type 0} (result : Result T E) : Type 0 where
+    pub reported : List Text
+    pub are_messages : Messages es options files reported
+    pub wrote : Writes contents failures old new (written margin reported) result

@@ -5,7 +5,7 @@ ghost use Rattle.std.specs.Bool.{Decides};
 ghost use Rattle.re_syntax.specs.Expression.{Expression};
 ghost use Rattle.grep_core.specs.Files.{AreMeant};
 ghost use Rattle.grep_core.specs.Messages.{AnySelected};
-ghost use Rattle.grep_session.specs.Headline.{ReportsInputs, TellsInputs, IsStatusOfInputs};
+ghost use Rattle.grep_session.specs.Headline.{ReportsInputs, ReportsAllInputs, IsStatusOfInputs};
 
 use crate::report::{status, status_given, write_messages, write_report};
 use crate::session::Session;
@@ -34,7 +34,7 @@ impl Session {
     /// `WriteFault` if a write fails, which the writer counts. A beginning was written. The write
     /// is not tried again.
     pub fn messages<W: CountedWrite>(&self, margin: &[u8], out: &mut W) -> Result<(), WriteFault>
-        ensures { TellsInputs W.contents W.failures self.now margin.now out.old out.new result }
+        ensures { ReportsAllInputs W.contents W.failures self.now margin.now out.old out.new result }
     {
         write_messages(&self.files, &self.options, margin, out)
     }

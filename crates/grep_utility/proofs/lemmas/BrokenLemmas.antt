@@ -20,7 +20,7 @@ use Rattle.re_search.specs.Meters.{Steps}
 use Rattle.grep_core.specs.Run.{Writer, devices, Devices, files_of, Finishes, count_more}
 use Rattle.grep_utility.specs.Command.{CommandGives}
 use Rattle.grep_utility.specs.Folder.{Folder, sources_named}
-use Rattle.grep_utility.specs.Working.Known.{FailuresAre, Wrote, TellsMemory}
+use Rattle.grep_utility.specs.Working.Known.{FailuresAre, Wrote, ReportsMemory}
 use Rattle.grep_utility.specs.Working.Returned.{HasReturned}
 use Rattle.grep_utility.specs.Words.{list, read, word_of, meaning_of}
 use Rattle.grep_utility.specs.Working.Worked.{broken_words, broken_text, broken_output, broken_messages, BrokenFollows}
@@ -66,8 +66,8 @@ broken_out = (
 fault_met : FaultMet es broken_options broken_file
 fault_met asks = absurd (false≢true asks)
 
-broken_told : Messages es broken_options (broken_file ∷ []) broken_messages
-broken_told = (broken_file ∷ [], ([], refl, inr (not_quiet (HasSelected es broken_options broken_file), refl)), (broken_messages, [], inl (fault_met, refl), refl, refl))
+broken_reported : Messages es broken_options (broken_file ∷ []) broken_messages
+broken_reported = (broken_file ∷ [], ([], refl, inr (not_quiet (HasSelected es broken_options broken_file), refl)), (broken_messages, [], inl (fault_met, refl), refl, refl))
 
 broken_status : StatusOf es broken_options (broken_file ∷ []) Error
 broken_status = inr (not_quiet _, inl (Any-first (FaultMet es broken_options) broken_file [] fault_met, refl))
@@ -83,19 +83,19 @@ module _ (folder : Folder) (opens : folder.opens (codes "f") ≡ Some true) (byt
   unfolding ended_lines_of
   are_files = refl
 
-  module _ (given : List (Option Text) → Type 0) (tells : (left : List (Option Text)) → given left → HasReturned 1 1 left) (old new : Devices) (status : ℕ) (counts : FailuresAre 1 old new) where
+  module _ (given : List (Option Text) → Type 0) (reported_too : (left : List (Option Text)) → given left → HasReturned 1 1 left) (old new : Devices) (status : ℕ) (counts : FailuresAre 1 old new) where
     determined : (before : List (Option Text)) (between : Devices) (s : _) (h : Finishes es broken_options broken_sources (λ left. given (before ++ left)) old between s) → new ≡ between → h.readings ≡ did
     determined before between s h same =
         let once : h.failures ≡ 1 =
         few_counted h.failures 1 (sym counts.counted ∙ ap (λ (d : Devices). d.source_failures) same ∙ h.counted ∙ ap (λ n. count_more n h.failures) counts.from_none) counts.few in
-        one_broken es broken_options refl refl (record { name = codes "f"; opens = folder.opens (codes "f"); bytes = folder.bytes (codes "f") }) broken_text opens bytes h.failures once before h.left (tells (before ++ h.left) h.gave_back) h.readings h.are_readings h.are_failures h.are_left
+        one_broken es broken_options refl refl (record { name = codes "f"; opens = folder.opens (codes "f"); bytes = folder.bytes (codes "f") }) broken_text opens bytes h.failures once before h.left (reported_too (before ++ h.left) h.gave_back) h.readings h.are_readings h.are_failures h.are_left
 
     -- what the command gives, for any history that tells how many readers came back
-    pub broken_gives : CommandGives folder given old new status broken_words → Wrote broken_output broken_messages Error old new status ⊎ TellsMemory old.messages new.messages
+    pub broken_gives : CommandGives folder given old new status broken_words → Wrote broken_output broken_messages Error old new status ⊎ ReportsMemory old.messages new.messages
     unfolding list_of
     broken_gives h =
         command_gives Basic broken_options (codes "a") (codes "f" ∷ []) refl (All-cons (IsReadable Basic false) (codes "a") [] (byte 97, a_meant, λ _. omega arith) (All-nil (IsReadable Basic false))) es (a_meant, tt)
-        folder did broken_output broken_messages Error (subst (λ files. Out es broken_options files broken_output) (sym are_files) broken_out) (subst (λ files. Messages es broken_options files broken_messages) (sym are_files) broken_told)
+        folder did broken_output broken_messages Error (subst (λ files. Out es broken_options files broken_output) (sym are_files) broken_out) (subst (λ files. Messages es broken_options files broken_messages) (sym are_files) broken_reported)
         (subst (λ files. StatusOf es broken_options files Error) (sym are_files) broken_status) given old new status determined counts.output_kept counts.messages_kept broken_words broken_read h
 
 -- the row follows
@@ -106,8 +106,8 @@ broken_follows folder opens bytes old new status h counts = broken_gives folder 
 module _ (folder : Folder) (opens : folder.opens (codes "f") ≡ Some true) (bytes : folder.bytes (codes "f") ≡ Some broken_text) where
   pub broken_given : (given : List (Option Text) → Type 0) → ((left : List (Option Text)) → given left → HasReturned 1 1 left) → (out messages new_out new_messages : Writer) (before after : ℕ) (steps new_steps : Steps) (status : ℕ) (words : List Text)
       → before ≡ 0 → words ≡ broken_words → CommandGives folder given (devices out messages before steps) (devices new_out new_messages after new_steps) status words
-      → FailuresAre 1 (devices out messages 0 steps) (devices new_out new_messages after new_steps) → Wrote broken_output broken_messages Error (devices out messages 0 steps) (devices new_out new_messages after new_steps) status ⊎ TellsMemory messages new_messages
-  broken_given given tells out messages new_out new_messages before after steps new_steps status words at_first same_words h counts =
+      → FailuresAre 1 (devices out messages 0 steps) (devices new_out new_messages after new_steps) → Wrote broken_output broken_messages Error (devices out messages 0 steps) (devices new_out new_messages after new_steps) status ⊎ ReportsMemory messages new_messages
+  broken_given given reported_too out messages new_out new_messages before after steps new_steps status words at_first same_words h counts =
       let of_words = subst (λ ws. CommandGives folder given (devices out messages before steps) (devices new_out new_messages after new_steps) status ws) same_words h in
       let from_none = subst (λ n. CommandGives folder given (devices out messages n steps) (devices new_out new_messages after new_steps) status broken_words) at_first of_words in
-      broken_gives folder opens bytes given tells (devices out messages 0 steps) (devices new_out new_messages after new_steps) status counts from_none
+      broken_gives folder opens bytes given reported_too (devices out messages 0 steps) (devices new_out new_messages after new_steps) status counts from_none

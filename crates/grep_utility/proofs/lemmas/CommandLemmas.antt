@@ -23,13 +23,13 @@ use Rattle.grep_utility.specs.declared.patterns.PatternsFault.{PatternsFault}
 use Rattle.grep_utility.specs.declared.patterns.PatternsFault.TheVariants as unread
 use Rattle.grep_utility.specs.declared.words.UsageFault.{UsageFault}
 use Rattle.grep_utility.specs.declared.words.UsageFault.TheVariants as usage
-use Rattle.grep_utility.specs.Command.{TellsLines, GivesUp, SearchEnds, RefusesPattern, SearchesNamed, PatternsGive, DoesForRequest, RequestGives, CommandGives}
+use Rattle.grep_utility.specs.Command.{ReportsLines, GivesUp, SearchEnds, RefusesPattern, SearchesNamed, PatternsGive, DoesForRequest, RequestGives, CommandGives}
 use Rattle.grep_utility.specs.Folder.{Folder, sources_named, searched}
-use Rattle.grep_utility.specs.Working.Gathered.{StopsFor, told_of_patterns}
+use Rattle.grep_utility.specs.Working.CollectedTexts.{StopsFor, reported_of_patterns}
 use Rattle.re_syntax.specs.Profile.{most_patterns}
 use Rattle.grep_core.specs.Matchers.{IsFirstRefused}
 use Rattle.grep_utility.specs.Working.Serving.{ServeFor}
-use Rattle.grep_utility.specs.Patterns.{behind_all, GivePatterns, FirstUnread}
+use Rattle.grep_utility.specs.Patterns.{after_all, GivePatterns, FirstUnread}
 use Rattle.grep_utility.specs.Texts.{too_many_patterns, pattern_refused, fault_text, usage_texts}
 use Rattle.grep_utility.specs.Words.{Asked, PatternsFrom, read, OrMemory}
 
@@ -94,33 +94,33 @@ patterns_given asked folder texts given other more old new status (inl does) = i
 
 module _ (asked : Asked) (folder : Folder) (given : List (Option Text) → Type 0) (old new : Devices) (status : ℕ) where
   -- the patterns of the sources were read
-  sources_read : (texts : List Text) (read : List (Option Text)) → GivePatterns folder asked.sources texts → PatternsGive asked (behind_all folder asked.sources) texts (λ left. given (read ++ left)) old new status
+  sources_read : (texts : List Text) (read : List (Option Text)) → GivePatterns folder asked.sources texts → PatternsGive asked (after_all folder asked.sources) texts (λ left. given (read ++ left)) old new status
       → RequestGives folder given old new status asked
   sources_read texts read gives (inl does) = inl (inr (texts, read, gives, does))
   sources_read texts read gives (inr memory) = inr memory
 
   -- the same, by what the calls said
-  pub patterns_read : (mid : Folder) (sources : List PatternsFrom) (texts read_texts : List Text) (between : Devices) → sources ≡ asked.sources → read_texts ≡ texts → mid ≡ behind_all folder sources → between ≡ old
-      → GivePatterns folder sources texts → (read : List (Option Text)) (behind : List (Option Text) → Type 0) → ((left : List (Option Text)) → behind left → given (read ++ left))
-      → PatternsGive asked mid read_texts behind between new status → RequestGives folder given old new status asked
-  patterns_read mid sources texts read_texts between is same used same_devices gave read behind join gives =
-      let all = patterns_given asked mid read_texts behind (λ left. given (read ++ left)) join between new status gives in
-      let there = subst (λ f. PatternsGive asked f read_texts (λ left. given (read ++ left)) between new status) (used ∙ ap (behind_all folder) is) all in
-      let of_texts = subst (λ t. PatternsGive asked (behind_all folder asked.sources) t (λ left. given (read ++ left)) between new status) same there in
-      sources_read texts read (subst (λ s. GivePatterns folder s texts) is gave) (subst (λ d. PatternsGive asked (behind_all folder asked.sources) texts (λ left. given (read ++ left)) d new status) same_devices of_texts)
+  pub patterns_read : (mid : Folder) (sources : List PatternsFrom) (texts read_texts : List Text) (between : Devices) → sources ≡ asked.sources → read_texts ≡ texts → mid ≡ after_all folder sources → between ≡ old
+      → GivePatterns folder sources texts → (read : List (Option Text)) (beyond : List (Option Text) → Type 0) → ((left : List (Option Text)) → beyond left → given (read ++ left))
+      → PatternsGive asked mid read_texts beyond between new status → RequestGives folder given old new status asked
+  patterns_read mid sources texts read_texts between is same used same_devices gave read beyond join gives =
+      let all = patterns_given asked mid read_texts beyond (λ left. given (read ++ left)) join between new status gives in
+      let there = subst (λ f. PatternsGive asked f read_texts (λ left. given (read ++ left)) between new status) (used ∙ ap (after_all folder) is) all in
+      let of_texts = subst (λ t. PatternsGive asked (after_all folder asked.sources) t (λ left. given (read ++ left)) between new status) same there in
+      sources_read texts read (subst (λ s. GivePatterns folder s texts) is gave) (subst (λ d. PatternsGive asked (after_all folder asked.sources) texts (λ left. given (read ++ left)) d new status) same_devices of_texts)
 
 module _ (asked : Asked) (folder : Folder) (given : List (Option Text) → Type 0) (out old new : Writer) (before after : ℕ) (steps : Steps) where
   -- they were not
-  sources_unread : (f : PatternsFault) → StopsFor (FirstUnread folder asked.sources) before after f → TellsLines old new (told_of_patterns f ∷ [])
+  sources_unread : (f : PatternsFault) → StopsFor (FirstUnread folder asked.sources) before after f → ReportsLines old new (reported_of_patterns f ∷ [])
       → RequestGives folder given (record { out = out; messages = old; source_failures = before; steps = steps }) (record { out = out; messages = new; source_failures = after; steps = steps }) 2 asked
-  sources_unread (unread.Missing word) h told = inl (inl (_, h.1, record { is_error = refl; none_written = refl; told = told; counted = h.2; no_step = refl }))
-  sources_unread (unread.Broken word) h told = inl (inl (_, h.1, record { is_error = refl; none_written = refl; told = told; counted = h.2; no_step = refl }))
-  sources_unread unread.Memory h told = inr (record { is_error = refl; none_written = refl; told = told; counted = h; no_step = refl })
+  sources_unread (unread.Missing word) h reported = inl (inl (_, h.1, record { is_error = refl; none_written = refl; reported = reported; counted = h.2; no_step = refl }))
+  sources_unread (unread.Broken word) h reported = inl (inl (_, h.1, record { is_error = refl; none_written = refl; reported = reported; counted = h.2; no_step = refl }))
+  sources_unread unread.Memory h reported = inr (record { is_error = refl; none_written = refl; reported = reported; counted = h; no_step = refl })
 
   -- the same, by what the calls said
-  pub patterns_unread : (sources : List PatternsFrom) → sources ≡ asked.sources → (f : PatternsFault) → StopsFor (FirstUnread folder sources) before after f → TellsLines old new (told_of_patterns f ∷ [])
+  pub patterns_unread : (sources : List PatternsFrom) → sources ≡ asked.sources → (f : PatternsFault) → StopsFor (FirstUnread folder sources) before after f → ReportsLines old new (reported_of_patterns f ∷ [])
       → RequestGives folder given (record { out = out; messages = old; source_failures = before; steps = steps }) (record { out = out; messages = new; source_failures = after; steps = steps }) 2 asked
-  patterns_unread sources is f h told = sources_unread f (subst (λ s. StopsFor (FirstUnread folder s) before after f) is h) told
+  patterns_unread sources is f h reported = sources_unread f (subst (λ s. StopsFor (FirstUnread folder s) before after f) is h) reported
 
 module _ (folder : Folder) (given : List (Option Text) → Type 0) (words : List Text) where
   -- the words were read

@@ -24,9 +24,9 @@ use Rattle.grep_core.specs.Run.{Writer, Devices, TakesAll, files_of, count_more,
 use Rattle.grep_core.proofs.lemmas.WriterLaws.{TakesAll-more}
 use Rattle.grep_core.proofs.lemmas.LawsHold.{means_one}
 use Rattle.grep_core.proofs.lemmas.Determined.{Out-determined, Messages-determined, StatusOf-determined}
-use Rattle.grep_utility.specs.Command.{status_number, TellsLines, GivesUp, EndsAfter, SearchEnds, SearchesNamed, RefusesPattern, DoesForPatterns, DoesForRequest, CommandGives}
+use Rattle.grep_utility.specs.Command.{status_number, ReportsLines, GivesUp, EndsAfter, SearchEnds, SearchesNamed, RefusesPattern, DoesForPatterns, DoesForRequest, CommandGives}
 use Rattle.grep_utility.specs.Folder.{Folder, sources_named, searched}
-use Rattle.grep_utility.specs.Working.Known.{IsKnown, in_full, unopened, TellsMemory, Wrote, Foretells, FailuresAre, WordsTell}
+use Rattle.grep_utility.specs.Working.Known.{IsKnown, in_full, unopened, ReportsMemory, Wrote, Predicts, FailuresAre, WordsDecide}
 use Rattle.grep_utility.specs.Patterns.{Unread, FirstUnread}
 use Rattle.grep_utility.specs.Texts.{out_of_memory, too_many_patterns, usage_texts}
 use Rattle.grep_utility.specs.Words.{Asked, PatternsFrom, list, read}
@@ -45,12 +45,12 @@ some_failed : (n m : ℕ) → m ≡ one_more n → m ≡ 0 → ⊥
 some_failed n m is none = let one : m ≡ min (n + 1) (2 ^ 64 - 1) = is in omega (arith, one, none)
 
 -- the message was told, since no write failed
-tells_memory : (old between new : Writer) (told : List Text) → TakesAll old between told → TellsLines between new (out_of_memory ∷ []) → new.failures ≡ 0 → TellsMemory old new
-tells_memory old between new told before (inl all) none = (told, TakesAll-more old between new told (out_of_memory ∷ []) before all)
-tells_memory old between new told before (inr front) none = absurd (some_failed between.failures new.failures front.1 none)
+reports_memory : (old between new : Writer) (reported : List Text) → TakesAll old between reported → ReportsLines between new (out_of_memory ∷ []) → new.failures ≡ 0 → ReportsMemory old new
+reports_memory old between new reported before (inl all) none = (reported, TakesAll-more old between new reported (out_of_memory ∷ []) before all)
+reports_memory old between new reported before (inr front) none = absurd (some_failed between.failures new.failures front.1 none)
 
-nothing_told : (w : Writer) → TakesAll w w []
-nothing_told w = record { written_all = Appends-nil w.contents; none_failed = refl }
+nothing_reported : (w : Writer) → TakesAll w w []
+nothing_reported w = record { written_all = Appends-nil w.contents; none_failed = refl }
 
 -- known sources of which no more failures are counted than there are sources that cannot be opened
 -- were read in full
@@ -74,17 +74,17 @@ module _ (options : Options) (es : List Expression) (sources : List Source) (rea
       let found_is : s ≡ found = StatusOf-determined es options (files_of sources readings) s found (subst (λ rs. StatusOf es options (files_of sources rs) s) full h.is_status) is_status in
       record {
         wrote = subst (λ (d : Devices). TakesAll old.out d.out output) (sym same) (subst (λ o. TakesAll old.out between.out o) output_is h.wrote);
-        told = subst (λ (d : Devices). TakesAll old.messages d.messages messages) (sym same) (subst (λ o. TakesAll old.messages between.messages o) messages_are h.told);
+        reported = subst (λ (d : Devices). TakesAll old.messages d.messages messages) (sym same) (subst (λ o. TakesAll old.messages between.messages o) messages_are h.reported);
         is_status = is ∙ ap status_number found_is;
       }
 
-  run_ends : (between : Devices) (result : Result Status RunFault) → RunGives es options sources given old between result → EndsAfter result between new status → Wrote output messages found old new status ⊎ TellsMemory old.messages new.messages
+  run_ends : (between : Devices) (result : Result Status RunFault) → RunGives es options sources given old between result → EndsAfter result between new status → Wrote output messages found old new status ⊎ ReportsMemory old.messages new.messages
   run_ends between (Ok s) h e = inl (finishes between s h e.0 e.1)
   run_ends between (Err Write) h e = absurd (some_failed old.out.failures between.out.failures h.1 (sym (ap (λ (w : Writer). w.failures) e.none_written) ∙ out_kept))
   run_ends between (Err MessageWrite) h e = absurd (some_failed old.messages.failures between.messages.failures h.2 (sym (ap (λ (d : Devices). d.messages.failures) e.1) ∙ messages_kept))
-  run_ends between (Err (Memory k n)) h e = inr (tells_memory old.messages between.messages new.messages h.messages h.told e.told messages_kept)
+  run_ends between (Err (Memory k n)) h e = inr (reports_memory old.messages between.messages new.messages h.messages h.reported e.reported messages_kept)
 
-  pub search_ends : SearchEnds es options sources given old new status → Wrote output messages found old new status ⊎ TellsMemory old.messages new.messages
+  pub search_ends : SearchEnds es options sources given old new status → Wrote output messages found old new status ⊎ ReportsMemory old.messages new.messages
   search_ends h = run_ends h.between h.found h.runs h.ends
 
 -- what the command gives where its pattern list is known, and its counts tell how the files were
@@ -100,10 +100,10 @@ module _ (syntax : Syntax) (options : Options) (text : Text) (files : List Text)
   asked_for = record { syntax = syntax; options = options; sources = list text ∷ []; files = files }
 
   abbrev Gives : Type 0
-  Gives = Wrote output messages found old new status ⊎ TellsMemory old.messages new.messages
+  Gives = Wrote output messages found old new status ⊎ ReportsMemory old.messages new.messages
 
   out_of : GivesUp old new (out_of_memory ∷ []) 0 status → Gives
-  out_of h = inr (tells_memory old.messages old.messages new.messages [] (nothing_told old.messages) h.told messages_kept)
+  out_of h = inr (reports_memory old.messages old.messages new.messages [] (nothing_reported old.messages) h.reported messages_kept)
 
   none_refused : (place : ℕ) (fault : _) → IsFirstRefused syntax options.ignore_case (list_of text) place fault → ⊥
   none_refused place fault first = first.unreadable (All-get_or (IsReadable syntax options.ignore_case) (list_of text) place [] first.in_texts readable)
@@ -138,9 +138,9 @@ module _ (syntax : Syntax) (options : Options) (text : Text) (files : List Text)
   command_gives words is (inl h) = for_request (subst (λ r. MatchResult r (DoesForRequest folder given old new status) (λ fault. GivesUp old new (usage_texts fault) 0 status)) is h)
 
 -- what is foretold is given
-pub foretold : (folder : Folder) (words output messages : List Text) (missing : ℕ) (found : Status) → Foretells folder words missing output messages found → (given : List (Option Text) → Type 0) (old new : Devices) (status : ℕ)
-    → CommandGives folder given old new status words → FailuresAre missing old new → Wrote output messages found old new status ⊎ TellsMemory old.messages new.messages
-foretold folder words output messages missing found f given old new status h n =
+pub predicted : (folder : Folder) (words output messages : List Text) (missing : ℕ) (found : Status) → Predicts folder words missing output messages found → (given : List (Option Text) → Type 0) (old new : Devices) (status : ℕ)
+    → CommandGives folder given old new status words → FailuresAre missing old new → Wrote output messages found old new status ⊎ ReportsMemory old.messages new.messages
+predicted folder words output messages missing found f given old new status h n =
     let a = f.asked in
     let least = f.few_patterns in
     let sum = f.are_missing in
@@ -151,5 +151,5 @@ foretold folder words output messages missing found f given old new status h n =
     n.output_kept n.messages_kept words (f.is_read ∙ ap (λ (s : List PatternsFrom). Ok (record a { sources = s })) f.one_list) h
 
 -- the words tell all that is written
-pub words_tell : WordsTell
-words_tell folder words output messages missing found f old new status h n = foretold folder words output messages missing found f (λ left. ⊤) old new status h n
+pub words_decide : WordsDecide
+words_decide folder words output messages missing found f old new status h n = predicted folder words output messages missing found f (λ left. ⊤) old new status h n

@@ -14,7 +14,7 @@ use Rattle.grep_core.specs.Messages.{FaultMet, FaultMetBy}
 use Rattle.grep_core.specs.Reading.{Source, Reading, not_opened, fails_after, ends_after, IsReadingOf, file_of, failures_of}
 use Rattle.grep_core.specs.Run.{AreReadings, FailuresMet, LeftMet}
 use Rattle.grep_utility.specs.Working.Returned.{HasReturned}
-use Rattle.grep_utility.specs.Working.Known.{AllIsKnown, IsKnown, full_reading, in_full, unopened_by, unopened, CountTells}
+use Rattle.grep_utility.specs.Working.Known.{AllIsKnown, IsKnown, full_reading, in_full, unopened_by, unopened, CountDecides}
 
 no_length : {A : Type 0} (xs : List A) → length xs ≡ 0 → xs ≡ []
 no_length [] h = refl
@@ -88,11 +88,11 @@ module _ (es : List Expression) (options : Options) (loud : options.quiet ≡ fa
   all_in_full (source ∷ sources) (r ∷ readings) n k a h few =
       let own = all_met source.name r h.0 h.2 in
       let here = fails_least source.name source.opens source.bytes (All-head IsKnown source sources k) r a.0 in
-      let behind = by_no h.3 (goes_on (file_of source.name r)) in
-      let least = least_met sources readings h.1 (All-tail IsKnown source sources k) a.1 behind in
+      let beyond = by_no h.3 (goes_on (file_of source.name r)) in
+      let least = least_met sources readings h.1 (All-tail IsKnown source sources k) a.1 beyond in
       let sum = h.4 in
       let first : r ≡ full_reading source.opens source.bytes = reads_full source.name source.opens source.bytes (All-head IsKnown source sources k) r a.0 (omega (arith, own, here, least, sum, few)) in
-      let rest : readings ≡ in_full sources = all_in_full sources readings h.1 (All-tail IsKnown source sources k) a.1 behind (omega (arith, own, here, least, sum, few)) in
+      let rest : readings ≡ in_full sources = all_in_full sources readings h.1 (All-tail IsKnown source sources k) a.1 beyond (omega (arith, own, here, least, sum, few)) in
       λ i. first i ∷ rest i
 
   -- one source, of which a read failed once its reader had given all its bytes
@@ -135,5 +135,5 @@ module _ (es : List Expression) (options : Options) (loud : options.quiet ≡ fa
     one_broken (fails_after given ∷ []) a h l = ap (λ t. fails_after t ∷ []) (gave_all given a l)
 
 -- the count of failures tells that all sources were read in full
-pub count_tells : (options : Options) → CountTells options
-count_tells options es sources readings loud full known are met = all_in_full es options loud full sources readings (unopened sources) known are met (omega arith)
+pub count_decides : (options : Options) → CountDecides options
+count_decides options es sources readings loud full known are met = all_in_full es options loud full sources readings (unopened sources) known are met (omega arith)

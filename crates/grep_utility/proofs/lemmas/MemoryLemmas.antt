@@ -10,7 +10,7 @@ use Rattle.re_syntax.proofs.lemmas.Decisions.{Any-first}
 use Rattle.re_syntax.proofs.lemmas.SomeOfJoined.{Any-left, Any-right}
 use Rattle.grep_core.specs.Counted.{one_more}
 use Rattle.grep_core.specs.Run.{count_more}
-use Rattle.grep_core.specs.Sources.{GivesBack}
+use Rattle.grep_core.specs.Sources.{Returns}
 use Rattle.grep_utility.specs.declared.memory.MemoryFiles.{MemoryFiles}
 use Rattle.grep_utility.specs.declared.memory.MemoryReader.{MemoryReader}
 use Rattle.grep_utility.specs.Working.Returned.{HasReturned}
@@ -62,12 +62,12 @@ module _ (room n : ℕ) (into copied : Text) (roomy : 0 < room) where
       ended (y ∷ ys) made none =
           let no : ⊥ = no_room (zero_or left) y ys made none in absurd no
 
-  pub pulled : (step left failed : ℕ) (rest behind : Text) → failed ≤ 0 → (left ≡ 0 → ⊥) → n ≡ next_count room step left (length rest) → behind ≡ drop n rest → copied ≡ take n rest
-      → Consumes (if nat_eq failed 0 then limited step left (Some rest) else Some []) (if nat_eq failed 0 then limited step (left - n) (Some behind) else Some []) (take n (copied ++ into))
-      × (n ≡ 0 → IsAtEnd (if nat_eq failed 0 then limited step (left - n) (Some behind) else Some []))
-  pulled step left failed rest behind none more is behind_is copied_is =
+  pub pulled : (step left failed : ℕ) (rest beyond : Text) → failed ≤ 0 → (left ≡ 0 → ⊥) → n ≡ next_count room step left (length rest) → beyond ≡ drop n rest → copied ≡ take n rest
+      → Consumes (if nat_eq failed 0 then limited step left (Some rest) else Some []) (if nat_eq failed 0 then limited step (left - n) (Some beyond) else Some []) (take n (copied ++ into))
+      × (n ≡ 0 → IsAtEnd (if nat_eq failed 0 then limited step (left - n) (Some beyond) else Some []))
+  pulled step left failed rest beyond none more is after_is copied_is =
       let fresh : failed ≡ 0 = omega (arith, none) in
-      rw (fresh, behind_is) (fresh_pulled step left rest more is copied_is)
+      rw (fresh, after_is) (fresh_pulled step left rest more is copied_is)
 
 -- ---- what the returned readers had left
 
@@ -84,7 +84,7 @@ module _ (returned broken after now : ℕ) where
 
   one_more_back : (before : List (Option Text)) (failed : ℕ) (rest : Option Text) → after ≡ one_more returned → now ≡ count_more broken failed → (failed ≡ 0) ⊎ (rest ≡ Some []) → HasReturned returned broken before
       → HasReturned after now (before ++ rest ∷ [])
-  one_more_back before failed rest one more spent h = (counted, told spent h.1)
+  one_more_back before failed rest one more spent h = (counted, reported spent h.1)
     where
       counted : after ≡ min (length (before ++ rest ∷ [])) (2 ^ 64 - 1)
       counted =
@@ -93,15 +93,15 @@ module _ (returned broken after now : ℕ) where
           let last : after ≡ min (returned + 1) (2 ^ 64 - 1) = one in
           omega (arith, first, len, last)
 
-      told : (failed ≡ 0) ⊎ (rest ≡ Some []) → (broken ≡ 0) ⊎ Any (λ t. t ≡ Some []) before → (now ≡ 0) ⊎ Any (λ t. t ≡ Some []) (before ++ rest ∷ [])
-      told (inl none) (inl whole) = inl (more ∙ ap (count_more broken) none ∙ whole)
-      told (inl none) (inr some) = inr (Any-left (λ t. t ≡ Some []) before (rest ∷ []) some)
-      told (inr all) known = inr (Any-right (λ t. t ≡ Some []) before (rest ∷ []) (Any-first (λ t. t ≡ Some []) rest [] all))
+      reported : (failed ≡ 0) ⊎ (rest ≡ Some []) → (broken ≡ 0) ⊎ Any (λ t. t ≡ Some []) before → (now ≡ 0) ⊎ Any (λ t. t ≡ Some []) (before ++ rest ∷ [])
+      reported (inl none) (inl whole) = inl (more ∙ ap (count_more broken) none ∙ whole)
+      reported (inl none) (inr some) = inr (Any-left (λ t. t ≡ Some []) before (rest ∷ []) some)
+      reported (inr all) known = inr (Any-right (λ t. t ≡ Some []) before (rest ∷ []) (Any-first (λ t. t ≡ Some []) rest [] all))
 
 -- nothing was returned
-pub same_history : (old new : MemoryFiles) → IsSameHistory old new → GivesBack returned_by old new []
+pub same_history : (old new : MemoryFiles) → IsSameHistory old new → Returns returned_by old new []
 same_history old new same = λ before. none_more old.returned old.broken new.returned new.broken before same.0 same.1
 
 -- a reader was returned
-pub given_back : (old new : MemoryFiles) (r : MemoryReader) → new.returned ≡ one_more old.returned → new.broken ≡ count_more old.broken r.failures → GivesBack returned_by old new (bytes_left r ∷ [])
-given_back old new r one more = λ before. one_more_back old.returned old.broken new.returned new.broken before r.failures (bytes_left r) one more (spent r)
+pub returned_readers : (old new : MemoryFiles) (r : MemoryReader) → new.returned ≡ one_more old.returned → new.broken ≡ count_more old.broken r.failures → Returns returned_by old new (bytes_left r ∷ [])
+returned_readers old new r one more = λ before. one_more_back old.returned old.broken new.returned new.broken before r.failures (bytes_left r) one more (spent r)

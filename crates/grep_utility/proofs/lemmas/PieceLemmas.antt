@@ -16,39 +16,39 @@ no_chars [] e = chars-nil
 no_chars (b ∷ t) e = absurd (omega arith)
 
 -- nothing is left of a group
-pub group-end : (behind : Option Wanting → List Piece) (t : Text) → length t ≡ 0 → group behind (chars t) ≡ behind None
-group-end behind t e = ap (group behind) (no_chars t e)
+pub group-end : (beyond : Option Wanting → List Piece) (t : Text) → length t ≡ 0 → group beyond (chars t) ≡ beyond None
+group-end beyond t e = ap (group beyond) (no_chars t e)
 
 -- where no letter of a group is left, the pieces are those of the words
 pub used_up : (letters : Option (Bor Text)) (words : List Text) → AreUsedUp letters → pieces_from letters words ≡ pieces words None
 used_up (Some rest) words none = ap (group (pieces words)) none
 used_up None words never = absurd never
 
-module _ (behind : Option Wanting → List Piece) (c : ℕ) (a : Argument) (takes : meaning_of c ≡ Some (Takes a)) where
+module _ (beyond : Option Wanting → List Piece) (c : ℕ) (a : Argument) (takes : meaning_of c ≡ Some (Takes a)) where
   -- the rest of the group is the argument
-  pub group-argument : (t : Text) → IsUtf8 t → length t ≢ 0 → group behind (c ∷ chars t) ≡ with_argument c a t ∷ behind None
+  pub group-argument : (t : Text) → IsUtf8 t → length t ≢ 0 → group beyond (c ∷ chars t) ≡ with_argument c a t ∷ beyond None
   group-argument t utf8 more = by (chars t) (encodes-chars t utf8)
     where
-      by : (cs : List ℕ) → encode_utf8_all cs ≡ t → group behind (c ∷ cs) ≡ with_argument c a t ∷ behind None
+      by : (cs : List ℕ) → encode_utf8_all cs ≡ t → group beyond (c ∷ cs) ≡ with_argument c a t ∷ beyond None
       by [] e = absurd (more (sym (ap length e)))
-      by (d ∷ ds) e = rw (takes, group) (ap (λ u. with_argument c a u ∷ behind None) e)
+      by (d ∷ ds) e = rw (takes, group) (ap (λ u. with_argument c a u ∷ beyond None) e)
 
   -- the argument is after the group
-  pub group-wants : (t : Text) → length t ≡ 0 → group behind (c ∷ chars t) ≡ behind (Some (record { letter = c; argument = a }))
-  group-wants t none = ap (λ cs. group behind (c ∷ cs)) (no_chars t none) ∙ rw (takes, group) refl
+  pub group-wants : (t : Text) → length t ≡ 0 → group beyond (c ∷ chars t) ≡ beyond (Some (record { letter = c; argument = a }))
+  group-wants t none = ap (λ cs. group beyond (c ∷ cs)) (no_chars t none) ∙ rw (takes, group) refl
 
 module _ (words : List Text) (w : Wanting) (letters : Option (Bor Text)) (rest : Bor Text) (are : letters ≡ Some rest) (none : length rest.now ≡ 0) where
   -- the pieces of words after a group
-  behind_group : pieces_from letters words ≡ pieces words None
-  behind_group = ap (λ l. pieces_from l words) are ∙ group-end (pieces words) rest.now none
+  after_group : pieces_from letters words ≡ pieces words None
+  after_group = ap (λ l. pieces_from l words) are ∙ group-end (pieces words) rest.now none
 
   -- the next word is the argument
   pub pieces-argument : (word : Text) (before : List Text) → before ≡ word ∷ words → pieces before (Some w) ≡ with_argument w.letter w.argument word ∷ pieces_from letters words
-  pieces-argument word before e = ap (λ ws. pieces ws (Some w)) e ∙ ap (λ ps. with_argument w.letter w.argument word ∷ ps) (sym behind_group)
+  pieces-argument word before e = ap (λ ws. pieces ws (Some w)) e ∙ ap (λ ps. with_argument w.letter w.argument word ∷ ps) (sym after_group)
 
   -- there is no next word
   pub pieces-no_argument : (before : List Text) → before ≡ [] → words ≡ [] → pieces before (Some w) ≡ fault (MissingArgument w.letter) ∷ pieces_from letters words
-  pieces-no_argument before e f = ap (λ ws. pieces ws (Some w)) e ∙ ap (λ ps. fault (MissingArgument w.letter) ∷ ps) (sym (behind_group ∙ ap (λ ws. pieces ws None) f))
+  pieces-no_argument before e f = ap (λ ws. pieces ws (Some w)) e ∙ ap (λ ps. fault (MissingArgument w.letter) ∷ ps) (sym (after_group ∙ ap (λ ws. pieces ws None) f))
 
 -- the word `--`
 pub word_of-end : (word : Text) → bytes_eq word (codes "--") ≡ true → word_of word ≡ ends_options

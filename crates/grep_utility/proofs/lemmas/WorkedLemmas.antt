@@ -25,10 +25,10 @@ use Rattle.grep_core.specs.Run.{Writer, devices}
 use Rattle.re_search.specs.Meters.{Steps}
 use Rattle.grep_utility.specs.Command.{CommandGives}
 use Rattle.grep_utility.specs.Folder.{Folder, sources_named}
-use Rattle.grep_utility.specs.Working.Known.{IsKnown, full_files, unopened, Foretells, FailuresAre, Wrote, TellsMemory}
+use Rattle.grep_utility.specs.Working.Known.{IsKnown, full_files, unopened, Predicts, FailuresAre, Wrote, ReportsMemory}
 use Rattle.grep_utility.specs.Words.{Asked, list, read, word_of, meaning_of}
 use Rattle.grep_utility.specs.Working.Worked.{row_words, row_text, row_output, row_messages, RowFollows}
-use Rattle.grep_utility.proofs.lemmas.FullLemmas.{foretold}
+use Rattle.grep_utility.proofs.lemmas.FullLemmas.{predicted}
 
 -- ---- what the words ask for
 
@@ -101,7 +101,7 @@ are_files other = refl
 -- ---- what is written
 
 shown : (k : ℕ) → k ≤ 2 → IsShown es row_options (record { before = 2; after = 0 }) row_lines k
-shown k near = record { place = 2; on = omega arith; selected = selected_a; before = omega arith; behind = omega (arith, near) }
+shown k near = record { place = 2; on = omega arith; selected = selected_a; before = omega arith; beyond = omega (arith, near) }
 
 groups : Groups es row_options (record { before = 2; after = 0 }) (Some (codes "h")) (λ n. Some n) row_lines (codes "--" ∷ row_output)
 unfolding digits
@@ -131,8 +131,8 @@ row_out = (codes "--" ∷ row_output, (codes "--" ∷ row_output, [], groups, ([
 pub not_quiet : (P : Type 0) → (false ≡ true) × P → ⊥
 not_quiet P h = false≢true h.0
 
-row_told : Messages es row_options row_files row_messages
-row_told = (
+row_reported : Messages es row_options row_files row_messages
+row_reported = (
   row_files,
   (file_missing ∷ [], refl, inr (not_quiet (HasSelected es row_options file_h), ([], refl, inr (not_quiet (HasSelected es row_options file_missing), refl)))),
   ([], row_messages, inr ((λ no. no), refl), (row_messages, [], inl (tt, refl), refl, refl), refl),
@@ -159,9 +159,9 @@ module _ (folder : Folder) (opens : folder.opens (codes "h") ≡ Some true) (byt
   files_are = ap full_files sources_are ∙ are_files other
 
   -- what the words foretell
-  pub row_foretold : Foretells folder row_words 1 row_output row_messages Error
+  pub row_predicted : Predicts folder row_words 1 row_output row_messages Error
   unfolding list_of
-  row_foretold = record {
+  row_predicted = record {
     asked = row_asked;
     is_read = row_read;
     text = codes "a";
@@ -175,21 +175,21 @@ module _ (folder : Folder) (opens : folder.opens (codes "h") ≡ Some true) (byt
     known = subst (All IsKnown) (sym sources_are) all_known;
     are_missing = ap unopened sources_are;
     is_output = subst (λ files. Out es row_options files row_output) (sym files_are) row_out;
-    are_messages = subst (λ files. Messages es row_options files row_messages) (sym files_are) row_told;
+    are_messages = subst (λ files. Messages es row_options files row_messages) (sym files_are) row_reported;
     is_status = subst (λ files. StatusOf es row_options files Error) (sym files_are) row_status;
   }
 
 -- the row follows
 pub row_follows : RowFollows
-row_follows folder opens bytes none old new status h n = foretold folder row_words row_output row_messages 1 Error (row_foretold folder opens bytes none) (λ left. ⊤) old new status h n
+row_follows folder opens bytes none old new status h n = predicted folder row_words row_output row_messages 1 Error (row_predicted folder opens bytes none) (λ left. ⊤) old new status h n
 
 -- the same for what a call says of its devices
 module _ (folder : Folder) (opens : folder.opens (codes "h") ≡ Some true) (bytes : folder.bytes (codes "h") ≡ Some row_text) (none : folder.opens (codes "missing") ≡ Some false) where
   pub row_given : (given : List (Option Text) → Type 0) (out messages new_out new_messages : Writer) (before after counted : ℕ) (steps new_steps : Steps) (status : ℕ) (words : List Text) → before ≡ 0 → counted ≡ after → words ≡ row_words
       → CommandGives folder given (devices out messages before steps) (devices new_out new_messages after new_steps) status words → FailuresAre 1 (devices out messages 0 steps) (devices new_out new_messages counted new_steps)
-      → Wrote row_output row_messages Error (devices out messages 0 steps) (devices new_out new_messages counted new_steps) status ⊎ TellsMemory messages new_messages
+      → Wrote row_output row_messages Error (devices out messages 0 steps) (devices new_out new_messages counted new_steps) status ⊎ ReportsMemory messages new_messages
   row_given given out messages new_out new_messages before after counted steps new_steps status words at_first same_count same_words h counts =
       let of_words = subst (λ ws. CommandGives folder given (devices out messages before steps) (devices new_out new_messages after new_steps) status ws) same_words h in
       let from_none = subst (λ n. CommandGives folder given (devices out messages n steps) (devices new_out new_messages after new_steps) status row_words) at_first of_words in
       let so_counted = subst (λ n. CommandGives folder given (devices out messages 0 steps) (devices new_out new_messages n new_steps) status row_words) (sym same_count) from_none in
-      foretold folder row_words row_output row_messages 1 Error (row_foretold folder opens bytes none) given (devices out messages 0 steps) (devices new_out new_messages counted new_steps) status so_counted counts
+      predicted folder row_words row_output row_messages 1 Error (row_predicted folder opens bytes none) given (devices out messages 0 steps) (devices new_out new_messages counted new_steps) status so_counted counts

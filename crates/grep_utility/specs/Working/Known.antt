@@ -50,26 +50,26 @@ full_files sources = files_of sources (in_full sources)
 
 -- without `-q` and `-l`, known sources of which no more failures are met than there are sources
 -- that cannot be opened were all read in full
-abbrev pub CountTells : Options → Type 0
-CountTells options =
+abbrev pub CountDecides : Options → Type 0
+CountDecides options =
     (es : List Expression) (sources : List Source) (readings : List Reading) → options.quiet ≡ false →
     options.files_with_matches ≡ false → All IsKnown sources → AreReadings sources readings →
     FailuresMet es options sources readings (unopened sources) → readings ≡ in_full sources
 
 -- the last message that was written says that memory ran out
-abbrev pub TellsMemory : Writer → Writer → Type 0
-TellsMemory old new = (told : List Text) × TakesAll old new (told ++ out_of_memory ∷ [])
+abbrev pub ReportsMemory : Writer → Writer → Type 0
+ReportsMemory old new = (reported : List Text) × TakesAll old new (reported ++ out_of_memory ∷ [])
 
 -- this output and these messages were written, and the status is this
 pub record Wrote (output messages : List Text) (found : Status) (old new : Devices)
     (status : ℕ) : Type 0 where
   pub wrote : TakesAll old.out new.out output
-  pub told : TakesAll old.messages new.messages messages
+  pub reported : TakesAll old.messages new.messages messages
   pub is_status : status ≡ status_number found
 
 -- the words ask for a search of known files, without `-q`, `-l` and `-f`, of which this many cannot
 -- be opened; where no read fails, this is what they are to write, and how the search ends
-pub record Foretells (folder : Folder) (words : List Text) (missing : ℕ)
+pub record Predicts (folder : Folder) (words : List Text) (missing : ℕ)
     (output messages : List Text) (found : Status) : Type 0 where
   pub asked : Asked
   pub is_read : read words ≡ Ok asked
@@ -103,13 +103,13 @@ pub record FailuresAre (failures : ℕ) (old new : Devices) : Type 0 where
 abbrev pub WritesJust : ℕ → List Text → List Text → Status → Devices → Devices → ℕ → Type 0
 WritesJust failures output messages found old new status =
     FailuresAre failures old new →
-    Wrote output messages found old new status ⊎ TellsMemory old.messages new.messages
+    Wrote output messages found old new status ⊎ ReportsMemory old.messages new.messages
 
 -- a command of which all is foretold writes just that, where as many failures of files are counted
 -- as there are files that cannot be opened, and no write fails, unless memory runs out
-abbrev pub WordsTell : Type 0
-WordsTell =
+abbrev pub WordsDecide : Type 0
+WordsDecide =
     (folder : Folder) (words output messages : List Text) (missing : ℕ) (found : Status) →
-    Foretells folder words missing output messages found → (old new : Devices) (status : ℕ) →
+    Predicts folder words missing output messages found → (old new : Devices) (status : ℕ) →
     CommandGives folder (λ left. ⊤) old new status words →
     WritesJust missing output messages found old new status

@@ -15,7 +15,7 @@ use Rattle.clap.specs.declared.error.kind.ErrorKind.TheVariants.{DisplayHelp}
 use Rattle.clap.specs.declared.builder.value_parser.ValueParser.TheVariants.{Unsigned}
 use Rattle.clap.proofs.OnLiterals.{clap_on_literals}
 use Rattle.clap.proofs.ValueTestLemmas.{Accepts-accepts}
-use Rattle.occur.specs.Words.{AsksForHelp, IsChosenBy, Reads, TellsAmong, form_words, is_no_option, is_operand, occur_app}
+use Rattle.occur.specs.Words.{AsksForHelp, IsChosenBy, Reads, ExplainsAmong, form_words, is_no_option, is_operand, occur_app}
 use Rattle.occur.specs.declared.words.Request.{Request}
 use Rattle.occur.specs.declared.words.OccurFault.{OccurFault}
 use Rattle.occur.specs.declared.words.OccurFault.TheVariants as fault
@@ -209,33 +209,33 @@ refused_number (Some number) k among = λ fits.
 
 -- words in one of the forms choose what they say
 pub reads_form : (words : List Text) (r : Result Request OccurFault) → IfOk r (IsChosenBy (matches_of occur_app words))
-    → TellsAmong (fault_of occur_app words) r → (name : Text) (number script : Option Text) → words ≡ form_words name number script
+    → ExplainsAmong (fault_of occur_app words) r → (name : Text) (number script : Option Text) → words ≡ form_words name number script
     → is_no_option number ≡ true → is_no_option script ≡ true → Reads number script r
-reads_form words (Ok request) chosen tells name number script is d e =
+reads_form words (Ok request) chosen reported_too name number script is d e =
     let found : one_of (codes "states") (matches_of occur_app words) ≡ Some (unwrap_or number (codes "256")) =
     ap (λ ws. one_of (codes "states") (matches_of occur_app ws)) is ∙ form_states name number script d e in
     let same : chosen.number ≡ unwrap_or number (codes "256") = ap (λ o. unwrap_or o []) (sym chosen.has_number ∙ found) in (
       chosen.states ∙ ap (λ text. digits_value 10 (without_leading_plus text)) same ∙ number_value number,
       chosen.script ∙ ap (λ ws. first_of (codes "script") (matches_of occur_app ws)) is ∙ form_script name number script d e,
     )
-reads_form words (Err fault.Memory) chosen tells name number script is d e = tt
-reads_form words (Err (fault.Words error)) chosen tells name number script is d e =
+reads_form words (Err fault.Memory) chosen reported_too name number script is d e = tt
+reads_form words (Err (fault.Words error)) chosen reported_too name number script is d e =
     refused_number number (kind_of error)
-    (subst (IsAmong (kind_of error)) (ap (fault_of occur_app) is ∙ form_fault name number script d e) tells.1)
+    (subst (IsAmong (kind_of error)) (ap (fault_of occur_app) is ∙ form_fault name number script d e) reported_too.1)
 
 help_fault : (name : Text) → fault_of occur_app (name ∷ codes "--help" ∷ []) ≡ DisplayHelp ∷ []
 unfolding clap_on_literals
 help_fault name = refl
 
 -- `occur --help` asks for help
-pub reads_help : (words : List Text) (r : Result Request OccurFault) → TellsAmong (fault_of occur_app words) r → (name : Text)
+pub reads_help : (words : List Text) (r : Result Request OccurFault) → ExplainsAmong (fault_of occur_app words) r → (name : Text)
     → words ≡ name ∷ codes "--help" ∷ [] → AsksForHelp r
-reads_help words (Ok request) tells name is =
-    let none : ◌≡◌ {A = ℕ} 0 1 = ap length (sym tells ∙ ap (fault_of occur_app) is ∙ help_fault name) in
+reads_help words (Ok request) reported_too name is =
+    let none : ◌≡◌ {A = ℕ} 0 1 = ap length (sym reported_too ∙ ap (fault_of occur_app) is ∙ help_fault name) in
     absurd (omega arith)
-reads_help words (Err fault.Memory) tells name is = tt
-reads_help words (Err (fault.Words error)) tells name is =
-    elim (subst (IsAmong (kind_of error)) (ap (fault_of occur_app) is ∙ help_fault name) tells.1) [
+reads_help words (Err fault.Memory) reported_too name is = tt
+reads_help words (Err (fault.Words error)) reported_too name is =
+    elim (subst (IsAmong (kind_of error)) (ap (fault_of occur_app) is ∙ help_fault name) reported_too.1) [
       | inl same ↦ same
       | inr none ↦ absurd none
     ]

@@ -18,18 +18,18 @@ one_of_three false false true = (λ h. refl, λ h. inr (inr refl))
 one_of_three false false false = (λ h. elim h [ inl n ↦ n | inr m ↦ elim m [ inl n ↦ n | inr n ↦ n ] ], λ h. absurd (false≢true h))
 
 -- the tests of the searches
-pub tells_one : (a c : ℕ) → (c ≡ a) ↔ (is_byte a c ≡ true)
-tells_one a c = (eq-eqb c a, eqb-true c a)
+pub says_one : (a c : ℕ) → (c ≡ a) ↔ (is_byte a c ≡ true)
+says_one a c = (eq-eqb c a, eqb-true c a)
 
-pub tells_two : (a b c : ℕ) → ((c ≡ a) ⊎ (c ≡ b)) ↔ (is_byte2 a b c ≡ true)
-tells_two a b c =
+pub says_two : (a b c : ℕ) → ((c ≡ a) ⊎ (c ≡ b)) ↔ (is_byte2 a b c ≡ true)
+says_two a b c =
     let either = one_of_two (is_byte a c) (is_byte b c) in (
       λ h. either.0 (elim h [ inl x ↦ inl (eq-eqb c a x) | inr y ↦ inr (eq-eqb c b y) ]),
       λ h. elim (either.1 h) [ inl x ↦ inl (eqb-true c a x) | inr y ↦ inr (eqb-true c b y) ],
     )
 
-pub tells_three : (a b d c : ℕ) → ((c ≡ a) ⊎ (c ≡ b) ⊎ (c ≡ d)) ↔ (is_byte3 a b d c ≡ true)
-tells_three a b d c =
+pub says_three : (a b d c : ℕ) → ((c ≡ a) ⊎ (c ≡ b) ⊎ (c ≡ d)) ↔ (is_byte3 a b d c ≡ true)
+says_three a b d c =
     let any = one_of_three (is_byte a c) (is_byte b c) (is_byte d c) in (
       λ h. any.0 (elim h [ inl x ↦ inl (eq-eqb c a x) | inr m ↦ inr (elim m [ inl y ↦ inl (eq-eqb c b y) | inr z ↦ inr (eq-eqb c d z) ]) ]),
       λ h. elim (any.1 h) [ inl x ↦ inl (eqb-true c a x) | inr m ↦ inr (elim m [ inl y ↦ inl (eqb-true c b y) | inr z ↦ inr (eqb-true c d z) ]) ],

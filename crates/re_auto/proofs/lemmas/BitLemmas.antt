@@ -309,11 +309,11 @@ some_bit xs k small some =
     (k * 64 + trailing_zeros w64 (get_or xs k 0), (at_word xs k _ found.small).1 found.set)
 
 -- a set is empty exactly if all of its words are 0
-pub clear_told : (xs : List ℕ) (r : Bool) → ((k : ℕ) → get_or xs k 0 < 2 ^ 64) →
+pub clear_says : (xs : List ℕ) (r : Bool) → ((k : ℕ) → get_or xs k 0 < 2 ^ 64) →
     MatchBool r (AllWithin (λ x. x ≡ 0) xs 0 (length xs)) ((k : ℕ) × (k < length xs) × HoldsAt (λ x. x ≢ 0) xs k) →
     IsTrue r ↔ ((e : ℕ) → Has xs e → ⊥)
-clear_told xs true small each = (λ h. all_zero xs (λ k lt. each k 0 (omega arith) lt), λ none. refl)
-clear_told xs false small (k, lt, some) =
+clear_says xs true small each = (λ h. all_zero xs (λ k lt. each k 0 (omega arith) lt), λ none. refl)
+clear_says xs false small (k, lt, some) =
     (λ h. absurd (true≢false (sym h)), λ none. let (e, h) = some_bit xs k (small k) (some 0) in absurd (none e h))
 
 -- rows after a write to one of them

@@ -34,7 +34,7 @@ none_in_row table width p q none h =
     none (start * 64 + q) (rw (at, bit) (sym (ap (λ x. bit_at x (q % 64)) word) ∙ h))
 
 -- what was added to blank rows is all that the tables say
-pub tells : (e : Expression) (count : ℕ) (r0 r1 : Rows) (a : Ends) (classes : Classes) (marks : List Bool) (ranges : Vec WordRange Global) → count ≡ positions e → count ≤ most_positions → AreBlankRows count r0 → IsAddedOf e count r0 r1 a →
+pub reported_too : (e : Expression) (count : ℕ) (r0 r1 : Rows) (a : Ends) (classes : Classes) (marks : List Bool) (ranges : Vec WordRange Global) → count ≡ positions e → count ≤ most_positions → AreBlankRows count r0 → IsAddedOf e count r0 r1 a →
     AreClasses r1.takes.items r1.width classes →
     Marks marks (λ c. (q : ℕ) × Has a.first_inside.items q × Has (row_of r1.takes.items r1.width c) q) →
     CoverRows ranges.items r1.follow.items count r1.width →
@@ -52,7 +52,7 @@ pub tells : (e : Expression) (count : ℕ) (r0 r1 : Rows) (a : Ends) (classes : 
       empty = a.empty;
       beginnings = marks;
     })
-tells e count r0 r1 a classes marks ranges is few blank added classed meeting covered =
+reported_too e count r0 r1 a classes marks ranges is few blank added classed meeting covered =
     let begins : a.begins ≡ 0 = omega (arith, added.begins, is) in
     let part : Part = part_of e 0 in
     let adds : Adds part r0 r1 = subst (λ n. Adds (part_of e n) r0 r1) begins added.adds in

@@ -5,10 +5,10 @@ use Rattle.re_auto.specs.declared.mode.Mode.{Mode}
 use Rattle.re_auto.specs.Working.Positions.{Part, is_begin, is_end, Reaches, PartHolds, part_of}
 use Rattle.re_auto.specs.Working.Stepping.{MayBegin}
 use Rattle.re_syntax.specs.Working.BestStretches.{Least, IsLeast}
-use Rattle.re_auto.specs.Working.Starts.{StartsAfter, Brought, IsNextStarts, Told, IsMatched}
-use Rattle.re_auto.specs.Laws.{PassBegins, StartsStay, StartsTell, OnePassIsEnough, SpentIsOver}
+use Rattle.re_auto.specs.Working.Starts.{StartsAfter, Brought, IsNextStarts, Reported, IsMatched}
+use Rattle.re_auto.specs.Laws.{PassBegins, StartsStay, StartsDecide, OnePassIsEnough, SpentIsOver}
 use Rattle.re_auto.proofs.lemmas.Chains.{reaches_bounds, reaches_on, reaches_back}
-use Rattle.re_auto.proofs.lemmas.PositionsTell.{positions_tell}
+use Rattle.re_auto.proofs.lemmas.PositionsDecide.{positions_decide}
 use Rattle.re_syntax.proofs.lemmas.BestStretches.{next_or_before, best_so_far}
 
 -- a number of P is no less than the least one
@@ -57,23 +57,23 @@ pub starts_stay : StartsStay
 starts_stay e n = step_of_starts (part_of e n)
 
 -- the last positions say the least start
-pub starts_tell : StartsTell
-starts_tell e n mode from line j least told after is =
-    moved (Told (part_of e n) (is_end line j) least) (λ i. IsMatched e mode from line i j) to back told is
+pub starts_decide : StartsDecide
+starts_decide e n mode from line j least reported after is =
+    moved (Reported (part_of e n) (is_end line j) least) (λ i. IsMatched e mode from line i j) to back reported is
   where
-    to : (i : ℕ) → Told (part_of e n) (is_end line j) least i → IsMatched e mode from line i j
+    to : (i : ℕ) → Reported (part_of e n) (is_end line j) least i → IsMatched e mode from line i j
     to i (q, same, l) =
         let known = (the_least _ (least q) i (after q) same).0 in
-        (known.0, (reaches_bounds (part_of e n) line i j q known.2).0, known.1, (positions_tell e n line i j).1 (inr (q, known.2, l)))
+        (known.0, (reaches_bounds (part_of e n) line i j q known.2).0, known.1, (positions_decide e n line i j).1 (inr (q, known.2, l)))
 
-    chain : (k : ℕ) → (from ≤ k) × (k < j) × MayBegin mode (is_begin k) → PartHolds (part_of e n) line k j → (m : ℕ) × (m ≤ k) × Told (part_of e n) (is_end line j) least m
+    chain : (k : ℕ) → (from ≤ k) × (k < j) × MayBegin mode (is_begin k) → PartHolds (part_of e n) line k j → (m : ℕ) × (m ≤ k) × Reported (part_of e n) (is_end line j) least m
     chain k (le, lt, b) (inl (same, empty)) = absurd (omega arith)
     chain k (le, lt, b) (inr (q, r, l)) =
         let (m, same, small, known) = at_least _ (least q) (after q) k (le, b, r) in
         (m, small, (q, same, l))
 
-    back : (k : ℕ) → IsMatched e mode from line k j → (m : ℕ) × (m ≤ k) × Told (part_of e n) (is_end line j) least m
-    back k (le, lt, b, h) = chain k (le, lt, b) ((positions_tell e n line k j).0 h)
+    back : (k : ℕ) → IsMatched e mode from line k j → (m : ℕ) × (m ≤ k) × Reported (part_of e n) (is_end line j) least m
+    back k (le, lt, b, h) = chain k (le, lt, b) ((positions_decide e n line k j).0 h)
 
 -- so it is enough for the matched stretches
 pub one_pass_is_enough : OnePassIsEnough
@@ -95,7 +95,7 @@ passes part line i j (suc k) q lt le (t, inr (p, r, w)) =
 
 -- once each carried start is after s, no stretch that begins at s or before ends here or later
 pub spent_is_over : SpentIsOver
-spent_is_over e n mode from line j least s after spent lt i k le far m = chain ((positions_tell e n line i k).0 m.3)
+spent_is_over e n mode from line j least s after spent lt i k le far m = chain ((positions_decide e n line i k).0 m.3)
   where
     chain : PartHolds (part_of e n) line i k → ⊥
     chain (inl (same, empty)) = omega (arith, m.1)

@@ -70,12 +70,12 @@ module _ (part : ℕ → Part) (size : ℕ) (numbered : (n : ℕ) → IsNumbered
   -- `turns` copies and a rest have the range of all of them
   pub copies_before_numbered : (rest : ℕ → Part) (more : ℕ) → ((n : ℕ) → IsNumbered (rest n) n (n + more)) →
       (turns from : ℕ) → IsNumbered (copies_before part size turns rest from) from (from + (turns * size + more))
-  copies_before_numbered rest more behind zero from = let e : 0 * size + more ≡ more = omega arith in rw e (behind from)
-  copies_before_numbered rest more behind (suc turns) from =
+  copies_before_numbered rest more beyond zero from = let e : 0 * size + more ≡ more = omega arith in rw e (beyond from)
+  copies_before_numbered rest more beyond (suc turns) from =
       let e : from + (suc turns * size + more) ≡ from + size + (turns * size + more) = omega arith in
       rw e
       (in_turn_numbered (part from) (copies_before part size turns rest (from + size)) from (from + size) (from + size + (turns * size + more))
-      (numbered from) (copies_before_numbered rest more behind turns (from + size)) (omega arith) (omega arith))
+      (numbered from) (copies_before_numbered rest more beyond turns (from + size)) (omega arith) (omega arith))
 
   -- up to `turns` copies have the range of that number of copies
   pub up_to_numbered : (turns from : ℕ) → IsNumbered (up_to part size turns from) from (from + turns * size)

@@ -206,16 +206,16 @@ pub adds_optional : (f : Part) (r0 r1 : Rows) → Adds f r0 r1 → Adds (optiona
 adds_optional f r0 r1 fa = record { width = fa.width; follow_length = fa.follow_length; takes_length = fa.takes_length; follow = fa.follow; takes = fa.takes }
 
 -- the room stays, also for fewer numbers
-pub room_kept : (part : Part) (behind below : ℕ) (old new : Rows) → HasRoom behind old → Adds part old new → below ≤ behind → HasRoom below new
-room_kept part behind below old new room adds le = record {
+pub room_kept : (part : Part) (beyond below : ℕ) (old new : Rows) → HasRoom beyond old → Adds part old new → below ≤ beyond → HasRoom below new
+room_kept part beyond below old new room adds le = record {
   few = rw adds.width room.few;
   numbers = rw adds.width (omega (arith, room.numbers));
   follow = rw (adds.width, adds.follow_length) (omega (arith, room.follow, mul-le-mul_right old.width le));
   takes = rw (adds.width, adds.takes_length) room.takes;
 }
 
--- the positions of a part before `behind` have rows
-pub has_rows : (part : Part) (from to behind : ℕ) (rows : Rows) (a : Ends) → IsNumbered part from to → to ≤ behind → HasRoom behind rows → Shows part rows.width a → HasRows (Has a.last_inside.items) rows
-has_rows part from to behind rows a numbered le room shows p h =
-    let lt : suc p ≤ behind = omega (arith, numbered.last false p ((shows.last_inside.1 p).0 h)) in
+-- the positions of a part before `beyond` have rows
+pub has_rows : (part : Part) (from to beyond : ℕ) (rows : Rows) (a : Ends) → IsNumbered part from to → to ≤ beyond → HasRoom beyond rows → Shows part rows.width a → HasRows (Has a.last_inside.items) rows
+has_rows part from to beyond rows a numbered le room shows p h =
+    let lt : suc p ≤ beyond = omega (arith, numbered.last false p ((shows.last_inside.1 p).0 h)) in
     omega (arith, room.follow, mul-le-mul_right rows.width lt)

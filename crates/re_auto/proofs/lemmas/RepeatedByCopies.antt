@@ -26,8 +26,8 @@ turns_cut R (suc a) b i j x =
     let (k, u, v) = turns_cut R a b l j y in
     (k, (l, r, u), v)
 
-module _ (R : ℕ → ℕ → Type 0) (part : ℕ → Part) (size : ℕ) (line : Text) (tells : (n i j : ℕ) → R i j ↔ PartHolds (part n) line i j) (numbered : (n : ℕ) → IsNumbered (part n) n (n + size)) where
-  module _ (rest : ℕ → Part) (more : ℕ) (behind : (n : ℕ) → IsNumbered (rest n) n (n + more)) (S : ℕ → ℕ → Type 0) where
+module _ (R : ℕ → ℕ → Type 0) (part : ℕ → Part) (size : ℕ) (line : Text) (reported_too : (n i j : ℕ) → R i j ↔ PartHolds (part n) line i j) (numbered : (n : ℕ) → IsNumbered (part n) n (n + size)) where
+  module _ (rest : ℕ → Part) (more : ℕ) (beyond : (n : ℕ) → IsNumbered (rest n) n (n + more)) (S : ℕ → ℕ → Type 0) where
     -- where there is a number of turns and then the rest holds, that number of copies before the
     -- rest holds
     copies_give : ((n i j : ℕ) → S i j → PartHolds (rest n) line i j) → (turns from i k j : ℕ) → Turns R turns i k → S k j →
@@ -35,7 +35,7 @@ module _ (R : ℕ → ℕ → Type 0) (part : ℕ → Part) (size : ℕ) (line :
     copies_give give zero from i k j e s = rw e (give from k j s)
     copies_give give (suc turns) from i k j (l, r, t) s =
         joint (part from) (copies_before part size turns rest (from + size)) line i l j
-        ((tells from i l).0 r) (copies_give give turns (from + size) l k j t s)
+        ((reported_too from i l).0 r) (copies_give give turns (from + size) l k j t s)
 
     -- copies before a rest hold nowhere else
     copies_need : ((n i j : ℕ) → PartHolds (rest n) line i j → S i j) → (turns from i j : ℕ) → PartHolds (copies_before part size turns rest from) line i j →
@@ -43,9 +43,9 @@ module _ (R : ℕ → ℕ → Type 0) (part : ℕ → Part) (size : ℕ) (line :
     copies_need need zero from i j h = (i, refl, need from i j h)
     copies_need need (suc turns) from i j h =
         let (l, r, t) = cut (part from) (copies_before part size turns rest (from + size)) from (from + size) (from + size + (turns * size + more))
-        (numbered from) (copies_before_numbered part size numbered rest more behind turns (from + size)) line i j h in
+        (numbered from) (copies_before_numbered part size numbered rest more beyond turns (from + size)) line i j h in
         let (k, u, s) = copies_need need turns (from + size) l j t in
-        (k, (l, (tells from i l).1 r, u), s)
+        (k, (l, (reported_too from i l).1 r, u), s)
 
   -- turns, up to a number
   abbrev UpTo : ℕ → ℕ → ℕ → Type 0
@@ -58,7 +58,7 @@ module _ (R : ℕ → ℕ → Type 0) (part : ℕ → Part) (size : ℕ) (line :
   up_to_give (suc most) from i j (zero, le, e) = optional_of (in_turn (part from) (up_to part size most (from + size))) line i j (inl e)
   up_to_give (suc most) from i j (suc turns, le, (k, r, t)) =
       optional_of (in_turn (part from) (up_to part size most (from + size))) line i j
-      (inr (joint (part from) (up_to part size most (from + size)) line i k j ((tells from i k).0 r)
+      (inr (joint (part from) (up_to part size most (from + size)) line i k j ((reported_too from i k).0 r)
       (up_to_give most (from + size) k j (turns, omega arith, t))))
 
   -- up to n copies hold nowhere else
@@ -72,7 +72,7 @@ module _ (R : ℕ → ℕ → Type 0) (part : ℕ → Part) (size : ℕ) (line :
             let (k, r, rest) = cut (part from) (up_to part size most (from + size)) from (from + size) (from + size + most * size)
             (numbered from) (up_to_numbered part size numbered most (from + size)) line i j w in
             let (turns, le, more) = up_to_need most (from + size) k j rest in
-            (suc turns, omega (arith, le), (k, (tells from i k).1 r, more))
+            (suc turns, omega (arith, le), (k, (reported_too from i k).1 r, more))
       ]
 
   -- one turn or more
@@ -82,13 +82,13 @@ module _ (R : ℕ → ℕ → Type 0) (part : ℕ → Part) (size : ℕ) (line :
   -- where there is one turn or more, a copy again and again holds
   again_give : (from i j : ℕ) → OneOrMore i j → PartHolds (again (part from)) line i j
   again_give from i j (turns, t) =
-      of_turns (part from) line turns i j (turns_map R (PartHolds (part from) line) (λ i j. (tells from i j).0) (suc turns) i j t)
+      of_turns (part from) line turns i j (turns_map R (PartHolds (part from) line) (λ i j. (reported_too from i j).0) (suc turns) i j t)
 
   -- a copy again and again holds nowhere else
   again_need : (from i j : ℕ) → PartHolds (again (part from)) line i j → OneOrMore i j
   again_need from i j h =
       let (turns, t) = turns_of (part from) line i j h in
-      (turns, turns_map (PartHolds (part from) line) R (λ i j. (tells from i j).1) (suc turns) i j t)
+      (turns, turns_map (PartHolds (part from) line) R (λ i j. (reported_too from i j).1) (suc turns) i j t)
 
   abbrev Repeated : ℕ → Option ℕ → ℕ → ℕ → Type 0
   Repeated least most i j = (n : ℕ) × IsWithin least most n × Turns R n i j

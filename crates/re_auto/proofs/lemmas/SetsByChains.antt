@@ -7,7 +7,7 @@ use Rattle.re_auto.specs.declared.mode.Mode.{Mode}
 use Rattle.re_auto.specs.Working.Positions.{Part, is_begin, is_end, Reaches, PartHolds, part_of}
 use Rattle.re_auto.specs.Working.Stepping.{MayBegin, IsAfter, IsNext, Accepts}
 use Rattle.re_auto.proofs.lemmas.Chains.{reaches_on, reaches_back}
-use Rattle.re_auto.proofs.lemmas.PositionsTell.{positions_tell}
+use Rattle.re_auto.proofs.lemmas.PositionsDecide.{positions_decide}
 
 -- no position is reached at the line's first place
 pub none_is_right : (part : Part) (mode : Mode) (line : Text) (S : ℕ → Type 0) → ((q : ℕ) → ¬ S q) → IsAfter part mode line 0 S
@@ -34,16 +34,16 @@ pub accept_is_right : (e : Expression) (n : ℕ) (mode : Mode) (line : Text) (j 
 accept_is_right e n mode line j S after = (to, back)
   where
     to : Accepts (part_of e n) mode (is_begin j) (is_end line j) S → (i : ℕ) × MayBegin mode (is_begin i) × Holds line e i j
-    to (inl w) = (j, w.0, (positions_tell e n line j j).1 (inl (refl, w.1)))
-    to (inr (q, s, l)) = let (i, b, r) = (after q).0 s in (i, b, (positions_tell e n line i j).1 (inr (q, r, l)))
+    to (inl w) = (j, w.0, (positions_decide e n line j j).1 (inl (refl, w.1)))
+    to (inr (q, s, l)) = let (i, b, r) = (after q).0 s in (i, b, (positions_decide e n line i j).1 (inr (q, r, l)))
 
-    told : (i : ℕ) → MayBegin mode (is_begin i) → PartHolds (part_of e n) line i j → Accepts (part_of e n) mode (is_begin j) (is_end line j) S
-    told i b (inl (same, empty)) =
+    reported : (i : ℕ) → MayBegin mode (is_begin i) → PartHolds (part_of e n) line i j → Accepts (part_of e n) mode (is_begin j) (is_end line j) S
+    reported i b (inl (same, empty)) =
         inl (subst (λ k. MayBegin mode (is_begin k)) same b, subst (λ k. (part_of e n).empty (is_begin k) (is_end line k)) same empty)
-    told i b (inr (q, r, l)) = inr (q, (after q).1 (i, b, r), l)
+    reported i b (inr (q, r, l)) = inr (q, (after q).1 (i, b, r), l)
 
     back : ((i : ℕ) × MayBegin mode (is_begin i) × Holds line e i j) → Accepts (part_of e n) mode (is_begin j) (is_end line j) S
-    back (i, b, h) = told i b ((positions_tell e n line i j).0 h)
+    back (i, b, h) = reported i b ((positions_decide e n line i j).0 h)
 
 module _ (part : Part) (w rest : Text) where
   -- a set that is right after a front is right there on each line that begins with it

@@ -52,8 +52,8 @@ accepted part mode begin end false false empty words l m e =
 pub matched_by : (e : Expression) (mode : Mode) (result at_end : Bool) (set : StateSet) → (IsTrue result ↔ IsAccepting e mode set at_end) →
     (line : Text) (j : ℕ) → StandsAt e mode line j set → at_end ≡ is_end line j → IsTrue result ↔ ((i : ℕ) × MayBegin mode (is_begin i) × Holds line e i j)
 unfolding StandsAt IsAccepting
-matched_by e mode result at_end set told line j stands ends =
-    let here : IsTrue result ↔ Accepts (part_of e 0) mode (is_begin j) (is_end line j) (Has set.words.items) = rw (stands.0, ends) at told in
+matched_by e mode result at_end set reported line j stands ends =
+    let here : IsTrue result ↔ Accepts (part_of e 0) mode (is_begin j) (is_end line j) (Has set.words.items) = rw (stands.0, ends) at reported in
     let right = accept_is_right e 0 mode line j (Has set.words.items) stands.1 in
     (λ h. right.0 (here.0 h), λ h. here.1 (right.1 h))
 

@@ -11,10 +11,10 @@ use Rattle.re_auto.specs.declared.step.starts.Starts.{Starts}
 use Rattle.re_auto.specs.Working.Bits.{Has}
 use Rattle.re_auto.specs.Working.Positions.{part_of, is_begin, is_end}
 use Rattle.re_syntax.specs.Working.BestStretches.{Least}
-use Rattle.re_auto.specs.Working.Starts.{Brought, IsNextStarts, Told, IsMatched, IsSpent}
+use Rattle.re_auto.specs.Working.Starts.{Brought, IsNextStarts, Reported, IsMatched, IsSpent}
 use Rattle.re_auto.specs.Working.StartSets.{least_of, Carries, Brings, AtMost, StartsAt, AreNext}
 use Rattle.re_auto.specs.Working.Stepping.{MayBegin}
-use Rattle.re_auto.proofs.lemmas.LeastStarts.{pass_begins, starts_stay, starts_tell, spent_is_over}
+use Rattle.re_auto.proofs.lemmas.LeastStarts.{pass_begins, starts_stay, starts_decide, spent_is_over}
 
 -- what one position's row adds
 pub one_row : (A B Row Follow Taken Low : Type 0) → (Row ↔ Follow) → (B ↔ (A ⊎ (Row × Taken × Low))) → B ↔ (A ⊎ (Low × Follow × Taken))
@@ -136,15 +136,15 @@ starts_next e mode byte starts into next from line j is stands =
     (next.0 ∙ ap suc stands.0, omega (arith, stands.1), starts_stay e 0 mode from line j (least_of starts) (least_of into) stands.2 stands.1 lt here)
 
 -- the least start among the last positions is that of the matched stretches that end here
-pub told_least : (e : Expression) (at_end : Bool) (starts : Starts) (row : List ℕ) (o : Option ℕ) → ((q : ℕ) → Has row q ↔ (part_of e 0).last at_end q) →
+pub says_least : (e : Expression) (at_end : Bool) (starts : Starts) (row : List ℕ) (o : Option ℕ) → ((q : ℕ) → Has row q ↔ (part_of e 0).last at_end q) →
     ((m : ℕ) → AtMost o m ↔ ((q : ℕ) × Has starts.held.items q × Has row q × (slice_index starts.starts.items q ≤ m))) →
     (mode : Mode) (from : ℕ) (line : Text) (j : ℕ) → StartsAt e mode from line j starts → at_end ≡ is_end line j → Least (λ i. IsMatched e mode from line i j) o
 unfolding StartsAt
-told_least e at_end starts row o last bounds mode from line j stands ends =
-    starts_tell e 0 mode from line j (least_of starts) o stands.2 (subst (λ b. Least (Told (part_of e 0) b (least_of starts)) o) ends told)
+says_least e at_end starts row o last bounds mode from line j stands ends =
+    starts_decide e 0 mode from line j (least_of starts) o stands.2 (subst (λ b. Least (Reported (part_of e 0) b (least_of starts)) o) ends reported)
   where
-    told : Least (Told (part_of e 0) at_end (least_of starts)) o
-    told = least_by_bounds (Told (part_of e 0) at_end (least_of starts)) o (λ m. (
+    reported : Least (Reported (part_of e 0) at_end (least_of starts)) o
+    reported = least_by_bounds (Reported (part_of e 0) at_end (least_of starts)) o (λ m. (
       λ at. let (q, held, in_row, le) = (bounds m).0 at in (slice_index starts.starts.items q, (q, least_some starts q held, (last q).0 in_row), le),
       λ (i, (q, is, l), le). let (held, same) = held_of starts q i is in (bounds m).1 (q, held, (last q).1 l, omega arith),
     ))
@@ -164,12 +164,12 @@ spent_by starts o s bounds = (to, back)
     back : IsSpent (least_of starts) s → AtMost o s → ⊥
     back spent at =
         let (q, held, same, le) = (bounds s).0 at in
-        let behind : s < slice_index starts.starts.items q = spent q _ (least_some starts q held) in
+        let beyond : s < slice_index starts.starts.items q = spent q _ (least_some starts q held) in
         omega arith
 
 -- the test of a least start
 pub spent_some : (P : Type 0) (least s : ℕ) → ((least ≤ s → ⊥) ↔ P) → IsTrue (nat_lt s least) ↔ P
-spent_some P least s told = (λ h. told.0 (λ le. let lt = ltb-true s least h in omega arith), λ p. true_from_ne_false (nat_lt s least) (λ off. told.1 p (ltb-false s least off)))
+spent_some P least s reported = (λ h. reported.0 (λ le. let lt = ltb-true s least h in omega arith), λ p. true_from_ne_false (nat_lt s least) (λ off. reported.1 p (ltb-false s least off)))
 
 -- where each start is after s, the pass is over
 pub over_by : (starts : Starts) (s : ℕ) → IsSpent (least_of starts) s → (e : Expression) (mode : Mode) (from : ℕ) (line : Text) (j : ℕ) → StartsAt e mode from line j starts →

@@ -35,8 +35,8 @@ module _ (part : ℕ → Part) (size : ℕ) (b z : Bool) (anywhere : (m n : ℕ)
 
   -- copies that may be empty and a rest that may be empty are empty together
   copies_empty : (rest : ℕ → Part) → ((n : ℕ) → (rest n).empty b z) → (n turns from : ℕ) → (part n).empty b z → (copies_before part size turns rest from).empty b z
-  copies_empty rest behind n zero from h = behind from
-  copies_empty rest behind n (suc turns) from h = (anywhere n from h, copies_empty rest behind n turns (from + size) h)
+  copies_empty rest beyond n zero from h = beyond from
+  copies_empty rest beyond n (suc turns) from h = (anywhere n from h, copies_empty rest beyond n turns (from + size) h)
 
   abbrev Between : ℕ → ℕ → ℕ → Part
   Between least most from = copies_before part size least (up_to part size (most - least)) from

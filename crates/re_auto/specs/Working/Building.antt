@@ -12,7 +12,7 @@ use Rattle.re_auto.specs.declared.tables.Empty.{Empty}
 use Rattle.re_auto.specs.Working.Bits.{Has, row_of, Are}
 use Rattle.re_auto.specs.Working.Positions.{Part, without_positions, one_position, again}
 use Rattle.re_auto.specs.Working.Positions.{copies_before, up_to, part_of}
-use Rattle.re_auto.specs.Working.Tables.{TellsEmpty, most_words, words_for}
+use Rattle.re_auto.specs.Working.Tables.{SaysEmpty, most_words, words_for}
 
 -- the words are the set, and their number is `width`
 abbrev pub IsSet : (ℕ → Type 0) → ℕ → Vec ℕ Global → Type 0
@@ -24,7 +24,7 @@ pub record Shows (part : Part) (width : ℕ) (ends : Ends) : Type 0 where
   pub first_inside : Are ends.first_inside.items (part.first false) width
   pub last_at_end : Are ends.last_at_end.items (part.last true) width
   pub last_inside : Are ends.last_inside.items (part.last false) width
-  pub empty : TellsEmpty part ends.empty
+  pub empty : SaysEmpty part ends.empty
 
 -- the rows have what they had, and what the part says of its positions
 pub record Adds (part : Part) (old new : Rows) : Type 0 where
@@ -38,17 +38,17 @@ pub record Adds (part : Part) (old new : Rows) : Type 0 where
       Has (row_of new.takes.items old.width c) q ↔
       (Has (row_of old.takes.items old.width c) q ⊎ part.takes q c)
 
--- there are rows for each number before `behind`, and rows for each byte
-pub record HasRoom (behind : ℕ) (rows : Rows) : Type 0 where
+-- there are rows for each number before `beyond`, and rows for each byte
+pub record HasRoom (beyond : ℕ) (rows : Rows) : Type 0 where
   pub few : rows.width ≤ most_words
-  pub numbers : behind ≤ rows.width * 64
-  pub follow : behind * rows.width ≤ length rows.follow.items
+  pub numbers : beyond ≤ rows.width * 64
+  pub follow : beyond * rows.width ≤ length rows.follow.items
   pub takes : length rows.takes.items ≡ 256 * rows.width
 
--- a part of `size` positions, the last of them before `behind`, was added to the rows, and these
+-- a part of `size` positions, the last of them before `beyond`, was added to the rows, and these
 -- are its ends
-pub record IsAdded (part : ℕ → Part) (size behind : ℕ) (old new : Rows) (ends : Ends) : Type 0 where
-  pub begins : ends.begins + size ≡ behind
+pub record IsAdded (part : ℕ → Part) (size beyond : ℕ) (old new : Rows) (ends : Ends) : Type 0 where
+  pub begins : ends.begins + size ≡ beyond
   pub shows : Shows (part ends.begins) old.width ends
   pub adds : Adds (part ends.begins) old new
 
@@ -117,7 +117,7 @@ wanted_position set wanted n = one_position n (Wanted set wanted)
 
 -- the expression was added
 abbrev pub IsAddedOf : Expression → ℕ → Rows → Rows → Ends → Type 0
-IsAddedOf e behind old new ends = IsAdded (part_of e) (positions e) behind old new ends
+IsAddedOf e beyond old new ends = IsAdded (part_of e) (positions e) beyond old new ends
 
 -- there is a row for each member of the set
 abbrev pub HasRows : (ℕ → Type 0) → Rows → Type 0
@@ -136,27 +136,27 @@ tail_copies (Some turns) = turns
 
 -- `turns` copies of the expression and such a tail were added
 abbrev pub AreTurns : Expression → ℕ → Option ℕ → ℕ → Rows → Rows → Ends → Type 0
-AreTurns e turns tail behind old new ends =
+AreTurns e turns tail beyond old new ends =
     IsAdded (copies_before (part_of e) (positions e) turns (tail_of (part_of e) (positions e) tail))
-    (turns * positions e + tail_copies tail * positions e) behind old new ends
+    (turns * positions e + tail_copies tail * positions e) beyond old new ends
 
 -- up to `turns` copies of the expression were added
 abbrev pub AreUpTo : Expression → ℕ → ℕ → Rows → Rows → Ends → Type 0
-AreUpTo e turns behind old new ends =
-    IsAdded (up_to (part_of e) (positions e) turns) (turns * positions e) behind old new ends
+AreUpTo e turns beyond old new ends =
+    IsAdded (up_to (part_of e) (positions e) turns) (turns * positions e) beyond old new ends
 
 -- such a tail was added
 abbrev pub IsTail : Expression → Option ℕ → ℕ → Rows → Rows → Ends → Type 0
-IsTail e tail behind old new ends =
-    IsAdded (tail_of (part_of e) (positions e) tail) (tail_copies tail * positions e) behind old new
+IsTail e tail beyond old new ends =
+    IsAdded (tail_of (part_of e) (positions e) tail) (tail_copies tail * positions e) beyond old new
     ends
 
 -- an expression without positions was added, as if repeated at least `least` times, with any upper
 -- bound that is not below
 abbrev pub IsOnce : Expression → ℕ → ℕ → Rows → Rows → Ends → Type 0
-IsOnce e least behind old new ends =
+IsOnce e least beyond old new ends =
     (most : Option ℕ) → IfSome most (λ top. least ≤ top) →
-    IsAddedOf (repeat e least most) behind old new ends
+    IsAddedOf (repeat e least most) beyond old new ends
 
 -- rows without members, for `count` positions
 pub record AreBlankRows (count : ℕ) (rows : Rows) : Type 0 where

@@ -29,8 +29,8 @@ abbrev pub IsNextStarts : Part → Mode → ℕ → (ℕ → Option ℕ) → ℕ
 IsNextStarts part mode j least c next = (q : ℕ) → Least (Brought part mode j least c q) (next q)
 
 -- the starts of the matched stretches that end here, as the positions say
-abbrev pub Told : Part → Bool → (ℕ → Option ℕ) → ℕ → Type 0
-Told part end least i = (q : ℕ) × (least q ≡ Some i) × part.last end q
+abbrev pub Reported : Part → Bool → (ℕ → Option ℕ) → ℕ → Type 0
+Reported part end least i = (q : ℕ) × (least q ≡ Some i) × part.last end q
 
 -- a matched stretch of the mode that is not empty and begins at `from` or later
 abbrev pub IsMatched : Expression → Mode → ℕ → Text → ℕ → ℕ → Type 0

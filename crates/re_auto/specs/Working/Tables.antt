@@ -34,14 +34,14 @@ Marks marks S =
     (length marks ≡ 256) × ((c : ℕ) → c < 256 → IsTrue (slice_index_or marks c false) ↔ S c)
 
 -- the four answers on the empty stretch
-pub record TellsEmpty (part : Part) (empty : Empty) : Type 0 where
+pub record SaysEmpty (part : Part) (empty : Empty) : Type 0 where
   pub on_empty_line : IsTrue empty.on_empty_line ↔ part.empty true true
   pub at_begin : IsTrue empty.at_begin ↔ part.empty true false
   pub at_end : IsTrue empty.at_end ↔ part.empty false true
   pub inside : IsTrue empty.inside ↔ part.empty false false
 
 -- each byte's class has a row, the positions that take the byte
-pub record TellsTakes (part : Part) (tables : Tables) : Type 0 where
+pub record SaysTakes (part : Part) (tables : Tables) : Type 0 where
   pub classes : length tables.class_of.items ≡ 256
   pub within : (c : ℕ) → c < 256 →
       slice_index tables.class_of.items c * tables.width + tables.width ≤ length tables.takes.items
@@ -54,14 +54,14 @@ pub record AreTablesOf (e : Expression) (tables : Tables) : Type 0 where
   pub size : tables.size ≡ positions e
   pub width : tables.width ≡ words_for (positions e)
   pub few : positions e ≤ most_positions
-  pub taken : TellsTakes (part_of e 0) tables
+  pub taken : SaysTakes (part_of e 0) tables
   pub follow : RowsAre tables.follow.items (part_of e 0).follow (positions e) tables.width
   pub ranges : CoverRows tables.ranges.items tables.follow.items (positions e) tables.width
   pub first_at_begin : Are tables.first_at_begin.items ((part_of e 0).first true) tables.width
   pub first_inside : Are tables.first_inside.items ((part_of e 0).first false) tables.width
   pub last_at_end : Are tables.last_at_end.items ((part_of e 0).last true) tables.width
   pub last_inside : Are tables.last_inside.items ((part_of e 0).last false) tables.width
-  pub empty : TellsEmpty (part_of e 0) tables.empty
+  pub empty : SaysEmpty (part_of e 0) tables.empty
   pub beginnings : Marks tables.beginnings (CanBegin (part_of e 0))
 
 -- what a refusal says of the number of positions: too large exactly where it is above the limit

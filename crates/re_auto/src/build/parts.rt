@@ -14,30 +14,30 @@ use std::alloc::{AllocError, Global};
 
 impl Rows {
     /// Adds the expression to the rows and returns its ends. Its positions are the last before the
-    /// number `behind`.
+    /// number `beyond`.
     #[cycle(add)]
-    pub fn add(&mut self, alloc: Global, tree: &Tree, behind: usize) -> Result<Ends, AllocError>
-        requires fits { positions (expression_of tree.now) ≤ behind }
-        requires room { HasRoom behind self.old }
-        ensures { IfOk result (IsAddedOf (expression_of tree.now) behind self.old self.new) }
+    pub fn add(&mut self, alloc: Global, tree: &Tree, beyond: usize) -> Result<Ends, AllocError>
+        requires fits { positions (expression_of tree.now) ≤ beyond }
+        requires room { HasRoom beyond self.old }
+        ensures { IfOk result (IsAddedOf (expression_of tree.now) beyond self.old self.new) }
     {
         match tree {
-            Tree::Empty => Ends::blank(alloc, self.width, behind, Empty::anywhere()),
-            Tree::Begin => Ends::blank(alloc, self.width, behind, Empty::at_begin()),
-            Tree::End => Ends::blank(alloc, self.width, behind, Empty::at_end()),
-            Tree::Set(set) => self.add_position(alloc, set, true, behind),
-            Tree::Not(set) => self.add_position(alloc, set, false, behind),
-            Tree::Cat(members) => self.add_sequence(alloc, members, behind),
-            Tree::Alt(members) => self.add_choice(alloc, members, behind),
+            Tree::Empty => Ends::blank(alloc, self.width, beyond, Empty::anywhere()),
+            Tree::Begin => Ends::blank(alloc, self.width, beyond, Empty::at_begin()),
+            Tree::End => Ends::blank(alloc, self.width, beyond, Empty::at_end()),
+            Tree::Set(set) => self.add_position(alloc, set, true, beyond),
+            Tree::Not(set) => self.add_position(alloc, set, false, beyond),
+            Tree::Cat(members) => self.add_sequence(alloc, members, beyond),
+            Tree::Alt(members) => self.add_choice(alloc, members, beyond),
             Tree::Repeat(part, least, most) => match most {
                 Some(most) => self.add_bounded(
                     alloc,
                     part,
                     *least as usize,
                     *most as usize,
-                    behind,
+                    beyond,
                 ),
-                None => self.add_unbounded(alloc, part, *least as usize, behind),
+                None => self.add_unbounded(alloc, part, *least as usize, beyond),
             },
         }
     }
@@ -48,14 +48,14 @@ impl Rows {
         &mut self,
         alloc: Global,
         members: &[Tree],
-        behind: usize,
+        beyond: usize,
     ) -> Result<Ends, AllocError>
-        requires fits { positions (cat (map expression_of members.now)) ≤ behind }
-        requires room { HasRoom behind self.old }
+        requires fits { positions (cat (map expression_of members.now)) ≤ beyond }
+        requires room { HasRoom beyond self.old }
         ensures { IfOk result
-            (IsAddedOf (cat (map expression_of members.now)) behind self.old self.new) }
+            (IsAddedOf (cat (map expression_of members.now)) beyond self.old self.new) }
     {
-        let mut rest = Ends::blank(alloc, self.width, behind, Empty::anywhere())?;
+        let mut rest = Ends::blank(alloc, self.width, beyond, Empty::anywhere())?;
         let mut left = members.len();
         'members: while left > 0 {
             left -= 1;
@@ -71,14 +71,14 @@ impl Rows {
         &mut self,
         alloc: Global,
         branches: &[Tree],
-        behind: usize,
+        beyond: usize,
     ) -> Result<Ends, AllocError>
-        requires fits { positions (alt (map expression_of branches.now)) ≤ behind }
-        requires room { HasRoom behind self.old }
+        requires fits { positions (alt (map expression_of branches.now)) ≤ beyond }
+        requires room { HasRoom beyond self.old }
         ensures { IfOk result
-            (IsAddedOf (alt (map expression_of branches.now)) behind self.old self.new) }
+            (IsAddedOf (alt (map expression_of branches.now)) beyond self.old self.new) }
     {
-        let mut rest = Ends::blank(alloc, self.width, behind, Empty::nowhere())?;
+        let mut rest = Ends::blank(alloc, self.width, beyond, Empty::nowhere())?;
         let mut left = branches.len();
         'branches: while left > 0 {
             left -= 1;
@@ -97,23 +97,23 @@ impl Rows {
         part: &Tree,
         least: usize,
         most: usize,
-        behind: usize,
+        beyond: usize,
     ) -> Result<Ends, AllocError>
-        requires fits { most * positions (expression_of part.now) ≤ behind }
+        requires fits { most * positions (expression_of part.now) ≤ beyond }
         requires small { most < 65536 }
-        requires room { HasRoom behind self.old }
+        requires room { HasRoom beyond self.old }
         ensures { IfOk result
-            (IsAddedOf (repeat (expression_of part.now) least (Some most)) behind self.old
+            (IsAddedOf (repeat (expression_of part.now) least (Some most)) beyond self.old
             self.new) }
     {
         let size = position_count(part);
         if most < least {
-            return Ends::blank(alloc, self.width, behind - most * size, Empty::nowhere());
+            return Ends::blank(alloc, self.width, beyond - most * size, Empty::nowhere());
         }
         if size == 0 {
-            return self.add_once(alloc, part, least, behind);
+            return self.add_once(alloc, part, least, beyond);
         }
-        self.add_turns(alloc, part, least, Some(most - least), behind)
+        self.add_turns(alloc, part, least, Some(most - least), beyond)
     }
 
     /// Adds a part that is repeated `least` times or more.
@@ -123,21 +123,21 @@ impl Rows {
         alloc: Global,
         part: &Tree,
         least: usize,
-        behind: usize,
+        beyond: usize,
     ) -> Result<Ends, AllocError>
-        requires fits { max least 1 * positions (expression_of part.now) ≤ behind }
-        requires room { HasRoom behind self.old }
+        requires fits { max least 1 * positions (expression_of part.now) ≤ beyond }
+        requires room { HasRoom beyond self.old }
         ensures { IfOk result
-            (IsAddedOf (repeat (expression_of part.now) least None) behind self.old self.new) }
+            (IsAddedOf (repeat (expression_of part.now) least None) beyond self.old self.new) }
     {
         if position_count(part) == 0 {
-            return self.add_once(alloc, part, least, behind);
+            return self.add_once(alloc, part, least, beyond);
         }
         if least == 0 {
-            let turns = self.add_turns(alloc, part, 0, None, behind)?;
+            let turns = self.add_turns(alloc, part, 0, None, beyond)?;
             return Ok(turns.optional());
         }
-        self.add_turns(alloc, part, least - 1, None, behind)
+        self.add_turns(alloc, part, least - 1, None, beyond)
     }
 
     /// Adds a part without positions, repeated any number of times: its turns are all on the empty
@@ -148,13 +148,13 @@ impl Rows {
         alloc: Global,
         part: &Tree,
         least: usize,
-        behind: usize,
+        beyond: usize,
     ) -> Result<Ends, AllocError>
         requires none { positions (expression_of part.now) ≡ 0 }
-        requires room { HasRoom behind self.old }
-        ensures { IfOk result (IsOnce (expression_of part.now) least behind self.old self.new) }
+        requires room { HasRoom beyond self.old }
+        ensures { IfOk result (IsOnce (expression_of part.now) least beyond self.old self.new) }
     {
-        let once = self.add(alloc, part, behind)?;
+        let once = self.add(alloc, part, beyond)?;
         if least == 0 {
             return Ok(once.optional());
         }
@@ -170,15 +170,15 @@ impl Rows {
         part: &Tree,
         turns: usize,
         tail: Option<usize>,
-        behind: usize,
+        beyond: usize,
     ) -> Result<Ends, AllocError>
         requires fits { turns * positions (expression_of part.now) +
-            tail_copies tail * positions (expression_of part.now) ≤ behind }
-        requires room { HasRoom behind self.old }
+            tail_copies tail * positions (expression_of part.now) ≤ beyond }
+        requires room { HasRoom beyond self.old }
         ensures { IfOk result
-            (AreTurns (expression_of part.now) turns tail behind self.old self.new) }
+            (AreTurns (expression_of part.now) turns tail beyond self.old self.new) }
     {
-        let mut rest = self.add_tail(alloc, part, tail, behind)?;
+        let mut rest = self.add_tail(alloc, part, tail, beyond)?;
         'turns: for _turn in 0..turns {
             let copy = self.add(alloc, part, rest.begins)?;
             rest = self.in_turn(copy, rest);
@@ -193,16 +193,16 @@ impl Rows {
         alloc: Global,
         part: &Tree,
         tail: Option<usize>,
-        behind: usize,
+        beyond: usize,
     ) -> Result<Ends, AllocError>
-        requires fits { tail_copies tail * positions (expression_of part.now) ≤ behind }
-        requires room { HasRoom behind self.old }
-        ensures { IfOk result (IsTail (expression_of part.now) tail behind self.old self.new) }
+        requires fits { tail_copies tail * positions (expression_of part.now) ≤ beyond }
+        requires room { HasRoom beyond self.old }
+        ensures { IfOk result (IsTail (expression_of part.now) tail beyond self.old self.new) }
     {
         match tail {
-            Some(turns) => self.add_up_to(alloc, part, turns, behind),
+            Some(turns) => self.add_up_to(alloc, part, turns, beyond),
             None => {
-                let copy = self.add(alloc, part, behind)?;
+                let copy = self.add(alloc, part, beyond)?;
                 self.again(&copy);
                 Ok(copy)
             }
@@ -216,13 +216,13 @@ impl Rows {
         alloc: Global,
         part: &Tree,
         turns: usize,
-        behind: usize,
+        beyond: usize,
     ) -> Result<Ends, AllocError>
-        requires fits { turns * positions (expression_of part.now) ≤ behind }
-        requires room { HasRoom behind self.old }
-        ensures { IfOk result (AreUpTo (expression_of part.now) turns behind self.old self.new) }
+        requires fits { turns * positions (expression_of part.now) ≤ beyond }
+        requires room { HasRoom beyond self.old }
+        ensures { IfOk result (AreUpTo (expression_of part.now) turns beyond self.old self.new) }
     {
-        let mut rest = Ends::blank(alloc, self.width, behind, Empty::anywhere())?;
+        let mut rest = Ends::blank(alloc, self.width, beyond, Empty::anywhere())?;
         'turns: for _turn in 0..turns {
             let copy = self.add(alloc, part, rest.begins)?;
             rest = self.in_turn(copy, rest).optional();
@@ -236,15 +236,15 @@ impl Rows {
         alloc: Global,
         set: &ByteSet,
         wanted: bool,
-        behind: usize,
+        beyond: usize,
     ) -> Result<Ends, AllocError>
-        requires fits { 0 < behind }
-        requires room { HasRoom behind self.old }
+        requires fits { 0 < beyond }
+        requires room { HasRoom beyond self.old }
         ensures { IfOk result
-            (IsAdded (wanted_position set.now wanted) 1 behind self.old self.new) }
+            (IsAdded (wanted_position set.now wanted) 1 beyond self.old self.new) }
     {
-        let ends = Ends::one(alloc, self.width, behind - 1)?;
-        self.take(set, wanted, behind - 1);
+        let ends = Ends::one(alloc, self.width, beyond - 1)?;
+        self.take(set, wanted, beyond - 1);
         Ok(ends)
     }
 }

@@ -103,7 +103,7 @@ impl Automaton {
     /// the line's last.
     pub fn accepts(&self, mode: Mode, set: &StateSet, at_end: bool) -> bool
         requires made { IsMadeFor (expression_of self.now) set.now }
-        ensures told { IsTrue result ↔ IsAccepting (expression_of self.now) mode set.now at_end }
+        ensures reported { IsTrue result ↔ IsAccepting (expression_of self.now) mode set.now at_end }
         ensures matched { (line : Text) (j : ℕ) →
             StandsAt (expression_of self.now) mode line j set.now → at_end ≡ is_end line j
             → IsTrue result ↔

@@ -19,8 +19,8 @@ use Rattle.re_syntax.proofs.lemmas.SomeOfJoined.{Any-single}
 use Rattle.re_needle.proofs.lemmas.Occurrences.{occurs-stands, stands-occurs}
 
 -- the place after a text at a place
-place_behind : (line text : Text) (i j : ℕ) → i < j → j ≤ length line → drop i line ≡ text ++ drop j line → j ≡ i + length text
-place_behind line text i j h on_line e =
+place_after : (line text : Text) (i j : ℕ) → i < j → j ≤ length line → drop i line ≡ text ++ drop j line → j ≡ i + length text
+place_after line text i j h on_line e =
     let lengths : length (drop i line) ≡ length text + length (drop j line) = ap length e ∙ length-append text (drop j line) in
     omega (arith, length-drop i line, length-drop j line, lengths)
 
@@ -36,7 +36,7 @@ module _ (text line : Text) where
       let same_place : from + (i - from) ≡ i = omega arith in
       let left : drop (i - from) (drop from line) ≡ text ++ drop j line = drop-drop (i - from) from line ∙ ap (λ n. drop n line) same_place ∙ stands in
       let near : i - from ≤ length (drop from line) = omega (arith, length-drop from line) in
-      (stands-occurs (drop from line) text (drop j line) (i - from) near left, place_behind line text i j b c stands)
+      (stands-occurs (drop from line) text (drop j line) (i - from) near left, place_after line text i j b c stands)
 
   -- an occurrence of a text that is not empty, in what is left from a place on, is a stretch found
   occurs-found : (from k : ℕ) → 0 < length text → OccursAt (drop from line) text k → IsFound (sequence (map byte text) ∷ []) line false from (from + k) (from + k + length text)
@@ -93,10 +93,10 @@ module _ (text line : Text) where
 
   -- it matches the line as a whole where it is the line
   pub equals-decides : IsTrue (bytes_eq line text) ↔ Matches (sequence (map byte text)) line true
-  equals-decides = (λ h. matched (tells.0 h), λ m. tells.1 (same m))
+  equals-decides = (λ h. matched (reported_too.0 h), λ m. reported_too.1 (same m))
     where
-      tells : Decides (bytes_eq line text) (line ≡ text)
-      tells = bytes_eq-Decides line text
+      reported_too : Decides (bytes_eq line text) (line ≡ text)
+      reported_too = bytes_eq-Decides line text
 
       matched : line ≡ text → Matches (sequence (map byte text)) line true
       matched e =

@@ -54,7 +54,7 @@ pub too_many : (syntax : Syntax) (fold : Bool) (text : Text) (count : ℕ) (faul
 too_many syntax fold text count fault limited has many e =
     let meaning : Expression = if fold then folded has.expression else has.expression in
     inr (record {
-      told = e;
+      reported = e;
       limited = limited;
       meaning = meaning;
       meant = (has.expression, has.spelled, refl);

@@ -14,7 +14,7 @@ use Rattle.re_needle.specs.Working.Blocks.{IsLineFrom}
 use Rattle.re_strings.specs.Working.FixedSets.{IsString, Occurs, IsBestOccurrence}
 use Rattle.re_match.specs.Working.Literals.{Literals, any_literal}
 use Rattle.re_strings.specs.Working.Keys.{key, keys}
-use Rattle.re_match.proofs.lemmas.SetBlocks.{piece_before, piece_behind}
+use Rattle.re_match.proofs.lemmas.SetBlocks.{piece_before, piece_after}
 use Rattle.re_strings.proofs.lemmas.KeyLaws.{key_newline}
 use Rattle.re_match.proofs.lemmas.SetMatches.{occurs_decides}
 
@@ -63,7 +63,7 @@ module _ (fold : Bool) (front line more : Text) where
       let size : length front ≡ length (keys fold front) = sym (length-map front (key fold)) in
       ap (λ l. drop (length front + i) (take (length front + j) l)) keyed
       ∙ ap (λ n. drop (n + i) (take (n + j) (keys fold front ++ (keys fold line ++ newline ∷ keys fold more)))) size
-      ∙ piece_behind (keys fold front) (keys fold line ++ newline ∷ keys fold more) i j
+      ∙ piece_after (keys fold front) (keys fold line ++ newline ∷ keys fold more) i j
       ∙ piece_before (keys fold line) (newline ∷ keys fold more) i j (omega (arith, within, length-map line (key fold)))
 
 -- a string without newlines that begins in the line ends in it

@@ -19,16 +19,16 @@ use Rattle.re_match.proofs.lemmas.SetMatches.{occurs_decides}
 pub piece_before : (line after : Text) (i j : ℕ) → j ≤ length line → drop i (take j (line ++ after)) ≡ drop i (take j line)
 piece_before line after i j within = ap (drop i) (take-append-le j line after within)
 
-pub piece_behind : (front line : Text) (i j : ℕ) → drop (length front + i) (take (length front + j) (front ++ line)) ≡ drop i (take j line)
-piece_behind [] line i j =
+pub piece_after : (front line : Text) (i j : ℕ) → drop (length front + i) (take (length front + j) (front ++ line)) ≡ drop i (take j line)
+piece_after [] line i j =
     let from : 0 + i ≡ i = omega arith in
     let to : 0 + j ≡ j = omega arith in
     ap (λ n. drop n (take (0 + j) line)) from ∙ ap (λ n. drop i (take n line)) to
-piece_behind (x ∷ front) line i j =
+piece_after (x ∷ front) line i j =
     let from : suc (length front) + i ≡ suc (length front + i) = omega arith in
     let to : suc (length front) + j ≡ suc (length front + j) = omega arith in
     ap (λ n. drop n (take (suc (length front) + j) (x ∷ (front ++ line)))) from
-    ∙ ap (λ n. drop (suc (length front + i)) (take n (x ∷ (front ++ line)))) to ∙ piece_behind front line i j
+    ∙ ap (λ n. drop (suc (length front + i)) (take n (x ∷ (front ++ line)))) to ∙ piece_after front line i j
 
 -- ---- where a string begins
 
@@ -54,8 +54,8 @@ module _ (strings : List Text) (fold : Bool) where
         ),
       )
 
-  pub begins_behind : (front line : Text) (k : ℕ) → StringBegins line k → StringBegins (front ++ line) (length front + k)
-  begins_behind front line k (j, (low, some, within, is)) =
+  pub begins_after : (front line : Text) (k : ℕ) → StringBegins line k → StringBegins (front ++ line) (length front + k)
+  begins_after front line k (j, (low, some, within, is)) =
       let joined : keys fold (front ++ line) ≡ keys fold front ++ keys fold line = map-append (key fold) front line in
       let from : length front + k ≡ length (keys fold front) + k = ap (λ n. n + k) (sym (size front)) in
       let to : length front + j ≡ length (keys fold front) + j = ap (λ n. n + j) (sym (size front)) in
@@ -63,7 +63,7 @@ module _ (strings : List Text) (fold : Bool) where
       ap (λ l. drop (length front + k) (take (length front + j) l)) joined
       ∙ ap (λ n. drop n (take (length front + j) (keys fold front ++ keys fold line))) from
       ∙ ap (λ n. drop (length (keys fold front) + k) (take n (keys fold front ++ keys fold line))) to
-      ∙ piece_behind (keys fold front) (keys fold line) k j in (
+      ∙ piece_after (keys fold front) (keys fold line) k j in (
         length front + j,
         (
           omega arith,
@@ -89,7 +89,7 @@ module _ (l : Literals) (none_empty : IsString (map (keys l.fold) l.texts) [] �
   unfolding IsBestOccurrence
   passes_set_block block whole none =
       let (lines, rest, free, all, is, counted) =
-      passes_free_block (StringBegins strings l.fold) (begins_within strings l.fold) (begins_before strings l.fold) (begins_behind strings l.fold) block whole
+      passes_free_block (StringBegins strings l.fold) (begins_within strings l.fold) (begins_before strings l.fold) (begins_after strings l.fold) block whole
       (λ k below (j, o). none k j (let inside = o.2 in omega (arith, inside, length-map block (key l.fold))) o) in
       (lines, rest, free, λ i d below. unmatched _ (all i d below), is, counted)
 
@@ -102,7 +102,7 @@ module _ (l : Literals) (none_empty : IsString (map (keys l.fold) l.texts) [] �
         start,
         λ front.
             let (lines, rest, free, all, is, counted) =
-            passes_free_front (StringBegins strings l.fold) (begins_within strings l.fold) (begins_before strings l.fold) (begins_behind strings l.fold) block span.start count start
+            passes_free_front (StringBegins strings l.fold) (begins_within strings l.fold) (begins_before strings l.fold) (begins_after strings l.fold) block span.start count start
             (λ k below (j, p). let first = early k j (let within = p.2 in omega (arith, within, length-map block (key l.fold))) p in omega (arith, first, below)) front in
             (lines, rest, free, λ i d below. unmatched _ (all i d below), is, counted),
       )

@@ -77,7 +77,7 @@ module _ (l : Literals) (line : Text) where
 
   -- where it is not, the line is matched if it has a string
   pub occurs_decides : (r : Bool) → (IsString (map (keys l.fold) l.texts) [] → ⊥) → IsTrue r ↔ ((i j : ℕ) × Occurs (map (keys l.fold) l.texts) 0 (keys l.fold line) i j) → IsTrue r ↔ Matches (any_literal l) line false
-  occurs_decides r none told = ((λ h. matched (told.0 h)), (λ m. told.1 (stands m)))
+  occurs_decides r none reported = ((λ h. matched (reported.0 h)), (λ m. reported.1 (stands m)))
     where
       matched : (i j : ℕ) × Occurs (map (keys l.fold) l.texts) 0 (keys l.fold line) i j → Matches (any_literal l) line false
       matched (i, j, o) =
@@ -96,10 +96,10 @@ module _ (l : Literals) (line : Text) where
 
   -- the line is matched as a whole where it is one of them
   pub line_decides : (r : Bool) → IsTrue r ↔ IsString (map (keys l.fold) l.texts) (keys l.fold line) → IsTrue r ↔ Matches (any_literal l) line true
-  line_decides r told =
+  line_decides r reported =
       let whole : drop 0 (take (length line) (keys l.fold line)) ≡ keys l.fold line = all_read (keys l.fold line) (length line) (omega (arith, size)) in (
-        (λ h. stands_any 0 (length line) (omega arith) (omega arith) (subst (IsString (map (keys l.fold) l.texts)) (sym whole) (told.0 h))),
-        (λ m. told.1 (subst (IsString (map (keys l.fold) l.texts)) whole (any_stands 0 (length line) (omega arith) (omega arith) m))),
+        (λ h. stands_any 0 (length line) (omega arith) (omega arith) (subst (IsString (map (keys l.fold) l.texts)) (sym whole) (reported.0 h))),
+        (λ m. reported.1 (subst (IsString (map (keys l.fold) l.texts)) whole (any_stands 0 (length line) (omega arith) (omega arith) m))),
       )
 
   -- the best of the strings in the line is the part

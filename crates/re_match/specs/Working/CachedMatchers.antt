@@ -16,7 +16,7 @@ pub record CachedMatcher : Type 0 where
   pub most : ℕ
 
 -- the answer was known without a step, or a search found it
-pub record TellsAtOnce (e : Expression) (whole : Bool) (line : Text) (old new : Cache)
+pub record SaysAtOnce (e : Expression) (whole : Bool) (line : Text) (old new : Cache)
     (before after : Steps) (answer : Bool) : Type 0 where
   pub settled : IsSettled e whole line answer
   pub cache : new ≡ old
@@ -24,5 +24,5 @@ pub record TellsAtOnce (e : Expression) (whole : Bool) (line : Text) (old new : 
 
 abbrev pub AnswersLine : Expression → Bool → Text → Cache → Cache → Steps → Steps → Bool → Type 0
 AnswersLine e whole line old new before after answer =
-    TellsAtOnce e whole line old new before after answer ⊎
+    SaysAtOnce e whole line old new before after answer ⊎
     Searches e (mode_for whole) line old new before after answer

@@ -12,26 +12,26 @@ use Rattle.re_syntax.specs.Lines.{newline, terminated, HasNoNewline}
 use Rattle.re_needle.specs.Working.Blocks.{IsBlock, LineBegins, PassesAll, PassesUnmatched}
 use Rattle.re_needle.specs.Working.Needles.{RunBegins}
 use Rattle.re_needle.specs.Working.Runs.{RunStandsAt, FindsRun, BeginsWithout}
-use Rattle.re_needle.proofs.lemmas.RunLaws.{run_before, run_behind, run_rest, nowhere}
-use Rattle.re_needle.proofs.lemmas.BlockLemmas.{passes_none, passes_behind, passes_block}
+use Rattle.re_needle.proofs.lemmas.RunLaws.{run_before, run_after, run_rest, nowhere}
+use Rattle.re_needle.proofs.lemmas.BlockLemmas.{passes_none, passes_after, passes_block}
 
 -- ---- where lines begin
 
 -- where one begins after a line, it begins in the whole
-begins_behind : (t line : Text) (k : ℕ) → LineBegins line k → LineBegins ((t ++ newline ∷ []) ++ line) (length (t ++ newline ∷ []) + k)
-begins_behind t line k (inl is) =
+begins_after : (t line : Text) (k : ℕ) → LineBegins line k → LineBegins ((t ++ newline ∷ []) ++ line) (length (t ++ newline ∷ []) + k)
+begins_after t line k (inl is) =
     let long : length (t ++ newline ∷ []) ≡ length t + 1 = length-append t (newline ∷ []) in
     let place : length t ≡ length t + 0 = omega arith in
     let byte : get_or ((t ++ newline ∷ []) ++ line) (length t) 0 ≡ newline =
     get_or_append_left (t ++ newline ∷ []) line 0 (length t) (omega (arith, long)) ∙ ap (λ n. get_or (t ++ newline ∷ []) n 0) place ∙ get_or-append-add t (newline ∷ []) 0 0 in
     inr (length t, omega (arith, long, is), byte)
-begins_behind t line k (inr (j, is, byte)) =
+begins_after t line k (inr (j, is, byte)) =
     let front = t ++ newline ∷ [] in
     inr (length front + j, omega (arith, is), get_or-append-add front line j 0 ∙ byte)
 
 -- after the first place the byte before it decides
 pub begins_by_byte : (text : Text) (place : ℕ) → (place ≡ 0 → ⊥) → IsTrue (nat_eq (slice_index text (place - 1)) newline) ↔ LineBegins text place
-begins_by_byte text place some = (λ told. inr (place - 1, omega (arith, some), eqb-true (slice_index text (place - 1)) newline told), back)
+begins_by_byte text place some = (λ reported. inr (place - 1, omega (arith, some), eqb-true (slice_index text (place - 1)) newline reported), back)
   where
     back : LineBegins text place → IsTrue (nat_eq (slice_index text (place - 1)) newline)
     back (inl is) = absurd (some is)
@@ -46,7 +46,7 @@ passes_begun text k within (inr (j, is, byte)) =
     let below : j < length text = omega (arith, is, within) in
     let next : drop (suc j) text ≡ drop (j + 1) text = ap (λ n. drop n text) (sym (add-one j)) in
     let rest : drop j text ≡ newline ∷ drop (j + 1) text = drop-cons text j 0 below ∙ ap (λ b. b ∷ drop (suc j) text) byte ∙ ap (λ l. newline ∷ l) next in
-    subst (λ n. PassesAll (λ _. ⊤) text n) (sym is) (passes_behind text j below (sym (take-append-drop j text) ∙ ap (λ l. take j text ++ l) rest))
+    subst (λ n. PassesAll (λ _. ⊤) text n) (sym is) (passes_after text j below (sym (take-append-drop j text) ∙ ap (λ l. take j text ++ l) rest))
 
 -- ---- lines that do not begin with the run
 
@@ -70,8 +70,8 @@ begin_without run (t ∷ ts) rest none = All-cons (BeginsWithout run) t ts first
     later : (k : ℕ) → k < length (terminated ts) → LineBegins (terminated ts ++ rest) k → ¬ RunStandsAt (terminated ts ++ rest) run k
     later k below begins o =
         let place : length (t ++ newline ∷ []) + k < length (terminated (t ∷ ts)) = omega (arith, long, below, length-append t (newline ∷ [])) in
-        none (length (t ++ newline ∷ []) + k) place (subst (λ l. LineBegins l (length (t ++ newline ∷ []) + k)) cut (begins_behind t (terminated ts ++ rest) k begins))
-        (subst (λ l. RunStandsAt l run (length (t ++ newline ∷ []) + k)) cut (run_behind run (t ++ newline ∷ []) (terminated ts ++ rest) k o))
+        none (length (t ++ newline ∷ []) + k) place (subst (λ l. LineBegins l (length (t ++ newline ∷ []) + k)) cut (begins_after t (terminated ts ++ rest) k begins))
+        (subst (λ l. RunStandsAt l run (length (t ++ newline ∷ []) + k)) cut (run_after run (t ++ newline ∷ []) (terminated ts ++ rest) k o))
 
 module _ (run : List Bytes) (block : Text) where
   -- the run is at no line's beginning before the place
@@ -108,7 +108,7 @@ module _ (run : List Bytes) (block : Text) where
     where
       none : NoneBegins (length block)
       none k below begins o = elim (dec_le start k) [
-        | yes behind ↦ nowhere (drop start block) run finds (k - start) (run_rest run block start k behind o)
+        | yes beyond ↦ nowhere (drop start block) run finds (k - start) (run_rest run block start k beyond o)
         | no before ↦ is.none k (omega (arith, before)) begins o
       ]
 
@@ -116,7 +116,7 @@ module _ (run : List Bytes) (block : Text) where
   module _ (start place : ℕ) (is : IsPassedTo start) (finds : FindsRun (drop start block) run (Some place)) where
     none_before : NoneBegins (start + place)
     none_before k below begins o = elim (dec_le start k) [
-      | yes behind ↦ finds.0.before (k - start) (omega arith) (omega (arith, behind, below)) (run_rest run block start k behind o)
+      | yes beyond ↦ finds.0.before (k - start) (omega arith) (omega (arith, beyond, below)) (run_rest run block start k beyond o)
       | no before ↦ is.none k (omega (arith, before)) begins o
     ]
 
@@ -146,11 +146,11 @@ module _ (run : List Bytes) (block : Text) where
         later : (n : ℕ) → start + place ≤ n → n < start + place + k + 1 → LineBegins block n → ⊥
         later n from low (inl first) = inside (inl (omega (arith, first, from)))
         later n from low (inr (j, next, byte)) = elim (dec_le (start + place) j) [
-          | yes behind ↦
+          | yes beyond ↦
               (let i = j - (start + place) in
-              let before : i < k = omega (arith, low, next, behind) in
+              let before : i < k = omega (arith, low, next, beyond) in
               let long : length (take k (drop (start + place) block)) ≡ k = omega (arith, length-take k (drop (start + place) block), below) in
-              let back : start + place + i ≡ j = omega (arith, behind) in
+              let back : start + place + i ≡ j = omega (arith, beyond) in
               free i 0 (omega (arith, before, long)) (get_or-take k (drop (start + place) block) i 0 before ∙ get_or-drop (start + place) block i 0 ∙ ap (λ m. get_or block m 0) back ∙ byte))
           | no before ↦
               (let same : n ≡ start + place = omega (arith, next, before, from) in

@@ -13,7 +13,7 @@ use Rattle.memchr.specs.Find.{FindsNeedle}
 use Rattle.re_needle.specs.Working.Blocks.{IsBlock, Lacks, PassesAll, PassesUnmatched}
 use Rattle.re_needle.specs.Working.Needles.{IsNeeded, RunIsNeeded}
 use Rattle.re_needle.specs.Working.Runs.{RunStandsAt, FindsRun, LacksRun}
-use Rattle.re_needle.proofs.lemmas.RunLaws.{run_before, run_behind, text_run, finds_text}
+use Rattle.re_needle.proofs.lemmas.RunLaws.{run_before, run_after, text_run, finds_text}
 
 -- ---- where lines begin
 
@@ -33,7 +33,7 @@ ended_text t =
 -- something that may begin at places of a text
 module _ (Begins : Text → ℕ → Type 0) (within : (line : Text) (k : ℕ) → Begins line k → k ≤ length line)
     (before : (line after : Text) (k : ℕ) → Begins line k → Begins (line ++ after) k)
-    (behind : (front line : Text) (k : ℕ) → Begins line k → Begins (front ++ line) (length front + k)) where
+    (beyond : (front line : Text) (k : ℕ) → Begins line k → Begins (front ++ line) (length front + k)) where
   -- it begins nowhere in the line
   abbrev pub Free : Text → Type 0
   Free line = (k : ℕ) → ¬ Begins line k
@@ -58,7 +58,7 @@ module _ (Begins : Text → ℕ → Type 0) (within : (line : Text) (k : ℕ) �
       later : (k : ℕ) → k < length (terminated ts) → ¬ Begins (terminated ts ++ rest) k
       later k below o =
           let place : length (t ++ newline ∷ []) + k < length (terminated (t ∷ ts)) = omega (arith, long, below, length-append t (newline ∷ [])) in
-          none (length (t ++ newline ∷ []) + k) place (subst (λ l. Begins l (length (t ++ newline ∷ []) + k)) cut (behind (t ++ newline ∷ []) (terminated ts ++ rest) k o))
+          none (length (t ++ newline ∷ []) + k) place (subst (λ l. Begins l (length (t ++ newline ∷ []) + k)) cut (beyond (t ++ newline ∷ []) (terminated ts ++ rest) k o))
 
   -- a block in which it begins nowhere is passed as a whole
   pub passes_free_block : (block : Text) → IsBlock block → ((k : ℕ) → k < length block → ¬ Begins block k) → PassesAll Free block (length block)
@@ -85,8 +85,8 @@ pub passes_none : (Holds : Text → Type 0) (bytes : Text) → PassesAll Holds b
 passes_none Holds bytes = ([], bytes, all_none, All-nil Holds, refl, refl)
 
 -- after a newline a line begins
-pub passes_behind : (bytes : Text) (at : ℕ) → at < length bytes → bytes ≡ take at bytes ++ newline ∷ drop (at + 1) bytes → PassesAll (λ _. ⊤) bytes (at + 1)
-passes_behind bytes at below cut =
+pub passes_after : (bytes : Text) (at : ℕ) → at < length bytes → bytes ≡ take at bytes ++ newline ∷ drop (at + 1) bytes → PassesAll (λ _. ⊤) bytes (at + 1)
+passes_after bytes at below cut =
     let front = ended_text (take at bytes) in
     let lines : List Text = front.0 in (
       lines,
@@ -105,13 +105,13 @@ run_within run line k o = let fits : k + length run ≤ length line = o.fits in 
 -- a block without the run is passed as a whole
 pub passes_whole_run : (run : List Bytes) (block : Text) → IsBlock block → FindsRun block run None → PassesAll (LacksRun run) block (length block)
 passes_whole_run run block whole none =
-    passes_free_block (λ l k. RunStandsAt l run k) (run_within run) (run_before run) (run_behind run) block whole (λ k below o. none k (omega arith) (omega (arith, below)) o)
+    passes_free_block (λ l k. RunStandsAt l run k) (run_within run) (run_before run) (run_after run) block whole (λ k below o. none k (omega arith) (omega (arith, below)) o)
 
 -- the lines before the first one with the run are passed
 pub passes_front_run : (run : List Bytes) (block : Text) (at count : ℕ) → FindsRun block run (Some at) → PassesAll (λ _. ⊤) (take at block) count → PassesAll (LacksRun run) block count
 passes_front_run run block at count (first, stands) front =
     let inside : at ≤ length block = omega (arith, first.high) in
-    passes_free_front (λ l k. RunStandsAt l run k) (run_within run) (run_before run) (run_behind run) block at count inside (λ k below o. first.before k (omega arith) below o) front
+    passes_free_front (λ l k. RunStandsAt l run k) (run_within run) (run_before run) (run_after run) block at count inside (λ k below o. first.before k (omega arith) below o) front
 
 -- a line that lacks the run of a text lacks the text
 passes_text : (text block : Text) (count : ℕ) → PassesAll (LacksRun (map only text)) block count → PassesAll (Lacks text) block count

@@ -28,15 +28,15 @@ leads_rest s sets line i j l =
 fits_lead : (line : Text) (sets : List Bytes) (rest : List (Option Bytes)) (i j : ℕ) → Fits line (map Some sets ++ rest) i j → Leads sets line i j
 fits_lead line [] rest i j f = let on = fits_le line rest i j f in record { within = omega (arith, on); takes = λ k below. absurd (omega (arith, below)) }
 fits_lead line (s ∷ sets) rest i j (k, (b, at, has, next), later) =
-    let behind = fits_lead line sets rest k j later in
-    let fits : k + length sets ≤ j = behind.within in
-    record { within = omega (arith, fits, next); takes = taken behind }
+    let beyond = fits_lead line sets rest k j later in
+    let fits : k + length sets ≤ j = beyond.within in
+    record { within = omega (arith, fits, next); takes = taken beyond }
   where
     taken : Leads sets line k j → (n : ℕ) → n < length (s ∷ sets) → (x : ℕ) × (slice_get line (i + n) ≡ Some x) × IsTrue (set_at (s ∷ sets) n x)
-    taken behind zero below = let place : i ≡ i + 0 = omega arith in (b, subst (λ n. slice_get line n ≡ Some b) place at, has)
-    taken behind (suc n) below =
+    taken beyond zero below = let place : i ≡ i + 0 = omega arith in (b, subst (λ n. slice_get line n ≡ Some b) place at, has)
+    taken beyond (suc n) below =
         let place : k + n ≡ i + suc n = omega (arith, next) in
-        subst (λ p. (x : ℕ) × (slice_get line p ≡ Some x) × IsTrue (set_at sets n x)) place (behind.takes n (omega (arith, below)))
+        subst (λ p. (x : ℕ) × (slice_get line p ≡ Some x) × IsTrue (set_at sets n x)) place (beyond.takes n (omega (arith, below)))
 
 -- where the sets lead, marks of them and a stretch fit
 lead_fits : (line : Text) (sets : List Bytes) (i j : ℕ) → Leads sets line i j → Fits line (map Some sets ++ None ∷ []) i j

@@ -43,8 +43,8 @@ module _ (text : Text) where
         reads = λ j below. get_or_append_left line after 0 (k + j) (omega (arith, below, fits)) ∙ o.reads j below;
       }
 
-  occurs_behind : (before line : Text) (k : ℕ) → OccursAt line text k → OccursAt (before ++ line) text (length before + k)
-  occurs_behind before line k o =
+  occurs_after : (before line : Text) (k : ℕ) → OccursAt line text k → OccursAt (before ++ line) text (length before + k)
+  occurs_after before line k o =
       let fits : k + length text ≤ length line = o.fits in record {
         fits = omega (arith, length-append before line, fits);
         reads = λ j below.
@@ -130,7 +130,7 @@ module _ (text : Text) where
           let there : OccursAt (terminated ts) text (k - length front) = occurs_later front (terminated ts) (k - length front) found in
           let fits : k - length front + length text ≤ length (terminated ts) = there.fits in
           let earlier : (i : ℕ) → 0 ≤ i → i < k - length front → ¬ OccursAt (terminated ts) text i =
-          λ i low below o. finds.0.before (length front + i) (omega arith) (omega (arith, below, place)) (subst (λ l. OccursAt l text (length front + i)) whole (occurs_behind front (terminated ts) i o)) in
+          λ i low below o. finds.0.before (length front + i) (omega arith) (omega (arith, below, place)) (subst (λ l. OccursAt l text (length front + i)) whole (occurs_after front (terminated ts) i o)) in
           let lacks : StandsIn text t → ⊥ =
           λ h. let within : h.0 + length text ≤ length t = h.1.fits in finds.0.before h.0 (omega arith) (omega (arith, far, within)) (occurs_before t (newline ∷ terminated ts) h.0 h.1) in
           let cut_too : drop (k - length front) (terminated ts) ≡ line ++ newline ∷ rest =
@@ -169,7 +169,7 @@ module _ (text : Text) where
   none_stands (t ∷ ts) rest none =
       let front = t ++ newline ∷ [] in
       let whole : front ++ terminated ts ≡ terminated (t ∷ ts) = append_assoc t (newline ∷ []) (terminated ts) in
-      (0, none_stands ts rest (λ k o. none (length front + k) (subst (λ l. OccursAt l text (length front + k)) whole (occurs_behind front (terminated ts) k o))), inr (λ h. none h.0 (occurs_before t (newline ∷ terminated ts) h.0 h.1), refl))
+      (0, none_stands ts rest (λ k o. none (length front + k) (subst (λ l. OccursAt l text (length front + k)) whole (occurs_after front (terminated ts) k o))), inr (λ h. none h.0 (occurs_before t (newline ∷ terminated ts) h.0 h.1), refl))
 
 -- ---- blocks
 
@@ -252,6 +252,6 @@ counts_just e text run is just lines n h = counts_same (StandsIn text) (λ line.
 
 -- ---- counts that may be unknown
 
-pub told_just : (e : Expression) (text : Text) (run : List Bytes) → run ≡ map only text → IsJustRun run e → (lines : List Text) (r : Option ℕ) → IfSome r (λ n. HoldsOfMany (StandsIn text) lines n) → IfSome r (λ n. CountsMatched e false lines n)
-told_just e text run is just lines None h = h
-told_just e text run is just lines (Some n) h = counts_just e text run is just lines n h
+pub says_just : (e : Expression) (text : Text) (run : List Bytes) → run ≡ map only text → IsJustRun run e → (lines : List Text) (r : Option ℕ) → IfSome r (λ n. HoldsOfMany (StandsIn text) lines n) → IfSome r (λ n. CountsMatched e false lines n)
+says_just e text run is just lines None h = h
+says_just e text run is just lines (Some n) h = counts_just e text run is just lines n h

@@ -26,8 +26,8 @@ pub run_is_needle : (marks : List (Option Bytes)) (finder : RunFinder) (is_first
 run_is_needle marks finder is_first is_all is_common rest start stands some first all e outline = record {
   needed = run_needed marks e outline (run_of finder) rest start stands;
   some = some;
-  first = λ told. run_begins marks e outline (run_of finder) rest start stands (first told);
-  all = λ told. just_run marks e outline (run_of finder) rest start stands some (all told);
+  first = λ reported. run_begins marks e outline (run_of finder) rest start stands (first reported);
+  all = λ reported. just_run marks e outline (run_of finder) rest start stands some (all reported);
 }
 
 -- a string whose run is needed is needed
@@ -84,15 +84,15 @@ module _ (e : Expression) (needle : Needle) (of : IsNeedleOf e needle) (line : T
 
 module _ (e : Expression) (line : Text) where
   -- what is said without a step
-  pub settled_told : (whole : Bool) (answer : Bool) → IsSettled e whole line answer → IsTrue answer ↔ Matches e line whole
-  settled_told whole answer (inl lacks) = (λ yes. absurd (false≢true (sym lacks.no ∙ yes)), λ m. absurd (none whole lacks m))
+  pub settled_says : (whole : Bool) (answer : Bool) → IsSettled e whole line answer → IsTrue answer ↔ Matches e line whole
+  settled_says whole answer (inl lacks) = (λ yes. absurd (false≢true (sym lacks.no ∙ yes)), λ m. absurd (none whole lacks m))
     where
       none : (whole : Bool) {answer : Bool} → LacksNeeded e line answer → Matches e line whole → ⊥
       none false lacks (i, j, within, h) = let there = lacks.needed line i j within h in lacks.absent there.0 there.3
       none true lacks h = let there = lacks.needed line 0 (length line) (omega arith) h in lacks.absent there.0 there.3
-  settled_told whole answer (inr (inl lacks)) =
+  settled_says whole answer (inr (inl lacks)) =
       (λ yes. absurd (false≢true (sym lacks.no ∙ yes)), λ m. absurd (lacks.absent (lacks.begins line 0 (length line) (omega arith) (subst (Matches e line) lacks.all m))))
-  settled_told whole answer (inr (inr has)) = (λ _. subst (Matches e line) (sym has.any) matches, λ _. has.yes)
+  settled_says whole answer (inr (inr has)) = (λ _. subst (Matches e line) (sym has.any) matches, λ _. has.yes)
     where
       matches : Matches e line false
       matches =

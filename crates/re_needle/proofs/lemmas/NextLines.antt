@@ -12,10 +12,10 @@ use Rattle.re_needle.specs.Working.Blocks.{IsBlock, PassesAll, Lacks, StandsIn, 
 use Rattle.re_needle.proofs.lemmas.CountedBlocks.{has_one, stands_literal, literal_stands}
 
 -- the lines of a text that begins with some, each ended by a newline, begin with these
-pub lines_of-behind : (ts : List Text) (rest : Text) → All HasNoNewline ts → lines_of (terminated ts ++ rest) ≡ ts ++ lines_of rest
-lines_of-behind [] rest h = refl
-lines_of-behind (t ∷ ts) rest h =
-    ap lines_of (append_assoc t (newline ∷ terminated ts) rest) ∙ lines_of-line t (terminated ts ++ rest) (all_head t ts h) ∙ ap (λ us. t ∷ us) (lines_of-behind ts rest (all_tail t ts h))
+pub lines_of-beyond : (ts : List Text) (rest : Text) → All HasNoNewline ts → lines_of (terminated ts ++ rest) ≡ ts ++ lines_of rest
+lines_of-beyond [] rest h = refl
+lines_of-beyond (t ∷ ts) rest h =
+    ap lines_of (append_assoc t (newline ∷ terminated ts) rest) ∙ lines_of-line t (terminated ts ++ rest) (all_head t ts h) ∙ ap (λ us. t ∷ us) (lines_of-beyond ts rest (all_tail t ts h))
 
 -- ---- lines at the front of a text
 
@@ -27,7 +27,7 @@ left_after block rest start lines is counted =
 -- it is a block if the whole is one
 left_block : (block rest : Text) (lines : List Text) → All HasNoNewline lines → IsBlock block → block ≡ terminated lines ++ rest → IsBlock rest
 left_block block rest lines free (ts, all, whole) is =
-    let same : ts ≡ lines ++ lines_of rest = sym (lines_of-terminated ts all) ∙ ap lines_of (sym whole ∙ is) ∙ lines_of-behind lines rest free in
+    let same : ts ≡ lines ++ lines_of rest = sym (lines_of-terminated ts all) ∙ ap lines_of (sym whole ∙ is) ∙ lines_of-beyond lines rest free in
     let both : terminated lines ++ rest ≡ terminated lines ++ terminated (lines_of rest) = sym is ∙ whole ∙ ap terminated same ∙ terminated-append lines (lines_of rest) in
     let others : All HasNoNewline (drop (length lines) (lines ++ lines_of rest)) = All-drop HasNoNewline (length lines) (lines ++ lines_of rest) (subst (All HasNoNewline) same all) in (
       lines_of rest,
@@ -86,7 +86,7 @@ module _ (P : Text → Type 0) where
   none_next block start whole (lines, rest, free, none, is, counted) ends =
       let left : drop start block ≡ rest = left_after block rest start lines is counted in
       let no_more : lines_of rest ≡ [] = no_lines rest (left_block block rest lines free whole is) (subst HasNoNewline left ends) in
-      let all : lines ≡ lines_of block = sym (append-nil lines) ∙ ap (λ l. lines ++ l) (sym no_more) ∙ sym (ap lines_of is ∙ lines_of-behind lines rest free) in
+      let all : lines ≡ lines_of block = sym (append-nil lines) ∙ ap (λ l. lines ++ l) (sym no_more) ∙ sym (ap lines_of is ∙ lines_of-beyond lines rest free) in
       subst (All Not) all none
 
   -- so are they if the whole block is passed
@@ -102,7 +102,7 @@ module _ (P : Text → Type 0) where
         before = lines;
         line = line;
         after = lines_of others;
-        divided = ap lines_of is ∙ lines_of-behind lines rest free ∙ ap (λ l. lines ++ l) (ap lines_of (sym left ∙ cut) ∙ lines_of-line line others free_line);
+        divided = ap lines_of is ∙ lines_of-beyond lines rest free ∙ ap (λ l. lines ++ l) (ap lines_of (sym left ∙ cut) ∙ lines_of-line line others free_line);
         passed = none;
         holds = holds;
         starts = counted;

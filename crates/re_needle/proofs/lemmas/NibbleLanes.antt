@@ -66,9 +66,9 @@ lesser_lanes a b p q =
 abbrev pub differs : ℕ → ℕ → Bool
 differs x y = not (eqb x y)
 
-told : (x : ℕ) (t : Bool) → eqb x 0 ≡ t → (cond {A = ℕ} (not t) 1 0 ≡ 1) ↔ (x ≢ 0)
-told x true is = (λ h. absurd (omega arith), λ h. absurd (h (eqb-true x 0 is)))
-told x false is = (λ h. eqb-false x 0 is, λ h. refl)
+reported : (x : ℕ) (t : Bool) → eqb x 0 ≡ t → (cond {A = ℕ} (not t) 1 0 ≡ 1) ↔ (x ≢ 0)
+reported x true is = (λ h. absurd (omega arith), λ h. absurd (h (eqb-true x 0 is)))
+reported x false is = (λ h. eqb-false x 0 is, λ h. refl)
 
 -- `to_bitmask` of `simd_ne` with 0
 pub nonzero_bits : (v : List ℕ) (k : ℕ) → length v ≡ 32
@@ -76,7 +76,7 @@ pub nonzero_bits : (v : List ℕ) (k : ℕ) → length v ≡ 32
 nonzero_bits v k long =
     let e = ap (λ m. bit_at m k) (bitmask_splat w8 differs v 32 0 long (omega arith)) ∙ bit_mask_l (map (λ x. differs x 0) v) k
     ∙ ap (λ b. cond {A = ℕ} b 1 0) (get_or-map (λ x. differs x 0) v k 0) in
-    let t = told (get_or v k 0) _ refl in
+    let t = reported (get_or v k 0) _ refl in
     (λ h. t.0 (sym e ∙ h), λ h. e ∙ t.1 h)
 
 -- the comparison of chosen bits with a splat
@@ -84,11 +84,11 @@ pub equal_lanes : (v : List ℕ) (asked bits : ℕ) (chosen : List ℕ) → leng
     → HasLanes chosen (λ k. bit_and (get_or v k 0) (get_or (replicate 32 asked) k 0))
     → HasLanes (sel_l (map (top 7) (zip2 (λ x y. cond (eqb x y) 255 0) chosen (replicate 32 bits))) (replicate 32 255) (replicate 32 0)) (λ k. cond (eqb (bit_and (get_or v k 0) asked) bits) 255 0)
 equal_lanes v asked bits chosen long h =
-    let told = HasLanes-select eqb chosen bits 255 0 h.long in
+    let reported = HasLanes-select eqb chosen bits 255 0 h.long in
     subst (λ ms. HasLanes (sel_l ms (replicate 32 255) (replicate 32 0)) (λ k. cond (eqb (bit_and (get_or v k 0) asked) bits) 255 0)) (sym (tops_compared w8 eqb chosen (replicate 32 bits)))
     (record {
-      long = told.long;
-      each = λ k l. told.each k l ∙ ap (λ x. cond (eqb x bits) 255 0) (h.each k l ∙ ap (bit_and (get_or v k 0)) (get_or-replicate 32 k asked 0 l));
+      long = reported.long;
+      each = λ k l. reported.each k l ∙ ap (λ x. cond (eqb x bits) 255 0) (h.each k l ∙ ap (bit_and (get_or v k 0)) (get_or-replicate 32 k asked 0 l));
     })
 
 its_mark : (alike : Alike) (x : ℕ) → HasBits alike x → mark_of alike x ≡ 255

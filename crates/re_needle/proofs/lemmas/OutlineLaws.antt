@@ -59,9 +59,9 @@ sets_stand : (line : Text) (run : List Bytes) (i j : ℕ) → j ≤ length line 
 sets_stand line [] i j within same = (record { fits = omega (arith, same, within); takes = λ k below. absurd (omega (arith, below)) }, omega (arith, same))
 sets_stand line (s ∷ run) i j within (k, (b, at, has, next), later) =
     let rest = sets_stand line run k j within later in
-    let behind : j ≡ k + length run = rest.1 in
+    let beyond : j ≡ k + length run = rest.1 in
     let here : slice_index line i ≡ b = get_or_from_slice_get line i b 0 at in
-    (one_more s run line i (subst (λ x. IsTrue (s x)) (sym here) has) (subst (λ n. RunStandsAt line run n) next rest.0), omega (arith, behind, next))
+    (one_more s run line i (subst (λ x. IsTrue (s x)) (sym here) has) (subst (λ n. RunStandsAt line run n) next rest.0), omega (arith, beyond, next))
 
 one_less : (s : Bytes) (run : List Bytes) (line : Text) (i : ℕ) → RunStandsAt line (s ∷ run) i → RunStandsAt line run (i + 1)
 one_less s run line i o =
@@ -219,9 +219,9 @@ module _ (marks : List (Option Bytes)) (e : Expression) (outline : IsOutline mar
   pub run_needed : RunIsNeeded run e
   run_needed line i j within h =
       let (k, before, later) = fits_cut line (take start marks) (map Some run ++ rest) i j (subst (λ l. Fits line l i j) cut (outline.fits line i j h)) in
-      let (n, here, behind) = fits_cut line (map Some run) rest k j later in
+      let (n, here, beyond) = fits_cut line (map Some run) rest k j later in
       let low : i ≤ k = fits_le line (take start marks) i k before in
-      let high : n ≤ j = fits_le line rest n j behind in
+      let high : n ≤ j = fits_le line rest n j beyond in
       let found = sets_stand line run k n (omega (arith, high, within)) here in
       let end : n ≡ k + length run = found.1 in
       (k, low, omega (arith, end, high), found.0)
@@ -230,8 +230,8 @@ module _ (marks : List (Option Bytes)) (e : Expression) (outline : IsOutline mar
   pub run_begins : start ≡ 0 → RunBegins run e
   run_begins first line i j within h =
       let is : marks ≡ map Some run ++ rest = subst (λ n. drop n marks ≡ map Some run ++ rest) first stands in
-      let (n, here, behind) = fits_cut line (map Some run) rest i j (subst (λ l. Fits line l i j) is (outline.fits line i j h)) in
-      (sets_stand line run i n (omega (arith, fits_le line rest n j behind, within)) here).0
+      let (n, here, beyond) = fits_cut line (map Some run) rest i j (subst (λ l. Fits line l i j) is (outline.fits line i j h)) in
+      (sets_stand line run i n (omega (arith, fits_le line rest n j beyond, within)) here).0
 
   lengths : length marks - start ≡ length run + length rest
   lengths = sym (length-drop start marks) ∙ ap length stands ∙ length-append (map Some run) rest ∙ ap (λ n. n + length rest) (length-map run Some)

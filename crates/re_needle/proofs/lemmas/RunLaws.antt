@@ -26,8 +26,8 @@ run_before run line after k o =
       takes = λ j below. subst (λ b. IsTrue (set_at run j b)) (sym (get_or_append_left line after 0 (k + j) (omega arith))) (o.takes j below);
     }
 
-pub run_behind : (run : List Bytes) (before line : Text) (k : ℕ) → RunStandsAt line run k → RunStandsAt (before ++ line) run (length before + k)
-run_behind run before line k o =
+pub run_after : (run : List Bytes) (before line : Text) (k : ℕ) → RunStandsAt line run k → RunStandsAt (before ++ line) run (length before + k)
+run_after run before line k o =
     let fits : k + length run ≤ length line = o.fits in record {
       fits = omega (arith, length-append before line);
       takes = λ j below.
@@ -84,9 +84,9 @@ finds_text line text (Some at) (first, stands) =
 -- a line begins with a text where it does with its run
 pub begins_text : (line text : Text) (r : Bool) → r ≡ starts_with nat_eq line text → IsTrue r ↔ RunStandsAt line (map only text) 0
 begins_text line text r is =
-    let told = starts_is Decides-eqb line text r is in (
-      λ yes. text_run line text 0 (stands-occurs line text (drop (length text) line) 0 (omega arith) (told.0 yes)),
-      λ o. told.1 (drop (length text) line) (occurs-stands line text 0 (run_text line text 0 o)),
+    let reported = starts_is Decides-eqb line text r is in (
+      λ yes. text_run line text 0 (stands-occurs line text (drop (length text) line) 0 (omega arith) (reported.0 yes)),
+      λ o. reported.1 (drop (length text) line) (occurs-stands line text 0 (run_text line text 0 o)),
     )
 
 -- ---- where a search says that the run is nowhere

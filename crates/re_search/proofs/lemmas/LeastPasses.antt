@@ -15,7 +15,7 @@ use Rattle.re_syntax.proofs.lemmas.LinesLaws.{lines_of-terminated}
 use Rattle.re_auto.specs.Searching.{SomeMatches}
 use Rattle.re_syntax.proofs.lemmas.SomeOfJoined.{Any-append-cases, Any-single}
 use Rattle.re_search.proofs.lemmas.OneMatcherMore.{answer_of}
-use Rattle.re_needle.proofs.lemmas.NextLines.{lines_of-behind}
+use Rattle.re_needle.proofs.lemmas.NextLines.{lines_of-beyond}
 
 -- so are lines at the front of it that are passed in a part of it
 pub passes_longer : (block : Text) (at count : ℕ) → PassesAll (λ _. ⊤) (take at block) count → PassesAll (λ _. ⊤) block count
@@ -40,7 +40,7 @@ passed_block Holds block count (lines, rest, free, any, is, counted) = (lines, f
 -- what holds of lines holds of those at the front of their bytes
 holds_at_front : (P : Text → Type 0) (lines fronts : List Text) (rest : Text) → All HasNoNewline lines → All HasNoNewline fronts → terminated lines ≡ terminated fronts ++ rest → All P lines → All P fronts
 holds_at_front P lines fronts rest free free_front is h =
-    let begins : lines ≡ fronts ++ lines_of rest = sym (lines_of-terminated lines free) ∙ ap lines_of is ∙ lines_of-behind fronts rest free_front in
+    let begins : lines ≡ fronts ++ lines_of rest = sym (lines_of-terminated lines free) ∙ ap lines_of is ∙ lines_of-beyond fronts rest free_front in
     subst (All P) (take-append_seam fronts (lines_of rest)) (All-take P (length fronts) (fronts ++ lines_of rest) (subst (All P) begins h))
 
 -- of lines that are passed those that are passed again are passed for both reasons
@@ -73,11 +73,11 @@ none_of_more es more e whole line is none not some =
 -- the lines before the answer of one matcher more, which was asked about those before the answers of the others, are matched by none of them
 pub least_more : (es more : List Expression) (wholes : List Bool) (i : ℕ) (e : Expression) (w : Bool) → i < length wholes → get_or wholes i w ≡ w → more ≡ es ++ e ∷ [] → (block : Text) (n m : ℕ)
     → PassesUnmatchedByAll es wholes block n → PassesUnmatched e w (take n block) m → PassesUnmatchedByAll more wholes block m
-least_more es more wholes i e w below at is block n m told passes whole all =
+least_more es more wholes i e w below at is block n m reported passes whole all =
     let answer : w ≡ whole = answer_of whole w wholes i below at all in
     let asked : PassesUnmatched e whole (take n block) m = subst (λ v. PassesUnmatched e v (take n block) m) answer passes in
     let (lines, rest, free, both, cut, counted) : PassesAll (λ line. (¬ SomeMatches es line whole) × (¬ Matches e line whole)) block m =
-    passes_both (λ line. ¬ SomeMatches es line whole) (λ line. ¬ Matches e line whole) block n m (told whole all) asked in
+    passes_both (λ line. ¬ SomeMatches es line whole) (λ line. ¬ Matches e line whole) block n m (reported whole all) asked in
     (lines, rest, free, λ k d h. none_of_more es more e whole (get_or lines k d) is (both k d h).0 (both k d h).1, cut, counted)
 
 -- where each line that is matched has one of the strings of a filter, lines without any are passed

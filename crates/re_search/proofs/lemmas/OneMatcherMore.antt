@@ -8,7 +8,7 @@ use Rattle.re_syntax.specs.Bytes.{Text}
 use Rattle.re_syntax.specs.Expression.{Expression}
 use Rattle.re_syntax.specs.Holds.{Matches}
 use Rattle.re_auto.specs.Meters.{Steps}
-use Rattle.re_auto.specs.Searching.{FindsPart, FindsPartOfAll, SomeMatches, TellsMatchOfAll, AllAnswer, AddsAtMost}
+use Rattle.re_auto.specs.Searching.{FindsPart, FindsPartOfAll, SomeMatches, DecidesMatchOfAll, AllAnswer, AddsAtMost}
 use Rattle.re_syntax.specs.declared.span.Span.{Span}
 use Rattle.re_syntax.proofs.lemmas.SomeOfJoined.{Any-append-cases, Any-single}
 
@@ -41,22 +41,22 @@ module _ (es : List Expression) (wholes : List Bool) (line : Text) (i : ℕ) (e 
   pub part_more : (from : ℕ) (best found result : Option Span) → take (i + 1) es ≡ take i es ++ e ∷ [] →
       ((es fs : List Expression) (line : Text) (whole : Bool) (from : ℕ) → FindsPart es line whole from best → FindsPart fs line whole from found → FindsPart (es ++ fs) line whole from result) →
       FindsPartOfAll (take i es) wholes line from best → FindsPart (e ∷ []) line w from found → FindsPartOfAll (take (i + 1) es) wholes line from result
-  part_more from best found result next better told part whole all =
+  part_more from best found result next better reported part whole all =
       let answer = answer_of whole w wholes i h at all in
-      rw next (better (take i es) (e ∷ []) line whole from (told whole all) (rw answer at part))
+      rw next (better (take i es) (e ∷ []) line whole from (reported whole all) (rw answer at part))
 
   -- nor does one matcher more match
-  pub none_more : take (i + 1) es ≡ take i es ++ e ∷ [] → TellsMatchOfAll (take i es) wholes line false → (Matches e line w → ⊥) → TellsMatchOfAll (take (i + 1) es) wholes line false
-  none_more next told not whole all =
+  pub none_more : take (i + 1) es ≡ take i es ++ e ∷ [] → DecidesMatchOfAll (take i es) wholes line false → (Matches e line w → ⊥) → DecidesMatchOfAll (take (i + 1) es) wholes line false
+  none_more next reported not whole all =
       let answer = answer_of whole w wholes i h at all in
       let neither : SomeMatches (take i es ++ e ∷ []) line whole → ⊥ = λ some. elim (Any-append-cases (λ e. Matches e line whole) (take i es) (e ∷ []) some) [
-        | inl a ↦ false≢true ((told whole all).1 a)
+        | inl a ↦ false≢true ((reported whole all).1 a)
         | inr b ↦ not (rw answer (Any-single (λ e. Matches e line whole) e b))
       ] in
       (λ no. absurd (false≢true no), λ some. absurd (neither (rw (← next) some)))
 
   -- where one matcher matches some do
-  pub one_matches : i < length es → get_or es i e ≡ e → Matches e line w → TellsMatchOfAll es wholes line true
+  pub one_matches : i < length es → get_or es i e ≡ e → Matches e line w → DecidesMatchOfAll es wholes line true
   one_matches within same m whole all =
       let answer = answer_of whole w wholes i h at all in
       (λ _. (i, e, within, same, rw answer at m), λ _. refl)

@@ -38,7 +38,7 @@ impl<'a, 'f, M: LineMatch> Searchers<'a, 'f, M> {
     /// Whether some matcher matches the line, in at most one step for each matcher and byte, and
     /// one more for each matcher.
     pub fn is_matched(&mut self, line: &[u8], meter: &mut Meter) -> bool
-        ensures told { IsTrue result ↔ IsSought (sought_by M.expression self.old) line.now }
+        ensures reported { IsTrue result ↔ IsSought (sought_by M.expression self.old) line.now }
         ensures same { SameSearchers M.expression M.whole self.old self.new }
         ensures steps { AddsAtMost
             (length (expressions_by M.expression self.old) * (length line.now + 1)) meter.old
@@ -53,7 +53,7 @@ impl<'a, 'f, M: LineMatch> Searchers<'a, 'f, M> {
     /// byte of the block.
     pub fn next_matched(&mut self, block: &[u8], meter: &mut Meter) -> Option<Span>
         requires { IsBlock block.now }
-        ensures told { FindsSought (sought_by M.expression self.old) (lines_of block.now) result }
+        ensures reported { FindsSought (sought_by M.expression self.old) (lines_of block.now) result }
         ensures within { IfSome result
             (λ at. (at.start ≤ at.end) × (at.end < length block.now)) }
         ensures same { SameSearchers M.expression M.whole self.old self.new }
@@ -68,7 +68,7 @@ impl<'a, 'f, M: LineMatch> Searchers<'a, 'f, M> {
     /// matcher and byte.
     pub fn count_matched(&mut self, block: &[u8], meter: &mut Meter) -> u64
         requires { IsBlock block.now }
-        ensures told { CountsSought (sought_by M.expression self.old) (lines_of block.now) result }
+        ensures reported { CountsSought (sought_by M.expression self.old) (lines_of block.now) result }
         ensures same { SameSearchers M.expression M.whole self.old self.new }
         ensures steps { AddsAtMost
             (length (expressions_by M.expression self.old) * length block.now) meter.old
@@ -84,7 +84,7 @@ impl<'a, 'f, M: LineMatch> Searchers<'a, 'f, M> {
     /// from `from` on, and one more for each matcher.
     pub fn part(&mut self, line: &[u8], from: usize, meter: &mut Meter) -> Option<Span>
         requires { from ≤ length line.now }
-        ensures told { FindsPart (expressions_by M.expression self.old) line.now
+        ensures reported { FindsPart (expressions_by M.expression self.old) line.now
             (asks_whole self.old) from result }
         ensures same { SameSearchers M.expression M.whole self.old self.new }
         ensures steps { AddsAtMost
@@ -105,7 +105,7 @@ fn any_matches<M: LineMatch>(
 ) -> bool
     requires alike { AllAnswer whole (map M.whole matchers.old) }
     requires needed { ForSome filter.now (λ strings. AreNeeded strings (map M.expression matchers.old)) }
-    ensures told { IsTrue result ↔ IsSought
+    ensures reported { IsTrue result ↔ IsSought
         (record { expressions = map M.expression matchers.old; whole = whole }) line.now }
     ensures same_matchers { SameMatchers M.expression M.whole matchers.old matchers.new }
     ensures steps { AddsAtMost (length matchers.old * (length line.now + 1)) meter.old
@@ -133,7 +133,7 @@ fn part_of_all<M: LineMatch>(
 ) -> Option<Span>
     requires within { from ≤ length line.now }
     requires alike { AllAnswer whole (map M.whole matchers.old) }
-    ensures told { FindsPart (map M.expression matchers.old) line.now whole from result }
+    ensures reported { FindsPart (map M.expression matchers.old) line.now whole from result }
     ensures same_matchers { SameMatchers M.expression M.whole matchers.old matchers.new }
     ensures steps { AddsAtMost (length matchers.old * (length line.now - from + 1)) meter.old
         meter.new }
@@ -185,7 +185,7 @@ fn next_of<M: LineMatch>(
     requires block { IsBlock block.now }
     requires alike { AllAnswer whole (map M.whole matchers.old) }
     requires needed { ForSome filter.now (λ strings. AreNeeded strings (map M.expression matchers.old)) }
-    ensures told { FindsSought
+    ensures reported { FindsSought
         (record { expressions = map M.expression matchers.old; whole = whole })
         (lines_of block.now) result }
     ensures within { IfSome result (λ at. (at.start ≤ at.end) × (at.end < length block.now)) }
@@ -214,7 +214,7 @@ fn next_of_all<M: LineMatch>(
     requires some { 1 ≤ length matchers.old }
     requires alike { AllAnswer whole (map M.whole matchers.old) }
     requires needed { ForSome filter.now (λ strings. AreNeeded strings (map M.expression matchers.old)) }
-    ensures told { FindsSought
+    ensures reported { FindsSought
         (record { expressions = map M.expression matchers.old; whole = whole })
         (lines_of block.now) result }
     ensures within { IfSome result (λ at. (at.start ≤ at.end) × (at.end < length block.now)) }
@@ -245,7 +245,7 @@ fn next_of_one<M: LineMatch>(
     requires block { IsBlock block.now }
     requires one { length matchers.old ≡ 1 }
     requires alike { AllAnswer whole (map M.whole matchers.old) }
-    ensures told { FindsSought
+    ensures reported { FindsSought
         (record { expressions = map M.expression matchers.old; whole = whole })
         (lines_of block.now) result }
     ensures within { IfSome result (λ at. (at.start ≤ at.end) × (at.end < length block.now)) }
@@ -267,7 +267,7 @@ fn count_of_all<M: LineMatch>(
     requires block { IsBlock block.now }
     requires alike { AllAnswer whole (map M.whole matchers.old) }
     requires needed { ForSome filter.now (λ strings. AreNeeded strings (map M.expression matchers.old)) }
-    ensures told { CountsSought
+    ensures reported { CountsSought
         (record { expressions = map M.expression matchers.old; whole = whole })
         (lines_of block.now) result }
     ensures same_matchers { SameMatchers M.expression M.whole matchers.old matchers.new }
@@ -294,7 +294,7 @@ fn count_of_one<M: LineMatch>(
     requires block { IsBlock block.now }
     requires one { length matchers.old ≡ 1 }
     requires alike { AllAnswer whole (map M.whole matchers.old) }
-    ensures told { CountsSought
+    ensures reported { CountsSought
         (record { expressions = map M.expression matchers.old; whole = whole })
         (lines_of block.now) result }
     ensures same_matchers { SameMatchers M.expression M.whole matchers.old matchers.new }

@@ -18,7 +18,7 @@ use Rattle.re_auto.specs.Working.StartSets.{StartsAt}
 use Rattle.re_auto.specs.Working.Tables.{CanBegin}
 use Rattle.re_auto.proofs.lemmas.Chains.{not_at_begin, reaches_bounds}
 use Rattle.re_auto.proofs.lemmas.LeastStarts.{one_pass_is_enough}
-use Rattle.re_auto.proofs.lemmas.PositionsTell.{positions_tell}
+use Rattle.re_auto.proofs.lemmas.PositionsDecide.{positions_decide}
 use Rattle.re_syntax.specs.declared.span.Span.{Span}
 use Rattle.re_auto.specs.Searching.{FindsPart}
 use Rattle.re_steps.specs.Working.Simulations.{IsBestSpan, Carries}
@@ -33,11 +33,11 @@ reaches_first part line i (suc j) q ((lt, t), inr (p, r, w)) = reaches_first par
 module _ (e : Expression) (line : Text) where
   -- a matched stretch that is not empty has a chain
   chain_of : (mode : Mode) (from i j : ℕ) → IsMatched e mode from line i j → (q : ℕ) × Reaches (part_of e 0) line i j q
-  chain_of mode from i j m = told ((positions_tell e 0 line i j).0 m.3)
+  chain_of mode from i j m = reported ((positions_decide e 0 line i j).0 m.3)
     where
-      told : PartHolds (part_of e 0) line i j → (q : ℕ) × Reaches (part_of e 0) line i j q
-      told (inl (same, empty)) = absurd (omega (arith, m.1))
-      told (inr (q, r, l)) = (q, r)
+      reported : PartHolds (part_of e 0) line i j → (q : ℕ) × Reaches (part_of e 0) line i j q
+      reported (inl (same, empty)) = absurd (omega (arith, m.1))
+      reported (inr (q, r, l)) = (q, r)
 
   -- it ends on the line
   matched_within : (mode : Mode) (from i j : ℕ) → IsMatched e mode from line i j → j ≤ length line
@@ -68,23 +68,23 @@ module _ (e : Expression) (from : ℕ) (line : Text) where
   }
 
   -- one step more: the least start of the stretches that end after it is enough
-  pub carries_on : (j : ℕ) (old into new : Starts) (best result : Option Span) (told : Option ℕ) → j < length line → Carries e from line j old best
+  pub carries_on : (j : ℕ) (old into new : Starts) (best result : Option Span) (reported : Option ℕ) → j < length line → Carries e from line j old best
       → ((floor : ℕ) (l : Text) (k : ℕ) → slice_get l k ≡ Some (slice_index line j) → StartsAt e Search floor l k old → StartsAt e Search floor l (suc k) into) → new ≡ into
-      → ((mode : Mode) (floor : ℕ) (l : Text) (k : ℕ) → StartsAt e mode floor l k new → nat_eq (j + 1) (length line) ≡ is_end l k → Least (λ i. IsMatched e mode floor l i k) told)
-      → places result ≡ better (places best) (suc j) told → Carries e from line (suc j) new result
+      → ((mode : Mode) (floor : ℕ) (l : Text) (k : ℕ) → StartsAt e mode floor l k new → nat_eq (j + 1) (length line) ≡ is_end l k → Least (λ i. IsMatched e mode floor l i k) reported)
+      → places result ≡ better (places best) (suc j) reported → Carries e from line (suc j) new result
   unfolding IsBestSpan
-  carries_on j old into new best result told lt carries step is tells same = record {
+  carries_on j old into new best result reported lt carries step is reported_too same = record {
     floor = carries.floor;
     low = carries.low;
     none_before = carries.none_before;
     stands = stands;
-    best = rw same (one_pass_is_enough e Search from line j (places best) told carries.best (widened told (tells Search carries.floor line (suc j) stands (ap (λ n. nat_eq n (length line)) (add-one j)))));
+    best = rw same (one_pass_is_enough e Search from line j (places best) reported carries.best (widened reported (reported_too Search carries.floor line (suc j) stands (ap (λ n. nat_eq n (length line)) (add-one j)))));
   }
     where
       stands : StartsAt e Search carries.floor line (suc j) new
       stands = rw is (step carries.floor line j (slice_get-get_or line j 0 lt) carries.stands)
 
-      widened : (told : Option ℕ) → Least (λ i. IsMatched e Search carries.floor line i (suc j)) told → Least (λ i. IsMatched e Search from line i (suc j)) told
+      widened : (reported : Option ℕ) → Least (λ i. IsMatched e Search carries.floor line i (suc j)) reported → Least (λ i. IsMatched e Search from line i (suc j)) reported
       widened None none = λ i m. none i (carries.none_before i (suc j) m, m.1, m.2, m.3)
       widened (Some i) least = (
         (omega (arith, carries.low, least.0.0), least.0.1, least.0.2, least.0.3),
@@ -101,7 +101,7 @@ module _ (e : Expression) (from : ℕ) (line : Text) where
     matched_within e line Search from span.start span.end best.0,
     (λ k l le m. elim (cases_lt l j) [
       | inl early ↦ best.2 k l (omega arith) m
-      | inr late ↦ elim (cases_lt k span.start) [ inl before ↦ absurd (later k l (omega arith) late m) | inr behind ↦ behind ]
+      | inr late ↦ elim (cases_lt k span.start) [ inl before ↦ absurd (later k l (omega arith) late m) | inr beyond ↦ beyond ]
     ]),
     (λ l le m. elim (cases_lt l j) [
       | inl early ↦ best.3 l (omega arith) m
@@ -138,9 +138,9 @@ module _ (e : Expression) (from : ℕ) (line : Text) where
                   | inl early ↦ carries.best i k (omega arith) m
                   | inr late ↦ over e Search carries.floor line j carries.stands (omega arith) i k (omega arith) late (carries.none_before i k m, m.1, m.2, m.3)
                 ])
-            | inr behind ↦
+            | inr beyond ↦
                 elim (cases_lt i next) [
-                  | inl passed ↦ absurd (never i behind passed (matched_begins e line Search from i k (omega arith) m))
+                  | inl passed ↦ absurd (never i beyond passed (matched_begins e line Search from i k (omega arith) m))
                   | inr there ↦ there
                 ]
           ]

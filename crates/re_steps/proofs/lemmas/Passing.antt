@@ -12,7 +12,7 @@ use Rattle.re_auto.specs.Working.Positions.{PartHolds, part_of, is_begin, is_end
 use Rattle.re_auto.specs.Working.StateSets.{IsNowhere, StandsAt}
 use Rattle.re_auto.proofs.lemmas.Chains.{not_at_begin, not_at_end}
 use Rattle.re_auto.proofs.lemmas.LeastStarts.{passes}
-use Rattle.re_auto.proofs.lemmas.PositionsTell.{positions_tell}
+use Rattle.re_auto.proofs.lemmas.PositionsDecide.{positions_decide}
 use Rattle.re_auto.specs.Searching.{AddsAtMost}
 use Rattle.re_steps.specs.Working.Simulations.{EndsAt, NoneEndsBefore}
 
@@ -42,10 +42,10 @@ module _ (e : Expression) (line : Text) where
       → ((line : Text) (j : ℕ) → StandsAt e Search line j set → false ≡ is_end line j → IsTrue false ↔ EndsAt e Search line j)
       → ((k : ℕ) → place ≤ k → k < next → StandsAt e Search line k set) → NoneEndsBefore e line next
   unfolding NoneEndsBefore
-  none_passed set place next none within told stands k lt ends =
+  none_passed set place next none within reported stands k lt ends =
       elim (before k) [
         | inl early ↦ none k early ends
-        | inr late ↦ false≢true ((told line k (stands k late lt) (sym (not_at_end line k (omega arith)))).1 ends)
+        | inr late ↦ false≢true ((reported line k (stands k late lt) (sym (not_at_end line k (omega arith)))).1 ends)
       ]
     where
       before : (k : ℕ) → (k < place) ⊎ (place ≤ k)
@@ -58,20 +58,20 @@ module _ (e : Expression) (line : Text) where
   -- where none ends before the line's end, the last place decides
   pub end_decides : (accepted : Bool) → NoneEndsBefore e line (length line) → (IsTrue accepted ↔ EndsAt e Search line (length line)) → IsTrue accepted ↔ Matches e line false
   unfolding NoneEndsBefore
-  end_decides accepted none told = (λ h. matched_at (length line) (omega arith) (told.0 h), λ m. back m.0 m.1 m.2 m.3)
+  end_decides accepted none reported = (λ h. matched_at (length line) (omega arith) (reported.0 h), λ m. back m.0 m.1 m.2 m.3)
     where
       last : (j : ℕ) → j ≤ length line → (j ≡ length line) ⊎ (j < length line)
       last j le = search arith
 
       back : (i j : ℕ) → j ≤ length line → Holds line e i j → IsTrue accepted
       back i j le h = elim (last j le) [
-        | inl same ↦ told.1 (i, tt, subst (λ k. Holds line e i k) same h)
+        | inl same ↦ reported.1 (i, tt, subst (λ k. Holds line e i k) same h)
         | inr early ↦ absurd (none j early (i, tt, h))
       ]
 
   -- where a stretch has to begin at the first place, the last one decides on the whole line
   pub whole_decides : (accepted : Bool) → (IsTrue accepted ↔ EndsAt e Whole line (length line)) → IsTrue accepted ↔ Matches e line true
-  whole_decides accepted told = (λ h. first (told.0 h), λ m. told.1 (0, refl, m))
+  whole_decides accepted reported = (λ h. first (reported.0 h), λ m. reported.1 (0, refl, m))
     where
       first : EndsAt e Whole line (length line) → Holds line e 0 (length line)
       first (zero, begins, h) = h
@@ -80,7 +80,7 @@ module _ (e : Expression) (line : Text) where
   -- a set of stretches from the first place that is nowhere: the whole line is not matched
   pub nowhere_fails : (set : StateSet) (j : ℕ) → StandsAt e Whole line j set → IsNowhere set → j ≤ length line → Matches e line true → ⊥
   unfolding StandsAt
-  nowhere_fails set j stands nowhere le m = chain ((positions_tell e 0 line 0 (length line)).0 m)
+  nowhere_fails set j stands nowhere le m = chain ((positions_decide e 0 line 0 (length line)).0 m)
     where
       inside : 0 < j
       inside = positive j refl

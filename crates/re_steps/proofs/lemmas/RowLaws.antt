@@ -16,7 +16,7 @@ use Rattle.re_auto.specs.Working.Tables.{words_for}
 use Rattle.re_auto.proofs.lemmas.RowLemmas.{row_within}
 use Rattle.re_steps.specs.declared.table.Mark.{Mark}
 use Rattle.re_steps.specs.Working.Pairs.{unknown, Mirrors, IsKeptOrLost}
-use Rattle.re_steps.specs.Working.Rows.{Rows, limit, AreSound, HasFirstRows, AreExtended, IsRowOf, IsMarkOf, IsCellOf, TellsNext, cell_at}
+use Rattle.re_steps.specs.Working.Rows.{Rows, limit, AreSound, HasFirstRows, AreExtended, IsRowOf, IsMarkOf, IsCellOf, SaysNext, cell_at}
 use Rattle.re_steps.proofs.lemmas.StageLaws.{same_sym, accepting_same, next_same}
 
 -- elements of a list that is longer by one
@@ -53,20 +53,20 @@ next_alike e mode from into b c alike next = (next.0, λ q. (λ h. let w = (next
 
 module _ (e : Expression) (mode : Mode) (sets : List StateSet) (stride : ℕ) where
   -- a cell says nothing of what isn't held
-  pub tells_unknown : (from : StateSet) (byte : ℕ) → TellsNext e mode sets stride from byte unknown
-  tells_unknown from byte = record { plain = λ low. absurd (omega (arith, low)); special = λ high low. absurd (omega (arith, low)) }
+  pub says_unknown : (from : StateSet) (byte : ℕ) → SaysNext e mode sets stride from byte unknown
+  says_unknown from byte = record { plain = λ low. absurd (omega (arith, low)); special = λ high low. absurd (omega (arith, low)) }
 
   -- the same cell for a byte that the same positions take
-  tells_alike : (from : StateSet) (b c cell : ℕ) → TakenAlike e b c → TellsNext e mode sets stride from b cell → TellsNext e mode sets stride from c cell
-  tells_alike from b c cell alike t = record {
+  says_alike : (from : StateSet) (b c cell : ℕ) → TakenAlike e b c → SaysNext e mode sets stride from b cell → SaysNext e mode sets stride from c cell
+  says_alike from b c cell alike t = record {
     plain = λ low. let on = t.plain low in record { into = on.into; row = on.row; next = next_alike e mode from on.into b c alike on.next; plain = on.plain };
     special = λ high low. let on = t.special high low in record { into = on.into; row = on.row; next = next_alike e mode from on.into b c alike on.next; search = on.search; accepting = on.accepting };
   }
 
   -- the cell of a set by its number and its mark
-  pub tells_cell : (from into same : StateSet) (byte number cell : ℕ) (mark : Mark) → slice_get sets number ≡ Some same → IsSame same into → IsNextSet e mode from byte into → IsMarkOf e mode same mark
-      → number * stride < limit → IsCellOf mode mark (number * stride) cell → (cell < unknown) × TellsNext e mode sets stride from byte cell
-  tells_cell from into same byte number cell mark is alike next of small (inl plain) = (
+  pub says_cell : (from into same : StateSet) (byte number cell : ℕ) (mark : Mark) → slice_get sets number ≡ Some same → IsSame same into → IsNextSet e mode from byte into → IsMarkOf e mode same mark
+      → number * stride < limit → IsCellOf mode mark (number * stride) cell → (cell < unknown) × SaysNext e mode sets stride from byte cell
+  says_cell from into same byte number cell mark is alike next of small (inl plain) = (
     omega (arith, small, plain.0),
     record {
       plain = λ low. record {
@@ -81,7 +81,7 @@ module _ (e : Expression) (mode : Mode) (sets : List StateSet) (stride : ℕ) wh
     where
       none : mode ≡ Search → IsAccepting e Search same false → ⊥
       none search accepts = false≢true (sym (plain.1 search) ∙ of.inside.1 (subst (λ m. IsAccepting e m same false) (sym search) accepts))
-  tells_cell from into same byte number cell mark is alike next of small (inr special) = (
+  says_cell from into same byte number cell mark is alike next of small (inr special) = (
     omega (arith, small, special.0),
     record {
       plain = λ low. absurd (omega (arith, low, special.0));
@@ -110,8 +110,8 @@ first_later e mode old new kept first = record {
   stands = first.stands;
 }
 
-tells_longer : (e : Expression) (mode : Mode) (sets more : List StateSet) (stride : ℕ) (from : StateSet) (byte cell : ℕ) → TellsNext e mode sets stride from byte cell → TellsNext e mode (sets ++ more) stride from byte cell
-tells_longer e mode sets more stride from byte cell t = record {
+says_longer : (e : Expression) (mode : Mode) (sets more : List StateSet) (stride : ℕ) (from : StateSet) (byte cell : ℕ) → SaysNext e mode sets stride from byte cell → SaysNext e mode (sets ++ more) stride from byte cell
+says_longer e mode sets more stride from byte cell t = record {
   plain = λ low. let on = t.plain low in record { into = on.into; row = row_longer sets more stride cell on.into on.row; next = on.next; plain = on.plain };
   special = λ high low. let on = t.special high low in record { into = on.into; row = row_longer sets more stride (cell - limit) on.into on.row; next = on.next; search = on.search; accepting = on.accepting };
 }
@@ -146,11 +146,11 @@ module _ (e : Expression) (mode : Mode) (rows : Rows) (sound : AreSound e mode r
       ]
     ];
     marked = λ t set is. elim (get_cases rows.sets same t set is) [
-      | inl h ↦ let m = sound.marked t set h in record { mark = m.mark; is = get_left rows.marks (mark ∷ []) t m.mark m.is; tells = m.tells }
+      | inl h ↦ let m = sound.marked t set h in record { mark = m.mark; is = get_left rows.marks (mark ∷ []) t m.mark m.is; reported_too = m.reported_too }
       | inr h ↦ record {
         mark = mark;
         is = subst (λ n. slice_get (rows.marks ++ mark ∷ []) n ≡ Some mark) (sound.as_many ∙ sym h.0) (get_last rows.marks mark);
-        tells = subst (λ s. IsMarkOf e mode s mark) h.1 of;
+        reported_too = subst (λ s. IsMarkOf e mode s mark) h.1 of;
       }
     ];
     as_many = omega (arith, length-append rows.marks (mark ∷ []), length-append rows.sets (same ∷ []), sound.as_many);
@@ -160,29 +160,29 @@ module _ (e : Expression) (mode : Mode) (rows : Rows) (sound : AreSound e mode r
         omega (arith, length-append rows.cells (replicate rows.stride unknown), length-replicate rows.stride unknown, sound.filled, product) ∙ ap (λ n. n * rows.stride) (sym count);
     few = omega (arith, length-append rows.cells (replicate rows.stride unknown), length-replicate rows.stride unknown, fits);
     mirrors = mirrors;
-    tells = λ r from c row small. elim (get_cases rows.sets same row.number from row.is) [
+    reported_too = λ r from c row small. elim (get_cases rows.sets same row.number from row.is) [
       | inl is ↦ old r from c row small is
       | inr is ↦ new r from c row small is.0
     ];
   }
     where
       old : (r : ℕ) (from : StateSet) (c : ℕ) (row : IsRowOf (rows.sets ++ same ∷ []) rows.stride r from) → c < 256 → slice_get rows.sets row.number ≡ Some from →
-          TellsNext e mode (rows.sets ++ same ∷ []) rows.stride from c (cell_at rows.classes (rows.cells ++ replicate rows.stride unknown) r c)
+          SaysNext e mode (rows.sets ++ same ∷ []) rows.stride from c (cell_at rows.classes (rows.cells ++ replicate rows.stride unknown) r c)
       old r from c row small is =
           let before : IsRowOf rows.sets rows.stride r from = record { number = row.number; row = row.row; is = is } in
           let within = cell_within r c from before small in
-          subst (TellsNext e mode (rows.sets ++ same ∷ []) rows.stride from c) (sym (get_or_append_left rows.cells (replicate rows.stride unknown) 0 (r + slice_index rows.classes c) within))
-          (tells_longer e mode rows.sets (same ∷ []) rows.stride from c (cell_at rows.classes rows.cells r c) (sound.tells r from c before small))
+          subst (SaysNext e mode (rows.sets ++ same ∷ []) rows.stride from c) (sym (get_or_append_left rows.cells (replicate rows.stride unknown) 0 (r + slice_index rows.classes c) within))
+          (says_longer e mode rows.sets (same ∷ []) rows.stride from c (cell_at rows.classes rows.cells r c) (sound.reported_too r from c before small))
 
       new : (r : ℕ) (from : StateSet) (c : ℕ) (row : IsRowOf (rows.sets ++ same ∷ []) rows.stride r from) → c < 256 → row.number ≡ length rows.sets →
-          TellsNext e mode (rows.sets ++ same ∷ []) rows.stride from c (cell_at rows.classes (rows.cells ++ replicate rows.stride unknown) r c)
+          SaysNext e mode (rows.sets ++ same ∷ []) rows.stride from c (cell_at rows.classes (rows.cells ++ replicate rows.stride unknown) r c)
       new r from c row small last =
           let class = sound.classed c small in
           let first : r ≡ length rows.cells = row.row ∙ ap (λ n. n * rows.stride) last ∙ sym sound.filled in
           let is : cell_at rows.classes (rows.cells ++ replicate rows.stride unknown) r c ≡ unknown =
           get_or-append_right rows.cells (replicate rows.stride unknown) (r + slice_index rows.classes c) 0 (omega (arith, first))
           ∙ get_or-replicate rows.stride (r + slice_index rows.classes c - length rows.cells) unknown 0 (omega (arith, first, class)) in
-          subst (TellsNext e mode (rows.sets ++ same ∷ []) rows.stride from c) (sym is) (tells_unknown e mode (rows.sets ++ same ∷ []) rows.stride from c)
+          subst (SaysNext e mode (rows.sets ++ same ∷ []) rows.stride from c) (sym is) (says_unknown e mode (rows.sets ++ same ∷ []) rows.stride from c)
 
   -- a row's number and a class are known from a cell's place
   pub same_place : (r s a b : ℕ) (from set : StateSet) → IsRowOf rows.sets rows.stride r from → IsRowOf rows.sets rows.stride s set → a < rows.stride → b < rows.stride → r + a ≡ s + b → (a ≡ b) × (from ≡ set)
@@ -193,11 +193,11 @@ module _ (e : Expression) (mode : Mode) (rows : Rows) (sound : AreSound e mode r
       (omega (arith, sum, ap (λ n. n * rows.stride) number), cc)
 
   -- a cell is held, and others may not be any more
-  pub sound_held : (new : List ℕ) (now : List (ℕ × ℕ)) (r byte cell : ℕ) (set : StateSet) → IsRowOf rows.sets rows.stride r set → byte < 256 → TellsNext e mode rows.sets rows.stride set byte cell → length new ≡ length rows.cells
+  pub sound_held : (new : List ℕ) (now : List (ℕ × ℕ)) (r byte cell : ℕ) (set : StateSet) → IsRowOf rows.sets rows.stride r set → byte < 256 → SaysNext e mode rows.sets rows.stride set byte cell → length new ≡ length rows.cells
       → (slice_index new (r + slice_index rows.classes byte) ≡ cell) ⊎ (slice_index new (r + slice_index rows.classes byte) ≡ unknown)
       → ((k : ℕ) → (k ≡ r + slice_index rows.classes byte → ⊥) → IsKeptOrLost (slice_index rows.cells k) (slice_index new k)) → Mirrors now new
       → AreSound e mode (record { classes = rows.classes; stride = rows.stride; sets = rows.sets; marks = rows.marks; cells = new; entries = now })
-  sound_held new now r byte cell set row small tells len here others mirrors = record {
+  sound_held new now r byte cell set row small reported_too len here others mirrors = record {
     bytes = sound.bytes;
     few_classes = sound.few_classes;
     classed = sound.classed;
@@ -209,16 +209,16 @@ module _ (e : Expression) (mode : Mode) (rows : Rows) (sound : AreSound e mode r
     filled = len ∙ sound.filled;
     few = omega (arith, len, sound.few);
     mirrors = mirrors;
-    tells = λ s from c at lt. elim (cases_eq (s + slice_index rows.classes c) (r + slice_index rows.classes byte)) [
+    reported_too = λ s from c at lt. elim (cases_eq (s + slice_index rows.classes c) (r + slice_index rows.classes byte)) [
       | inl same ↦
           let both = same_place s r (slice_index rows.classes c) (slice_index rows.classes byte) from set at row (sound.classed c lt) (sound.classed byte small) same in
-          subst (λ f. TellsNext e mode rows.sets rows.stride f c (cell_at rows.classes new s c)) (sym both.1) (subst (λ k. TellsNext e mode rows.sets rows.stride set c (slice_index new k)) (sym same) (elim here [
-            | inl is ↦ subst (TellsNext e mode rows.sets rows.stride set c) (sym is) (tells_alike e mode rows.sets rows.stride set byte c cell (sound.alike byte c small lt (sym both.0)) tells)
-            | inr is ↦ subst (TellsNext e mode rows.sets rows.stride set c) (sym is) (tells_unknown e mode rows.sets rows.stride set c)
+          subst (λ f. SaysNext e mode rows.sets rows.stride f c (cell_at rows.classes new s c)) (sym both.1) (subst (λ k. SaysNext e mode rows.sets rows.stride set c (slice_index new k)) (sym same) (elim here [
+            | inl is ↦ subst (SaysNext e mode rows.sets rows.stride set c) (sym is) (says_alike e mode rows.sets rows.stride set byte c cell (sound.alike byte c small lt (sym both.0)) reported_too)
+            | inr is ↦ subst (SaysNext e mode rows.sets rows.stride set c) (sym is) (says_unknown e mode rows.sets rows.stride set c)
           ]))
       | inr other ↦ elim (others (s + slice_index rows.classes c) other) [
-        | inl is ↦ subst (TellsNext e mode rows.sets rows.stride from c) (sym is) (sound.tells s from c at lt)
-        | inr is ↦ subst (TellsNext e mode rows.sets rows.stride from c) (sym is) (tells_unknown e mode rows.sets rows.stride from c)
+        | inl is ↦ subst (SaysNext e mode rows.sets rows.stride from c) (sym is) (sound.reported_too s from c at lt)
+        | inr is ↦ subst (SaysNext e mode rows.sets rows.stride from c) (sym is) (says_unknown e mode rows.sets rows.stride from c)
       ]
     ];
   }
@@ -269,7 +269,7 @@ module _ (e : Expression) (mode : Mode) (rows : Rows) (sound : AreSound e mode r
   mark_of_set number set read at is =
       let m = sound.marked number set at in
       let both : Some m.mark ≡ Some read = sym m.is ∙ is in
-      subst (IsMarkOf e mode set) (some_same both) m.tells
+      subst (IsMarkOf e mode set) (some_same both) m.reported_too
     where
       some_same : {X : Type 0} {x y : X} → Some x ≡ Some y → x ≡ y
       some_same is = cc

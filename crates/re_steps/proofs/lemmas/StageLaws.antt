@@ -143,8 +143,8 @@ module _ (e : Expression) (line : Text) where
   -- no matched stretch ends at a place with a set that is gone over
   none_here : (j : ℕ) (set : StateSet) → j < length line → IsPlain e Search set → StandsAt e Search line j set → ¬ EndsAt e Search line j
   none_here j set lt plain stands ends =
-      let told : IsTrue false ↔ IsAccepting e Search set false = (λ no. absurd (false≢true no), λ accepts. absurd (plain refl accepts)) in
-      false≢true ((matched_by e Search false false set told line j stands (sym (not_at_end line j lt))).1 ends)
+      let reported : IsTrue false ↔ IsAccepting e Search set false = (λ no. absurd (false≢true no), λ accepts. absurd (plain refl accepts)) in
+      false≢true ((matched_by e Search false false set reported line j stands (sym (not_at_end line j lt))).1 ends)
 
   none_more : (j : ℕ) → NoneEndsBefore e line j → ¬ EndsAt e Search line j → NoneEndsBefore e line (suc j)
   unfolding NoneEndsBefore
@@ -183,8 +183,8 @@ module _ (e : Expression) (line : Text) where
       subst (λ k. Goes e Search line k first stage) sum (goes_past first stage j (n - j) nowhere plain (λ k low high. never k low (omega (arith, high))) goes)
 
   -- what a search for some matched stretch says
-  told_search : (first : Stage) (cache : Cache) (steps : Steps) (answer : Bool) → StandsAt e Search line 0 first.set → Finishes e Search line first cache steps answer → IsTrue answer ↔ Matches e line false
-  told_search first cache steps answer stands f =
+  says_search : (first : Stage) (cache : Cache) (steps : Steps) (answer : Bool) → StandsAt e Search line 0 first.set → Finishes e Search line first cache steps answer → IsTrue answer ↔ Matches e line false
+  says_search first cache steps answer stands f =
       let last : Stage = record { set = f.set; cache = cache; steps = steps } in
       let here = goes_stands e Search line f.place first last f.within stands f.goes in
       elim f.decides [
@@ -195,7 +195,7 @@ module _ (e : Expression) (line : Text) where
         | inr rest ↦ elim rest [
           | inl lost ↦ absurd (search_is_whole lost.whole)
           | inr l ↦ end_decides e line answer (subst (NoneEndsBefore e line) l.last (goes_none f.place first last f.within stands f.goes))
-              (matched_by e Search answer true f.set l.told line (length line) (subst (λ j. StandsAt e Search line j f.set) l.last here) (at_end line))
+              (matched_by e Search answer true f.set l.reported line (length line) (subst (λ j. StandsAt e Search line j f.set) l.last here) (at_end line))
         ]
       ]
     where
@@ -205,8 +205,8 @@ module _ (e : Expression) (line : Text) where
       at_end : (line : Text) → true ≡ is_end line (length line)
       at_end line = sym (eq-eqb (length line) (length line) refl)
 
-  told_whole : (first : Stage) (cache : Cache) (steps : Steps) (answer : Bool) → StandsAt e Whole line 0 first.set → Finishes e Whole line first cache steps answer → IsTrue answer ↔ Matches e line true
-  told_whole first cache steps answer stands f =
+  says_whole : (first : Stage) (cache : Cache) (steps : Steps) (answer : Bool) → StandsAt e Whole line 0 first.set → Finishes e Whole line first cache steps answer → IsTrue answer ↔ Matches e line true
+  says_whole first cache steps answer stands f =
       let last : Stage = record { set = f.set; cache = cache; steps = steps } in
       let here = goes_stands e Whole line f.place first last f.within stands f.goes in
       elim f.decides [
@@ -216,7 +216,7 @@ module _ (e : Expression) (line : Text) where
             λ yes. absurd (false≢true (sym lost.no ∙ yes)),
             λ m. absurd (nowhere_fails e line f.set f.place here lost.nowhere f.within m),
           )
-          | inr l ↦ whole_decides e line answer (matched_by e Whole answer true f.set l.told line (length line) (subst (λ j. StandsAt e Whole line j f.set) l.last here) (at_end line))
+          | inr l ↦ whole_decides e line answer (matched_by e Whole answer true f.set l.reported line (length line) (subst (λ j. StandsAt e Whole line j f.set) l.last here) (at_end line))
         ]
       ]
     where
@@ -226,14 +226,14 @@ module _ (e : Expression) (line : Text) where
       at_end : (line : Text) → true ≡ is_end line (length line)
       at_end line = sym (eq-eqb (length line) (length line) refl)
 
-  pub finishes_told : (whole : Bool) (first : Stage) (cache : Cache) (steps : Steps) (answer : Bool) → StandsAt e (mode_for whole) line 0 first.set
+  pub finishes_say : (whole : Bool) (first : Stage) (cache : Cache) (steps : Steps) (answer : Bool) → StandsAt e (mode_for whole) line 0 first.set
       → Finishes e (mode_for whole) line first cache steps answer → IsTrue answer ↔ Matches e line whole
-  finishes_told false = told_search
-  finishes_told true = told_whole
+  finishes_say false = says_search
+  finishes_say true = says_whole
 
   -- a whole search
-  pub searches_told : (whole : Bool) (old new : Cache) (before after : Steps) (answer : Bool) → Searches e (mode_for whole) line old new before after answer → IsTrue answer ↔ Matches e line whole
-  searches_told whole old new before after answer s = finishes_told whole s.first new after answer s.stands s.finishes
+  pub searches_say : (whole : Bool) (old new : Cache) (before after : Steps) (answer : Bool) → Searches e (mode_for whole) line old new before after answer → IsTrue answer ↔ Matches e line whole
+  searches_say whole old new before after answer s = finishes_say whole s.first new after answer s.stands s.finishes
 
   readied_twice : (old middle first : Cache) → IsReadied old middle → IsReadied middle first → IsReadied old first
   readied_twice old middle first (inl same) later = subst (λ cache. IsReadied cache first) same later

@@ -19,18 +19,18 @@ abbrev pub equal : StateSet → StateSet → Bool
 equal a b = eq-value.it a b
 
 both_true : (p q : Bool) → (p && q) ≡ true → (p ≡ true) × (q ≡ true)
-both_true true true told = (refl, refl)
-both_true true false told = absurd (false≢true told)
-both_true false q told = absurd (false≢true told)
+both_true true true reported = (refl, refl)
+both_true true false reported = absurd (false≢true reported)
+both_true false q reported = absurd (false≢true reported)
 
 and_true : (p q : Bool) → p ≡ true → q ≡ true → (p && q) ≡ true
 and_true p q a b = rw (a, b) refl
 
 marks_same : (a b : Bool) → beq a b ≡ true → a ≡ b
-marks_same true true told = refl
-marks_same true false told = absurd (false≢true told)
-marks_same false true told = absurd (false≢true told)
-marks_same false false told = refl
+marks_same true true reported = refl
+marks_same true false reported = absurd (false≢true reported)
+marks_same false true reported = absurd (false≢true reported)
+marks_same false false reported = refl
 
 same_marks : (a : Bool) → beq a a ≡ true
 same_marks true = refl
@@ -38,8 +38,8 @@ same_marks false = refl
 
 -- that is, they are the same
 pub equal_same : (a b : StateSet) → equal a b ≡ true → IsSame a b
-equal_same a b told =
-    let both = both_true (pointwise nat_eq a.words.items b.words.items) (beq a.at_begin b.at_begin) told in
+equal_same a b reported =
+    let both = both_true (pointwise nat_eq a.words.items b.words.items) (beq a.at_begin b.at_begin) reported in
     (same_text a.words.items b.words.items (sym both.0), marks_same a.at_begin b.at_begin both.1)
 
 pub same_equal : (a b : StateSet) → IsSame a b → equal a b ≡ true
@@ -84,7 +84,7 @@ none_first p (x ∷ xs) none = by (p x) refl (none_first p xs (λ t y at. none (
 -- a new set is added after the others
 module _ (sets : List StateSet) (set : StateSet) (fresh : (t : ℕ) (other : StateSet) → slice_get sets t ≡ Some other → IsSame other set → ⊥) where
   no_equal : (t : ℕ) (other : StateSet) → slice_get sets t ≡ Some other → equal set other ≡ true → ⊥
-  no_equal t other is told = let same = equal_same set other told in fresh t other is (sym same.0, sym same.1)
+  no_equal t other is reported = let same = equal_same set other reported in fresh t other is (sym same.0, sym same.1)
 
   pub new_last : (if list_any (equal set) sets then sets else sets ++ set ∷ []) ≡ sets ++ set ∷ []
   new_last = rw (none_any (equal set) sets no_equal) refl

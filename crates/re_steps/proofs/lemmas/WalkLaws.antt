@@ -21,7 +21,7 @@ use Rattle.re_steps.specs.declared.table.Table.{Table}
 use Rattle.re_steps.specs.declared.walking.Spot.{Spot}
 use Rattle.re_steps.specs.declared.walking.Went.{Went}
 use Rattle.re_steps.specs.declared.walking.Went.TheVariants as w
-use Rattle.re_steps.specs.Working.Rows.{Rows, limit, expression_in, AreSound, IsRightFor, IsRowOf, TellsNext, ComesTo, Lands, LandsAlone, cell_at, cache_of, row_under, walked}
+use Rattle.re_steps.specs.Working.Rows.{Rows, limit, expression_in, AreSound, IsRightFor, IsRowOf, SaysNext, ComesTo, Lands, LandsAlone, cell_at, cache_of, row_under, walked}
 use Rattle.re_steps.specs.Working.Walks.{IsAt, HasLanded, LeadsOn, Arrives}
 use Rattle.re_steps.proofs.lemmas.StageLaws.{nothing_held, goes_nowhere, goes_on, same_sym}
 use Rattle.re_steps.proofs.lemmas.RowLaws.{cell_within, same_place, number_within}
@@ -37,12 +37,12 @@ walked_more (suc n) steps = ap (λ k. record { built = steps.built; reused = k }
 
 -- the mode is that for whole lines, or it isn't
 pub is_whole : (mode : Mode) → true ≡ sameb the_type mode Whole → mode ≡ Whole
-is_whole Whole told = refl
-is_whole Search told = absurd (false≢true (sym told))
+is_whole Whole reported = refl
+is_whole Search reported = absurd (false≢true (sym reported))
 
 pub is_search : (mode : Mode) → false ≡ sameb the_type mode Whole → mode ≡ Search
-is_search Search told = refl
-is_search Whole told = absurd (false≢true told)
+is_search Search reported = refl
+is_search Whole reported = absurd (false≢true reported)
 
 -- the row below a cell
 pub under_low : (cell : ℕ) → cell < limit → row_under cell ≡ cell
@@ -100,7 +100,7 @@ module _ (e : Expression) (mode : Mode) (rows : Rows) (sound : AreSound e mode r
       → ComesTo e mode line first cache steps j r → ComesTo e mode line first cache (many_reused 1 steps) (suc j) (cell_at rows.classes rows.cells r (slice_index line j))
   comes_on line first steps j r lt small low came =
       let c = slice_index line j in
-      let on = (sound.tells r came.set c came.row small).plain low in
+      let on = (sound.reported_too r came.set c came.row small).plain low in
       record {
         set = on.into;
         row = on.row;
@@ -111,18 +111,18 @@ module _ (e : Expression) (mode : Mode) (rows : Rows) (sound : AreSound e mode r
 
   -- where a search is after a cell
   pub lands_at : (line : Text) (first : Stage) (from : StateSet) (now : Cache) (before after : Steps) (j byte cell : ℕ) → slice_get line j ≡ Some byte
-      → TellsNext e mode now.sets now.stride from byte cell → cell < unknown → Goes e mode line j first (record { set = from; cache = cache; steps = before })
+      → SaysNext e mode now.sets now.stride from byte cell → cell < unknown → Goes e mode line j first (record { set = from; cache = cache; steps = before })
       → ((into : StateSet) → IsNextSet e mode from byte into → GoesOver e mode byte (record { set = from; cache = cache; steps = before }) (record { set = into; cache = now; steps = after }))
       → Lands e mode line first now after j cell
-  lands_at line first from now before after j byte cell is tells held goes over = elim (sides cell limit) [
-    | inl low ↦ let on = tells.plain low in record {
+  lands_at line first from now before after j byte cell is reported_too held goes over = elim (sides cell limit) [
+    | inl low ↦ let on = reported_too.plain low in record {
       set = on.into;
       row = rw (under_low cell low) on.row;
       plain = λ _. on.plain;
       special = λ high. absurd (omega (arith, low, high));
       goes = goes_on e mode line j first (record { set = from; cache = cache; steps = before }) (record { set = on.into; cache = now; steps = after }) goes (rw (get_or_from_slice_get line j byte 0 is) (over on.into on.next));
     }
-    | inr high ↦ let on = tells.special high held in record {
+    | inr high ↦ let on = reported_too.special high held in record {
       set = on.into;
       row = rw (under_high cell high) on.row;
       plain = λ low. absurd (omega (arith, low, high));
@@ -135,7 +135,7 @@ module _ (e : Expression) (mode : Mode) (rows : Rows) (sound : AreSound e mode r
   pub lands_held : (line : Text) (first : Stage) (steps : Steps) (j r byte : ℕ) → byte < 256 → slice_get line j ≡ Some byte → cell_at rows.classes rows.cells r byte < unknown
       → ComesTo e mode line first cache steps j r → Lands e mode line first cache (many_reused 1 steps) j (cell_at rows.classes rows.cells r byte)
   lands_held line first steps j r byte small is held came =
-      lands_at line first came.set cache steps (many_reused 1 steps) j byte (cell_at rows.classes rows.cells r byte) is (sound.tells r came.set byte came.row small) held came.goes
+      lands_at line first came.set cache steps (many_reused 1 steps) j byte (cell_at rows.classes rows.cells r byte) is (sound.reported_too r came.set byte came.row small) held came.goes
       (λ into next. record {
         plain = came.plain (slice_get_within line j byte is);
         over = inl (record { held = cell_held r byte came.set came.row small held; next = next; cache = refl; steps = refl });
@@ -143,7 +143,7 @@ module _ (e : Expression) (mode : Mode) (rows : Rows) (sound : AreSound e mode r
 
   -- by one that was worked out
   pub lands_learned : (line : Text) (first : Stage) (now : Cache) (before after : Steps) (j r byte cell : ℕ) → byte < 256 → slice_get line j ≡ Some byte → cell_at rows.classes rows.cells r byte ≡ unknown
-      → ((set : StateSet) → IsRowOf rows.sets rows.stride r set → (cell < unknown) × TellsNext e mode now.sets now.stride set byte cell) → ((set : StateSet) → IsRowOf rows.sets rows.stride r set → HoldsNoOther e cache set byte now)
+      → ((set : StateSet) → IsRowOf rows.sets rows.stride r set → (cell < unknown) × SaysNext e mode now.sets now.stride set byte cell) → ((set : StateSet) → IsRowOf rows.sets rows.stride r set → HoldsNoOther e cache set byte now)
       → after ≡ many_built 1 before → ComesTo e mode line first cache before j r → Lands e mode line first now after j cell
   lands_learned line first now before after j r byte cell small is none found others counted came =
       lands_at line first came.set now before after j byte cell is (found came.set came.row).1 (found came.set came.row).0 came.goes
@@ -168,10 +168,10 @@ module _ (e : Expression) (mode : Mode) (rows : Rows) (sound : AreSound e mode r
       }))
 
   -- the row below a cell is that of some set
-  pub row_below : (from : StateSet) (byte cell : ℕ) → TellsNext e mode rows.sets rows.stride from byte cell → cell < unknown → (set : StateSet) × IsRowOf rows.sets rows.stride (row_under cell) set
-  row_below from byte cell tells held = elim (sides cell limit) [
-    | inl low ↦ let on = tells.plain low in (on.into, rw (under_low cell low) on.row)
-    | inr high ↦ let on = tells.special high held in (on.into, rw (under_high cell high) on.row)
+  pub row_below : (from : StateSet) (byte cell : ℕ) → SaysNext e mode rows.sets rows.stride from byte cell → cell < unknown → (set : StateSet) × IsRowOf rows.sets rows.stride (row_under cell) set
+  row_below from byte cell reported_too held = elim (sides cell limit) [
+    | inl low ↦ let on = reported_too.plain low in (on.into, rw (under_low cell low) on.row)
+    | inr high ↦ let on = reported_too.special high held in (on.into, rw (under_high cell high) on.row)
   ]
 
   -- with other sets, marks and cells
@@ -229,7 +229,7 @@ module _ (asked : LineSearch) (old : Table) (before : Steps) (spot : Spot) (midd
     row = leads.2;
     comes = λ first came. leads.3 first after (lands first came);
   }
-  arrives_on place cell (w.Told answer) leads right on lands = record { right = right; finishes = λ first came. leads first after (lands first came) }
+  arrives_on place cell (w.Reported answer) leads right on lands = record { right = right; finishes = λ first came. leads first after (lands first came) }
   arrives_on place cell (w.Alone k) leads right on lands = absurd leads
 
 module _ (asked : LineSearch) (t : Table) (right : IsRightFor asked t) (steps : Steps) where

@@ -72,7 +72,7 @@ pub record StopsAt (e : Expression) (mode : Mode) (sets : List StateSet) (stride
   pub accepting : IsAccepting e Search into false
 
 -- what a cell says of the set and the byte that it is for
-pub record TellsNext (e : Expression) (mode : Mode) (sets : List StateSet) (stride : ℕ)
+pub record SaysNext (e : Expression) (mode : Mode) (sets : List StateSet) (stride : ℕ)
     (from : StateSet) (byte cell : ℕ) : Type 0 where
   pub plain : cell < limit → GoesOnTo e mode sets stride from byte cell
   pub special : limit ≤ cell → cell < unknown → StopsAt e mode sets stride from byte (cell - limit)
@@ -81,7 +81,7 @@ pub record TellsNext (e : Expression) (mode : Mode) (sets : List StateSet) (stri
 abbrev pub IsKnownCell : LineSearch → Table → StateSet → ℕ → ℕ → Type 0
 IsKnownCell asked t from byte cell =
     (cell < unknown) ×
-    TellsNext (expression_in asked) asked.mode t.sets.keys t.stride from byte cell
+    SaysNext (expression_in asked) asked.mode t.sets.keys t.stride from byte cell
 
 -- the cell for a row and a byte
 abbrev pub cell_at : List ℕ → List ℕ → ℕ → ℕ → ℕ
@@ -103,7 +103,7 @@ pub record HasMark (e : Expression) (mode : Mode) (marks : List Mark) (number : 
     (set : StateSet) : Type 0 where
   pub mark : Mark
   pub is : slice_get marks number ≡ Some mark
-  pub tells : IsMarkOf e mode set mark
+  pub reported_too : IsMarkOf e mode set mark
 
 -- all that is known is right for the automaton of this expression and for the mode
 pub record AreSound (e : Expression) (mode : Mode) (rows : Rows) : Type 0 where
@@ -120,8 +120,8 @@ pub record AreSound (e : Expression) (mode : Mode) (rows : Rows) : Type 0 where
   pub filled : length rows.cells ≡ length rows.sets * rows.stride
   pub few : length rows.cells ≤ limit
   pub mirrors : Mirrors rows.entries rows.cells
-  pub tells : (r : ℕ) (from : StateSet) (c : ℕ) → IsRowOf rows.sets rows.stride r from → c < 256 →
-      TellsNext e mode rows.sets rows.stride from c (cell_at rows.classes rows.cells r c)
+  pub reported_too : (r : ℕ) (from : StateSet) (c : ℕ) → IsRowOf rows.sets rows.stride r from → c < 256 →
+      SaysNext e mode rows.sets rows.stride from c (cell_at rows.classes rows.cells r c)
 
 -- row 0 is that of the set without positions, and the next that of a line's first place
 pub record HasFirstRows (e : Expression) (mode : Mode) (sets : List StateSet) : Type 0 where

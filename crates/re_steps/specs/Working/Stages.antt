@@ -113,7 +113,7 @@ pub record IsLost (mode : Mode) (set : StateSet) (answer : Bool) : Type 0 where
 pub record EndsLine (e : Expression) (mode : Mode) (line : Text) (place : ℕ) (set : StateSet)
     (answer : Bool) : Type 0 where
   pub last : place ≡ length line
-  pub told : IsTrue answer ↔ IsAccepting e mode set true
+  pub reported : IsTrue answer ↔ IsAccepting e mode set true
 
 -- why a search ends with this answer at a place with this set
 abbrev pub Decides : Expression → Mode → Text → ℕ → StateSet → Bool → Type 0

@@ -21,8 +21,8 @@ IsAt asked first t steps j r =
     ComesTo (expression_in asked) asked.mode asked.line.now first (cache_of t) steps j r
 
 -- it has its answer
-abbrev pub IsTold : LineSearch → Stage → Table → Steps → Bool → Type 0
-IsTold asked first t steps answer =
+abbrev pub IsReported : LineSearch → Stage → Table → Steps → Bool → Type 0
+IsReported asked first t steps answer =
     Finishes (expression_in asked) asked.mode asked.line.now first (cache_of t) steps answer
 
 -- from this row of the table, a search goes over the byte, at any place of a line, by this cell
@@ -51,9 +51,9 @@ LeadsOn asked old place cell new (w.To spot) =
     (place ≤ spot.place) × (spot.place ≤ length asked.line.now) × IsRow new spot.row
     × ((first : Stage) (steps : Steps) → HasLanded asked first old steps place cell →
     IsAt asked first new steps spot.place spot.row)
-LeadsOn asked old place cell new (w.Told answer) =
+LeadsOn asked old place cell new (w.Reported answer) =
     (first : Stage) (steps : Steps) → HasLanded asked first old steps place cell →
-    IsTold asked first new steps answer
+    IsReported asked first new steps answer
 LeadsOn asked old place cell new (w.Alone k) = ⊥
 
 -- a search went on from a spot, over one byte or more
@@ -67,11 +67,11 @@ pub record ArrivesAt (asked : LineSearch) (old : Table) (before : Steps) (spot :
       IsAt asked first new after next.place next.row
 
 -- its answer is known
-pub record ComesToTell (asked : LineSearch) (old : Table) (before : Steps) (spot : Spot)
+pub record ComesToSay (asked : LineSearch) (old : Table) (before : Steps) (spot : Spot)
     (new : Table) (after : Steps) (answer : Bool) : Type 0 where
   pub right : IsRightFor asked new
   pub finishes : (first : Stage) → IsAt asked first old before spot.place spot.row →
-      IsTold asked first new after answer
+      IsReported asked first new after answer
 
 -- it is at place k with the scratch set, and nothing is held any more
 pub record ComesAlone (asked : LineSearch) (old : Table) (before : Steps) (spot : Spot)
@@ -85,8 +85,8 @@ pub record ComesAlone (asked : LineSearch) (old : Table) (before : Steps) (spot 
 abbrev pub Arrives : LineSearch → Table → Steps → Spot → Table → Steps → Went → Type 0
 Arrives asked old before spot new after (w.To next) =
     ArrivesAt asked old before spot new after next
-Arrives asked old before spot new after (w.Told answer) =
-    ComesToTell asked old before spot new after answer
+Arrives asked old before spot new after (w.Reported answer) =
+    ComesToSay asked old before spot new after answer
 Arrives asked old before spot new after (w.Alone k) =
     ComesAlone asked old before spot new.scratch after k
 
@@ -105,7 +105,7 @@ pub record IsLeftAt (asked : LineSearch) (old : Cache) (before : Steps) (set : S
 
 -- a search has its answer, or it left the rest of the line
 abbrev pub Gives : LineSearch → Table → Steps → Table → Steps → Outcome → Type 0
-Gives asked old before new after (o.Told answer) =
+Gives asked old before new after (o.Reported answer) =
     IsRightFor asked new ×
     Searches (expression_in asked) asked.mode asked.line.now (cache_of old) (cache_of new) before
     after answer

@@ -17,16 +17,16 @@ begins_take (c ∷ w) rest = ap (λ t. c ∷ t) (begins_take w rest)
 pub front_is : (w t : Text) → Begins w t → take (length w) t ≡ w
 front_is w t b = ap (take (length w)) b.1 ∙ begins_take w b.0
 
-byte_behind : (w : Text) (c : ℕ) (rest : Text) → slice_get (w ++ c ∷ rest) (length w) ≡ Some c
-byte_behind [] c rest = refl
-byte_behind (d ∷ w) c rest = byte_behind w c rest
+byte_after : (w : Text) (c : ℕ) (rest : Text) → slice_get (w ++ c ∷ rest) (length w) ≡ Some c
+byte_after [] c rest = refl
+byte_after (d ∷ w) c rest = byte_after w c rest
 
 one_group : (w : Text) (c : ℕ) (rest : Text) → w ++ c ∷ [] ++ rest ≡ w ++ c ∷ rest
 one_group w c rest = append_assoc w (c ∷ []) rest
 
 -- the byte after a front
 pub next_byte : (w t : Text) (c : ℕ) → Begins (w ++ c ∷ []) t → slice_get t (length w) ≡ Some c
-next_byte w t c b = ap (λ s. slice_get s (length w)) (b.1 ∙ one_group w c b.0) ∙ byte_behind w c b.0
+next_byte w t c b = ap (λ s. slice_get s (length w)) (b.1 ∙ one_group w c b.0) ∙ byte_after w c b.0
 
 -- a front with the byte after it is one
 pub longer_front : (w t : Text) (c : ℕ) → Begins w t → slice_get t (length w) ≡ Some c → Begins (w ++ c ∷ []) t
@@ -38,7 +38,7 @@ longer_front w t c (rest, is) at = go rest is (sym (ap (λ s. slice_get s (lengt
         nothing : (v : Text) → slice_get (v ++ []) (length v) ≡ Some c → ⊥
         nothing [] e = cc
         nothing (d ∷ v) e = nothing v e
-    go (d ∷ rest) is at = let same : d ≡ c = some_same d c (sym (byte_behind w d rest) ∙ at) in (rest, is ∙ sym (one_group w d rest) ∙ ap (λ x. w ++ x ∷ [] ++ rest) same)
+    go (d ∷ rest) is at = let same : d ≡ c = some_same d c (sym (byte_after w d rest) ∙ at) in (rest, is ∙ sym (one_group w d rest) ∙ ap (λ x. w ++ x ∷ [] ++ rest) same)
       where
         some_same : (a b : ℕ) → Some a ≡ Some b → a ≡ b
         some_same a b e = cc
@@ -72,11 +72,11 @@ module _ (texts : List Text) (ascends : AreAscending texts) (br : Branch) (is : 
       subst (λ n. rank (slice_get (text_at texts i) n) ≤ rank (slice_get (text_at texts j) n)) is.deep up
 
   -- the strings before a run have a smaller byte there
-  pub run_behind : (at end : ℕ) → br.low ≤ at → at < end → ((i : ℕ) → br.low ≤ i → i < at → rank (slice_get (text_at texts i) br.depth) < rank (slice_get (text_at texts at) br.depth))
+  pub run_after : (at end : ℕ) → br.low ≤ at → at < end → ((i : ℕ) → br.low ≤ i → i < at → rank (slice_get (text_at texts i) br.depth) < rank (slice_get (text_at texts at) br.depth))
       → ((i : ℕ) → at < i → i < end → slice_get (text_at texts i) br.depth ≡ slice_get (text_at texts at) br.depth)
       → (end < br.high → slice_get (text_at texts end) br.depth ≡ slice_get (text_at texts at) br.depth → ⊥)
       → end < br.high → (i : ℕ) → br.low ≤ i → i < end → rank (slice_get (text_at texts i) br.depth) < rank (slice_get (text_at texts end) br.depth)
-  run_behind at end low lt before same other inside i from to =
+  run_after at end low lt before same other inside i from to =
       let up = keys_ascend at end low (omega (arith, lt)) inside in
       let own = keys_ascend i end from (omega (arith, to)) inside in
       let differs : (rank (slice_get (text_at texts at) br.depth) ≡ rank (slice_get (text_at texts end) br.depth)) → ⊥ =
@@ -125,10 +125,10 @@ module _ (texts : List Text) (ascends : AreAscending texts) (br : Branch) (is : 
           elim (cases_lt i at) [ inl early ↦ let less = before i own.0 early in absurd (omega (arith, less, level, level_here)) | inr late ↦ late ],
           elim (cases_lt i end) [
             | inl inside ↦ inside
-            | inr behind ↦
-                let inside : end < br.high = let h = own.1 in omega (arith, behind, h) in
+            | inr beyond ↦
+                let inside : end < br.high = let h = own.1 in omega (arith, beyond, h) in
                 let up = keys_ascend at end low (omega (arith, lt)) inside in
-                let down = keys_ascend end i (omega (arith, low, lt)) behind own.1 in
+                let down = keys_ascend end i (omega (arith, low, lt)) beyond own.1 in
                 absurd (other inside (rank_some _ c (omega (arith, up, down, level, level_here)) ∙ sym here))
           ],
         )
@@ -228,8 +228,8 @@ rows_more texts bs more new first next done a lt is are row added =
       some = omega (arith, some, long);
       are = are;
       root = ap (λ (b : Branch). b.depth) (kept 0 some) ∙ a.root;
-      behind = λ n below. elim (cases_lt n done) [
-        | inl early ↦ let b = a.behind n early in omega (arith, b, old n (omega (arith, early)))
+      beyond = λ n below. elim (cases_lt n done) [
+        | inl early ↦ let b = a.beyond n early in omega (arith, b, old n (omega (arith, early)))
         | inr at ↦ let e : n ≡ done = omega (arith, below, at) in rw e (omega (arith, here, lt))
       ];
       ordered = λ n below. elim (cases_lt n done) [
@@ -273,7 +273,7 @@ rows_at_first texts = record {
     shared = λ i low lt. (text_at texts i, refl);
   });
   root = refl;
-  behind = λ n lt. absurd (omega (arith, lt));
+  beyond = λ n lt. absurd (omega (arith, lt));
   ordered = λ n lt. absurd (omega (arith, lt));
   within = λ n lt. absurd (omega (arith, lt));
   rows = λ n lt. absurd (omega (arith, lt));

@@ -42,10 +42,10 @@ module _ (strings : List Text) (line : Text) where
       let second : slice_index s (k + 1) ≡ slice_index line (at + l.window - 1) =
       let place : i + (k + 1) ≡ at + l.window - 1 = omega (arith, low, lt, short, pair) in
       byte_of_part line i j (k + 1) (omega (arith, place, low, room, pair)) ∙ ap (slice_index line) place in
-      let told = a.right s own k (omega (arith, low, lt, short, pair)) in
+      let reported = a.right s own k (omega (arith, low, lt, short, pair)) in
       let row : pair_row (slice_index s k) (slice_index s (k + 1)) ≡ pair_row (slice_index line (at + l.window - 2)) (slice_index line (at + l.window - 1)) = omega (arith, first, second) in
       let same : slice_index l.shifts.items (pair_row (slice_index s k) (slice_index s (k + 1))) ≡ shift = ap (slice_index l.shifts.items) row ∙ is in
-      omega (arith, told, same, low, lt, short, pair)
+      omega (arith, reported, same, low, lt, short, pair)
 
   -- nor where there is no room for a window
   pub none_begins_to_end : (l : Leaps) → AreLeapsOf strings l → (place at : ℕ) → length line < at + l.window → NoneBegins strings line place at → NoneBegins strings line place (length line)
@@ -62,8 +62,8 @@ module _ (strings : List Text) (line : Text) where
 
 module _ (all : Labels) (from : ℕ) (line : Text) (root : all.label 0 ≡ []) (place node : ℕ) (zero : node ≡ 0) (g : StandsSince all from line place node) (within : place ≤ length line) where
   -- a string that ends at a place where the search is at the root, or later, begins there or later
-  begins_behind : (i j : ℕ) → place ≤ j → Occurs all.strings from line i j → place ≤ i
-  begins_behind i j le o =
+  begins_after : (i j : ℕ) → place ≤ j → Occurs all.strings from line i j → place ≤ i
+  begins_after i j le o =
       elim (cases_lt i place) [
         | inr late ↦ late
         | inl early ↦
@@ -81,14 +81,14 @@ module _ (all : Labels) (from : ℕ) (line : Text) (root : all.label 0 ≡ []) (
 
   -- none begins before a place up to which none begins from here on
   none_over : (next : ℕ) → NoneBegins all.strings line place next → (i j : ℕ) → place ≤ j → i < next → ¬ Occurs all.strings from line i j
-  none_over next none i j le lt o = none i j lt (begins_behind i j le o, o.1, o.2, o.3)
+  none_over next none i j le lt o = none i j lt (begins_after i j le o, o.1, o.2, o.3)
 
   -- the search is at the root there too
   pub leap_stands : (next : ℕ) → from ≤ place → place ≤ next → next ≤ length line → NoneBegins all.strings line place next → StandsSince all from line next node
   leap_stands next low le high none = record {
     since = next;
     low = omega (arith, low, le);
-    none = λ i j behind lt o. none_over next none i j (omega (arith, le, behind)) lt o;
+    none = λ i j beyond lt o. none_over next none i j (omega (arith, le, beyond)) lt o;
     stands = subst (StandsAtNode all next line next) (sym zero) (nothing_read all next line root high);
   }
 
@@ -101,7 +101,7 @@ module _ (all : Labels) (from : ℕ) (line : Text) (root : all.label 0 ≡ []) (
   bytes_stand next le high passed = record {
     since = g.since;
     low = g.low;
-    none = λ i j behind lt o. g.none i j (omega (arith, le, behind)) lt o;
+    none = λ i j beyond lt o. g.none i j (omega (arith, le, beyond)) lt o;
     stands = subst (StandsAtNode all g.since line next) (sym zero) (root_stays all g.since line place next node zero high passed g.stands next le (omega arith));
   }
 

@@ -136,8 +136,8 @@ module _ (all : Labels) (from : ℕ) (line : Text) where
   }
 
   -- a byte is read
-  pub stands_behind : (place n m : ℕ) → place < length line → StandsSince all from line place n → Steps all n (slice_index line place) m → StandsSince all from line (place + 1) m
-  stands_behind place n m lt g step = record {
+  pub stands_after : (place n m : ℕ) → place < length line → StandsSince all from line place n → Steps all n (slice_index line place) m → StandsSince all from line (place + 1) m
+  stands_after place n m lt g step = record {
     since = g.since;
     low = g.low;
     none = λ i j le early o. g.none i j (omega (arith, le)) early o;
@@ -236,11 +236,11 @@ module _ (all : Labels) (from : ℕ) (line : Text) where
       later i k le far o =
           elim (cases_lt k next) [
             | inl inside ↦ between i k far inside o
-            | inr behind ↦
-                let (more, longer) = read_on line next k behind in
+            | inr beyond ↦
+                let (more, longer) = read_on line next k beyond in
                 let size = node_length all s.since line next n within s.stands in
                 let high = s.stands.high in
-                let own = from_since all from line next n s i k behind o in
+                let own = from_since all from line next n s i k beyond o in
                 let read = read_length line next within in
                 let within_read : i ≤ length (take next line) = omega (arith, read, le, early) in
                 let end : drop i (take k line) ≡ drop i (take next line) ++ more = ap (drop i) longer ∙ drop-append-le i (take next line) more within_read in
@@ -253,7 +253,7 @@ module _ (all : Labels) (from : ℕ) (line : Text) where
         o,
         omega (arith, le, lt, within),
         (λ k l m r. elim (cases_lt place l) [
-          | inl late ↦ elim (cases_lt known.start k) [ inl behind ↦ omega arith | inr soon ↦ absurd (later k l soon late r) ]
+          | inl late ↦ elim (cases_lt known.start k) [ inl beyond ↦ omega arith | inr soon ↦ absurd (later k l soon late r) ]
           | inr soon ↦ first k l soon r
         ]),
         (λ l m r. elim (cases_lt place l) [ inl late ↦ absurd (later known.start l (omega arith) late r) | inr soon ↦ long l soon r ]),

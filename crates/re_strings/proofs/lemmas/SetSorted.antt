@@ -44,10 +44,10 @@ not_less (x ∷ s) (y ∷ t) h =
     ] (ranks y x) h
 
 -- after the same front the first byte is no greater
-behind_front : (w r q : Text) → Comes (w ++ r) (w ++ q) → Comes r q
-behind_front [] r q c = c
-behind_front (x ∷ w) r q (inl lt) = absurd (omega (arith, lt))
-behind_front (x ∷ w) r q (inr same) = behind_front w r q same.1
+after_front : (w r q : Text) → Comes (w ++ r) (w ++ q) → Comes r q
+after_front [] r q c = c
+after_front (x ∷ w) r q (inl lt) = absurd (omega (arith, lt))
+after_front (x ∷ w) r q (inr same) = after_front w r q same.1
 
 byte_at : (w r : Text) → slice_get (w ++ r) (length w) ≡ slice_get r 0
 byte_at [] r = refl
@@ -61,10 +61,10 @@ first_byte (x ∷ r) (y ∷ q) (inr same) = let e = same.0 in omega (arith, e)
 
 ranked : (w s t : Text) → Comes s t → Begins w s → Begins w t → rank (slice_get s (length w)) ≤ rank (slice_get t (length w))
 ranked w s t c (r, a) (q, b) =
-    let behind = first_byte r q (behind_front w r q (subst (Comes (w ++ r)) b (subst (λ x. Comes x t) a c))) in
+    let beyond = first_byte r q (after_front w r q (subst (Comes (w ++ r)) b (subst (λ x. Comes x t) a c))) in
     let left : rank (slice_get s (length w)) ≡ rank (slice_get r 0) = ap rank (ap (λ x. slice_get x (length w)) a ∙ byte_at w r) in
     let right : rank (slice_get t (length w)) ≡ rank (slice_get q 0) = ap rank (ap (λ x. slice_get x (length w)) b ∙ byte_at w q) in
-    omega (arith, behind, left, right)
+    omega (arith, beyond, left, right)
 
 -- from neighbours to any two
 chain : (texts : List Text) → ((k : ℕ) → k + 1 < length texts → Comes (text_at texts k) (text_at texts (k + 1))) → (i more : ℕ) → i + more < length texts → Comes (text_at texts i) (text_at texts (i + more))

@@ -58,7 +58,7 @@ pub record AreRows (texts : List Text) (branches : List Branch) (first : List �
   pub some : 0 < length branches
   pub are : All (IsBranch texts) branches
   pub root : (branch_at branches 0).depth ≡ 0
-  pub behind : (n : ℕ) → n < done → n < slice_index first n
+  pub beyond : (n : ℕ) → n < done → n < slice_index first n
   pub ordered : (n : ℕ) → n < done → slice_index first n ≤ slice_index first (n + 1)
   pub within : (n : ℕ) → n < done → slice_index first (n + 1) ≤ length branches
   pub rows : (n : ℕ) → n < done →

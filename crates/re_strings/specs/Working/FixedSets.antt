@@ -50,7 +50,7 @@ pub record Labels : Type 0 where
 pub record IsTrie (first bytes : List ℕ) : Type 0 where
   pub rows : length first ≡ length bytes + 1
   pub some : 0 < length bytes
-  pub behind : (n : ℕ) → n < length bytes → n < slice_index first n
+  pub beyond : (n : ℕ) → n < length bytes → n < slice_index first n
   pub ordered : (n : ℕ) → n < length bytes → slice_index first n ≤ slice_index first (n + 1)
   pub within : (n : ℕ) → n < length bytes → slice_index first (n + 1) ≤ length bytes
   pub start : slice_index first 0 ≡ 1

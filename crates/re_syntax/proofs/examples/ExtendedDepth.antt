@@ -63,7 +63,7 @@ empty_branches (more {u = v} is bs) e b w f = let same : 124 ∷ v ≡ [] = empt
 
 -- nothing closes the innermost group
 unclosed : (n : ℕ) → ¬ Inside (opened n [])
-unclosed zero inside = empty_branches inside.branches refl 41 inside.behind refl
+unclosed zero inside = empty_branches inside.branches refl 41 inside.beyond refl
 unclosed (suc n) inside = unclosed n (branches_inside inside.branches (opened n []) refl refl)
 
 -- a text of openings alone spells nothing
@@ -73,18 +73,18 @@ only_opened n e (as_extended bs h) = unclosed n (branches_inside bs (opened n []
 -- the first branch, where text follows the branches
 record FirstBranch (g : Bool) (t : Text) : Type 0 where
   height : ℕ
-  behind : Text
+  beyond : Text
   expressions : List Expression
-  items : Items g height t behind expressions
-  at_end : stops g behind ≡ true
-  not_last : behind ≢ []
+  items : Items g height t beyond expressions
+  at_end : stops g beyond ≡ true
+  not_last : beyond ≢ []
 
 -- branches have a first one, where what follows them is not the text's end
 first_branch : {g : Bool} {h : ℕ} {t u : Text} {es : List Expression} → Branches g h t u es → ends g u ≡ true → u ≢ [] → FirstBranch g t
 first_branch {g} {h} {u = u} (last {es = es} is) p n =
-    record { height = h; behind = u; expressions = es; items = is; at_end = ends-stops g u p; not_last = n }
+    record { height = h; beyond = u; expressions = es; items = is; at_end = ends-stops g u p; not_last = n }
 first_branch (more {h = h} {u = u} {es = es} is bs) p n =
-    record { height = h; behind = 124 ∷ u; expressions = es; items = is; at_end = refl; not_last = λ e. cc }
+    record { height = h; beyond = 124 ∷ u; expressions = es; items = is; at_end = refl; not_last = λ e. cc }
 
 -- `(a(b`: nothing closes the groups
 unclosed_within : (e : Expression) → ¬ IsSpelled Extended (codes "(a(b") e

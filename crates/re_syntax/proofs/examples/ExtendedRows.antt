@@ -7,7 +7,7 @@ use Rattle.re_syntax.specs.Intervals.{IsNumber, IsAllowed, exactly, at_least, be
 use Rattle.re_syntax.specs.Extended.{star, plus, question, interval, is_ordinary, last, more, Items, none, anchor, item, Item, atom, repeated, dollar, period, escaped, ordinary, group}
 use Rattle.re_syntax.specs.Spelled.{IsSpelled, as_extended}
 use Rattle.re_syntax.proofs.lemmas.BracketsUnique.{apart}
-use Rattle.re_syntax.proofs.lemmas.ExtendedBraces.{not_number_first, no_number_behind, no_closing}
+use Rattle.re_syntax.proofs.lemmas.ExtendedBraces.{not_number_first, no_number_after, no_closing}
 
 -- a byte that stands for itself and is no `{`
 itself : {g : Bool} {t : Text} (b : ℕ) → IsTrue (is_ordinary g b) → nat_eq b 123 ≡ false → Item g 0 (b ∷ t) t (byte b)
@@ -42,8 +42,8 @@ empty_branches : IsSpelled Extended (codes "(|)") (alt (empty ∷ empty ∷ []))
 empty_branches = as_extended (last (item (atom (group (more none (last none)))) none)) (omega arith)
 
 -- `(a))` and `)`: outside all groups the closing stands for itself
-closing_behind : IsSpelled Extended (codes "(a))") (cat (byte 97 ∷ byte 41 ∷ []))
-closing_behind = as_extended (last (item (atom (group (last (alone 97 refl refl)))) (alone 41 refl refl))) (omega arith)
+closing_after : IsSpelled Extended (codes "(a))") (cat (byte 97 ∷ byte 41 ∷ []))
+closing_after = as_extended (last (item (atom (group (last (alone 97 refl refl)))) (alone 41 refl refl))) (omega arith)
 
 closing_alone : IsSpelled Extended (codes ")") (byte 41)
 closing_alone = as_extended (last (alone 41 refl refl)) (omega arith)
@@ -101,7 +101,7 @@ brace_first = as_extended (last (item (brace refl (not_number_first (codes "a") 
 
 no_numbers : IsSpelled Extended (codes "a{,}") (cat (byte 97 ∷ byte 123 ∷ byte 44 ∷ byte 125 ∷ []))
 no_numbers =
-    as_extended (last (item (itself 97 refl refl) (item (brace refl (no_number_behind (codes "}") refl)) (item (itself 44 refl refl) (alone 125 refl refl))))) (omega arith)
+    as_extended (last (item (itself 97 refl refl) (item (brace refl (no_number_after (codes "}") refl)) (item (itself 44 refl refl) (alone 125 refl refl))))) (omega arith)
 
 -- `a{2`, `a{2,` and `(a{2)`: nothing closes the interval
 brace_open : IsSpelled Extended (codes "a{2") (cat (byte 97 ∷ byte 123 ∷ byte 50 ∷ []))

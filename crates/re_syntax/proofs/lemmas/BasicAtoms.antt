@@ -16,7 +16,7 @@ use Rattle.re_syntax.specs.BasicFaults.{NeedsItem, needs_interval, needs_plus, n
 use Rattle.re_syntax.specs.Profile.{basic_refused}
 use Rattle.re_syntax.specs.EscapeFaults.{IsRefusedEscape, undefined, reference, BeginsRefusedEscape}
 use Rattle.re_syntax.specs.Working.BasicSteps.{HasItem, MayBegin, AtomStands, HasNoAtom}
-use Rattle.re_syntax.specs.Working.PieceSteps.{meant_bytes, IsTold, IsBracketPiece}
+use Rattle.re_syntax.specs.Working.PieceSteps.{meant_bytes, IsReported, IsBracketPiece}
 use Rattle.re_syntax.specs.Working.EscapeSteps.{EscapeStands, HasNoEscape, trailing, refused}
 use Rattle.re_syntax.proofs.lemmas.BracketsUnique.{heads, tails, apart, bracket_front}
 use Rattle.re_syntax.proofs.lemmas.BracketLists.{bracket-shortens}
@@ -193,7 +193,7 @@ single_atom p b u h i k l = go (cases_eq b 46)
 
 -- an atom of one byte goes up to the next place
 pub single_stands : {alloc : Option Global} (levels : ℕ) (text : Text) (at b : ℕ) (piece : Piece) → at < length text → drop at text ≡ b ∷ drop (at + 1) text → HasItem (drop at text) → b ≢ 91 → b ≢ 92 →
-    IsTold alloc piece (one_of (meant_bytes b)) → piece.height ≡ 0 → piece.behind ≡ at + 1 → (p : ItemPlace) → MayBegin p (drop at text) →
+    IsReported alloc piece (one_of (meant_bytes b)) → piece.height ≡ 0 → piece.beyond ≡ at + 1 → (p : ItemPlace) → MayBegin p (drop at text) →
     AtomStands alloc p levels text at piece
 single_stands levels text at b piece h e i k l f g n p m =
     let one : Atom p 0 (b ∷ drop (at + 1) text) (drop (at + 1) text) (one_of (meant_bytes b)) = single_atom p b (drop (at + 1) text) (rw e at m) (rw e at i) k l in
@@ -201,7 +201,7 @@ single_stands levels text at b piece h e i k l f g n p m =
 
 -- an escape goes up to the next place but one
 pub escaped_stands : {alloc : Option Global} (levels : ℕ) (text : Text) (at b : ℕ) (piece : Piece) → EscapeStands basic_refused text at b → ¬ Begins (codes "\\(") (drop at text) →
-    ¬ IsAtEnd (drop at text) → ¬ NeedsItem (drop at text) → IsTold alloc piece (byte b) → piece.height ≡ 0 → piece.behind ≡ at + 2 →
+    ¬ IsAtEnd (drop at text) → ¬ NeedsItem (drop at text) → IsReported alloc piece (byte b) → piece.height ≡ 0 → piece.beyond ≡ at + 2 →
     (p : ItemPlace) → AtomStands alloc p levels text at piece
 escaped_stands levels text at b piece s k l m f g n p =
     let within = s.within in

@@ -8,20 +8,20 @@ use Rattle.re_syntax.specs.Bytes.{Text, Begins}
 use Rattle.re_syntax.specs.Working.Ahead.{IsAfter}
 use Rattle.re_syntax.specs.Expression.{end}
 use Rattle.re_syntax.specs.Basic.{IsAtEnd, of_text, of_group, of_branch, Items, none, trailing}
-use Rattle.re_syntax.specs.Working.BasicSteps.{HasItem, HasNoItem, at_end, at_tail, HasNoTail, IsBehindTail, IsEnded}
-use Rattle.re_syntax.specs.Working.PieceSteps.{IsTold, IsJoined}
+use Rattle.re_syntax.specs.Working.BasicSteps.{HasItem, HasNoItem, at_end, at_tail, HasNoTail, ComesAfterTail, IsEnded}
+use Rattle.re_syntax.specs.Working.PieceSteps.{IsReported, IsJoined}
 
 -- the end of the text is an end
 pub at_text_end : (text : Text) (at : ℕ) → at ≡ length text → IsAtEnd (drop at text)
 at_text_end text at e = subst IsAtEnd (sym (ap (λ n. drop n text) e ∙ drop-length text)) of_text
 
 -- the end of a group is an end
-pub at_group_end : (text : Text) (at behind : ℕ) → IsAfter (codes "\\)") text at behind → IsAtEnd (drop at text)
-at_group_end text at behind s = subst IsAtEnd (sym s.front) of_group
+pub at_group_end : (text : Text) (at beyond : ℕ) → IsAfter (codes "\\)") text at beyond → IsAtEnd (drop at text)
+at_group_end text at beyond s = subst IsAtEnd (sym s.front) of_group
 
 -- the end of a branch that another follows is an end
-pub at_branch_end : (text : Text) (at behind : ℕ) → IsAfter (codes "\\|") text at behind → IsAtEnd (drop at text)
-at_branch_end text at behind s = subst IsAtEnd (sym s.front) of_branch
+pub at_branch_end : (text : Text) (at beyond : ℕ) → IsAfter (codes "\\|") text at beyond → IsAtEnd (drop at text)
+at_branch_end text at beyond s = subst IsAtEnd (sym s.front) of_branch
 
 -- any other place is no end
 pub not_at_end : (text : Text) (at : ℕ) → at ≤ length text → (at ≡ length text → ⊥) → ¬ Begins (codes "\\|") (drop at text) → ¬ Begins (codes "\\)") (drop at text) →
@@ -38,8 +38,8 @@ pub item_here : {t : Text} → ¬ IsAtEnd t → HasNoTail t → HasItem t
 item_here h k = record { not_end = h; no_tail = k.none }
 
 -- no item is at an anchor before an end
-pub tail_here : (text : Text) (at behind : ℕ) → IsBehindTail text at behind → HasNoItem (drop at text)
-tail_here text at behind h = at_tail h.stands.front h.last
+pub tail_here : (text : Text) (at beyond : ℕ) → ComesAfterTail text at beyond → HasNoItem (drop at text)
+tail_here text at beyond h = at_tail h.stands.front h.last
 
 -- where neither an item nor a last `$` is, the branch ends
 pub end_here : {t : Text} → HasNoItem t → HasNoTail t → IsAtEnd t
@@ -47,7 +47,7 @@ end_here (at_end h) k = h
 end_here (at_tail e h) k = absurd (k.none _ e h)
 
 -- the items end without an anchor
-pub ended_without_tail : {alloc : Option Global} (text : Text) (items : Pieces) → items.behind ≤ length text → HasNoItem (drop items.behind text) → HasNoTail (drop items.behind text) → IsEnded alloc text items items
+pub ended_without_tail : {alloc : Option Global} (text : Text) (items : Pieces) → items.beyond ≤ length text → HasNoItem (drop items.beyond text) → HasNoTail (drop items.beyond text) → IsEnded alloc text items items
 ended_without_tail text items h n k = record {
   forward = omega arith;
   within = h;
@@ -59,14 +59,14 @@ ended_without_tail text items h n k = record {
 }
 
 -- the items end with an anchor
-pub ended_with_tail : {alloc : Option Global} (text : Text) (old new : Pieces) (piece : Piece) → IsBehindTail text old.behind piece.behind → IsTold alloc piece end → piece.height ≡ 0 → IsJoined old piece new → IsEnded alloc text old new
+pub ended_with_tail : {alloc : Option Global} (text : Text) (old new : Pieces) (piece : Piece) → ComesAfterTail text old.beyond piece.beyond → IsReported alloc piece end → piece.height ≡ 0 → IsJoined old piece new → IsEnded alloc text old new
 ended_with_tail {alloc} text old new piece t e f j = record {
   forward = omega (arith, j.place, t.stands.place);
   within = omega (arith, j.place, t.stands.within);
   at_end = subst (λ n. IsAtEnd (drop n text)) (sym j.place) t.last;
   height = j.height ∙ omega arith;
   last = end ∷ [];
-  stands = λ p. subst (λ u. Items p 0 u (drop new.behind text) (end ∷ [])) (sym t.stands.front) (subst (λ n. Items p 0 (codes "$" ++ drop piece.behind text) (drop n text) (end ∷ [])) (sym j.place) (trailing t.last));
+  stands = λ p. subst (λ u. Items p 0 u (drop new.beyond text) (end ∷ [])) (sym t.stands.front) (subst (λ n. Items p 0 (codes "$" ++ drop piece.beyond text) (drop n text) (end ∷ [])) (sym j.place) (trailing t.last));
   means = λ es are. j.means alloc es end are e;
 }
 

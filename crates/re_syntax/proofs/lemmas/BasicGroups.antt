@@ -12,19 +12,19 @@ use Rattle.re_syntax.specs.Expression.{Expression, choice}
 use Rattle.re_syntax.specs.Basic.{ItemPlace, Branches, Atom, bracket, period, escaped, ordinary, group}
 use Rattle.re_syntax.specs.BasicFaults.{IsStart, OpensUnclosed, IsShownIn, IsNoBasic}
 use Rattle.re_syntax.specs.Working.BasicSteps.{IsAtLast, text_ends, group_ends, AtomStands, HasNoAtom, HasNoBranches, BranchesStand}
-use Rattle.re_syntax.specs.Working.PieceSteps.{IsRefused, memory, told, IsTold, AreTold}
+use Rattle.re_syntax.specs.Working.PieceSteps.{IsRefused, memory, reported, IsReported, AreReported}
 use Rattle.re_syntax.specs.Profile.{most_levels}
 use Rattle.re_syntax.specs.Spelled.{IsSpelled, as_basic}
 use Rattle.re_syntax.proofs.lemmas.BracketsUnique.{heads, tails, apart, bracket_front}
 use Rattle.re_syntax.proofs.lemmas.AtomFronts.{not_ordinary, never_backslash, undefined_apart}
 use Rattle.re_syntax.proofs.lemmas.BasicUnique.{branches-unique}
-use Rattle.re_syntax.proofs.lemmas.Places.{behind_first, take-after}
+use Rattle.re_syntax.proofs.lemmas.Places.{beyond_first, take-after}
 
 -- what follows a group's opening
-pub behind_opening : (text : Text) (at : ℕ) → Begins (codes "\\(") (drop at text) → drop at text ≡ codes "\\(" ++ drop (at + 2) text
-behind_opening text at (rest, e) =
-    let one : 40 ∷ rest ≡ drop (at + 1) text = behind_first text at 92 (40 ∷ rest) e in
-    let two : rest ≡ drop (at + 1 + 1) text = behind_first text (at + 1) 40 rest (sym one) in
+pub after_opening : (text : Text) (at : ℕ) → Begins (codes "\\(") (drop at text) → drop at text ≡ codes "\\(" ++ drop (at + 2) text
+after_opening text at (rest, e) =
+    let one : 40 ∷ rest ≡ drop (at + 1) text = beyond_first text at 92 (40 ∷ rest) e in
+    let two : rest ≡ drop (at + 1 + 1) text = beyond_first text (at + 1) 40 rest (sym one) in
     let there : at + 1 + 1 ≡ at + 2 = omega arith in
     e ∙ ap (λ x. 92 ∷ 40 ∷ x) (two ∙ ap (λ n. drop n text) there)
 
@@ -34,22 +34,22 @@ opening_within text at (rest, e) = omega (arith, simp length-drop at (ap length 
 
 -- an expression starts after a group's opening
 pub opening_starts : (text : Text) (at : ℕ) → Begins (codes "\\(") (drop at text) → IsStart (take (at + 2) text)
-opening_starts text at b = inr (inl (take at text, take-after text at (codes "\\(") (drop (at + 2) text) (behind_opening text at b)))
+opening_starts text at b = inr (inl (take at text, take-after text at (codes "\\(") (drop (at + 2) text) (after_opening text at b)))
 
 -- a group whose branches were read is an atom
 pub group_stands : {alloc : Option Global} (levels : ℕ) (text : Text) (at : ℕ) (branches : Pieces) (piece : Piece) → Begins (codes "\\(") (drop at text) → levels ≢ 0 →
-    BranchesStand alloc (levels - 1) text (at + 2) branches → IsAfter (codes "\\)") text branches.behind piece.behind → piece.height ≡ branches.height + 1 →
-    ((es : List Expression) → AreTold alloc branches es → IsTold alloc piece (choice es)) → (p : ItemPlace) → AtomStands alloc p levels text at piece
+    BranchesStand alloc (levels - 1) text (at + 2) branches → IsAfter (codes "\\)") text branches.beyond piece.beyond → piece.height ≡ branches.height + 1 →
+    ((es : List Expression) → AreReported alloc branches es → IsReported alloc piece (choice es)) → (p : ItemPlace) → AtomStands alloc p levels text at piece
 group_stands levels text at branches piece b n s c e f p =
     let es = s.members in
-    let inner : Branches branches.height (drop (at + 2) text) (codes "\\)" ++ drop piece.behind text) es =
+    let inner : Branches branches.height (drop (at + 2) text) (codes "\\)" ++ drop piece.beyond text) es =
     subst (λ u. Branches branches.height (drop (at + 2) text) u es) c.front s.stands in
-    let one : Atom p (suc branches.height) (codes "\\(" ++ drop (at + 2) text) (drop piece.behind text) (choice es) = group inner in
-    let two : Atom p (suc branches.height) (drop at text) (drop piece.behind text) (choice es) =
-    subst (λ t. Atom p (suc branches.height) t (drop piece.behind text) (choice es)) (sym (behind_opening text at b)) one in
+    let one : Atom p (suc branches.height) (codes "\\(" ++ drop (at + 2) text) (drop piece.beyond text) (choice es) = group inner in
+    let two : Atom p (suc branches.height) (drop at text) (drop piece.beyond text) (choice es) =
+    subst (λ t. Atom p (suc branches.height) t (drop piece.beyond text) (choice es)) (sym (after_opening text at b)) one in
     let same : suc branches.height ≡ piece.height = omega arith in
-    let three : Atom p piece.height (drop at text) (drop piece.behind text) (choice es) =
-    subst (λ k. Atom p k (drop at text) (drop piece.behind text) (choice es)) same two in
+    let three : Atom p piece.height (drop at text) (drop piece.beyond text) (choice es) =
+    subst (λ k. Atom p k (drop at text) (drop piece.beyond text) (choice es)) same two in
     record {
       forward = omega (arith, s.forward, c.place);
       within = c.within;
@@ -84,16 +84,16 @@ pub no_group_inside : (levels : ℕ) (text : Text) (at : ℕ) → Begins (codes 
     (p : ItemPlace) → HasNoAtom p levels (drop at text)
 no_group_inside levels text at b k p = record {
   none = λ h u x a le.
-      let g = is_group a (behind_opening text at b) in
+      let g = is_group a (after_opening text at b) in
       k.none g.inner_height (codes "\\)" ++ u) g.members g.inside group_ends (omega (arith, g.height));
 }
 
 -- where no end of the group follows the branches there is no group
 pub no_group_end : {alloc : Option Global} (levels : ℕ) (text : Text) (at : ℕ) (branches : Pieces) → Begins (codes "\\(") (drop at text) → BranchesStand alloc (levels - 1) text (at + 2) branches →
-    ¬ Begins (codes "\\)") (drop branches.behind text) → (p : ItemPlace) → HasNoAtom p levels (drop at text)
+    ¬ Begins (codes "\\)") (drop branches.beyond text) → (p : ItemPlace) → HasNoAtom p levels (drop at text)
 no_group_end levels text at branches b s k p = record {
   none = λ h u x a le.
-      let g = is_group a (behind_opening text at b) in
+      let g = is_group a (after_opening text at b) in
       let same = branches-unique g.inside s.stands refl group_ends s.at_end in
       k (u, sym same.rests);
 }
@@ -105,27 +105,27 @@ last_cases (group_ends {t = u}) = inr (u, refl)
 
 -- after the opening of an unclosed group, branches go on up to the text's end
 pub opens_unclosed : {alloc : Option Global} (levels : ℕ) (text : Text) (at : ℕ) (branches : Pieces) → Begins (codes "\\(") (drop at text) → BranchesStand alloc levels text (at + 2) branches →
-    ¬ Begins (codes "\\)") (drop branches.behind text) → OpensUnclosed (drop at text)
+    ¬ Begins (codes "\\)") (drop branches.beyond text) → OpensUnclosed (drop at text)
 opens_unclosed levels text at branches b s k = record {
   inside = drop (at + 2) text;
   height = branches.height;
   members = s.members;
-  opens = behind_opening text at b;
+  opens = after_opening text at b;
   goes_on = go (last_cases s.at_end);
 }
   where
-    go : (drop branches.behind text ≡ []) ⊎ Begins (codes "\\)") (drop branches.behind text) → Branches branches.height (drop (at + 2) text) [] s.members
+    go : (drop branches.beyond text ≡ []) ⊎ Begins (codes "\\)") (drop branches.beyond text) → Branches branches.height (drop (at + 2) text) [] s.members
     go (inl e) = subst (λ u. Branches branches.height (drop (at + 2) text) u s.members) e s.stands
     go (inr c) = absurd (k c)
 
 -- A whole expression.
 
 -- branches up to the text's end are spelled
-pub whole_read : {alloc : Option Global} (text : Text) (branches : Pieces) (piece : Piece) → BranchesStand alloc most_levels text 0 branches → length text ≤ branches.behind →
-    ((es : List Expression) → AreTold alloc branches es → IsTold alloc piece (choice es)) → (e : Expression) × IsSpelled Basic text e × IsTold alloc piece e
+pub whole_read : {alloc : Option Global} (text : Text) (branches : Pieces) (piece : Piece) → BranchesStand alloc most_levels text 0 branches → length text ≤ branches.beyond →
+    ((es : List Expression) → AreReported alloc branches es → IsReported alloc piece (choice es)) → (e : Expression) × IsSpelled Basic text e × IsReported alloc piece e
 whole_read text branches piece s h f =
     let es = s.members in
-    let nothing : drop branches.behind text ≡ [] = nil_from_length (drop branches.behind text) (omega (arith, length-drop branches.behind text)) in
+    let nothing : drop branches.beyond text ≡ [] = nil_from_length (drop branches.beyond text) (omega (arith, length-drop branches.beyond text)) in
     let all : Branches branches.height text [] es = subst (λ u. Branches branches.height text u es) nothing s.stands in
     (choice es, as_basic all s.height, f es s.are)
 
@@ -134,7 +134,7 @@ spelled_branches : {text : Text} {e : Expression} → IsSpelled Basic text e →
 spelled_branches (as_basic {h = h} {es = es} bs le) = (h, es, bs, le)
 
 -- branches up to a closing outside groups spell nothing
-pub not_whole : {alloc : Option Global} (text : Text) (branches : Pieces) → BranchesStand alloc most_levels text 0 branches → branches.behind < length text → IsNoBasic text (record { kind = UnopenedGroup; at = branches.behind })
+pub not_whole : {alloc : Option Global} (text : Text) (branches : Pieces) → BranchesStand alloc most_levels text 0 branches → branches.beyond < length text → IsNoBasic text (record { kind = UnopenedGroup; at = branches.beyond })
 not_whole text branches s h = record {
   none = λ e spelled. let (k, es, bs, le) = spelled_branches spelled in
       let same = branches-unique bs s.stands refl text_ends s.at_end in
@@ -143,11 +143,11 @@ not_whole text branches s h = record {
     height = branches.height;
     members = s.members;
     closes = closing (last_cases s.at_end);
-    stands = subst (λ t. Branches branches.height t (drop branches.behind text) s.members) (sym (take-append-drop branches.behind text)) s.stands;
+    stands = subst (λ t. Branches branches.height t (drop branches.beyond text) s.members) (sym (take-append-drop branches.beyond text)) s.stands;
   };
 }
   where
-    closing : (drop branches.behind text ≡ []) ⊎ Begins (codes "\\)") (drop branches.behind text) → Begins (codes "\\)") (drop branches.behind text)
+    closing : (drop branches.beyond text ≡ []) ⊎ Begins (codes "\\)") (drop branches.beyond text) → Begins (codes "\\)") (drop branches.beyond text)
     closing (inl e) = absurd (omega (arith, simp length-drop at (ap length e)))
     closing (inr b) = b
 
@@ -159,4 +159,4 @@ nothing_spelled text fault k shown = record { none = λ e spelled. let (h, es, b
 pub memory_or_none : (text : Text) (fault : PatternFault) → IsRefused (HasNoBranches most_levels text) (IsShownIn text fault) fault →
     ◌≡◌ {A = PatternFault} fault (record { kind = Memory; at = 0 }) ⊎ IsNoBasic text fault
 memory_or_none text fault (memory e) = inl e
-memory_or_none text fault (told k shown) = inr (nothing_spelled text fault k shown)
+memory_or_none text fault (reported k shown) = inr (nothing_spelled text fault k shown)

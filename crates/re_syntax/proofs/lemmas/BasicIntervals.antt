@@ -25,28 +25,28 @@ closing_no_part = record {
 }
 
 -- a star is a duplication
-pub star_stands : {text : Text} {at behind : ℕ} → IsAfter (codes "*") text at behind → DuplicationStands text at (record { least = 0; most = None }) behind
+pub star_stands : {text : Text} {at beyond : ℕ} → IsAfter (codes "*") text at beyond → DuplicationStands text at (record { least = 0; most = None }) beyond
 star_stands s = record { within = s.within; bytes = codes "*"; duplication = star; front = s.front }
 
 -- a `\+` is a duplication
-pub plus_stands : {text : Text} {at behind : ℕ} → IsAfter (codes "\\+") text at behind → DuplicationStands text at (record { least = 1; most = None }) behind
+pub plus_stands : {text : Text} {at beyond : ℕ} → IsAfter (codes "\\+") text at beyond → DuplicationStands text at (record { least = 1; most = None }) beyond
 plus_stands s = record { within = s.within; bytes = codes "\\+"; duplication = plus; front = s.front }
 
 -- a `\?` is a duplication
-pub question_stands : {text : Text} {at behind : ℕ} → IsAfter (codes "\\?") text at behind → DuplicationStands text at (record { least = 0; most = Some 1 }) behind
+pub question_stands : {text : Text} {at beyond : ℕ} → IsAfter (codes "\\?") text at beyond → DuplicationStands text at (record { least = 0; most = Some 1 }) beyond
 question_stands s = record { within = s.within; bytes = codes "\\?"; duplication = question; front = s.front }
 
 -- an interval whose counts are allowed is a duplication
-pub interval_stands : {text : Text} {at inside behind : ℕ} {counts : Counts} → IsAfter (codes "\\{") text at inside → IntervalStands (codes "\\}") text inside counts behind →
-    IsAllowed counts.least counts.most → DuplicationStands text at counts behind
-interval_stands {text} {at} {inside} {behind} {counts} s i h =
+pub interval_stands : {text : Text} {at inside beyond : ℕ} {counts : Counts} → IsAfter (codes "\\{") text at inside → IntervalStands (codes "\\}") text inside counts beyond →
+    IsAllowed counts.least counts.most → DuplicationStands text at counts beyond
+interval_stands {text} {at} {inside} {beyond} {counts} s i h =
     let same = are_counts counts.least i.least counts.most i.most i.least_is i.most_is h in
     let allowed : IsAllowed i.least i.most = rw (sym same.least, sym same.most) h in
     record {
       within = i.within;
       bytes = codes "\\{" ++ i.stands.inside ++ codes "\\}";
       duplication = rw (same.least, same.most) (interval i.stands.form allowed);
-      front = s.front ∙ ap (λ t. 92 ∷ 123 ∷ t) (i.stands.whole ∙ sym (append_assoc i.stands.inside (codes "\\}") (drop behind text)));
+      front = s.front ∙ ap (λ t. 92 ∷ 123 ∷ t) (i.stands.whole ∙ sym (append_assoc i.stands.inside (codes "\\}") (drop beyond text)));
     }
 
 -- where nothing opens a duplication, there is none
@@ -60,13 +60,13 @@ opens_none {t} h = record { none = λ d least most u p e. go d least most u p e 
     go d least most u (interval {t = inside} form allowed) e = h.escaped (subst NeedsItem (sym e) needs_interval)
 
 -- each of the three that need an item, and no other
-pub interval_needs : {text : Text} {at behind : ℕ} → IsAfter (codes "\\{") text at behind → NeedsItem (drop at text)
+pub interval_needs : {text : Text} {at beyond : ℕ} → IsAfter (codes "\\{") text at beyond → NeedsItem (drop at text)
 interval_needs s = subst NeedsItem (sym s.front) needs_interval
 
-pub plus_needs : {text : Text} {at behind : ℕ} → IsAfter (codes "\\+") text at behind → NeedsItem (drop at text)
+pub plus_needs : {text : Text} {at beyond : ℕ} → IsAfter (codes "\\+") text at beyond → NeedsItem (drop at text)
 plus_needs s = subst NeedsItem (sym s.front) needs_plus
 
-pub question_needs : {text : Text} {at behind : ℕ} → IsAfter (codes "\\?") text at behind → NeedsItem (drop at text)
+pub question_needs : {text : Text} {at beyond : ℕ} → IsAfter (codes "\\?") text at beyond → NeedsItem (drop at text)
 question_needs s = subst NeedsItem (sym s.front) needs_question
 
 pub needs_no_item : {t : Text} → ¬ Begins (codes "\\{") t → ¬ Begins (codes "\\+") t → ¬ Begins (codes "\\?") t → ¬ NeedsItem t
@@ -104,13 +104,13 @@ shown_disallowed before o (most_too_large h) = o
 shown_disallowed before o (descending h small) = inr o
 
 -- an interval whose counts are refused is a bad interval
-pub bad_interval : {text : Text} {at inside behind : ℕ} {counts : Counts} {kind : FaultKind} → IsAfter (codes "\\{") text at inside →
-    IntervalStands (codes "\\}") text inside counts behind → IsDisallowed kind counts.least counts.most → HasBadInterval text at (record { kind = kind; at = at })
-bad_interval {text} {at} {inside} {behind} {counts} {kind} s i bad =
+pub bad_interval : {text : Text} {at inside beyond : ℕ} {counts : Counts} {kind : FaultKind} → IsAfter (codes "\\{") text at inside →
+    IntervalStands (codes "\\}") text inside counts beyond → IsDisallowed kind counts.least counts.most → HasBadInterval text at (record { kind = kind; at = at })
+bad_interval {text} {at} {inside} {beyond} {counts} {kind} s i bad =
     let refused = disallowed_too bad i.least i.most i.least_is i.most_is in record {
       opens = (drop inside text, s.front);
       none = record { none = λ d least most u p e. go d least most u p (sym s.front ∙ e) };
-      shown = shown_disallowed (take at text) (record { inside = drop inside text; rest = drop behind text; least = i.least; most = i.most; opens = s.front; stands = i.stands; disallowed = refused }) refused;
+      shown = shown_disallowed (take at text) (record { inside = drop inside text; rest = drop beyond text; least = i.least; most = i.most; opens = s.front; stands = i.stands; disallowed = refused }) refused;
     }
   where
     go : (d : Text) (least : ℕ) (most : Option ℕ) (u : Text) → Duplication d least most → codes "\\{" ++ drop inside text ≡ d ++ u → ⊥
@@ -119,6 +119,6 @@ bad_interval {text} {at} {inside} {behind} {counts} {kind} s i bad =
     go d least most u question e = apart 123 63 (heads (tails e)) refl
     go d least most u (interval {t = inner} form allowed) e =
         let whole = sym i.stands.whole ∙ tails (tails e) ∙ append_assoc inner (codes "\\}") u in
-        let cut = cut-unique 92 i.stands.inside inner (125 ∷ drop behind text) (125 ∷ u) (interval_lacks 92 refl refl i.stands.form) (interval_lacks 92 refl refl form) whole in
+        let cut = cut-unique 92 i.stands.inside inner (125 ∷ drop beyond text) (125 ∷ u) (interval_lacks 92 refl refl i.stands.form) (interval_lacks 92 refl refl form) whole in
         let same = Interval-unique i.stands.inside inner i.least least i.most most i.stands.form form cut.0 in
         not_allowed (disallowed_too bad i.least i.most i.least_is i.most_is) (rw (same.0, same.1) allowed)

@@ -10,7 +10,7 @@ use Rattle.re_syntax.specs.Expression.{Expression, sequence, repeat}
 use Rattle.re_syntax.specs.Basic.{Duplication, star, plus, question, interval, ItemPlace, AfterAnchor, Later, IsAtEnd, Items, none, leading, trailing, item, Item, atom, repeated, Atom}
 use Rattle.re_syntax.specs.BasicFaults.{IsShownIn}
 use Rattle.re_syntax.specs.Working.BasicSteps.{OpensNoDuplication, DuplicationStands, HasBadInterval, HasItem, MayBegin, AtomStands, HasNoAtom, ItemStands, HasNoItems, SoFar, IsEnded, BranchStands}
-use Rattle.re_syntax.specs.Working.PieceSteps.{IsTold, AreTold, IsRepeated, IsJoined}
+use Rattle.re_syntax.specs.Working.PieceSteps.{IsReported, AreReported, IsRepeated, IsJoined}
 use Rattle.re_syntax.proofs.lemmas.BracketsUnique.{heads, tails, apart}
 use Rattle.re_syntax.proofs.lemmas.Chains.{stands_some}
 use Rattle.re_syntax.proofs.lemmas.BasicUnique.{item_parts, item_front, end_front, items-after, items-higher}
@@ -20,8 +20,8 @@ use Rattle.re_syntax.proofs.lemmas.BasicLeads.{at_height}
 use Rattle.re_syntax.proofs.lemmas.AtomFronts.{is_ending}
 
 -- after the anchor an item may begin with any byte
-pub behind_anchor : (t : Text) → MayBegin AfterAnchor t
-behind_anchor t = record { no_lead = λ e. cc; no_duplication = λ e. cc }
+pub after_anchor : (t : Text) → MayBegin AfterAnchor t
+after_anchor t = record { no_lead = λ e. cc; no_duplication = λ e. cc }
 
 -- where an item has to begin and there is no atom, there are no items
 pub no_items_without_atom : {p : ItemPlace} {levels : ℕ} {t : Text} → HasItem t → MayBegin p t → HasNoAtom p levels t → HasNoItems p levels t
@@ -40,43 +40,43 @@ no_items_without_atom {p} {levels} {t} i b h = record { none = λ n u es is end'
 -- the piece is an item that may be at this place of its branch
 pub record MeansItem (alloc : Option Global) (p : ItemPlace) (text : Text) (at : ℕ) (piece : Piece) : Type 0 where
   pub meaning : Expression
-  pub is : IsTold alloc piece meaning
-  pub stands : Item p piece.height (drop at text) (drop piece.behind text) meaning
+  pub is : IsReported alloc piece meaning
+  pub stands : Item p piece.height (drop at text) (drop piece.beyond text) meaning
 
 -- an item that was read up to a place; duplications may follow
 pub record ItemSoFar (alloc : Option Global) (levels : ℕ) (text : Text) (at : ℕ) (piece : Piece) : Type 0 where
-  pub forward : at < piece.behind
-  pub within : piece.behind ≤ length text
+  pub forward : at < piece.beyond
+  pub within : piece.beyond ≤ length text
   pub height : piece.height ≤ levels
   pub stands : (p : ItemPlace) → MayBegin p (drop at text) → MeansItem alloc p text at piece
 
 -- an atom is such an item
 pub item_of_atom : {alloc : Option Global} (levels : ℕ) (text : Text) (at : ℕ) (piece : Piece) → ((p : ItemPlace) → MayBegin p (drop at text) → AtomStands alloc p levels text at piece) → ItemSoFar alloc levels text at piece
 item_of_atom levels text at piece h =
-    let a = h AfterAnchor (behind_anchor (drop at text)) in
+    let a = h AfterAnchor (after_anchor (drop at text)) in
     record { forward = a.forward; within = a.within; height = a.height; stands = λ p b. record { meaning = (h p b).meaning; is = (h p b).is; stands = atom (h p b).stands } }
 
 -- where no duplication follows, the item is complete
-pub item_read : {alloc : Option Global} (levels : ℕ) (text : Text) (at : ℕ) (piece : Piece) → ItemSoFar alloc levels text at piece → OpensNoDuplication (drop piece.behind text) →
+pub item_read : {alloc : Option Global} (levels : ℕ) (text : Text) (at : ℕ) (piece : Piece) → ItemSoFar alloc levels text at piece → OpensNoDuplication (drop piece.beyond text) →
     (p : ItemPlace) → MayBegin p (drop at text) → ItemStands alloc p levels text at piece
 item_read levels text at piece h n p b =
     let m = h.stands p b in
     record { forward = h.forward; within = h.within; height = h.height; no_more = n; meaning = m.meaning; is = m.is; stands = m.stands }
 
 -- a duplication takes at least one byte
-pub duplication_takes : {text : Text} {at : ℕ} {counts : Counts} {behind : ℕ} → DuplicationStands text at counts behind → at < behind
-duplication_takes {text} {at} {counts} {behind} d = go d.duplication d.front
+pub duplication_takes : {text : Text} {at : ℕ} {counts : Counts} {beyond : ℕ} → DuplicationStands text at counts beyond → at < beyond
+duplication_takes {text} {at} {counts} {beyond} d = go d.duplication d.front
   where
-    go : {bytes : Text} {least : ℕ} {most : Option ℕ} → Duplication bytes least most → drop at text ≡ bytes ++ drop behind text → at < behind
+    go : {bytes : Text} {least : ℕ} {most : Option ℕ} → Duplication bytes least most → drop at text ≡ bytes ++ drop beyond text → at < beyond
     go star e = omega (arith, simp length-drop at (ap length e), d.within)
     go plus e = omega (arith, simp length-drop at (ap length e), d.within)
     go question e = omega (arith, simp length-drop at (ap length e), d.within)
     go (interval {t = t} form allowed) e = omega (arith, simp (length-append, length-drop) at (ap length e), d.within)
 
 -- the item with one more duplication
-pub item_repeated : {alloc : Option Global} (levels : ℕ) (text : Text) (at : ℕ) (old new : Piece) (counts : Counts) (behind : ℕ) → ItemSoFar alloc levels text at old → old.height ≢ levels →
-    DuplicationStands text old.behind counts behind → IsRepeated alloc old counts behind new → ItemSoFar alloc levels text at new
-item_repeated levels text at old new counts behind h n d r =
+pub item_repeated : {alloc : Option Global} (levels : ℕ) (text : Text) (at : ℕ) (old new : Piece) (counts : Counts) (beyond : ℕ) → ItemSoFar alloc levels text at old → old.height ≢ levels →
+    DuplicationStands text old.beyond counts beyond → IsRepeated alloc old counts beyond new → ItemSoFar alloc levels text at new
+item_repeated levels text at old new counts beyond h n d r =
     let takes = duplication_takes d in
     record {
       forward = omega (arith, h.forward, r.place);
@@ -84,25 +84,25 @@ item_repeated levels text at old new counts behind h n d r =
       height = omega (arith, h.height, r.height);
       stands = λ p b.
           let m = h.stands p b in
-          let there : Item p old.height (drop at text) (d.bytes ++ drop behind text) m.meaning =
+          let there : Item p old.height (drop at text) (d.bytes ++ drop beyond text) m.meaning =
           subst (λ t. Item p old.height (drop at text) t m.meaning) d.front m.stands in
           let grown : suc old.height ≡ new.height = omega (arith, r.height) in
-          let again : Item p new.height (drop at text) (drop behind text) (repeat m.meaning counts.least counts.most) =
-          subst (λ k. Item p k (drop at text) (drop behind text) (repeat m.meaning counts.least counts.most)) grown (repeated there d.duplication) in
+          let again : Item p new.height (drop at text) (drop beyond text) (repeat m.meaning counts.least counts.most) =
+          subst (λ k. Item p k (drop at text) (drop beyond text) (repeat m.meaning counts.least counts.most)) grown (repeated there d.duplication) in
           record { meaning = repeat m.meaning counts.least counts.most; is = r.means m.meaning m.is; stands = rw r.place again };
     }
 
 -- one more duplication than there are levels is too many
-pub too_deep : {alloc : Option Global} (levels : ℕ) (text : Text) (at : ℕ) (piece : Piece) (counts : Counts) (behind : ℕ) → ItemSoFar alloc levels text at piece → piece.height ≡ levels →
-    DuplicationStands text piece.behind counts behind → (p : ItemPlace) → MayBegin p (drop at text) → HasNoItems p levels (drop at text)
-too_deep levels text at piece counts behind h e d p b = record {
+pub too_deep : {alloc : Option Global} (levels : ℕ) (text : Text) (at : ℕ) (piece : Piece) (counts : Counts) (beyond : ℕ) → ItemSoFar alloc levels text at piece → piece.height ≡ levels →
+    DuplicationStands text piece.beyond counts beyond → (p : ItemPlace) → MayBegin p (drop at text) → HasNoItems p levels (drop at text)
+too_deep levels text at piece counts beyond h e d p b = record {
   none = λ n u es is end' le. let higher = items-higher is (h.stands p b).stands refl end' (stands_some d) in absurd (omega arith);
 }
 
 -- a duplication that is too many shows at its place
-pub shown_deep : (text : Text) (at : ℕ) (counts : Counts) (behind : ℕ) → DuplicationStands text at counts behind → IsShownIn text (record { kind = TooDeep; at = at })
-shown_deep text at counts behind d =
-    inr (record { bytes = d.bytes; rest = drop behind text; least = counts.least; most = counts.most; duplication = d.duplication; whole = d.front })
+pub shown_deep : (text : Text) (at : ℕ) (counts : Counts) (beyond : ℕ) → DuplicationStands text at counts beyond → IsShownIn text (record { kind = TooDeep; at = at })
+shown_deep text at counts beyond d =
+    inr (record { bytes = d.bytes; rest = drop beyond text; least = counts.least; most = counts.most; duplication = d.duplication; whole = d.front })
 
 -- a byte that makes no end is not one that makes one
 not_ending : (b c : ℕ) → is_ending b ≡ false → b ≡ c → ¬ IsTrue (is_ending c)
@@ -115,7 +115,7 @@ later_not_interval (trailing l) w e h = apart 36 92 (heads e) refl
 later_not_interval (item i is) w e h = let (b, v, f, clear) = item_front i in clear.no_duplication (heads (sym f ∙ e)) 123 w (tails (sym f ∙ e)) refl
 
 -- so there are no items where an interval after an item is refused
-pub no_items_bad : {alloc : Option Global} (levels : ℕ) (text : Text) (at : ℕ) (piece : Piece) (fault : PatternFault) → ItemSoFar alloc levels text at piece → HasBadInterval text piece.behind fault →
+pub no_items_bad : {alloc : Option Global} (levels : ℕ) (text : Text) (at : ℕ) (piece : Piece) (fault : PatternFault) → ItemSoFar alloc levels text at piece → HasBadInterval text piece.beyond fault →
     (p : ItemPlace) → MayBegin p (drop at text) → HasNoItems p levels (drop at text)
 no_items_bad levels text at piece fault h bad p b = record {
   none = λ n u es is end' le.
@@ -128,7 +128,7 @@ no_items_bad levels text at piece fault h bad p b = record {
 
 -- one more item
 pub one_more : {alloc : Option Global} (levels : ℕ) (text : Text) (from : ℕ) (old new : Pieces) (piece : Piece) → SoFar alloc levels text from old →
-    ((p : ItemPlace) → MayBegin p (drop old.behind text) → ItemStands alloc p levels text old.behind piece) → IsJoined old piece new → SoFar alloc levels text from new
+    ((p : ItemPlace) → MayBegin p (drop old.beyond text) → ItemStands alloc p levels text old.beyond piece) → IsJoined old piece new → SoFar alloc levels text from new
 one_more {alloc} levels text from old new piece s h j =
     let i = h s.place s.begins in
     record {
@@ -141,7 +141,7 @@ one_more {alloc} levels text from old new piece s h j =
       members = s.members ++ i.meaning ∷ [];
       are = j.means alloc s.members i.meaning s.are i.is;
       ahead = λ k v es is.
-          let next : Items Later k (drop piece.behind text) v es = rw j.place at is in
+          let next : Items Later k (drop piece.beyond text) v es = rw j.place at is in
           let all = s.ahead (max piece.height k) v (i.meaning ∷ es) (item i.stands next) in
           rw append_assoc (at_height (regrouped old.height piece.height k ∙ ap (λ n. max n k) (sym j.height)) all);
       back = λ none_there. s.back (record {
@@ -153,7 +153,7 @@ one_more {alloc} levels text from old new piece s h j =
 
 -- the end of the branch
 pub all_read : {alloc : Option Global} (levels : ℕ) (text : Text) (from : ℕ) (old new : Pieces) (piece : Piece) → SoFar alloc levels text from old → IsEnded alloc text old new →
-    ((es : List Expression) → AreTold alloc new es → IsTold alloc piece (sequence es)) → piece.height ≡ new.height → piece.behind ≡ new.behind → BranchStands alloc levels text from piece
+    ((es : List Expression) → AreReported alloc new es → IsReported alloc piece (sequence es)) → piece.height ≡ new.height → piece.beyond ≡ new.beyond → BranchStands alloc levels text from piece
 all_read levels text from old new piece s e means h b = record {
   forward = omega (arith, s.forward, e.forward);
   within = omega (arith, e.within);
@@ -161,7 +161,7 @@ all_read levels text from old new piece s e means h b = record {
   height = omega (arith, e.height, s.height);
   members = s.members ++ e.last;
   stands =
-      let all = s.ahead 0 (drop new.behind text) e.last (e.stands s.place) in
+      let all = s.ahead 0 (drop new.beyond text) e.last (e.stands s.place) in
       rw (h, b) (at_height (omega (arith, e.height)) all);
   is = means (s.members ++ e.last) (e.means s.members s.are);
 }

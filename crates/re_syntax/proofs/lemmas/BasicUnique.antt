@@ -177,11 +177,11 @@ pub record BeginsWith (h m : ℕ) (u v : Text) (e : Expression) (es : List Expre
   pub height_first : ℕ
   pub height_others : ℕ
   pub heights : m ≡ max height_first height_others
-  pub behind : Text
+  pub beyond : Text
   pub start : Expression
   pub others : List Expression
-  pub goes_on : GoesOn Duplication h height_first u behind e start
-  pub items : Items Later height_others behind v others
+  pub goes_on : GoesOn Duplication h height_first u beyond e start
+  pub items : Items Later height_others beyond v others
   pub whole : es ≡ start ∷ others
 
 -- so do the items of any text that begins with an item
@@ -197,7 +197,7 @@ items-begin (item {h = h} {k = k} {u = w} {e = g} {es = fs} j js) i e end' =
       height_first = h;
       height_others = k;
       heights = refl;
-      behind = w;
+      beyond = w;
       start = g;
       others = fs;
       goes_on = goes_on unique parts.height parts.others (item_chain i parts.atom_first e) (later_no_duplication js end');

@@ -8,15 +8,15 @@ pub next_or_before : (l to : ℕ) → l ≤ suc to → (l ≡ suc to) ⊎ (l ≤
 next_or_before l to le = elim (eq-or-lt_of_le le) [ inl e ↦ inl e | inr h ↦ inr (omega arith) ]
 
 -- for the stretches of any relation, the least start at the next end is enough for the best
-pub best_so_far : (R : ℕ → ℕ → Type 0) (to : ℕ) (best : Option (ℕ × ℕ)) (told : Option ℕ) → IsBest R to best
-    → Least (λ i. R i (suc to)) told → IsBest R (suc to) (better best (suc to) told)
-best_so_far R to None None none told = λ i j le r.
-    elim (next_or_before j to le) [ inl e ↦ told i (subst (R i) e r) | inr le ↦ none i j le r ]
-best_so_far R to (Some (i, j)) None (r, le, early, long) told = (
+pub best_so_far : (R : ℕ → ℕ → Type 0) (to : ℕ) (best : Option (ℕ × ℕ)) (reported : Option ℕ) → IsBest R to best
+    → Least (λ i. R i (suc to)) reported → IsBest R (suc to) (better best (suc to) reported)
+best_so_far R to None None none reported = λ i j le r.
+    elim (next_or_before j to le) [ inl e ↦ reported i (subst (R i) e r) | inr le ↦ none i j le r ]
+best_so_far R to (Some (i, j)) None (r, le, early, long) reported = (
   r,
   omega (arith, le),
-  (λ k l m s. elim (next_or_before l to m) [ inl e ↦ absurd (told k (subst (R k) e s)) | inr m ↦ early k l m s ]),
-  (λ l m s. elim (next_or_before l to m) [ inl e ↦ absurd (told i (subst (R i) e s)) | inr m ↦ long l m s ]),
+  (λ k l m s. elim (next_or_before l to m) [ inl e ↦ absurd (reported k (subst (R k) e s)) | inr m ↦ early k l m s ]),
+  (λ l m s. elim (next_or_before l to m) [ inl e ↦ absurd (reported i (subst (R i) e s)) | inr m ↦ long l m s ]),
 )
 best_so_far R to None (Some k) none (r, least) = (
   r,

@@ -14,11 +14,11 @@ use Rattle.re_syntax.proofs.lemmas.BracketPoints.{point_along}
 -- a range that this point begins
 record SpanFrom (p : ListPlace) (t v : Text) (b : ℕ) : Type 0 where
   start : Begins (codes "]") t ⊎ Begins (codes "-") t → p ≡ First
-  behind : Text
-  hyphen : v ≡ codes "-" ++ behind
+  beyond : Text
+  hyphen : v ≡ codes "-" ++ beyond
   after : Text
   last : ℕ
-  last_point : Point behind after last
+  last_point : Point beyond after last
   ascends : b ≤ last
 
 -- where a point is, the element is that point alone or a range from it
@@ -28,7 +28,7 @@ from_point x (equivalence c) = absurd (equivalence_point x refl)
 from_point {p} {t = t} x (alone y may) = inl (subst (λ r. MayBeAlone p t r) (point-unique y x refl).rests may)
 from_point x (span {v = u} {w = w} {b = d} y start z open' le) =
     let same = point-unique y x refl in
-    inr (record { start = start; behind = u; hyphen = sym same.rests; after = w; last = d; last_point = z; ascends = rw (← same.values) le })
+    inr (record { start = start; beyond = u; hyphen = sym same.rests; after = w; last = d; last_point = z; ascends = rw (← same.values) le })
 
 -- where there is neither a class nor a point, there is no element
 pub no_element_at_all : {p q : ListPlace} {t w : Text} {a : Bytes} → OpensNoClass t → ((v : Text) (b : ℕ) → ¬ Point t v b) → ¬ Element p t w a q

@@ -23,16 +23,16 @@ rest_along : {p : ListPlace} {t u : Text} {x y : Bytes} → x ≡ y → Rest p t
 rest_along {p} {t} {u} e r = subst (λ s. Rest p t u s) e r
 
 -- no place after an element is the first, and after a point a hyphen is the last
-behind_element : {p q : ListPlace} {t v : Text} {a : Bytes} → Element p t v a q → (q ≢ First) × (Begins (codes "-") v → (q ≢ AfterPoint) ⊎ Begins (codes "-]") v)
-behind_element (class c) = (λ e. cc, λ h. inl (λ e. cc))
-behind_element (equivalence b) = (λ e. cc, λ h. inl (λ e. cc))
-behind_element (alone x may) = (λ e. cc, λ h. inr (may.before_hyphen h))
-behind_element (span x start y open' le) = (λ e. cc, λ h. inl (λ e. cc))
+after_element : {p q : ListPlace} {t v : Text} {a : Bytes} → Element p t v a q → (q ≢ First) × (Begins (codes "-") v → (q ≢ AfterPoint) ⊎ Begins (codes "-]") v)
+after_element (class c) = (λ e. cc, λ h. inl (λ e. cc))
+after_element (equivalence b) = (λ e. cc, λ h. inl (λ e. cc))
+after_element (alone x may) = (λ e. cc, λ h. inr (may.before_hyphen h))
+after_element (span x start y open' le) = (λ e. cc, λ h. inl (λ e. cc))
 
 -- what follows an element of a list that goes on is the rest of the list
-rest_behind : {p q : ListPlace} {t v u : Text} {a x : Bytes} → (Begins (codes "]") t → p ≡ First) → Element p t v a q → Rest p t u x → (s : Bytes) × Rest q v u s
-rest_behind on e (closing n) = absurd (n (on (_, refl)))
-rest_behind {q = b} {u = u} on e (more {v = w} {s = s} d r) =
+rest_after : {p q : ListPlace} {t v u : Text} {a x : Bytes} → (Begins (codes "]") t → p ≡ First) → Element p t v a q → Rest p t u x → (s : Bytes) × Rest q v u s
+rest_after on e (closing n) = absurd (n (on (_, refl)))
+rest_after {q = b} {u = u} on e (more {v = w} {s = s} d r) =
     let same = element-unique d e refl in
     let placed = subst (λ y. Rest y w u s) same.places r in
     (s, subst (λ y. Rest b y u s) same.rests placed)
@@ -40,19 +40,19 @@ rest_behind {q = b} {u = u} on e (more {v = w} {s = s} d r) =
 -- the first element was read
 pub goes_on-first : {q : ListPlace} {t v : Text} {a : Bytes} → Element First t v a q → GoesOn t v q a
 goes_on-first e = record {
-  not_first = (behind_element e).0;
-  hyphen = (behind_element e).1;
+  not_first = (after_element e).0;
+  hyphen = (after_element e).1;
   whole = λ u s r. more e r;
-  rest = λ u x r. rest_behind (λ h. refl) e r;
+  rest = λ u x r. rest_after (λ h. refl) e r;
 }
 
 -- one more element was read
 pub goes_on-next : {p q : ListPlace} {t v w : Text} {done a : Bytes} → GoesOn t v p done → ¬ Begins (codes "]") v → Element p v w a q → GoesOn t w q (union done a)
 goes_on-next {done = done} {a = a} g h e = record {
-  not_first = (behind_element e).0;
-  hyphen = (behind_element e).1;
+  not_first = (after_element e).0;
+  hyphen = (after_element e).1;
   whole = λ u s r. rest_along (sym (union-assoc done a s)) (g.whole u (union a s) (more e r));
-  rest = λ u x r. rest_behind (λ k. absurd (h k)) e (g.rest u x r).1;
+  rest = λ u x r. rest_after (λ k. absurd (h k)) e (g.rest u x r).1;
 }
 
 -- the bracket that closes the list was read
@@ -61,14 +61,14 @@ goes_on-last {p} {w = w} {done = done} g e =
     rest_along (union-nothing done) (g.whole w nothing (subst (λ y. Rest p y w nothing) (sym e) (closing g.not_first)))
 
 -- where there is neither the closing bracket nor an element, there is no rest of a list
-none_behind : {p : ListPlace} {v u : Text} {s : Bytes} → ¬ Begins (codes "]") v → ((w : Text) (a : Bytes) (q : ListPlace) → ¬ Element p v w a q) → ¬ Rest p v u s
-none_behind h none (closing n) = h (_, refl)
-none_behind h none (more e r) = none _ _ _ e
+none_after : {p : ListPlace} {v u : Text} {s : Bytes} → ¬ Begins (codes "]") v → ((w : Text) (a : Bytes) (q : ListPlace) → ¬ Element p v w a q) → ¬ Rest p v u s
+none_after h none (closing n) = h (_, refl)
+none_after h none (more e r) = none _ _ _ e
 
 -- where there is no element there is no list
 pub goes_on-none : {p : ListPlace} {t v u : Text} {done x : Bytes} → GoesOn t v p done → ¬ Begins (codes "]") v →
     ((w : Text) (a : Bytes) (q : ListPlace) → ¬ Element p v w a q) → ¬ Rest First t u x
-goes_on-none {u = u} {x = x} g h none r = none_behind h none (g.rest u x r).1
+goes_on-none {u = u} {x = x} g h none r = none_after h none (g.rest u x r).1
 
 -- anything may be first in a list
 pub may_begin : (t : Text) → MayGoOn First t

@@ -54,7 +54,7 @@ pub up_to : (text : Text) (from place : ℕ) (c : Cursor) (e : Expression) → c
 up_to text from place c e f g h = record { within = rw g (rw f at c.in_text); stands = rw g (rw f at h) }
 
 -- a bracket expression that was read is the only one there
-pub only_one : {text : Text} {from behind : ℕ} {e : Expression} → IsBracketUpTo text from behind e → IsOnlyBracket text from behind e
+pub only_one : {text : Text} {from beyond : ℕ} {e : Expression} → IsBracketUpTo text from beyond e → IsOnlyBracket text from beyond e
 only_one h rest other x = let same = IsBracket-unique x h.stands refl in (same.rests, same.expressions)
 
 -- a fault that shows in the text of a cursor shows in this text, which is the same

@@ -107,5 +107,5 @@ pub same_heights : {h k m n : ℕ} → h ≡ k → m ≡ n → max h m ≡ max k
 same_heights p q = cc
 
 -- a place with a duplication is not one without any
-pub stands_some : {D : Text → ℕ → Option ℕ → Type 0} {text : Text} {at : ℕ} {counts : Counts} {behind : ℕ} → HasOne D text at counts behind → ¬ HasNone D (drop at text)
-stands_some {text = text} {counts = counts} {behind = behind} d h = h.none d.bytes counts.least counts.most (drop behind text) d.duplication d.front
+pub stands_some : {D : Text → ℕ → Option ℕ → Type 0} {text : Text} {at : ℕ} {counts : Counts} {beyond : ℕ} → HasOne D text at counts beyond → ¬ HasNone D (drop at text)
+stands_some {text = text} {counts = counts} {beyond = beyond} d h = h.none d.bytes counts.least counts.most (drop beyond text) d.duplication d.front

@@ -11,13 +11,13 @@ use Rattle.re_syntax.specs.Escapes.{is_undefined}
 use Rattle.re_syntax.specs.EscapeFaults.{IsRefusedEscape, undefined, reference, one_to_nine}
 use Rattle.re_syntax.specs.Working.EscapeSteps.{EscapeStands, HasNoEscape, trailing, refused}
 use Rattle.re_syntax.proofs.lemmas.BracketsUnique.{heads, tails}
-use Rattle.re_syntax.proofs.lemmas.Places.{byte_at, behind_first}
+use Rattle.re_syntax.proofs.lemmas.Places.{byte_at, beyond_first}
 
 -- a backslash and a byte
 pub escape_stands : (others text : Text) (at b : ℕ) → Begins (codes "\\") (drop at text) → slice_get text (at + 1) ≡ Some b → ¬ IsTrue (is_undefined others b) →
     EscapeStands others text at b
 escape_stands others text at b (rest, e) f h =
-    let next : rest ≡ b ∷ drop (at + 1 + 1) text = behind_first text at 92 rest e ∙ byte_at text (at + 1) b f in
+    let next : rest ≡ b ∷ drop (at + 1 + 1) text = beyond_first text at 92 rest e ∙ byte_at text (at + 1) b f in
     let there : at + 1 + 1 ≡ at + 2 = omega arith in
     record {
       within = let k = slice_get_within text (at + 1) b f in omega arith;
@@ -41,7 +41,7 @@ refused_undefined {others} (reference {b = b} h) = reference_undefined others b 
 pub refused_escape : (others text : Text) (at b : ℕ) (kind : FaultKind) → Begins (codes "\\") (drop at text) → slice_get text (at + 1) ≡ Some b →
     IsRefusedEscape others kind b → HasNoEscape others text at (record { kind = kind; at = at })
 refused_escape others text at b kind (rest, e) f h =
-    let next : rest ≡ b ∷ drop (at + 1 + 1) text = behind_first text at 92 rest e ∙ byte_at text (at + 1) b f in
+    let next : rest ≡ b ∷ drop (at + 1 + 1) text = beyond_first text at 92 rest e ∙ byte_at text (at + 1) b f in
     let front : drop at text ≡ 92 ∷ b ∷ drop (at + 1 + 1) text = e ∙ ap (λ x. 92 ∷ x) next in
     refused refl (record { byte = b; begins = (drop (at + 1 + 1) text, front); refused = h })
 

@@ -17,7 +17,7 @@ use Rattle.re_syntax.specs.Extended.{is_ordinary, Atom, bracket, period, dollar,
 use Rattle.re_syntax.specs.ExtendedFaults.{opens_star, opens_plus, opens_question, opens_interval, OpensDuplication, ShowsExtendedFault, IsShownIn}
 use Rattle.re_syntax.specs.Profile.{extended_refused}
 use Rattle.re_syntax.specs.Working.ExtendedSteps.{stops, MayBegin, AtomStands, HasNoAtom}
-use Rattle.re_syntax.specs.Working.PieceSteps.{meant_bytes, IsTold, IsBracketPiece}
+use Rattle.re_syntax.specs.Working.PieceSteps.{meant_bytes, IsReported, IsBracketPiece}
 use Rattle.re_syntax.proofs.lemmas.BracketsUnique.{heads, apart, bracket_front}
 use Rattle.re_syntax.proofs.lemmas.BracketKinds.{IsBracketKind, is_unclosed, is_class, is_symbol, is_range, bracket_kind}
 use Rattle.re_syntax.proofs.lemmas.BracketLists.{bracket-shortens}
@@ -38,8 +38,8 @@ shown_escape text at fault (trailing e front) = subst (IsShownIn text) (sym e) f
 shown_escape text at fault (refused e r) = subst (IsShownIn text) (sym e) (shown_refused (take at text) (drop at text) r.refused r)
 
 -- an escape goes up to the next place but one
-pub escaped_stands : {alloc : Option Global} (g : Bool) (levels : ℕ) (text : Text) (at b : ℕ) (piece : Piece) → EscapeStands extended_refused text at b → IsTold alloc piece (byte b) →
-    piece.height ≡ 0 → piece.behind ≡ at + 2 → AtomStands alloc g levels text at piece
+pub escaped_stands : {alloc : Option Global} (g : Bool) (levels : ℕ) (text : Text) (at b : ℕ) (piece : Piece) → EscapeStands extended_refused text at b → IsReported alloc piece (byte b) →
+    piece.height ≡ 0 → piece.beyond ≡ at + 2 → AtomStands alloc g levels text at piece
 escaped_stands g levels text at b piece s f h n =
     let within = s.within in
     let one : Atom g 0 (92 ∷ b ∷ drop (at + 2) text) (drop (at + 2) text) (byte b) = escaped b s.allowed in
@@ -107,13 +107,13 @@ shown_no_bracket text at fault h =
 
 -- an atom of one byte goes up to the next place
 one_byte : {alloc : Option Global} (g : Bool) (levels : ℕ) (text : Text) (at b : ℕ) (piece : Piece) (e : Expression) → at < length text → drop at text ≡ b ∷ drop (at + 1) text →
-    Atom g 0 (b ∷ drop (at + 1) text) (drop (at + 1) text) e → IsTold alloc piece e → piece.height ≡ 0 → piece.behind ≡ at + 1 → AtomStands alloc g levels text at piece
+    Atom g 0 (b ∷ drop (at + 1) text) (drop (at + 1) text) e → IsReported alloc piece e → piece.height ≡ 0 → piece.beyond ≡ at + 1 → AtomStands alloc g levels text at piece
 one_byte g levels text at b piece e h front a f k n =
     record { forward = omega arith; within = omega arith; height = omega arith; meaning = e; is = f; stands = rw (k, n, front) a }
 
 -- a `$` is an atom
 pub dollar_stands : {alloc : Option Global} (g : Bool) (levels : ℕ) (text : Text) (at : ℕ) (piece : Piece) → at < length text → drop at text ≡ 36 ∷ drop (at + 1) text →
-    IsTold alloc piece end → piece.height ≡ 0 → piece.behind ≡ at + 1 → AtomStands alloc g levels text at piece
+    IsReported alloc piece end → piece.height ≡ 0 → piece.beyond ≡ at + 1 → AtomStands alloc g levels text at piece
 dollar_stands g levels text at piece h front f k n = one_byte g levels text at 36 piece end h front dollar f k n
 
 -- a byte that ends no branch is no bar
@@ -179,7 +179,7 @@ single_atom g b u m k l o w = go (cases_eq b 46)
 
 -- an atom of one byte goes up to the next place
 pub single_stands : {alloc : Option Global} (g : Bool) (levels : ℕ) (text : Text) (at b : ℕ) (piece : Piece) → at < length text → drop at text ≡ b ∷ drop (at + 1) text →
-    MayBegin g (drop at text) → b ≢ 91 → b ≢ 92 → b ≢ 40 → b ≢ 36 → IsTold alloc piece (one_of (meant_bytes b)) → piece.height ≡ 0 → piece.behind ≡ at + 1 →
+    MayBegin g (drop at text) → b ≢ 91 → b ≢ 92 → b ≢ 40 → b ≢ 36 → IsReported alloc piece (one_of (meant_bytes b)) → piece.height ≡ 0 → piece.beyond ≡ at + 1 →
     AtomStands alloc g levels text at piece
 single_stands g levels text at b piece h front m k l o w f i n =
     one_byte g levels text at b piece (one_of (meant_bytes b)) h front (single_atom g b (drop (at + 1) text) (rw front at m) k l o w) f i n

@@ -21,8 +21,8 @@ not_number_first t h k =
     (λ c. let f : begins_with_comma (44 ∷ c.0) ≡ false = rw c.1 at k in cc)
 
 -- a comma follows the brace, and no digit follows the comma
-pub no_number_behind : (t : Text) → begins_with_digit t ≡ false → HasNoInterval (codes "}") (44 ∷ t)
-no_number_behind t h =
+pub no_number_after : (t : Text) → begins_with_digit t ≡ false → HasNoInterval (codes "}") (44 ∷ t)
+no_number_after t h =
     none_after_first (codes "}") (44 ∷ t) t refl (no_greatest (codes "}") t (λ b u e d. let f : begins_with_digit (b ∷ u) ≡ false = rw e at h in cc))
 
 -- no brace closes what follows it

@@ -13,51 +13,51 @@ use Rattle.re_syntax.specs.Expression.{Expression, sequence, choice}
 use Rattle.re_syntax.specs.Extended.{Branches, last, more, Items, Atom, group}
 use Rattle.re_syntax.specs.ExtendedFaults.{IsStart, OpensUnclosed, IsShownIn, IsNoExtended}
 use Rattle.re_syntax.specs.Working.ExtendedSteps.{stops, ends, AtomStands, HasNoAtom, HasNoItems, BranchStands, HasNoBranches, BranchesStand}
-use Rattle.re_syntax.specs.Working.PieceSteps.{IsRefused, memory, told, IsTold, AreTold, IsJoined}
+use Rattle.re_syntax.specs.Working.PieceSteps.{IsRefused, memory, reported, IsReported, AreReported, IsJoined}
 use Rattle.re_syntax.specs.Profile.{most_levels}
 use Rattle.re_syntax.specs.Spelled.{IsSpelled, as_extended}
 use Rattle.re_syntax.proofs.lemmas.BracketsUnique.{tails}
 use Rattle.re_syntax.proofs.lemmas.ExtendedFronts.{is_group}
 use Rattle.re_syntax.proofs.lemmas.ExtendedUnique.{ends-stops, ends_bar, items-unique, branches-unique}
-use Rattle.re_syntax.proofs.lemmas.Places.{behind_first, take-after, regrouped}
+use Rattle.re_syntax.proofs.lemmas.Places.{beyond_first, take-after, regrouped}
 
 -- branches at the same height
 pub at_height : {g : Bool} {h k : ℕ} {t u : Text} {es : List Expression} → h ≡ k → Branches g h t u es → Branches g k t u es
 at_height {g} {t = t} {u = u} {es = es} e bs = subst (λ n. Branches g n t u es) e bs
 
 -- the branches after the bar that follows the first branch
-record Behind (g : Bool) (m : ℕ) (u v : Text) : Type 0 where
+record Beyond (g : Bool) (m : ℕ) (u v : Text) : Type 0 where
   height : ℕ
   below : height ≤ m
   others : List Expression
   branches : Branches g height u v others
 
 -- branches with a bar after their first branch have such branches
-behind_bar : {g : Bool} {h m : ℕ} {t r u v : Text} {ds es : List Expression} → Branches g m t v es → Items g h t r ds → stops g r ≡ true → r ≡ 124 ∷ u →
-    ends g v ≡ true → Behind g m u v
-behind_bar {g} {u = u} {v = v} (last is) js s e p =
+after_bar : {g : Bool} {h m : ℕ} {t r u v : Text} {ds es : List Expression} → Branches g m t v es → Items g h t r ds → stops g r ≡ true → r ≡ 124 ∷ u →
+    ends g v ≡ true → Beyond g m u v
+after_bar {g} {u = u} {v = v} (last is) js s e p =
     let same = items-unique is js refl (ends-stops g v p) s in
     absurd (ends_bar g v u p (same.rests ∙ e))
-behind_bar {g} {u = u} {v = v} (more {k = k} {fs = fs} is bs) js s e p =
+after_bar {g} {u = u} {v = v} (more {k = k} {fs = fs} is bs) js s e p =
     let same = items-unique is js refl refl s in
     record { height = k; below = omega arith; others = fs; branches = subst (λ x. Branches g k x v fs) (tails (same.rests ∙ e)) bs }
 
 -- the branches that were read from one place on, up to the end of one of them, and what they say of
 -- all branches
 pub record BranchesSoFar (alloc : Option Global) (g : Bool) (levels : ℕ) (text : Text) (from : ℕ) (branches : Pieces) : Type 0 where
-  pub forward : from ≤ branches.behind
-  pub within : branches.behind ≤ length text
+  pub forward : from ≤ branches.beyond
+  pub within : branches.beyond ≤ length text
   pub height : branches.height ≤ levels
-  pub at_end : stops g (drop branches.behind text) ≡ true
+  pub at_end : stops g (drop branches.beyond text) ≡ true
   pub members : List Expression
-  pub are : AreTold alloc branches members
-  pub stands : Branches g branches.height (drop from text) (drop branches.behind text) members
-  pub ahead : (u : Text) → drop branches.behind text ≡ codes "|" ++ u → (k : ℕ) (v : Text) (fs : List Expression) → Branches g k u v fs →
+  pub are : AreReported alloc branches members
+  pub stands : Branches g branches.height (drop from text) (drop branches.beyond text) members
+  pub ahead : (u : Text) → drop branches.beyond text ≡ codes "|" ++ u → (k : ℕ) (v : Text) (fs : List Expression) → Branches g k u v fs →
       Branches g (max branches.height k) (drop from text) v (members ++ fs)
-  pub back : (u : Text) → drop branches.behind text ≡ codes "|" ++ u → HasNoBranches g levels u → HasNoBranches g levels (drop from text)
+  pub back : (u : Text) → drop branches.beyond text ≡ codes "|" ++ u → HasNoBranches g levels u → HasNoBranches g levels (drop from text)
 
 -- the first branch was read
-pub first_branch : {alloc : Option Global} (g : Bool) (levels : ℕ) (text : Text) (from : ℕ) (old new : Pieces) (piece : Piece) → BranchStands alloc g levels text from piece → AreTold alloc old [] →
+pub first_branch : {alloc : Option Global} (g : Bool) (levels : ℕ) (text : Text) (from : ℕ) (old new : Pieces) (piece : Piece) → BranchStands alloc g levels text from piece → AreReported alloc old [] →
     old.height ≡ 0 → IsJoined old piece new → BranchesSoFar alloc g levels text from new
 first_branch {alloc} g levels text from old new piece b e f j =
     let height : piece.height ≡ new.height = omega (arith, j.height) in
@@ -70,20 +70,20 @@ first_branch {alloc} g levels text from old new piece b e f j =
       are = j.means alloc [] (sequence b.members) e b.is;
       stands = rw j.place (at_height height (last b.stands));
       ahead = λ u s k v fs bs.
-          let there : drop piece.behind text ≡ 124 ∷ u = rw j.place at s in
+          let there : drop piece.beyond text ≡ 124 ∷ u = rw j.place at s in
           let inner : Items g piece.height (drop from text) (124 ∷ u) b.members = subst (λ x. Items g piece.height (drop from text) x b.members) there b.stands in
           at_height (ap (λ n. max n k) height) (more inner bs);
       back = λ u s h. record {
         none = λ n v es bs p le.
-            let there : drop piece.behind text ≡ 124 ∷ u = rw j.place at s in
-            let rest = behind_bar bs b.stands b.at_end there p in
+            let there : drop piece.beyond text ≡ 124 ∷ u = rw j.place at s in
+            let rest = after_bar bs b.stands b.at_end there p in
             h.none rest.height v rest.others rest.branches p (omega (arith, rest.below));
       };
     }
 
 -- one more branch was read, after a bar
 pub next_branch : {alloc : Option Global} (g : Bool) (levels : ℕ) (text : Text) (from : ℕ) (old new : Pieces) (place : ℕ) (piece : Piece) → BranchesSoFar alloc g levels text from old →
-    IsAfter (codes "|") text old.behind place → BranchStands alloc g levels text place piece → IsJoined old piece new → BranchesSoFar alloc g levels text from new
+    IsAfter (codes "|") text old.beyond place → BranchStands alloc g levels text place piece → IsJoined old piece new → BranchesSoFar alloc g levels text from new
 next_branch {alloc} g levels text from old new place piece s bar b j =
     record {
       forward = omega (arith, s.forward, bar.place, b.forward, j.place);
@@ -93,17 +93,17 @@ next_branch {alloc} g levels text from old new place piece s bar b j =
       members = s.members ++ sequence b.members ∷ [];
       are = j.means alloc s.members (sequence b.members) s.are b.is;
       stands =
-          let all = s.ahead (drop place text) bar.front piece.height (drop piece.behind text) (sequence b.members ∷ []) (last b.stands) in
+          let all = s.ahead (drop place text) bar.front piece.height (drop piece.beyond text) (sequence b.members ∷ []) (last b.stands) in
           rw j.place (at_height (sym j.height) all);
       ahead = λ u e k v fs bs.
-          let there : drop piece.behind text ≡ 124 ∷ u = rw j.place at e in
+          let there : drop piece.beyond text ≡ 124 ∷ u = rw j.place at e in
           let inner : Items g piece.height (drop place text) (124 ∷ u) b.members = subst (λ x. Items g piece.height (drop place text) x b.members) there b.stands in
           let all = s.ahead (drop place text) bar.front (max piece.height k) v (sequence b.members ∷ fs) (more inner bs) in
           rw append_assoc (at_height (regrouped old.height piece.height k ∙ ap (λ n. max n k) (sym j.height)) all);
       back = λ u e h. s.back (drop place text) bar.front (record {
         none = λ n v es bs p le.
-            let there : drop piece.behind text ≡ 124 ∷ u = rw j.place at e in
-            let rest = behind_bar bs b.stands b.at_end there p in
+            let there : drop piece.beyond text ≡ 124 ∷ u = rw j.place at e in
+            let rest = after_bar bs b.stands b.at_end there p in
             h.none rest.height v rest.others rest.branches p (omega (arith, rest.below));
       });
     }
@@ -117,8 +117,8 @@ no_branches {g} {levels} {t} h = record { none = λ n v es bs p le. go bs p le }
     go (more {h = n} {k = k} {u = u} {es = es} is bs) p le = h.none n (124 ∷ u) es is refl (omega arith)
 
 -- after a bar a branch starts
-pub bar_starts : {text : Text} {at behind : ℕ} → IsAfter (codes "|") text at behind → IsStart (take behind text)
-bar_starts {text} {at} {behind} s = inr (inr (take at text, ap (λ n. take n text) s.place ∙ take-after text at (codes "|") (drop behind text) s.front))
+pub bar_starts : {text : Text} {at beyond : ℕ} → IsAfter (codes "|") text at beyond → IsStart (take beyond text)
+bar_starts {text} {at} {beyond} s = inr (inr (take at text, ap (λ n. take n text) s.place ∙ take-after text at (codes "|") (drop beyond text) s.front))
 
 -- where a branch ends without a bar, the last branch ends
 last_ends : (g : Bool) (t : Text) → stops g t ≡ true → ¬ Begins (codes "|") t → ends g t ≡ true
@@ -131,15 +131,15 @@ last_ends g (b ∷ t) h n = go (or_cases (nat_eq b 124) (g && nat_eq b 41) h)
 
 -- all branches were read
 pub branches_read : {alloc : Option Global} {g : Bool} {levels : ℕ} {text : Text} {from : ℕ} {branches : Pieces} → BranchesSoFar alloc g levels text from branches →
-    ¬ Begins (codes "|") (drop branches.behind text) → BranchesStand alloc g levels text from branches
+    ¬ Begins (codes "|") (drop branches.beyond text) → BranchesStand alloc g levels text from branches
 branches_read {g} {text = text} {branches = branches} s n =
-    record { forward = s.forward; within = s.within; height = s.height; at_end = last_ends g (drop branches.behind text) s.at_end n; members = s.members; are = s.are; stands = s.stands }
+    record { forward = s.forward; within = s.within; height = s.height; at_end = last_ends g (drop branches.beyond text) s.at_end n; members = s.members; are = s.are; stands = s.stands }
 
 -- Groups.
 
 -- what follows a group's opening
-pub behind_opening : (text : Text) (at : ℕ) → Begins (codes "(") (drop at text) → drop at text ≡ codes "(" ++ drop (at + 1) text
-behind_opening text at (rest, e) = e ∙ ap (λ x. 40 ∷ x) (behind_first text at 40 rest e)
+pub after_opening : (text : Text) (at : ℕ) → Begins (codes "(") (drop at text) → drop at text ≡ codes "(" ++ drop (at + 1) text
+after_opening text at (rest, e) = e ∙ ap (λ x. 40 ∷ x) (beyond_first text at 40 rest e)
 
 -- a group's opening is within the text
 pub opening_within : (text : Text) (at : ℕ) → Begins (codes "(") (drop at text) → at + 1 ≤ length text
@@ -147,22 +147,22 @@ opening_within text at (rest, e) = omega (arith, simp length-drop at (ap length 
 
 -- an expression starts after a group's opening
 pub opening_starts : (text : Text) (at : ℕ) → Begins (codes "(") (drop at text) → IsStart (take (at + 1) text)
-opening_starts text at b = inr (inl (take at text, take-after text at (codes "(") (drop (at + 1) text) (behind_opening text at b)))
+opening_starts text at b = inr (inl (take at text, take-after text at (codes "(") (drop (at + 1) text) (after_opening text at b)))
 
 -- a group whose branches were read is an atom
 pub group_stands : {alloc : Option Global} (g : Bool) (levels : ℕ) (text : Text) (at : ℕ) (branches : Pieces) (piece : Piece) → Begins (codes "(") (drop at text) → levels ≢ 0 →
-    BranchesStand alloc true (levels - 1) text (at + 1) branches → IsAfter (codes ")") text branches.behind piece.behind → piece.height ≡ branches.height + 1 →
-    ((es : List Expression) → AreTold alloc branches es → IsTold alloc piece (choice es)) → AtomStands alloc g levels text at piece
+    BranchesStand alloc true (levels - 1) text (at + 1) branches → IsAfter (codes ")") text branches.beyond piece.beyond → piece.height ≡ branches.height + 1 →
+    ((es : List Expression) → AreReported alloc branches es → IsReported alloc piece (choice es)) → AtomStands alloc g levels text at piece
 group_stands g levels text at branches piece b n s c e f =
     let es = s.members in
-    let inner : Branches true branches.height (drop (at + 1) text) (codes ")" ++ drop piece.behind text) es =
+    let inner : Branches true branches.height (drop (at + 1) text) (codes ")" ++ drop piece.beyond text) es =
     subst (λ u. Branches true branches.height (drop (at + 1) text) u es) c.front s.stands in
-    let one : Atom g (suc branches.height) (codes "(" ++ drop (at + 1) text) (drop piece.behind text) (choice es) = group inner in
-    let two : Atom g (suc branches.height) (drop at text) (drop piece.behind text) (choice es) =
-    subst (λ t. Atom g (suc branches.height) t (drop piece.behind text) (choice es)) (sym (behind_opening text at b)) one in
+    let one : Atom g (suc branches.height) (codes "(" ++ drop (at + 1) text) (drop piece.beyond text) (choice es) = group inner in
+    let two : Atom g (suc branches.height) (drop at text) (drop piece.beyond text) (choice es) =
+    subst (λ t. Atom g (suc branches.height) t (drop piece.beyond text) (choice es)) (sym (after_opening text at b)) one in
     let same : suc branches.height ≡ piece.height = omega arith in
-    let three : Atom g piece.height (drop at text) (drop piece.behind text) (choice es) =
-    subst (λ k. Atom g k (drop at text) (drop piece.behind text) (choice es)) same two in
+    let three : Atom g piece.height (drop at text) (drop piece.beyond text) (choice es) =
+    subst (λ k. Atom g k (drop at text) (drop piece.beyond text) (choice es)) same two in
     record {
       forward = omega (arith, s.forward, c.place);
       within = c.within;
@@ -181,16 +181,16 @@ pub no_group_inside : (g : Bool) (levels : ℕ) (text : Text) (at : ℕ) → Beg
     HasNoAtom g levels (drop at text)
 no_group_inside g levels text at b k = record {
   none = λ h u x a le.
-      let inside = is_group a (behind_opening text at b) in
+      let inside = is_group a (after_opening text at b) in
       k.none inside.inner_height (codes ")" ++ u) inside.members inside.branches refl (omega (arith, inside.height));
 }
 
 -- where no end of the group follows the branches there is no group
 pub no_group_end : {alloc : Option Global} (g : Bool) (levels : ℕ) (text : Text) (at : ℕ) (branches : Pieces) → Begins (codes "(") (drop at text) →
-    BranchesStand alloc true (levels - 1) text (at + 1) branches → ¬ Begins (codes ")") (drop branches.behind text) → HasNoAtom g levels (drop at text)
+    BranchesStand alloc true (levels - 1) text (at + 1) branches → ¬ Begins (codes ")") (drop branches.beyond text) → HasNoAtom g levels (drop at text)
 no_group_end g levels text at branches b s k = record {
   none = λ h u x a le.
-      let inside = is_group a (behind_opening text at b) in
+      let inside = is_group a (after_opening text at b) in
       let same = branches-unique inside.branches s.stands refl refl s.at_end in
       k (u, sym same.rests);
 }
@@ -202,13 +202,13 @@ left_open (b ∷ t) h k = absurd (k (t, ap (λ x. x ∷ t) (eqb-true b 41 h)))
 
 -- after the opening of an unclosed group, branches go on up to the text's end
 pub opens_unclosed : {alloc : Option Global} (levels : ℕ) (text : Text) (at : ℕ) (branches : Pieces) → Begins (codes "(") (drop at text) → BranchesStand alloc true levels text (at + 1) branches →
-    ¬ Begins (codes ")") (drop branches.behind text) → OpensUnclosed (drop at text)
+    ¬ Begins (codes ")") (drop branches.beyond text) → OpensUnclosed (drop at text)
 opens_unclosed levels text at branches b s k = record {
   inside = drop (at + 1) text;
   height = branches.height;
   members = s.members;
-  opens = behind_opening text at b;
-  goes_on = subst (λ u. Branches true branches.height (drop (at + 1) text) u s.members) (left_open (drop branches.behind text) s.at_end k) s.stands;
+  opens = after_opening text at b;
+  goes_on = subst (λ u. Branches true branches.height (drop (at + 1) text) u s.members) (left_open (drop branches.beyond text) s.at_end k) s.stands;
 }
 
 -- A whole expression.
@@ -220,10 +220,10 @@ nothing_left (b ∷ t) h = let k : false ≡ true = h in cc
 
 -- branches up to the text's end are spelled
 pub whole_read : {alloc : Option Global} (text : Text) (branches : Pieces) (piece : Piece) → BranchesStand alloc false most_levels text 0 branches →
-    ((es : List Expression) → AreTold alloc branches es → IsTold alloc piece (choice es)) → (e : Expression) × IsSpelled Extended text e × IsTold alloc piece e
+    ((es : List Expression) → AreReported alloc branches es → IsReported alloc piece (choice es)) → (e : Expression) × IsSpelled Extended text e × IsReported alloc piece e
 whole_read text branches piece s f =
     let es = s.members in
-    let nothing : drop branches.behind text ≡ [] = nothing_left (drop branches.behind text) s.at_end in
+    let nothing : drop branches.beyond text ≡ [] = nothing_left (drop branches.beyond text) s.at_end in
     let all : Branches false branches.height text [] es = subst (λ u. Branches false branches.height text u es) nothing s.stands in
     (choice es, as_extended all s.height, f es s.are)
 
@@ -235,4 +235,4 @@ nothing_spelled text k e (as_extended {h = h} {es = es} bs le) = k.none h [] es 
 pub memory_or_none : (text : Text) (fault : PatternFault) → IsRefused (HasNoBranches false most_levels text) (IsShownIn text fault) fault →
     ◌≡◌ {A = PatternFault} fault (record { kind = Memory; at = 0 }) ⊎ IsNoExtended text fault
 memory_or_none text fault (memory e) = inl e
-memory_or_none text fault (told k shown) = inr (record { none = nothing_spelled text k; shown = shown })
+memory_or_none text fault (reported k shown) = inr (record { none = nothing_spelled text k; shown = shown })

@@ -11,7 +11,7 @@ use Rattle.re_syntax.specs.Expression.{Expression, begin, repeat, sequence}
 use Rattle.re_syntax.specs.Extended.{Duplication, star, plus, question, interval, Items, none, anchor, item, Item, atom, repeated, Atom}
 use Rattle.re_syntax.specs.ExtendedFaults.{OpensDuplication, IsStart, HasNothingToRepeat, IsShownIn}
 use Rattle.re_syntax.specs.Working.ExtendedSteps.{stops, DuplicationStands, HasBadInterval, MayBegin, AtomStands, HasNoAtom, ItemStands, HasNoItems, IsNext, BranchStands}
-use Rattle.re_syntax.specs.Working.PieceSteps.{IsTold, AreTold, IsRepeated, IsJoined}
+use Rattle.re_syntax.specs.Working.PieceSteps.{IsReported, AreReported, IsRepeated, IsJoined}
 use Rattle.re_syntax.proofs.lemmas.Chains.{stands_some}
 use Rattle.re_syntax.proofs.lemmas.ExtendedUnique.{item_parts}
 use Rattle.re_syntax.proofs.lemmas.ExtendedReading.{items-after, items-after-anchor, items-higher}
@@ -36,42 +36,42 @@ no_items_without_atom {g} {levels} {t} m h = record { none = λ n u es is p le. 
 
 -- an item that was read up to a place; duplications may follow
 pub record ItemSoFar (alloc : Option Global) (g : Bool) (levels : ℕ) (text : Text) (at : ℕ) (piece : Piece) : Type 0 where
-  pub forward : at < piece.behind
-  pub within : piece.behind ≤ length text
+  pub forward : at < piece.beyond
+  pub within : piece.beyond ≤ length text
   pub height : piece.height ≤ levels
   pub meaning : Expression
-  pub is : IsTold alloc piece meaning
-  pub stands : Item g piece.height (drop at text) (drop piece.behind text) meaning
+  pub is : IsReported alloc piece meaning
+  pub stands : Item g piece.height (drop at text) (drop piece.beyond text) meaning
 
 -- an atom is such an item
 pub item_of_atom : {alloc : Option Global} {g : Bool} {levels : ℕ} {text : Text} {at : ℕ} {piece : Piece} → AtomStands alloc g levels text at piece → ItemSoFar alloc g levels text at piece
 item_of_atom a = record { forward = a.forward; within = a.within; height = a.height; meaning = a.meaning; is = a.is; stands = atom a.stands }
 
 -- where no duplication follows, the item is complete
-pub item_read : {alloc : Option Global} {g : Bool} {levels : ℕ} {text : Text} {at : ℕ} {piece : Piece} → ItemSoFar alloc g levels text at piece → ¬ OpensDuplication (drop piece.behind text) →
+pub item_read : {alloc : Option Global} {g : Bool} {levels : ℕ} {text : Text} {at : ℕ} {piece : Piece} → ItemSoFar alloc g levels text at piece → ¬ OpensDuplication (drop piece.beyond text) →
     ItemStands alloc g levels text at piece
 item_read h n = record { forward = h.forward; within = h.within; height = h.height; no_more = n; meaning = h.meaning; is = h.is; stands = h.stands }
 
 -- a duplication takes at least one byte
-pub duplication_takes : {text : Text} {at : ℕ} {counts : Counts} {behind : ℕ} → DuplicationStands text at counts behind → at < behind
-duplication_takes {text} {at} {counts} {behind} d = go d.duplication d.front
+pub duplication_takes : {text : Text} {at : ℕ} {counts : Counts} {beyond : ℕ} → DuplicationStands text at counts beyond → at < beyond
+duplication_takes {text} {at} {counts} {beyond} d = go d.duplication d.front
   where
-    go : {bytes : Text} {least : ℕ} {most : Option ℕ} → Duplication bytes least most → drop at text ≡ bytes ++ drop behind text → at < behind
+    go : {bytes : Text} {least : ℕ} {most : Option ℕ} → Duplication bytes least most → drop at text ≡ bytes ++ drop beyond text → at < beyond
     go star e = omega (arith, simp length-drop at (ap length e), d.within)
     go plus e = omega (arith, simp length-drop at (ap length e), d.within)
     go question e = omega (arith, simp length-drop at (ap length e), d.within)
     go (interval {t = t} form allowed) e = omega (arith, simp (length-append, length-drop) at (ap length e), d.within)
 
 -- the item with one more duplication
-pub item_repeated : {alloc : Option Global} (g : Bool) (levels : ℕ) (text : Text) (at : ℕ) (old new : Piece) (counts : Counts) (behind : ℕ) → ItemSoFar alloc g levels text at old → old.height ≢ levels →
-    DuplicationStands text old.behind counts behind → IsRepeated alloc old counts behind new → ItemSoFar alloc g levels text at new
-item_repeated g levels text at old new counts behind h n d r =
+pub item_repeated : {alloc : Option Global} (g : Bool) (levels : ℕ) (text : Text) (at : ℕ) (old new : Piece) (counts : Counts) (beyond : ℕ) → ItemSoFar alloc g levels text at old → old.height ≢ levels →
+    DuplicationStands text old.beyond counts beyond → IsRepeated alloc old counts beyond new → ItemSoFar alloc g levels text at new
+item_repeated g levels text at old new counts beyond h n d r =
     let takes = duplication_takes d in
-    let there : Item g old.height (drop at text) (d.bytes ++ drop behind text) h.meaning =
+    let there : Item g old.height (drop at text) (d.bytes ++ drop beyond text) h.meaning =
     subst (λ t. Item g old.height (drop at text) t h.meaning) d.front h.stands in
     let grown : suc old.height ≡ new.height = omega (arith, r.height) in
-    let again : Item g new.height (drop at text) (drop behind text) (repeat h.meaning counts.least counts.most) =
-    subst (λ k. Item g k (drop at text) (drop behind text) (repeat h.meaning counts.least counts.most)) grown (repeated there d.duplication) in
+    let again : Item g new.height (drop at text) (drop beyond text) (repeat h.meaning counts.least counts.most) =
+    subst (λ k. Item g k (drop at text) (drop beyond text) (repeat h.meaning counts.least counts.most)) grown (repeated there d.duplication) in
     record {
       forward = omega (arith, h.forward, r.place);
       within = omega (arith, d.within, r.place);
@@ -82,15 +82,15 @@ item_repeated g levels text at old new counts behind h n d r =
     }
 
 -- one more duplication than there are levels is too many
-pub too_deep : {alloc : Option Global} (g : Bool) (levels : ℕ) (text : Text) (at : ℕ) (piece : Piece) (counts : Counts) (behind : ℕ) → ItemSoFar alloc g levels text at piece → piece.height ≡ levels →
-    DuplicationStands text piece.behind counts behind → HasNoItems g levels (drop at text)
-too_deep g levels text at piece counts behind h e d =
+pub too_deep : {alloc : Option Global} (g : Bool) (levels : ℕ) (text : Text) (at : ℕ) (piece : Piece) (counts : Counts) (beyond : ℕ) → ItemSoFar alloc g levels text at piece → piece.height ≡ levels →
+    DuplicationStands text piece.beyond counts beyond → HasNoItems g levels (drop at text)
+too_deep g levels text at piece counts beyond h e d =
     record { none = λ n u es is p le. let higher = items-higher is h.stands refl p (stands_some d) in absurd (omega arith) }
 
 -- a duplication that is too many shows at its place
-pub shown_deep : (text : Text) (at : ℕ) (counts : Counts) (behind : ℕ) → DuplicationStands text at counts behind → IsShownIn text (record { kind = TooDeep; at = at })
-shown_deep text at counts behind d =
-    inr (record { bytes = d.bytes; rest = drop behind text; least = counts.least; most = counts.most; duplication = d.duplication; whole = d.front })
+pub shown_deep : (text : Text) (at : ℕ) (counts : Counts) (beyond : ℕ) → DuplicationStands text at counts beyond → IsShownIn text (record { kind = TooDeep; at = at })
+shown_deep text at counts beyond d =
+    inr (record { bytes = d.bytes; rest = drop beyond text; least = counts.least; most = counts.most; duplication = d.duplication; whole = d.front })
 
 -- no items begin with a duplication
 pub no_items_opening : (g : Bool) (levels : ℕ) {t : Text} → OpensDuplication t → HasNoItems g levels t
@@ -98,7 +98,7 @@ no_items_opening g levels o = record { none = λ n u es is p le. let (b, w, e, f
 
 -- so there are no items where an interval after an item is refused
 pub no_items_bad : {alloc : Option Global} (g : Bool) (levels : ℕ) (text : Text) (at : ℕ) (piece : Piece) (fault : PatternFault) → ItemSoFar alloc g levels text at piece →
-    HasBadInterval text piece.behind fault → HasNoItems g levels (drop at text)
+    HasBadInterval text piece.beyond fault → HasNoItems g levels (drop at text)
 no_items_bad g levels text at piece fault h bad = record {
   none = λ n u es is p le.
       let rest = items-after is h.stands refl p bad.none in
@@ -107,7 +107,7 @@ no_items_bad g levels text at piece fault h bad = record {
 }
 
 -- an anchor comes next
-pub anchor_next : {alloc : Option Global} (g : Bool) (levels : ℕ) (text : Text) (at : ℕ) (piece : Piece) → IsAfter (codes "^") text at piece.behind → IsTold alloc piece begin →
+pub anchor_next : {alloc : Option Global} (g : Bool) (levels : ℕ) (text : Text) (at : ℕ) (piece : Piece) → IsAfter (codes "^") text at piece.beyond → IsReported alloc piece begin →
     piece.height ≡ 0 → IsNext alloc g levels text at piece
 anchor_next g levels text at piece s f n = record {
   forward = omega (arith, s.place);
@@ -115,9 +115,9 @@ anchor_next g levels text at piece s f n = record {
   height = omega arith;
   meaning = begin;
   is = f;
-  opens = λ o. inr (take at text, ap (λ x. take x text) s.place ∙ take-after text at (codes "^") (drop piece.behind text) s.front);
+  opens = λ o. inr (take at text, ap (λ x. take x text) s.place ∙ take-after text at (codes "^") (drop piece.beyond text) s.front);
   ahead = λ k v es is.
-      let one : Items g k (94 ∷ drop piece.behind text) v (begin ∷ es) = anchor is in
+      let one : Items g k (94 ∷ drop piece.beyond text) v (begin ∷ es) = anchor is in
       rw s.front (items_at_height (omega arith) one);
   back = λ h. record {
     none = λ m u es is p le. let rest = items-after-anchor is s.front p in h.none rest.height u rest.others rest.items p (omega (arith, rest.below));
@@ -144,19 +144,19 @@ item_next i = record {
 
 -- the items that were read from one place on, and what they say of the items of the whole branch
 pub record SoFar (alloc : Option Global) (g : Bool) (levels : ℕ) (text : Text) (from : ℕ) (items : Pieces) : Type 0 where
-  pub forward : from ≤ items.behind
-  pub within : items.behind ≤ length text
+  pub forward : from ≤ items.beyond
+  pub within : items.beyond ≤ length text
   pub height : items.height ≤ levels
-  pub opens : OpensDuplication (drop items.behind text) → HasNothingToRepeat (take items.behind text)
+  pub opens : OpensDuplication (drop items.beyond text) → HasNothingToRepeat (take items.beyond text)
   pub members : List Expression
-  pub are : AreTold alloc items members
-  pub ahead : (k : ℕ) (v : Text) (es : List Expression) → Items g k (drop items.behind text) v es →
+  pub are : AreReported alloc items members
+  pub ahead : (k : ℕ) (v : Text) (es : List Expression) → Items g k (drop items.beyond text) v es →
       Items g (max items.height k) (drop from text) v (members ++ es)
-  pub back : HasNoItems g levels (drop items.behind text) → HasNoItems g levels (drop from text)
+  pub back : HasNoItems g levels (drop items.beyond text) → HasNoItems g levels (drop from text)
 
 -- no items yet
-pub none_so_far : {alloc : Option Global} (g : Bool) (levels : ℕ) (text : Text) (from : ℕ) (items : Pieces) → from ≤ length text → IsStart (take from text) → AreTold alloc items [] →
-    items.height ≡ 0 → items.behind ≡ from → SoFar alloc g levels text from items
+pub none_so_far : {alloc : Option Global} (g : Bool) (levels : ℕ) (text : Text) (from : ℕ) (items : Pieces) → from ≤ length text → IsStart (take from text) → AreReported alloc items [] →
+    items.height ≡ 0 → items.beyond ≡ from → SoFar alloc g levels text from items
 none_so_far g levels text from items h s e f n = record {
   forward = omega arith;
   within = omega arith;
@@ -170,7 +170,7 @@ none_so_far g levels text from items h s e f n = record {
 
 -- one more item
 pub one_more : {alloc : Option Global} (g : Bool) (levels : ℕ) (text : Text) (from : ℕ) (old new : Pieces) (piece : Piece) → SoFar alloc g levels text from old →
-    IsNext alloc g levels text old.behind piece → IsJoined old piece new → SoFar alloc g levels text from new
+    IsNext alloc g levels text old.beyond piece → IsJoined old piece new → SoFar alloc g levels text from new
 one_more {alloc} g levels text from old new piece s i j = record {
   forward = omega (arith, j.place, i.forward, s.forward);
   within = omega (arith, j.place, i.within);
@@ -179,7 +179,7 @@ one_more {alloc} g levels text from old new piece s i j = record {
   members = s.members ++ i.meaning ∷ [];
   are = j.means alloc s.members i.meaning s.are i.is;
   ahead = λ k v es is.
-      let next : Items g k (drop piece.behind text) v es = rw j.place at is in
+      let next : Items g k (drop piece.beyond text) v es = rw j.place at is in
       let all = s.ahead (max piece.height k) v (i.meaning ∷ es) (i.ahead k v es next) in
       rw append_assoc (items_at_height (regrouped old.height piece.height k ∙ ap (λ n. max n k) (sym j.height)) all);
   back = λ h. s.back (i.back (rw j.place at h));
@@ -187,13 +187,13 @@ one_more {alloc} g levels text from old new piece s i j = record {
 
 -- the end of the branch
 pub branch_read : {alloc : Option Global} (g : Bool) (levels : ℕ) (text : Text) (from : ℕ) (items : Pieces) (piece : Piece) → SoFar alloc g levels text from items →
-    stops g (drop items.behind text) ≡ true → ((es : List Expression) → AreTold alloc items es → IsTold alloc piece (sequence es)) → piece.height ≡ items.height →
-    piece.behind ≡ items.behind → BranchStands alloc g levels text from piece
+    stops g (drop items.beyond text) ≡ true → ((es : List Expression) → AreReported alloc items es → IsReported alloc piece (sequence es)) → piece.height ≡ items.height →
+    piece.beyond ≡ items.beyond → BranchStands alloc g levels text from piece
 branch_read g levels text from items piece s p f h n =
     let es = s.members in
-    let all : Items g (max items.height 0) (drop from text) (drop items.behind text) (es ++ []) = s.ahead 0 (drop items.behind text) [] none in
-    let whole : Items g (max items.height 0) (drop from text) (drop items.behind text) es =
-    subst (λ x. Items g (max items.height 0) (drop from text) (drop items.behind text) x) (append-nil es) all in
+    let all : Items g (max items.height 0) (drop from text) (drop items.beyond text) (es ++ []) = s.ahead 0 (drop items.beyond text) [] none in
+    let whole : Items g (max items.height 0) (drop from text) (drop items.beyond text) es =
+    subst (λ x. Items g (max items.height 0) (drop from text) (drop items.beyond text) x) (append-nil es) all in
     record {
       forward = omega (arith, s.forward);
       within = omega (arith, s.within);

@@ -34,8 +34,8 @@ dup_opens question u = opens_question
 dup_opens (interval {t} {least} {most} form allowed) u = opens_interval (record { inside = t; form = form; whole = append_assoc t (codes "}") u })
 
 -- a duplication at a place of a text opens one
-pub stands_opens : {text : Text} {at : ℕ} {counts : Counts} {behind : ℕ} → DuplicationStands text at counts behind → OpensDuplication (drop at text)
-stands_opens {text} {at} {counts} {behind} d = subst OpensDuplication (sym d.front) (dup_opens d.duplication (drop behind text))
+pub stands_opens : {text : Text} {at : ℕ} {counts : Counts} {beyond : ℕ} → DuplicationStands text at counts beyond → OpensDuplication (drop at text)
+stands_opens {text} {at} {counts} {beyond} d = subst OpensDuplication (sym d.front) (dup_opens d.duplication (drop beyond text))
 
 -- so where nothing opens a duplication, there is none
 pub no_duplication : {t : Text} → ¬ OpensDuplication t → NoDuplication t
@@ -88,16 +88,16 @@ none_without_interval {text} {at} {inside} s h o = go o refl
         h.none u least most (subst (λ x. ClosedInterval (codes "}") x u least most) (tails (f ∙ s.front)) c)
 
 -- an interval whose counts are allowed is a duplication
-pub interval_stands : {text : Text} {at inside behind : ℕ} {counts : Counts} → IsAfter (codes "{") text at inside → IntervalStands (codes "}") text inside counts behind →
-    IsAllowed counts.least counts.most → DuplicationStands text at counts behind
-interval_stands {text} {at} {inside} {behind} {counts} s i h =
+pub interval_stands : {text : Text} {at inside beyond : ℕ} {counts : Counts} → IsAfter (codes "{") text at inside → IntervalStands (codes "}") text inside counts beyond →
+    IsAllowed counts.least counts.most → DuplicationStands text at counts beyond
+interval_stands {text} {at} {inside} {beyond} {counts} s i h =
     let same = are_counts counts.least i.least counts.most i.most i.least_is i.most_is h in
     let allowed : IsAllowed i.least i.most = rw (sym same.least, sym same.most) h in
     record {
       within = i.within;
       bytes = codes "{" ++ i.stands.inside ++ codes "}";
       duplication = rw (same.least, same.most) (interval i.stands.form allowed);
-      front = s.front ∙ ap (λ t. 123 ∷ t) (i.stands.whole ∙ sym (append_assoc i.stands.inside (codes "}") (drop behind text)));
+      front = s.front ∙ ap (λ t. 123 ∷ t) (i.stands.whole ∙ sym (append_assoc i.stands.inside (codes "}") (drop beyond text)));
     }
 
 -- the bytes of an interval whose counts are refused show the fault
@@ -108,14 +108,14 @@ shown_disallowed before o (most_too_large h) = o
 shown_disallowed before o (descending h small) = o
 
 -- an interval whose counts are refused is a bad interval
-pub bad_interval : {text : Text} {at inside behind : ℕ} {counts : Counts} {kind : FaultKind} → IsAfter (codes "{") text at inside →
-    IntervalStands (codes "}") text inside counts behind → IsDisallowed kind counts.least counts.most → HasBadInterval text at (record { kind = kind; at = at })
-bad_interval {text} {at} {inside} {behind} {counts} {kind} s i bad =
+pub bad_interval : {text : Text} {at inside beyond : ℕ} {counts : Counts} {kind : FaultKind} → IsAfter (codes "{") text at inside →
+    IntervalStands (codes "}") text inside counts beyond → IsDisallowed kind counts.least counts.most → HasBadInterval text at (record { kind = kind; at = at })
+bad_interval {text} {at} {inside} {beyond} {counts} {kind} s i bad =
     let refused = disallowed_too bad i.least i.most i.least_is i.most_is in
-    let whole : drop at text ≡ 123 ∷ i.stands.inside ++ 125 ∷ drop behind text = s.front ∙ ap (λ t. 123 ∷ t) i.stands.whole in
+    let whole : drop at text ≡ 123 ∷ i.stands.inside ++ 125 ∷ drop beyond text = s.front ∙ ap (λ t. 123 ∷ t) i.stands.whole in
     let shows : OpensDisallowed (codes "{") (codes "}") kind (drop at text) = record {
       inside = drop inside text;
-      rest = drop behind text;
+      rest = drop beyond text;
       least = i.least;
       most = i.most;
       opens = s.front;
@@ -124,7 +124,7 @@ bad_interval {text} {at} {inside} {behind} {counts} {kind} s i bad =
     } in
     record {
       opens = subst OpensDuplication (sym s.front) (opens_interval i.stands);
-      none = subst NoDuplication (sym whole) (refused_interval i.stands.inside (drop behind text) i.least i.most i.stands.form (not_allowed refused));
+      none = subst NoDuplication (sym whole) (refused_interval i.stands.inside (drop beyond text) i.least i.most i.stands.form (not_allowed refused));
       shown = shown_disallowed (take at text) shows refused;
     }
 

@@ -14,11 +14,11 @@ pub record BeginsWith (g : Bool) (h m : ℕ) (u v : Text) (e : Expression) (es :
   pub height_first : ℕ
   pub height_others : ℕ
   pub heights : m ≡ max height_first height_others
-  pub behind : Text
+  pub beyond : Text
   pub start : Expression
   pub others : List Expression
-  pub goes_on : GoesOn Duplication h height_first u behind e start
-  pub items : Items g height_others behind v others
+  pub goes_on : GoesOn Duplication h height_first u beyond e start
+  pub items : Items g height_others beyond v others
   pub whole : es ≡ start ∷ others
 
 -- so do the items of any text that begins with an item
@@ -32,7 +32,7 @@ items-begin (item {h = h} {k = k} {u = w} {e = d} {es = fs} j js) i e p =
       height_first = h;
       height_others = k;
       heights = refl;
-      behind = w;
+      beyond = w;
       start = d;
       others = fs;
       goes_on = goes_on unique parts.height parts.others (item_chain i parts.atom_first e) (items_no_duplication js p);

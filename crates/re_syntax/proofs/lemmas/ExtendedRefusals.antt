@@ -40,14 +40,14 @@ branches_caret_opening (more is bs) b w e opening s = items_caret_opening is b w
 -- the branches inside a group that comes first
 pub record Inside (t : Text) : Type 0 where
   pub height : ℕ
-  pub behind : Text
+  pub beyond : Text
   pub expressions : List Expression
-  pub branches : Branches true height t (codes ")" ++ behind) expressions
+  pub branches : Branches true height t (codes ")" ++ beyond) expressions
 
 -- an atom that begins with a group's opening has branches inside
 atom_inside : {g : Bool} {h : ℕ} {t u : Text} {e : Expression} → Atom g h t u e → (w : Text) → t ≡ 40 ∷ w → Inside w
 atom_inside {u = u} a w e =
-    let it = is_group a e in record { height = it.inner_height; behind = u; expressions = it.members; branches = it.branches }
+    let it = is_group a e in record { height = it.inner_height; beyond = u; expressions = it.members; branches = it.branches }
 
 -- so have the items of a branch that begins with a group
 pub items_inside : {g : Bool} {h : ℕ} {t u : Text} {es : List Expression} → Items g h t u es → (w : Text) → t ≡ 40 ∷ w → stops g u ≡ true → Inside w

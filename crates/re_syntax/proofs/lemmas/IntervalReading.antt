@@ -93,17 +93,17 @@ pub no_greatest : (close t : Text) → HasNoDigit t → HasNoGreatest close t
 no_greatest close t stop = record { none = λ n u h e. number_first n (close ++ u) h (rw e at stop) }
 
 -- a number follows the comma, and nothing closes it
-pub no_greatest_end : {text : Text} {at count behind : ℕ} (close : Text) → IsNoPart close → NumberStands text at count behind → ¬ Begins close (drop behind text) →
+pub no_greatest_end : {text : Text} {at count beyond : ℕ} (close : Text) → IsNoPart close → NumberStands text at count beyond → ¬ Begins close (drop beyond text) →
     HasNoGreatest close (drop at text)
-no_greatest_end {text} {at} {count} {behind} close no_part s no_close = record {
+no_greatest_end {text} {at} {count} {beyond} close no_part s no_close = record {
   none = λ n u h e.
-      no_close (u, digits-cut s.digits n (drop behind text) (close ++ u) s.number.digits h.digits s.stops (closing_no_digit close u no_part) (sym s.front ∙ e));
+      no_close (u, digits-cut s.digits n (drop beyond text) (close ++ u) s.number.digits h.digits s.stops (closing_no_digit close u no_part) (sym s.front ∙ e));
 }
 
 -- a number follows the comma, and what closes it follows the number
-pub greatest_stands : {text : Text} {at count behind end' : ℕ} (close : Text) → NumberStands text at count behind → IsAfter close text behind end' →
+pub greatest_stands : {text : Text} {at count beyond end' : ℕ} (close : Text) → NumberStands text at count beyond → IsAfter close text beyond end' →
     GreatestStands close text at (record { least = 0; most = Some count }) end'
-greatest_stands {text} {at} {count} {behind} {end'} close s c = record {
+greatest_stands {text} {at} {count} {beyond} {end'} close s c = record {
   within = c.within;
   digits = s.digits;
   number = s.number;
@@ -113,9 +113,9 @@ greatest_stands {text} {at} {count} {behind} {end'} close s c = record {
 }
 
 -- such a number is an interval, with the comma before it
-pub stands_up_to : {text : Text} {at comma behind : ℕ} {counts : Counts} (close : Text) → IsAfter (codes ",") text at comma → GreatestStands close text comma counts behind →
-    IntervalStands close text at counts behind
-stands_up_to {text} {at} {comma} {behind} {counts} close c s = record {
+pub stands_up_to : {text : Text} {at comma beyond : ℕ} {counts : Counts} (close : Text) → IsAfter (codes ",") text at comma → GreatestStands close text comma counts beyond →
+    IntervalStands close text at counts beyond
+stands_up_to {text} {at} {comma} {beyond} {counts} close c s = record {
   within = s.within;
   least = 0;
   most = Some (value s.digits);
@@ -132,35 +132,35 @@ up_to_found {text} {at} {comma} close c None h = none_after_first close (drop at
 up_to_found close c (Some it) h = stands_up_to close c h
 
 -- a number, and then neither what closes it nor a comma
-pub none_after_number : {text : Text} {at count behind : ℕ} (close : Text) → IsNoPart close → NumberStands text at count behind → ¬ Begins close (drop behind text) →
-    ¬ Begins (codes ",") (drop behind text) → HasNoInterval close (drop at text)
-none_after_number {text} {at} {count} {behind} close no_part s no_close no_comma =
-    record { none = λ u least most c. go u (goes close u (drop at text) s.digits (drop behind text) least most no_part c s.front s.number.digits s.stops) }
+pub none_after_number : {text : Text} {at count beyond : ℕ} (close : Text) → IsNoPart close → NumberStands text at count beyond → ¬ Begins close (drop beyond text) →
+    ¬ Begins (codes ",") (drop beyond text) → HasNoInterval close (drop at text)
+none_after_number {text} {at} {count} {beyond} close no_part s no_close no_comma =
+    record { none = λ u least most c. go u (goes close u (drop at text) s.digits (drop beyond text) least most no_part c s.front s.number.digits s.stops) }
   where
-    go : (u : Text) → Goes close u (drop behind text) → ⊥
+    go : (u : Text) → Goes close u (drop beyond text) → ⊥
     go u (closes e) = no_close (u, e)
     go u (opens_end e) = no_comma (close ++ u, e)
     go u (goes_to n h e) = no_comma (n ++ (close ++ u), e)
 
 -- a number and a comma, and then neither a number nor what closes
-pub none_after_comma : {text : Text} {at count behind comma : ℕ} (close : Text) → IsNoPart close → NumberStands text at count behind → ¬ Begins close (drop behind text) →
-    IsAfter (codes ",") text behind comma → HasNoDigit (drop comma text) → ¬ Begins close (drop comma text) → HasNoInterval close (drop at text)
-none_after_comma {text} {at} {count} {behind} {comma} close no_part s no_close c no_digit no_end =
-    record { none = λ u least most i. go u (goes close u (drop at text) s.digits (drop behind text) least most no_part i s.front s.number.digits s.stops) }
+pub none_after_comma : {text : Text} {at count beyond comma : ℕ} (close : Text) → IsNoPart close → NumberStands text at count beyond → ¬ Begins close (drop beyond text) →
+    IsAfter (codes ",") text beyond comma → HasNoDigit (drop comma text) → ¬ Begins close (drop comma text) → HasNoInterval close (drop at text)
+none_after_comma {text} {at} {count} {beyond} {comma} close no_part s no_close c no_digit no_end =
+    record { none = λ u least most i. go u (goes close u (drop at text) s.digits (drop beyond text) least most no_part i s.front s.number.digits s.stops) }
   where
-    go : (u : Text) → Goes close u (drop behind text) → ⊥
+    go : (u : Text) → Goes close u (drop beyond text) → ⊥
     go u (closes e) = no_close (u, e)
     go u (opens_end e) = no_end (u, tails (sym c.front ∙ e))
     go u (goes_to n h e) = number_first n (close ++ u) h (rw (tails (sym c.front ∙ e)) at no_digit)
 
 -- two numbers, and what follows does not close them
-pub none_after_numbers : {text : Text} {at count behind comma other last : ℕ} (close : Text) → IsNoPart close → NumberStands text at count behind →
-    ¬ Begins close (drop behind text) → IsAfter (codes ",") text behind comma → NumberStands text comma other last → ¬ Begins close (drop last text) →
+pub none_after_numbers : {text : Text} {at count beyond comma other last : ℕ} (close : Text) → IsNoPart close → NumberStands text at count beyond →
+    ¬ Begins close (drop beyond text) → IsAfter (codes ",") text beyond comma → NumberStands text comma other last → ¬ Begins close (drop last text) →
     HasNoInterval close (drop at text)
-none_after_numbers {text} {at} {count} {behind} {comma} {other} {last} close no_part s no_close c o no_end =
-    record { none = λ u least most i. go u (goes close u (drop at text) s.digits (drop behind text) least most no_part i s.front s.number.digits s.stops) }
+none_after_numbers {text} {at} {count} {beyond} {comma} {other} {last} close no_part s no_close c o no_end =
+    record { none = λ u least most i. go u (goes close u (drop at text) s.digits (drop beyond text) least most no_part i s.front s.number.digits s.stops) }
   where
-    go : (u : Text) → Goes close u (drop behind text) → ⊥
+    go : (u : Text) → Goes close u (drop beyond text) → ⊥
     go u (closes e) = no_close (u, e)
     go u (opens_end e) =
         number_first o.digits (drop last text) o.number (rw (sym (tails (sym c.front ∙ e)) ∙ o.front) at (closing_no_digit close u no_part))
@@ -168,9 +168,9 @@ none_after_numbers {text} {at} {count} {behind} {comma} {other} {last} close no_
         no_end (u, digits-cut o.digits n (drop last text) (close ++ u) o.number.digits h.digits o.stops (closing_no_digit close u no_part) (sym o.front ∙ tails (sym c.front ∙ e)))
 
 -- the three forms, read
-pub stands_exactly : {text : Text} {at count behind end' : ℕ} (close : Text) → NumberStands text at count behind → IsAfter close text behind end' →
+pub stands_exactly : {text : Text} {at count beyond end' : ℕ} (close : Text) → NumberStands text at count beyond → IsAfter close text beyond end' →
     IntervalStands close text at (record { least = count; most = Some count }) end'
-stands_exactly {text} {at} {count} {behind} {end'} close s c = record {
+stands_exactly {text} {at} {count} {beyond} {end'} close s c = record {
   within = c.within;
   least = value s.digits;
   most = Some (value s.digits);
@@ -180,9 +180,9 @@ stands_exactly {text} {at} {count} {behind} {end'} close s c = record {
 }
 
 -- a number and a comma
-pub stands_at_least : {text : Text} {at count behind comma end' : ℕ} (close : Text) → NumberStands text at count behind → IsAfter (codes ",") text behind comma →
+pub stands_at_least : {text : Text} {at count beyond comma end' : ℕ} (close : Text) → NumberStands text at count beyond → IsAfter (codes ",") text beyond comma →
     IsAfter close text comma end' → IntervalStands close text at (record { least = count; most = None }) end'
-stands_at_least {text} {at} {count} {behind} {comma} {end'} close s c l = record {
+stands_at_least {text} {at} {count} {beyond} {comma} {end'} close s c l = record {
   within = l.within;
   least = value s.digits;
   most = None;
@@ -196,9 +196,9 @@ stands_at_least {text} {at} {count} {behind} {comma} {end'} close s c l = record
 }
 
 -- two numbers
-pub stands_between : {text : Text} {at count behind comma other last end' : ℕ} (close : Text) → NumberStands text at count behind → IsAfter (codes ",") text behind comma →
+pub stands_between : {text : Text} {at count beyond comma other last end' : ℕ} (close : Text) → NumberStands text at count beyond → IsAfter (codes ",") text beyond comma →
     NumberStands text comma other last → IsAfter close text last end' → IntervalStands close text at (record { least = count; most = Some other }) end'
-stands_between {text} {at} {count} {behind} {comma} {other} {last} {end'} close s c o l = record {
+stands_between {text} {at} {count} {beyond} {comma} {other} {last} {end'} close s c o l = record {
   within = l.within;
   least = value s.digits;
   most = Some (value o.digits);

@@ -6,15 +6,15 @@ use Rattle.std.proofs.lemmas.List.{drop-drop, drop_more}
 use Rattle.std.proofs.lemmas.Option.{slice_get_within, slice_get-get_or, get_or_from_slice_get}
 use Rattle.re_syntax.specs.declared.fault.PatternFault.{PatternFault}
 use Rattle.re_syntax.specs.Bytes.{Text}
-use Rattle.re_syntax.specs.Working.PieceSteps.{IsRefused, memory, told}
+use Rattle.re_syntax.specs.Working.PieceSteps.{IsRefused, memory, reported}
 
 -- the text from the place of a byte on
 pub byte_at : (text : Text) (at b : ℕ) → slice_get text at ≡ Some b → drop at text ≡ b ∷ drop (at + 1) text
 byte_at text at b e = drop_more text at b (slice_get_within text at b e) ∙ ap (λ x. x ∷ drop (at + 1) text) (get_or_from_slice_get text at b b e)
 
 -- what follows the first byte of the rest of a text
-pub behind_first : (text : Text) (at b : ℕ) (rest : Text) → drop at text ≡ b ∷ rest → rest ≡ drop (at + 1) text
-behind_first text at b rest e = ap (drop 1) (sym e) ∙ drop-drop 1 at text
+pub beyond_first : (text : Text) (at b : ℕ) (rest : Text) → drop at text ≡ b ∷ rest → rest ≡ drop (at + 1) text
+beyond_first text at b rest e = ap (drop 1) (sym e) ∙ drop-drop 1 at text
 
 -- whether something was found
 pub either_found : (A B C : Type 0) (P : ℕ → Type 0) (r : Option ℕ) (b : Bool) → b ≡ is_some r → MatchOption r C P → (C → B) → ((x : ℕ) → P x → A) → MatchBool b A B
@@ -67,4 +67,4 @@ regrouped h k n = omega arith
 -- what follows from what a refusal says of the text is said by it too
 pub refused_as : {P Q S : Type 0} {fault : PatternFault} → IsRefused P S fault → (P → Q) → IsRefused Q S fault
 refused_as (memory e) f = memory e
-refused_as (told h s) f = told (f h) s
+refused_as (reported h s) f = reported (f h) s

@@ -7,12 +7,12 @@ use Rattle.re_syntax.specs.Extended.{Duplication, star, plus, question, interval
 use Rattle.re_syntax.specs.Laws.{HasNoOpenComma}
 use Rattle.re_syntax.specs.Spelled.{IsSpelled, as_extended}
 use Rattle.re_syntax.specs.Working.StandardExtended.{Duplication as StandardDuplication, star as standard_star, plus as standard_plus, question as standard_question, interval as standard_interval, Branches as StandardBranches, last as standard_last, more as standard_more, Items as StandardItems, none as standard_none, anchor as standard_anchor, item as standard_item, Item as StandardItem, atom as standard_atom, repeated as standard_repeated, Atom as StandardAtom, bracket as standard_bracket, period as standard_period, dollar as standard_dollar, escaped as standard_escaped, ordinary as standard_ordinary, group as standard_group, IsStandardExtended, as_extended as standard_as_extended}
-use Rattle.re_syntax.proofs.lemmas.BracketRests.{IsBehind, behind_both, behind_byte, bracket_behind}
+use Rattle.re_syntax.proofs.lemmas.BracketRests.{ComesAfter, after_two, beyond_byte, bracket_after}
 use Rattle.re_syntax.proofs.lemmas.StandardIntervals.{interval-kept, no_interval-kept}
 
 -- what follows some bytes of a text without `{,` has none either
-lacks_behind : {t u : Text} → HasNoOpenComma t → IsBehind t u → HasNoOpenComma u
-lacks_behind lacks (w, e) front back f = lacks (w ++ front) back (e ∙ ap (λ y. w ++ y) f ∙ sym (append_assoc w front (codes "{," ++ back)))
+lacks_after : {t u : Text} → HasNoOpenComma t → ComesAfter t u → HasNoOpenComma u
+lacks_after lacks (w, e) front back f = lacks (w ++ front) back (e ∙ ap (λ y. w ++ y) f ∙ sym (append_assoc w front (codes "{," ++ back)))
 
 duplication-kept : {d : Text} {least : ℕ} {most : Option ℕ} → StandardDuplication d least most → Duplication d least most
 duplication-kept standard_star = star
@@ -23,26 +23,26 @@ duplication-kept (standard_interval form allowed) = interval (interval-kept form
 -- What follows a part is the rest of the text.
 
 mutual
-  branches_behind : {g : Bool} {h : ℕ} {t u : Text} {es : List Expression} → StandardBranches g h t u es → IsBehind t u
-  branches_behind (standard_last is) = items_behind is
-  branches_behind (standard_more is bs) = behind_both (items_behind is) (behind_byte 124 (branches_behind bs))
+  branches_after : {g : Bool} {h : ℕ} {t u : Text} {es : List Expression} → StandardBranches g h t u es → ComesAfter t u
+  branches_after (standard_last is) = items_after is
+  branches_after (standard_more is bs) = after_two (items_after is) (beyond_byte 124 (branches_after bs))
 
-  items_behind : {g : Bool} {h : ℕ} {t u : Text} {es : List Expression} → StandardItems g h t u es → IsBehind t u
-  items_behind standard_none = ([], refl)
-  items_behind (standard_anchor is) = behind_byte 94 (items_behind is)
-  items_behind (standard_item i is) = behind_both (item_behind i) (items_behind is)
+  items_after : {g : Bool} {h : ℕ} {t u : Text} {es : List Expression} → StandardItems g h t u es → ComesAfter t u
+  items_after standard_none = ([], refl)
+  items_after (standard_anchor is) = beyond_byte 94 (items_after is)
+  items_after (standard_item i is) = after_two (item_after i) (items_after is)
 
-  item_behind : {g : Bool} {h : ℕ} {t u : Text} {e : Expression} → StandardItem g h t u e → IsBehind t u
-  item_behind (standard_atom a) = atom_behind a
-  item_behind (standard_repeated {d = d} i q) = behind_both (item_behind i) (d, refl)
+  item_after : {g : Bool} {h : ℕ} {t u : Text} {e : Expression} → StandardItem g h t u e → ComesAfter t u
+  item_after (standard_atom a) = atom_after a
+  item_after (standard_repeated {d = d} i q) = after_two (item_after i) (d, refl)
 
-  atom_behind : {g : Bool} {h : ℕ} {t u : Text} {e : Expression} → StandardAtom g h t u e → IsBehind t u
-  atom_behind (standard_bracket b) = bracket_behind b
-  atom_behind standard_period = (46 ∷ [], refl)
-  atom_behind standard_dollar = (36 ∷ [], refl)
-  atom_behind (standard_escaped b h) = (92 ∷ b ∷ [], refl)
-  atom_behind (standard_ordinary b h k) = (b ∷ [], refl)
-  atom_behind (standard_group bs) = behind_byte 40 (behind_both (branches_behind bs) (41 ∷ [], refl))
+  atom_after : {g : Bool} {h : ℕ} {t u : Text} {e : Expression} → StandardAtom g h t u e → ComesAfter t u
+  atom_after (standard_bracket b) = bracket_after b
+  atom_after standard_period = (46 ∷ [], refl)
+  atom_after standard_dollar = (36 ∷ [], refl)
+  atom_after (standard_escaped b h) = (92 ∷ b ∷ [], refl)
+  atom_after (standard_ordinary b h k) = (b ∷ [], refl)
+  atom_after (standard_group bs) = beyond_byte 40 (after_two (branches_after bs) (41 ∷ [], refl))
 
 -- So each part of the standard is one here.
 
@@ -50,12 +50,12 @@ mutual
   branches-kept : {g : Bool} {h : ℕ} {t u : Text} {es : List Expression} → StandardBranches g h t u es → HasNoOpenComma t → Branches g h t u es
   branches-kept (standard_last is) n = last (items-kept is n)
   branches-kept (standard_more {u = u} is bs) n =
-      more (items-kept is n) (branches-kept bs (lacks_behind n (behind_both (items_behind is) (124 ∷ [], refl))))
+      more (items-kept is n) (branches-kept bs (lacks_after n (after_two (items_after is) (124 ∷ [], refl))))
 
   items-kept : {g : Bool} {h : ℕ} {t u : Text} {es : List Expression} → StandardItems g h t u es → HasNoOpenComma t → Items g h t u es
   items-kept standard_none n = none
-  items-kept (standard_anchor is) n = anchor (items-kept is (lacks_behind n (94 ∷ [], refl)))
-  items-kept (standard_item i is) n = item (item-kept i n) (items-kept is (lacks_behind n (item_behind i)))
+  items-kept (standard_anchor is) n = anchor (items-kept is (lacks_after n (94 ∷ [], refl)))
+  items-kept (standard_item i is) n = item (item-kept i n) (items-kept is (lacks_after n (item_after i)))
 
   item-kept : {g : Bool} {h : ℕ} {t u : Text} {e : Expression} → StandardItem g h t u e → HasNoOpenComma t → Item g h t u e
   item-kept (standard_atom a) n = atom (atom-kept a n)
@@ -67,7 +67,7 @@ mutual
   atom-kept standard_dollar n = dollar
   atom-kept (standard_escaped b h) n = escaped b h
   atom-kept (standard_ordinary b h k) n = ordinary b h (λ e. no_interval-kept b n e (k e))
-  atom-kept (standard_group bs) n = group (branches-kept bs (lacks_behind n (40 ∷ [], refl)))
+  atom-kept (standard_group bs) n = group (branches-kept bs (lacks_after n (40 ∷ [], refl)))
 
 -- a whole extended expression
 pub extended-kept : {t : Text} {e : Expression} → IsStandardExtended t e → HasNoOpenComma t → IsSpelled Extended t e

@@ -3,7 +3,7 @@ use Rattle.std.specs.Prelude.{◌≡◌, ℕ, ◌+◌, ◌≤◌, ◌++◌, leng
 use Rattle.re_syntax.specs.Bytes.{Text}
 
 -- the text has these bytes from one place up to another
-pub record IsAfter (bytes text : Text) (at behind : ℕ) : Type 0 where
-  pub within : behind ≤ length text
-  pub front : drop at text ≡ bytes ++ drop behind text
-  pub place : behind ≡ at + length bytes
+pub record IsAfter (bytes text : Text) (at beyond : ℕ) : Type 0 where
+  pub within : beyond ≤ length text
+  pub front : drop at text ≡ bytes ++ drop beyond text
+  pub place : beyond ≡ at + length bytes

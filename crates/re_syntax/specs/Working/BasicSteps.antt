@@ -10,7 +10,7 @@ use Rattle.re_syntax.specs.declared.fault.PatternFault.{PatternFault}
 use Rattle.re_syntax.specs.Bytes.{Text, Begins}
 use Rattle.re_syntax.specs.Working.Ahead.{IsAfter}
 use Rattle.re_syntax.specs.Working.DuplicationSteps.{HasNone, HasOne}
-use Rattle.re_syntax.specs.Working.PieceSteps.{IsTold, AreTold}
+use Rattle.re_syntax.specs.Working.PieceSteps.{IsReported, AreReported}
 use Rattle.re_syntax.specs.Expression.{Expression, sequence}
 use Rattle.re_syntax.specs.Basic.{ItemPlace, First, Later, Duplication, IsAtEnd, Branches, Items}
 use Rattle.re_syntax.specs.Basic.{Item, Atom}
@@ -65,12 +65,12 @@ pub record MayBegin (p : ItemPlace) (t : Text) : Type 0 where
 -- an atom goes from one place up to another, at most `levels` high
 pub record AtomStands (alloc : Option Global) (p : ItemPlace) (levels : ℕ) (text : Text) (at : ℕ)
     (piece : Piece) : Type 0 where
-  pub forward : at < piece.behind
-  pub within : piece.behind ≤ length text
+  pub forward : at < piece.beyond
+  pub within : piece.beyond ≤ length text
   pub height : piece.height ≤ levels
   pub meaning : Expression
-  pub is : IsTold alloc piece meaning
-  pub stands : Atom p piece.height (drop at text) (drop piece.behind text) meaning
+  pub is : IsReported alloc piece meaning
+  pub stands : Atom p piece.height (drop at text) (drop piece.beyond text) meaning
 
 -- no atom begins the text, or only a higher one
 pub record HasNoAtom (p : ItemPlace) (levels : ℕ) (t : Text) : Type 0 where
@@ -79,13 +79,13 @@ pub record HasNoAtom (p : ItemPlace) (levels : ℕ) (t : Text) : Type 0 where
 -- an item goes from one place up to another, at most `levels` high, and no duplication follows it
 pub record ItemStands (alloc : Option Global) (p : ItemPlace) (levels : ℕ) (text : Text) (at : ℕ)
     (piece : Piece) : Type 0 where
-  pub forward : at < piece.behind
-  pub within : piece.behind ≤ length text
+  pub forward : at < piece.beyond
+  pub within : piece.beyond ≤ length text
   pub height : piece.height ≤ levels
-  pub no_more : OpensNoDuplication (drop piece.behind text)
+  pub no_more : OpensNoDuplication (drop piece.beyond text)
   pub meaning : Expression
-  pub is : IsTold alloc piece meaning
-  pub stands : Item p piece.height (drop at text) (drop piece.behind text) meaning
+  pub is : IsReported alloc piece meaning
+  pub stands : Item p piece.height (drop at text) (drop piece.beyond text) meaning
 
 -- no items of a branch begin the text, or only higher ones
 pub record HasNoItems (p : ItemPlace) (levels : ℕ) (t : Text) : Type 0 where
@@ -93,9 +93,9 @@ pub record HasNoItems (p : ItemPlace) (levels : ℕ) (t : Text) : Type 0 where
       ⊥
 
 -- a `$` that is last in its branch goes from one place up to another
-pub record IsBehindTail (text : Text) (at behind : ℕ) : Type 0 where
-  pub stands : IsAfter (codes "$") text at behind
-  pub last : IsAtEnd (drop behind text)
+pub record ComesAfterTail (text : Text) (at beyond : ℕ) : Type 0 where
+  pub stands : IsAfter (codes "$") text at beyond
+  pub last : IsAtEnd (drop beyond text)
 
 -- the text begins with no `$` that is last
 pub record HasNoTail (t : Text) : Type 0 where
@@ -104,40 +104,40 @@ pub record HasNoTail (t : Text) : Type 0 where
 -- the items that were read from one place on, and what they say of the items of the whole branch
 pub record SoFar (alloc : Option Global) (levels : ℕ) (text : Text) (from : ℕ)
     (items : Pieces) : Type 0 where
-  pub forward : from ≤ items.behind
-  pub within : items.behind ≤ length text
+  pub forward : from ≤ items.beyond
+  pub within : items.beyond ≤ length text
   pub height : items.height ≤ levels
-  pub opens : NeedsItem (drop items.behind text) → HasNothingToRepeat (take items.behind text)
+  pub opens : NeedsItem (drop items.beyond text) → HasNothingToRepeat (take items.beyond text)
   pub place : ItemPlace
-  pub begins : MayBegin place (drop items.behind text)
+  pub begins : MayBegin place (drop items.beyond text)
   pub members : List Expression
-  pub are : AreTold alloc items members
+  pub are : AreReported alloc items members
   pub ahead : (k : ℕ) (v : Text) (es : List Expression) →
-      Items place k (drop items.behind text) v es →
+      Items place k (drop items.beyond text) v es →
       Items First (max items.height k) (drop from text) v (members ++ es)
-  pub back : HasNoItems place levels (drop items.behind text) →
+  pub back : HasNoItems place levels (drop items.beyond text) →
       HasNoItems First levels (drop from text)
 
 -- the items, and after them the end of their branch
 pub record IsEnded (alloc : Option Global) (text : Text) (old new : Pieces) : Type 0 where
-  pub forward : old.behind ≤ new.behind
-  pub within : new.behind ≤ length text
-  pub at_end : IsAtEnd (drop new.behind text)
+  pub forward : old.beyond ≤ new.beyond
+  pub within : new.beyond ≤ length text
+  pub at_end : IsAtEnd (drop new.beyond text)
   pub height : new.height ≡ old.height
   pub last : List Expression
-  pub stands : (p : ItemPlace) → Items p 0 (drop old.behind text) (drop new.behind text) last
-  pub means : (es : List Expression) → AreTold alloc old es → AreTold alloc new (es ++ last)
+  pub stands : (p : ItemPlace) → Items p 0 (drop old.beyond text) (drop new.beyond text) last
+  pub means : (es : List Expression) → AreReported alloc old es → AreReported alloc new (es ++ last)
 
 -- the items of a branch go from one place up to the branch's end, at most `levels` high
 pub record BranchStands (alloc : Option Global) (levels : ℕ) (text : Text) (from : ℕ)
     (piece : Piece) : Type 0 where
-  pub forward : from ≤ piece.behind
-  pub within : piece.behind ≤ length text
+  pub forward : from ≤ piece.beyond
+  pub within : piece.beyond ≤ length text
   pub height : piece.height ≤ levels
-  pub at_end : IsAtEnd (drop piece.behind text)
+  pub at_end : IsAtEnd (drop piece.beyond text)
   pub members : List Expression
-  pub stands : Items First piece.height (drop from text) (drop piece.behind text) members
-  pub is : IsTold alloc piece (sequence members)
+  pub stands : Items First piece.height (drop from text) (drop piece.beyond text) members
+  pub is : IsReported alloc piece (sequence members)
 
 -- no branches of an expression begin the text, or only higher ones
 pub record HasNoBranches (levels : ℕ) (t : Text) : Type 0 where
@@ -147,10 +147,10 @@ pub record HasNoBranches (levels : ℕ) (t : Text) : Type 0 where
 -- the branches of an expression go from one place up to its end, at most `levels` high
 pub record BranchesStand (alloc : Option Global) (levels : ℕ) (text : Text) (from : ℕ)
     (branches : Pieces) : Type 0 where
-  pub forward : from ≤ branches.behind
-  pub within : branches.behind ≤ length text
+  pub forward : from ≤ branches.beyond
+  pub within : branches.beyond ≤ length text
   pub height : branches.height ≤ levels
-  pub at_end : IsAtLast (drop branches.behind text)
+  pub at_end : IsAtLast (drop branches.beyond text)
   pub members : List Expression
-  pub are : AreTold alloc branches members
-  pub stands : Branches branches.height (drop from text) (drop branches.behind text) members
+  pub are : AreReported alloc branches members
+  pub stands : Branches branches.height (drop from text) (drop branches.beyond text) members

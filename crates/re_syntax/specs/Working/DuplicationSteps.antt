@@ -10,8 +10,8 @@ pub record HasNone (IsDuplication : Text → ℕ → Option ℕ → Type 0) (t :
 
 -- a duplication goes from one place up to another
 pub record HasOne (IsDuplication : Text → ℕ → Option ℕ → Type 0) (text : Text) (at : ℕ)
-    (counts : Counts) (behind : ℕ) : Type 0 where
-  pub within : behind ≤ length text
+    (counts : Counts) (beyond : ℕ) : Type 0 where
+  pub within : beyond ≤ length text
   pub bytes : Text
   pub duplication : IsDuplication bytes counts.least counts.most
-  pub front : drop at text ≡ bytes ++ drop behind text
+  pub front : drop at text ≡ bytes ++ drop beyond text

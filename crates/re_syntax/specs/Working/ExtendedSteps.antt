@@ -9,7 +9,7 @@ use Rattle.re_syntax.specs.declared.interval.Counts.{Counts}
 use Rattle.re_syntax.specs.declared.fault.PatternFault.{PatternFault}
 use Rattle.re_syntax.specs.Bytes.{Text, Begins}
 use Rattle.re_syntax.specs.Working.DuplicationSteps.{HasNone, HasOne}
-use Rattle.re_syntax.specs.Working.PieceSteps.{IsTold, AreTold}
+use Rattle.re_syntax.specs.Working.PieceSteps.{IsReported, AreReported}
 use Rattle.re_syntax.specs.Escapes.{is_in}
 use Rattle.re_syntax.specs.Expression.{Expression, sequence}
 use Rattle.re_syntax.specs.Extended.{Duplication, Branches, Items, Item, Atom}
@@ -56,12 +56,12 @@ pub record MayBegin (in_group : Bool) (t : Text) : Type 0 where
 -- an atom goes from one place up to another, at most `levels` high
 pub record AtomStands (alloc : Option Global) (in_group : Bool) (levels : ℕ) (text : Text)
     (at : ℕ) (piece : Piece) : Type 0 where
-  pub forward : at < piece.behind
-  pub within : piece.behind ≤ length text
+  pub forward : at < piece.beyond
+  pub within : piece.beyond ≤ length text
   pub height : piece.height ≤ levels
   pub meaning : Expression
-  pub is : IsTold alloc piece meaning
-  pub stands : Atom in_group piece.height (drop at text) (drop piece.behind text) meaning
+  pub is : IsReported alloc piece meaning
+  pub stands : Atom in_group piece.height (drop at text) (drop piece.beyond text) meaning
 
 -- no atom begins the text, or only a higher one
 pub record HasNoAtom (in_group : Bool) (levels : ℕ) (t : Text) : Type 0 where
@@ -70,13 +70,13 @@ pub record HasNoAtom (in_group : Bool) (levels : ℕ) (t : Text) : Type 0 where
 -- an item goes from one place up to another, at most `levels` high, and no duplication follows it
 pub record ItemStands (alloc : Option Global) (in_group : Bool) (levels : ℕ) (text : Text)
     (at : ℕ) (piece : Piece) : Type 0 where
-  pub forward : at < piece.behind
-  pub within : piece.behind ≤ length text
+  pub forward : at < piece.beyond
+  pub within : piece.beyond ≤ length text
   pub height : piece.height ≤ levels
-  pub no_more : ¬ OpensDuplication (drop piece.behind text)
+  pub no_more : ¬ OpensDuplication (drop piece.beyond text)
   pub meaning : Expression
-  pub is : IsTold alloc piece meaning
-  pub stands : Item in_group piece.height (drop at text) (drop piece.behind text) meaning
+  pub is : IsReported alloc piece meaning
+  pub stands : Item in_group piece.height (drop at text) (drop piece.beyond text) meaning
 
 -- no items of a branch begin the text, or only higher ones
 pub record HasNoItems (in_group : Bool) (levels : ℕ) (t : Text) : Type 0 where
@@ -87,29 +87,29 @@ pub record HasNoItems (in_group : Bool) (levels : ℕ) (t : Text) : Type 0 where
 -- items from there on
 pub record IsNext (alloc : Option Global) (in_group : Bool) (levels : ℕ) (text : Text) (at : ℕ)
     (piece : Piece) : Type 0 where
-  pub forward : at < piece.behind
-  pub within : piece.behind ≤ length text
+  pub forward : at < piece.beyond
+  pub within : piece.beyond ≤ length text
   pub height : piece.height ≤ levels
-  pub opens : OpensDuplication (drop piece.behind text) →
-      HasNothingToRepeat (take piece.behind text)
+  pub opens : OpensDuplication (drop piece.beyond text) →
+      HasNothingToRepeat (take piece.beyond text)
   pub meaning : Expression
-  pub is : IsTold alloc piece meaning
+  pub is : IsReported alloc piece meaning
   pub ahead : (k : ℕ) (v : Text) (es : List Expression) →
-      Items in_group k (drop piece.behind text) v es →
+      Items in_group k (drop piece.beyond text) v es →
       Items in_group (max piece.height k) (drop at text) v (meaning ∷ es)
-  pub back : HasNoItems in_group levels (drop piece.behind text) →
+  pub back : HasNoItems in_group levels (drop piece.beyond text) →
       HasNoItems in_group levels (drop at text)
 
 -- the items of a branch go from one place up to the branch's end, at most `levels` high
 pub record BranchStands (alloc : Option Global) (in_group : Bool) (levels : ℕ) (text : Text)
     (from : ℕ) (piece : Piece) : Type 0 where
-  pub forward : from ≤ piece.behind
-  pub within : piece.behind ≤ length text
+  pub forward : from ≤ piece.beyond
+  pub within : piece.beyond ≤ length text
   pub height : piece.height ≤ levels
-  pub at_end : stops in_group (drop piece.behind text) ≡ true
+  pub at_end : stops in_group (drop piece.beyond text) ≡ true
   pub members : List Expression
-  pub stands : Items in_group piece.height (drop from text) (drop piece.behind text) members
-  pub is : IsTold alloc piece (sequence members)
+  pub stands : Items in_group piece.height (drop from text) (drop piece.beyond text) members
+  pub is : IsReported alloc piece (sequence members)
 
 -- no branches of an expression begin the text, or only higher ones
 pub record HasNoBranches (in_group : Bool) (levels : ℕ) (t : Text) : Type 0 where
@@ -119,11 +119,11 @@ pub record HasNoBranches (in_group : Bool) (levels : ℕ) (t : Text) : Type 0 wh
 -- the branches of an expression go from one place up to its end, at most `levels` high
 pub record BranchesStand (alloc : Option Global) (in_group : Bool) (levels : ℕ) (text : Text)
     (from : ℕ) (branches : Pieces) : Type 0 where
-  pub forward : from ≤ branches.behind
-  pub within : branches.behind ≤ length text
+  pub forward : from ≤ branches.beyond
+  pub within : branches.beyond ≤ length text
   pub height : branches.height ≤ levels
-  pub at_end : ends in_group (drop branches.behind text) ≡ true
+  pub at_end : ends in_group (drop branches.beyond text) ≡ true
   pub members : List Expression
-  pub are : AreTold alloc branches members
-  pub stands : Branches in_group branches.height (drop from text) (drop branches.behind text)
+  pub are : AreReported alloc branches members
+  pub stands : Branches in_group branches.height (drop from text) (drop branches.beyond text)
       members

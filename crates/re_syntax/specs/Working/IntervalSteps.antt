@@ -21,13 +21,13 @@ pub record IsDigitCount (t : Text) (n : ℕ) : Type 0 where
   pub stops : HasNoDigit (drop n t)
 
 -- a number goes from one place up to another, and no digit follows it
-pub record NumberStands (text : Text) (at count behind : ℕ) : Type 0 where
-  pub within : behind ≤ length text
+pub record NumberStands (text : Text) (at count beyond : ℕ) : Type 0 where
+  pub within : beyond ≤ length text
   pub digits : Text
   pub number : IsNumber digits
-  pub front : drop at text ≡ digits ++ drop behind text
+  pub front : drop at text ≡ digits ++ drop beyond text
   pub count_is : count ≡ capped (value digits)
-  pub stops : HasNoDigit (drop behind text)
+  pub stops : HasNoDigit (drop beyond text)
 
 -- the text does not begin with a number and what closes it
 pub record HasNoGreatest (close t : Text) : Type 0 where
@@ -35,19 +35,19 @@ pub record HasNoGreatest (close t : Text) : Type 0 where
 
 -- a number and what closes it go from one place up to another; the number is the greatest count,
 -- and the least is 0
-pub record GreatestStands (close text : Text) (at : ℕ) (counts : Counts) (behind : ℕ) : Type 0 where
-  pub within : behind ≤ length text
+pub record GreatestStands (close text : Text) (at : ℕ) (counts : Counts) (beyond : ℕ) : Type 0 where
+  pub within : beyond ≤ length text
   pub digits : Text
   pub number : IsNumber digits
-  pub front : drop at text ≡ digits ++ (close ++ drop behind text)
+  pub front : drop at text ≡ digits ++ (close ++ drop beyond text)
   pub least_is : counts.least ≡ 0
   pub most_is : counts.most ≡ Some (capped (value digits))
 
 -- an interval and what closes it go from one place up to another
-pub record IntervalStands (close text : Text) (at : ℕ) (counts : Counts) (behind : ℕ) : Type 0 where
-  pub within : behind ≤ length text
+pub record IntervalStands (close text : Text) (at : ℕ) (counts : Counts) (beyond : ℕ) : Type 0 where
+  pub within : beyond ≤ length text
   pub least : ℕ
   pub most : Option ℕ
-  pub stands : ClosedInterval close (drop at text) (drop behind text) least most
+  pub stands : ClosedInterval close (drop at text) (drop beyond text) least most
   pub least_is : counts.least ≡ capped least
   pub most_is : counts.most ≡ option_map capped most

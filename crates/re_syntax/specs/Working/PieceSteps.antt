@@ -17,7 +17,7 @@ use Rattle.re_syntax.specs.Holds.{positions}
 -- memory ran out, or what is said of the text holds and the fault shows there
 pub data IsRefused (P Shown : Type 0) (fault : PatternFault) : Type 0 where
   memory : fault ≡ record { kind = Memory; at = 0 } → IsRefused P Shown fault
-  told : P → Shown → IsRefused P Shown fault
+  reported : P → Shown → IsRefused P Shown fault
 
 -- what a byte means outside brackets and escapes
 abbrev pub meant_bytes : ℕ → Bytes
@@ -33,12 +33,12 @@ KeepsAll alloc trees es =
     MatchOption trees (alloc ≡ None) (λ kept. map expression_of kept.items ≡ es)
 
 -- the piece has the tree of the expression, where trees are kept, and its number of positions
-pub record IsTold (alloc : Option Global) (piece : Piece) (e : Expression) : Type 0 where
+pub record IsReported (alloc : Option Global) (piece : Piece) (e : Expression) : Type 0 where
   pub tree : Keeps alloc piece.tree e
   pub count : piece.positions ≡ up_to_word (positions e)
 
 -- the pieces have the trees of the expressions, where trees are kept, and their number of positions
-pub record AreTold (alloc : Option Global) (pieces : Pieces) (es : List Expression) : Type 0 where
+pub record AreReported (alloc : Option Global) (pieces : Pieces) (es : List Expression) : Type 0 where
   pub trees : KeepsAll alloc pieces.trees es
   pub count : pieces.positions ≡ up_to_word (positions (cat es))
 
@@ -46,21 +46,21 @@ pub record AreTold (alloc : Option Global) (pieces : Pieces) (es : List Expressi
 pub record IsBracketPiece (alloc : Option Global) (text : Text) (at : ℕ)
     (piece : Piece) : Type 0 where
   pub meaning : Expression
-  pub is : IsTold alloc piece meaning
-  pub stands : IsBracketUpTo text at piece.behind meaning
+  pub is : IsReported alloc piece meaning
+  pub stands : IsBracketUpTo text at piece.beyond meaning
   pub height : piece.height ≡ 0
 
 -- the piece is the other, repeated
-pub record IsRepeated (alloc : Option Global) (old : Piece) (counts : Counts) (behind : ℕ)
+pub record IsRepeated (alloc : Option Global) (old : Piece) (counts : Counts) (beyond : ℕ)
     (new : Piece) : Type 0 where
-  pub means : (e : Expression) → IsTold alloc old e →
-      IsTold alloc new (repeat e counts.least counts.most)
+  pub means : (e : Expression) → IsReported alloc old e →
+      IsReported alloc new (repeat e counts.least counts.most)
   pub height : new.height ≡ old.height + 1
-  pub place : new.behind ≡ behind
+  pub place : new.beyond ≡ beyond
 
 -- the piece is the last of the pieces, and the others are as they were
 pub record IsJoined (old : Pieces) (piece : Piece) (new : Pieces) : Type 0 where
   pub means : (alloc : Option Global) (es : List Expression) (e : Expression) →
-      AreTold alloc old es → IsTold alloc piece e → AreTold alloc new (es ++ e ∷ [])
+      AreReported alloc old es → IsReported alloc piece e → AreReported alloc new (es ++ e ∷ [])
   pub height : new.height ≡ max old.height piece.height
-  pub place : new.behind ≡ piece.behind
+  pub place : new.beyond ≡ piece.beyond

@@ -14,17 +14,17 @@ fn read_sign(text: &[u8], at: usize) -> Option<(Counts, usize)>
     ensures { MatchOption result (HasNoSign (drop at text.now))
         (λ d. DuplicationStands text.now at d.0 d.1) }
 {
-    if let Some(behind) = after(text, at, b"*") {
+    if let Some(beyond) = after(text, at, b"*") {
         let (least, most) = (0, None);
-        return Some((Counts { least, most }, behind));
+        return Some((Counts { least, most }, beyond));
     }
-    if let Some(behind) = after(text, at, b"\\+") {
+    if let Some(beyond) = after(text, at, b"\\+") {
         let (least, most) = (1, None);
-        return Some((Counts { least, most }, behind));
+        return Some((Counts { least, most }, beyond));
     }
-    let behind = after(text, at, b"\\?")?;
+    let beyond = after(text, at, b"\\?")?;
     let (least, most) = (0, Some(1));
-    Some((Counts { least, most }, behind))
+    Some((Counts { least, most }, beyond))
 }
 
 /// The duplication at a place of the text, if there is one, and the place after it.
@@ -44,9 +44,9 @@ pub fn read_duplication(text: &[u8], at: usize) -> Result<Option<(Counts, usize)
                 kind: FaultKind::BadInterval,
                 at,
             }),
-            Some((counts, behind)) => match counts_fault(counts) {
+            Some((counts, beyond)) => match counts_fault(counts) {
                 Some(kind) => Err(PatternFault { kind, at }),
-                None => Ok(Some((counts, behind))),
+                None => Ok(Some((counts, beyond))),
             },
         },
     }

@@ -45,7 +45,12 @@ fn accepts(rt: &HostRuntime, automaton: &Automaton, first: u8, second: u8) -> Op
 }
 
 /// The least start of a matched stretch that ends at the end of a line of two bytes.
-fn told(rt: &HostRuntime, automaton: &Automaton, first: u8, second: u8) -> Option<Option<usize>> {
+fn reported(
+    rt: &HostRuntime,
+    automaton: &Automaton,
+    first: u8,
+    second: u8,
+) -> Option<Option<usize>> {
     let mut here = Starts::blank(rt.alloc(), automaton).ok()?;
     let mut there = Starts::blank(rt.alloc(), automaton).ok()?;
     let mut meter = fresh_meter();
@@ -66,7 +71,7 @@ fn stepping_takes_no_memory(rt: HostRuntime) {
     if let Some(automaton) = automaton {
         assert_eq!(rt; accepts(&rt, &automaton, b'A', b'Z'), Some(true));
         assert_eq!(rt; accepts(&rt, &automaton, b'q', b'z'), Some(false));
-        assert_eq!(rt; told(&rt, &automaton, b'A', b'z'), Some(Some(0)));
-        assert_eq!(rt; told(&rt, &automaton, b'q', b'z'), Some(None));
+        assert_eq!(rt; reported(&rt, &automaton, b'A', b'z'), Some(Some(0)));
+        assert_eq!(rt; reported(&rt, &automaton, b'q', b'z'), Some(None));
     }
 }

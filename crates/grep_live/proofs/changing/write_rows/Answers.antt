@@ -1,7 +1,7 @@
 use Rattle.std.proofs.Common.{ℕ, ◌-◌, [], ◌∷◌, ◌++◌, codes, length, map, subst}
 use Rattle.grep_core.specs.Row.{output_line}
 use Rattle.grep_core.specs.Written.{GoesOut, StopsWithin}
-use Rattle.grep_session.proofs.lemmas.Writing.{writes_err, one_went, one_stopped, stops_before, writes_behind}
+use Rattle.grep_session.proofs.lemmas.Writing.{writes_err, one_went, one_stopped, stops_before, writes_after}
 use Rattle.grep_live.specs.Rows.{spaced, hit_row}
 use Rattle.grep_live.proofs.changing.write_rows.Goals as goal
 
@@ -21,5 +21,5 @@ returns g c =
     let row = λ (n : ℕ). codes "h" ++ spaced (c.args.stretch.k ∷ c.args.stretch.from ∷ c.args.removed ∷ (c.args.stretch.to - c.args.stretch.from) ∷ n ∷ []) in
     λ es meant hits are.
     let went = subst (λ (n : ℕ). GoesOut g.W.CountedWrite.contents g.W.CountedWrite.failures c.args.out.now c.write_number_row.new.out (output_line margin (row n))) (c.count_between-count.ensures es meant hits are) c.in_ok-write_number_row.ensures in
-    writes_behind g.W.CountedWrite.contents g.W.CountedWrite.failures margin c.args.out.now c.write_number_row.new.out c.write_hits.new.out (row (length hits) ∷ []) (map hit_row hits) c.write_hits.result
+    writes_after g.W.CountedWrite.contents g.W.CountedWrite.failures margin c.args.out.now c.write_number_row.new.out c.write_hits.new.out (row (length hits) ∷ []) (map hit_row hits) c.write_hits.result
     (one_went g.W.CountedWrite.contents g.W.CountedWrite.failures margin c.args.out.now c.write_number_row.new.out (row (length hits)) went) (c.write_hits.ensures es meant hits are)

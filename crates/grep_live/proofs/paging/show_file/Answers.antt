@@ -2,7 +2,7 @@ use Rattle.std.proofs.Common.{◌≤◌, length, get_or, arith}
 use Rattle.grep_core.specs.Run.{file_at}
 use Rattle.grep_session.proofs.lemmas.Writing.{writes_err}
 use Rattle.grep_live.specs.declared.ranks.Rank.{Rank}
-use Rattle.grep_live.proofs.lemmas.ListingLemmas.{parted}
+use Rattle.grep_live.proofs.lemmas.ListingLemmas.{with_parts}
 use Rattle.grep_live.proofs.lemmas.RankLemmas.{first_rank, counted_between}
 use Rattle.grep_live.proofs.lemmas.PageLemmas.{shown_none, shown_part, part_stops, shown_all, shown_rest}
 use Rattle.grep_live.proofs.paging.show_file.Goals as goal
@@ -39,7 +39,7 @@ returns-in_err-show_counted-clause-wrote g c =
     let is_rank = c.requires.are_ranks c.loop-rank.rank-index none c.loop-rank-test.true in
     λ es meant all hits.
     let s = c.loop-rank.invariant.shown es meant all hits in
-    let p = parted es session k last.place rank.place (length file.lines) s.rest c.if-rank-last.false is_rank.0 is_rank.0 s.are_rest in
+    let p = with_parts es session k last.place rank.place (length file.lines) s.rest c.if-rank-last.false is_rank.0 is_rank.0 s.are_rest in
     writes_err g.W.CountedWrite.contents g.W.CountedWrite.failures c.args.margin.now _ _ _ c.from_residual.result c.from_residual.ensures.0
     (part_stops session k 0 (length file.lines) c.args.page.now.skip c.args.page.now.left g.W.CountedWrite.contents g.W.CountedWrite.failures c.args.margin.now es all c.args.out.now c.loop-rank.out c.show_counted.new.out last.place rank.place c.loop-rank.page.skip c.loop-rank.page.left s p (c.in_err-show_counted.ensures.wrote es meant p.front p.is_front))
 
@@ -56,7 +56,7 @@ loop-rank-preserved g c =
       shown =
           (λ es meant all hits.
           let s = c.loop-rank.invariant.shown es meant all hits in
-          let p = parted es session k last.place rank.place (length file.lines) s.rest c.if-rank-last.false is_rank.0 is_rank.0 s.are_rest in
+          let p = with_parts es session k last.place rank.place (length file.lines) s.rest c.if-rank-last.false is_rank.0 is_rank.0 s.are_rest in
           let rest = c.in_ok-show_counted.ensures.rest es meant p.front p.is_front in
           shown_part session k 0 (length file.lines) c.args.page.now.skip c.args.page.now.left g.W.CountedWrite.contents g.W.CountedWrite.failures c.args.margin.now es all c.args.out.now c.loop-rank.out c.show_counted.new.out last.place rank.place c.loop-rank.page.skip c.loop-rank.page.left s p c.show_counted.new.page.skip c.show_counted.new.page.left rest.0 rest.1
           (c.in_ok-show_counted.ensures.wrote es meant p.front p.is_front));
@@ -73,7 +73,7 @@ returns-in_err-show_lines-clause-wrote g c =
     let near : end ≤ length file.lines = omega (arith, c.line_count.ensures) in
     λ es meant all hits.
     let s = c.loop-rank.invariant.shown es meant all hits in
-    let p = parted es session k last.place end (length file.lines) s.rest far near near s.are_rest in
+    let p = with_parts es session k last.place end (length file.lines) s.rest far near near s.are_rest in
     writes_err g.W.CountedWrite.contents g.W.CountedWrite.failures c.args.margin.now _ _ _ c.from_residual-in_err-show_lines.result c.from_residual-in_err-show_lines.ensures.0
     (part_stops session k 0 (length file.lines) c.args.page.now.skip c.args.page.now.left g.W.CountedWrite.contents g.W.CountedWrite.failures c.args.margin.now es all c.args.out.now c.loop-rank.out c.show_lines.new.out last.place end c.loop-rank.page.skip c.loop-rank.page.left s p (c.in_err-show_lines.ensures.wrote es meant p.front p.is_front))
 
@@ -89,7 +89,7 @@ returns-clause-wrote g c =
     let past : length file.lines ≤ end = omega (arith, c.line_count.ensures) in
     λ es meant all hits.
     let s = c.loop-rank.invariant.shown es meant all hits in
-    let p = parted es session k last.place end (length file.lines) s.rest far near near s.are_rest in
+    let p = with_parts es session k last.place end (length file.lines) s.rest far near near s.are_rest in
     let rest = c.in_ok-show_lines.ensures.rest es meant p.front p.is_front in
     let shown = shown_part session k 0 (length file.lines) c.args.page.now.skip c.args.page.now.left g.W.CountedWrite.contents g.W.CountedWrite.failures c.args.margin.now es all c.args.out.now c.loop-rank.out c.show_lines.new.out last.place end c.loop-rank.page.skip c.loop-rank.page.left s p c.show_lines.new.page.skip c.show_lines.new.page.left rest.0 rest.1
     (c.in_ok-show_lines.ensures.wrote es meant p.front p.is_front) in
@@ -107,7 +107,7 @@ returns-clause-rest g c =
     let past : length file.lines ≤ end = omega (arith, c.line_count.ensures) in
     λ es meant all hits.
     let s = c.loop-rank.invariant.shown es meant all hits in
-    let p = parted es session k last.place end (length file.lines) s.rest far near near s.are_rest in
+    let p = with_parts es session k last.place end (length file.lines) s.rest far near near s.are_rest in
     let rest = c.in_ok-show_lines.ensures.rest es meant p.front p.is_front in
     let shown = shown_part session k 0 (length file.lines) c.args.page.now.skip c.args.page.now.left g.W.CountedWrite.contents g.W.CountedWrite.failures c.args.margin.now es all c.args.out.now c.loop-rank.out c.show_lines.new.out last.place end c.loop-rank.page.skip c.loop-rank.page.left s p c.show_lines.new.page.skip c.show_lines.new.page.left rest.0 rest.1
     (c.in_ok-show_lines.ensures.wrote es meant p.front p.is_front) in

@@ -5,11 +5,11 @@ use Rattle.grep_session.proofs.bounded.next_part.Goals as goal
 
 pub returns-clause-bounds : goal.returns-clause-bounds
 returns-clause-bounds g c =
-    part_within (map g.M.LineMatch.expression c.args.matchers.now) c.args.line.now c.args.options.line_regexp c.args.from c.first_part.result (c.first_part.ensures.told c.args.options.line_regexp c.requires.whole)
+    part_within (map g.M.LineMatch.expression c.args.matchers.now) c.args.line.now c.args.options.line_regexp c.args.from c.first_part.result (c.first_part.ensures.reported c.args.options.line_regexp c.requires.whole)
 
 pub returns-clause-ahead : goal.returns-clause-ahead
 returns-clause-ahead g c =
-    part_ahead (map g.M.LineMatch.expression c.args.matchers.now) c.args.line.now c.args.options.line_regexp c.args.from c.first_part.result (c.first_part.ensures.told c.args.options.line_regexp c.requires.whole)
+    part_ahead (map g.M.LineMatch.expression c.args.matchers.now) c.args.line.now c.args.options.line_regexp c.args.from c.first_part.result (c.first_part.ensures.reported c.args.options.line_regexp c.requires.whole)
 
 pub returns-clause-steps : goal.returns-clause-steps
 returns-clause-steps g c = from_place (length c.args.matchers.now) c.args.line.now c.args.from _ _ c.first_part.ensures.steps

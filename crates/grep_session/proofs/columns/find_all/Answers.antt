@@ -7,7 +7,7 @@ use Rattle.re_syntax.specs.Profile.{most_patterns}
 use Rattle.grep_session.specs.Working.Changed.{ChangeCost, IsWithin, SearchesEach, WasFileKept}
 use Rattle.grep_session.specs.Working.Found.{IsRight, lines_of_files}
 use Rattle.grep_session.specs.Working.Kept.{kept_file}
-use Rattle.grep_session.proofs.lemmas.ColumnLemmas.{files_next, files_parted, right_more, kept_at}
+use Rattle.grep_session.proofs.lemmas.ColumnLemmas.{files_next, files_with_parts, right_more, kept_at}
 use Rattle.grep_session.proofs.lemmas.StepLemmas.{ChangeCost-exists, each_none, each_both, each_front}
 use Rattle.grep_session.proofs.columns.find_all.Goals as goal
 
@@ -27,7 +27,7 @@ returns-in_err-find_in_file-clause-steps g c = λ before changed h k.
     let x = c.file-item.result in
     let spent = rw s.same_matchers.same_expressions at c.find_in_file.ensures.steps in
     each_front (ChangeCost c.args.change changed (map g.M.LineMatch.expression c.args.matchers.now) c.args.search.now.options) (ChangeCost-exists c.args.change changed _ c.args.search.now.options) _ _ _ _ _
-    (files_parted kept_file c.args.files.now c.loop-file.file-index x c.loop-file-test.true c.file-item.is)
+    (files_with_parts kept_file c.args.files.now c.loop-file.file-index x c.loop-file-test.true c.file-item.is)
     (each_both (ChangeCost c.args.change changed (map g.M.LineMatch.expression c.args.matchers.now) c.args.search.now.options) _ _ _ _ _ _ refl (s.steps before changed h k)
     (spent before changed h (kept_at (WasFileKept c.args.change before c.args.search.now.options) c.args.files.now c.loop-file.file-index x c.loop-file-test.true c.file-item.is k)))
 

@@ -6,7 +6,7 @@ use Rattle.re_syntax.specs.Profile.{most_patterns}
 use Rattle.grep_session.specs.Working.Changed.{ChangeCost, IsWithin, SearchesEach, WasKept}
 use Rattle.grep_session.specs.Working.Found.{AddsRight}
 use Rattle.grep_session.specs.Working.Kept.{line_text}
-use Rattle.grep_session.proofs.lemmas.ColumnLemmas.{map_next, map_parted, adds_right_none, adds_right_next, kept_at}
+use Rattle.grep_session.proofs.lemmas.ColumnLemmas.{map_next, map_with_parts, adds_right_none, adds_right_next, kept_at}
 use Rattle.grep_session.proofs.lemmas.StepLemmas.{ChangeCost-exists, each_none, each_one, each_next}
 use Rattle.grep_session.proofs.columns.find_lines.Goals as goal
 
@@ -26,7 +26,7 @@ returns-in_err-one-clause-steps g c = λ before changed h k.
     let spent = rw s.same_matchers.same_expressions at c.find_line.ensures.steps in
     let x = c.line-item.result in
     each_next (ChangeCost c.args.change changed (map g.M.LineMatch.expression c.args.matchers.now) c.args.search.now.options) (ChangeCost-exists c.args.change changed _ c.args.search.now.options) _ _ _ _ _ _ _
-    (map_parted line_text c.args.lines.now c.loop-line.line-index x c.loop-line-test.true c.line-item.is) (s.steps before changed h k)
+    (map_with_parts line_text c.args.lines.now c.loop-line.line-index x c.loop-line-test.true c.line-item.is) (s.steps before changed h k)
     (spent before changed h (kept_at (WasKept c.args.change before c.args.search.now.options) c.args.lines.now c.loop-line.line-index x c.loop-line-test.true c.line-item.is k))
 
 pub returns-in_err-push-clause-steps : goal.returns-in_err-push-clause-steps
@@ -35,7 +35,7 @@ returns-in_err-push-clause-steps g c = λ before changed h k.
     let spent = rw s.same_matchers.same_expressions at c.find_line.ensures.steps in
     let x = c.line-item.result in
     each_next (ChangeCost c.args.change changed (map g.M.LineMatch.expression c.args.matchers.now) c.args.search.now.options) (ChangeCost-exists c.args.change changed _ c.args.search.now.options) _ _ _ _ _ _ _
-    (map_parted line_text c.args.lines.now c.loop-line.line-index x c.loop-line-test.true c.line-item.is) (s.steps before changed h k)
+    (map_with_parts line_text c.args.lines.now c.loop-line.line-index x c.loop-line-test.true c.line-item.is) (s.steps before changed h k)
     (spent before changed h (kept_at (WasKept c.args.change before c.args.search.now.options) c.args.lines.now c.loop-line.line-index x c.loop-line-test.true c.line-item.is k))
 
 pub loop-line-preserved : goal.loop-line-preserved

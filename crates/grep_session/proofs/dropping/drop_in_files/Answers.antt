@@ -3,7 +3,7 @@ use Rattle.std.proofs.Math.Seq.{map-set_same}
 use Rattle.std.proofs.lemmas.List.Elements.{AllWithin-more_set, AllWithin-from_all, All-from_all_within}
 use Rattle.std.specs.List.{AllWithin, remove}
 use Rattle.grep_session.specs.Working.Kept.{IsFileKept, kept_file}
-use Rattle.grep_session.proofs.lemmas.DroppingLemmas.{behind_set}
+use Rattle.grep_session.proofs.lemmas.DroppingLemmas.{after_set}
 use Rattle.grep_session.proofs.dropping.drop_in_files.Goals as goal
 
 pub loop-file-init : goal.loop-file-init
@@ -24,7 +24,7 @@ loop-file-preserved c =
       kept = λ es options h no_parts all.
           let before = c.loop-file.invariant.kept es options h no_parts all in
           let one = c.drop_in_file.ensures.kept es options h no_parts (before.1 i d (omega arith) c.loop-file-test.true) in
-          (AllWithin-more_set files i new here (IsFileKept (remove es c.args.p) options) before.0 one, subst (λ n. AllWithin (IsFileKept es options) (slice_set files i new) n (length c.args.files.now)) (sym (add-one i)) (behind_set (IsFileKept es options) files i (length c.args.files.now) new before.1));
+          (AllWithin-more_set files i new here (IsFileKept (remove es c.args.p) options) before.0 one, subst (λ n. AllWithin (IsFileKept es options) (slice_set files i new) n (length c.args.files.now)) (sym (add-one i)) (after_set (IsFileKept es options) files i (length c.args.files.now) new before.1));
     }
 
 pub returns-clause-kept : goal.returns-clause-kept

@@ -3,7 +3,7 @@ use Rattle.std.proofs.Math.Seq.{map-set_same}
 use Rattle.std.proofs.lemmas.List.Elements.{AllWithin-more_set, AllWithin-from_all, All-from_all_within}
 use Rattle.std.specs.List.{AllWithin, remove}
 use Rattle.grep_session.specs.Working.Kept.{IsKept, line_text}
-use Rattle.grep_session.proofs.lemmas.DroppingLemmas.{dropped_line, behind_set}
+use Rattle.grep_session.proofs.lemmas.DroppingLemmas.{dropped_line, after_set}
 use Rattle.grep_session.proofs.dropping.drop_in_lines.Goals as goal
 
 pub loop-line-init : goal.loop-line-init
@@ -24,7 +24,7 @@ loop-line-preserved c =
       kept = λ es options h no_parts all.
           let before = c.loop-line.invariant.kept es options h no_parts all in
           let one = dropped_line es options c.args.p h no_parts (get_or lines i d) new c.drop_in_line.ensures.text c.drop_in_line.ensures.matched (before.1 i d (omega arith) c.loop-line-test.true) in
-          (AllWithin-more_set lines i new here (IsKept (remove es c.args.p) options) before.0 one, subst (λ n. AllWithin (IsKept es options) (slice_set lines i new) n (length c.args.lines.now)) (sym (add-one i)) (behind_set (IsKept es options) lines i (length c.args.lines.now) new before.1));
+          (AllWithin-more_set lines i new here (IsKept (remove es c.args.p) options) before.0 one, subst (λ n. AllWithin (IsKept es options) (slice_set lines i new) n (length c.args.lines.now)) (sym (add-one i)) (after_set (IsKept es options) lines i (length c.args.lines.now) new before.1));
     }
 
 pub returns-clause-kept : goal.returns-clause-kept

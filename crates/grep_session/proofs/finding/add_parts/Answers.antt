@@ -23,11 +23,11 @@ returns-in_err-push-clause-steps g c =
 pub loop-part-preserved : goal.loop-part-preserved
 loop-part-preserved g c =
     let es = map g.M.LineMatch.expression c.args.matchers.now in
-    let told = rw c.loop-part.invariant.same_matchers.same_expressions at c.in-Some.ensures.told in
+    let reported = rw c.loop-part.invariant.same_matchers.same_expressions at c.in-Some.ensures.reported in
     let steps = subst (λ n. AddsAtMost (search_cost n c.args.line.now) c.loop-part.meter c.next_part.new.meter) (same_length g.M.LineMatch.whole c.loop-part.matchers c.args.matchers.now c.loop-part.invariant.same_matchers.same_wholes) c.next_part.ensures.steps in
     let pushed : c.push.new.self.items ≡ _ = c.in_ok-push.ensures.items in
     record {
-      parts = subst (SpansSoFar es c.args.search.now.options c.args.line.now c.in-Some.part.end) (sym pushed) (spans_next es c.args.search.now.options c.args.line.now c.loop-part.from c.loop-part.spans.items c.in-Some.part c.loop-part.invariant.parts told);
+      parts = subst (SpansSoFar es c.args.search.now.options c.args.line.now c.in-Some.part.end) (sym pushed) (spans_next es c.args.search.now.options c.args.line.now c.loop-part.from c.loop-part.spans.items c.in-Some.part c.loop-part.invariant.parts reported);
       steps = subst (λ s. AddsAtMost (length s * search_cost (length c.args.matchers.now) c.args.line.now) c.args.meter.now c.next_part.new.meter) (sym pushed)
           (spans_more_cost es c.args.search.now.options c.args.line.now c.loop-part.spans.items c.in-Some.part (search_cost (length c.args.matchers.now) c.args.line.now) _ _ _ c.loop-part.invariant.steps steps);
       same_matchers = same_over c.next_part.ensures.same_matchers c.loop-part.invariant.same_matchers;
@@ -35,8 +35,8 @@ loop-part-preserved g c =
 
 pub returns-clause-ok : goal.returns-clause-ok
 returns-clause-ok g c =
-    let told = rw c.loop-part.invariant.same_matchers.same_expressions at c.in_default.ensures.told in
-    spans_done _ c.args.search.now.options _ c.loop-part.from _ c.loop-part.invariant.parts told
+    let reported = rw c.loop-part.invariant.same_matchers.same_expressions at c.in_default.ensures.reported in
+    spans_done _ c.args.search.now.options _ c.loop-part.from _ c.loop-part.invariant.parts reported
 
 pub returns-clause-steps : goal.returns-clause-steps
 returns-clause-steps g c =

@@ -22,7 +22,7 @@ loop-line-preserved g c =
       wrote =
           line_on w.options c.args.lines.now c.loop-line.line-index c.line-item.result c.loop-line-test.true c.line-item.is w.many w.name.now g.W.CountedWrite.contents g.W.CountedWrite.failures c.args.layout.now.margin.now
           (c.loop-line.number + 1) c.args.out.now c.loop-line.out c.write_line.new.out all i.wrote c.in_ok-found.ensures.rows;
-      counted = count_on w.options c.args.lines.now c.loop-line.line-index c.line-item.result c.loop-line-test.true c.line-item.is _ c.loop-line.selected c.count_found-selected.result found c.in_ok-found.ensures.told c.count_found-selected.ensures i.counted;
+      counted = count_on w.options c.args.lines.now c.loop-line.line-index c.line-item.result c.loop-line-test.true c.line-item.is _ c.loop-line.selected c.count_found-selected.result found c.in_ok-found.ensures.reported c.count_found-selected.ensures i.counted;
       few = count_few c.loop-line.selected c.count_found-selected.result c.loop-line.number found c.count_found-selected.ensures i.few;
       numbered = omega (arith, i.numbered);
     }

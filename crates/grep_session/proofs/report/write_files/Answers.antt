@@ -14,4 +14,4 @@ pub loop-file-preserved : goal.loop-file-preserved
 loop-file-preserved g c =
     let went = rw c.deref.ensures.value at c.in_ok-found.ensures.rows in
     output_on g.W.CountedWrite.contents g.W.CountedWrite.failures c.args.margin.now c.args.options.now (nat_le 2 (length c.args.files.now)) c.loop-file.some c.args.files.now c.loop-file.file-index c.file-item.result c.loop-file-test.true c.file-item.is
-    c.args.out.now c.loop-file.out c.write_file.new.out _ c.loop-file.invariant (c.loop-file.some || c.in_ok-found.found) (ap (λ v. c.loop-file.some || v) c.in_ok-found.ensures.told) went
+    c.args.out.now c.loop-file.out c.write_file.new.out _ c.loop-file.invariant (c.loop-file.some || c.in_ok-found.found) (ap (λ v. c.loop-file.some || v) c.in_ok-found.ensures.reported) went

@@ -1,6 +1,6 @@
 use Rattle.std.proofs.Common.{rules, []}
 use Rattle.grep_core.specs.Run.{writer}
-use Rattle.grep_core.specs.Sources.{GivesBack}
+use Rattle.grep_core.specs.Sources.{Returns}
 use Rattle.grep_core.proofs.lemmas.GivenLaws.{RunGives-given}
 use Rattle.grep_core.proofs.lemmas.SourceLaws.{gives_both}
 use Rattle.grep_utility.proofs.command.search_request.Goals as goal
@@ -13,8 +13,8 @@ returns g c =
     let old = c.args.files.now in
     let start = c.new-operands.result.files.now in
     let end = c.search_filtered-found.new.sources.files.now in
-    let begun : GivesBack g.F.Files.given_back old start [] = search (rules, c.begin_search.ensures.none_back) in
-    let run = RunGives-given _ _ _ _ (GivesBack g.F.Files.given_back old end) (λ left h. gives_both g.F.Files.given_back old start end [] left begun h) _ _ _ c.search_filtered-found.ensures.run in
+    let begun : Returns g.F.Files.returned_readers old start [] = search (rules, c.begin_search.ensures.none_back) in
+    let run = RunGives-given _ _ _ _ (Returns g.F.Files.returned_readers old end) (λ left h. gives_both g.F.Files.returned_readers old start end [] left begun h) _ _ _ c.search_filtered-found.ensures.run in
     let ends = c.end_search.ensures (writer g.W.CountedWrite.contents g.W.CountedWrite.failures c.search_filtered-found.new.out) (g.F.Files.failures end) c.search_filtered-found.new.meter in
     record {
       found = c.search_filtered-found.result;

@@ -1,6 +1,6 @@
 use Rattle.std.proofs.Common.{◌-◌}
 use Rattle.grep_core.specs.Reading.{most_lines}
-use Rattle.grep_utility.proofs.lemmas.GatherLemmas.{LinesSoFar}
+use Rattle.grep_utility.proofs.lemmas.CollectingLemmas.{LinesSoFar}
 use Rattle.grep_utility.proofs.patterns.add_lines.Given as goal
 
 -- the lines that were handed out were added

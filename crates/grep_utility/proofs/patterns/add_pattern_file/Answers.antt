@@ -23,12 +23,12 @@ returns-in-Ok-false-clause-ok g c =
 
 pub returns-in-Err-clause-back : goal.returns-in-Err-clause-back
 returns-in-Err-clause-back g c =
-    (_, gives_both g.F.Files.given_back c.args.files.now c.open_named.new.files c.close.new.self [] (g.F.Reader.CountedRead.remaining c.add_all_lines-reader.result.0 ∷ []) c.open_named.ensures.none_back c.close.ensures.back)
+    (_, gives_both g.F.Files.returned_readers c.args.files.now c.open_named.new.files c.close.new.self [] (g.F.Reader.CountedRead.remaining c.add_all_lines-reader.result.0 ∷ []) c.open_named.ensures.none_back c.close.ensures.back)
 
 pub returns-in-Ok-true-clause-back : goal.returns-in-Ok-true-clause-back
 returns-in-Ok-true-clause-back g c =
-    (_, gives_both g.F.Files.given_back c.args.files.now c.open_named.new.files c.close.new.self [] (g.F.Reader.CountedRead.remaining c.add_all_lines-reader.result.0 ∷ []) c.open_named.ensures.none_back c.close.ensures.back)
+    (_, gives_both g.F.Files.returned_readers c.args.files.now c.open_named.new.files c.close.new.self [] (g.F.Reader.CountedRead.remaining c.add_all_lines-reader.result.0 ∷ []) c.open_named.ensures.none_back c.close.ensures.back)
 
 pub returns-in-Ok-false-clause-back : goal.returns-in-Ok-false-clause-back
 returns-in-Ok-false-clause-back g c =
-    (_, gives_both g.F.Files.given_back c.args.files.now c.open_named.new.files c.close.new.self [] (g.F.Reader.CountedRead.remaining c.add_all_lines-reader.result.0 ∷ []) c.open_named.ensures.none_back c.close.ensures.back)
+    (_, gives_both g.F.Files.returned_readers c.args.files.now c.open_named.new.files c.close.new.self [] (g.F.Reader.CountedRead.remaining c.add_all_lines-reader.result.0 ∷ []) c.open_named.ensures.none_back c.close.ensures.back)

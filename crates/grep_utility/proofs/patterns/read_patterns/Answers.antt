@@ -27,7 +27,7 @@ loop-source-preserved g c =
     record {
       so_far = subst (λ folder. SourcesSoFar start all folder (map given_source (drop (c.loop-source.source-index + 1) c.args.sources.now)) c.add_source.new.texts.items) (sym c.in-Ok.ensures.used) more;
       none_failed = c.in-Ok.ensures.none_failed ∙ s.none_failed;
-      back = (s.back.0 ++ c.add_source.ensures.back.0, gives_both g.F.Files.given_back c.args.files.now c.loop-source.files c.add_source.new.files s.back.0 c.add_source.ensures.back.0 s.back.1 c.add_source.ensures.back.1);
+      back = (s.back.0 ++ c.add_source.ensures.back.0, gives_both g.F.Files.returned_readers c.args.files.now c.loop-source.files c.add_source.new.files s.back.0 c.add_source.ensures.back.0 s.back.1 c.add_source.ensures.back.1);
       same_loan = c.in-Ok.ensures.same_loan ∙ s.same_loan;
     }
 
@@ -42,4 +42,4 @@ returns-clause-ok g c =
 pub returns-in-Err-clause-back : goal.returns-in-Err-clause-back
 returns-in-Err-clause-back g c =
     let s = c.loop-source.invariant in
-    (s.back.0 ++ c.add_source.ensures.back.0, gives_both g.F.Files.given_back c.args.files.now c.loop-source.files c.add_source.new.files s.back.0 c.add_source.ensures.back.0 s.back.1 c.add_source.ensures.back.1)
+    (s.back.0 ++ c.add_source.ensures.back.0, gives_both g.F.Files.returned_readers c.args.files.now c.loop-source.files c.add_source.new.files s.back.0 c.add_source.ensures.back.0 s.back.1 c.add_source.ensures.back.1)

@@ -1,6 +1,6 @@
 use Rattle.std.proofs.Common.{◌≡◌, List, Option, drop, map}
 use Rattle.re_syntax.specs.Bytes.{Text}
-use Rattle.grep_core.specs.Sources.{GivesBack}
+use Rattle.grep_core.specs.Sources.{Returns}
 use Rattle.grep_utility.specs.Words.{given_source}
 use Rattle.grep_utility.proofs.lemmas.SourceLemmas.{SourcesSoFar}
 use Rattle.grep_utility.proofs.patterns.read_patterns.Given as goal
@@ -10,6 +10,6 @@ abbrev pub invariant-loop-source : goal.invariant-loop-source
 invariant-loop-source g l = record {
   so_far : SourcesSoFar (g.F.Files.folder l.fn.files) (map given_source l.fn.sources) (g.F.Files.folder l.files) (map given_source (drop l.source-index l.sources)) l.texts.items;
   none_failed : g.F.Files.failures l.files ≡ g.F.Files.failures l.fn.files;
-  back : (left : List (Option Text)) × GivesBack g.F.Files.given_back l.fn.files l.files left;
+  back : (left : List (Option Text)) × Returns g.F.Files.returned_readers l.fn.files l.files left;
   same_loan : g.F.Files.loan l.files ≡ g.F.Files.loan l.fn.files;
 }

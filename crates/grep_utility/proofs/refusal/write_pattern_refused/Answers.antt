@@ -6,7 +6,7 @@ use Rattle.grep_core.specs.Row.{output_line}
 use Rattle.grep_core.specs.Written.{StopsWithin, Writes}
 use Rattle.grep_core.proofs.lemmas.RowLemmas.{stops_early, writes_last}
 use Rattle.grep_utility.specs.Texts.{kind_name}
-use Rattle.grep_utility.proofs.lemmas.TellingLemmas.{line_of_pieces}
+use Rattle.grep_utility.proofs.lemmas.ReportingLemmas.{line_of_pieces}
 use Rattle.grep_utility.proofs.refusal.write_pattern_refused.Goals as goal
 
 pub returns-in_err-write_number_and_kind : goal.returns-in_err-write_number_and_kind

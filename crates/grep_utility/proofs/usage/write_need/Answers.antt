@@ -14,6 +14,6 @@ returns-in_err-push_all g c =
 pub returns : goal.returns
 returns g c =
     let letter : c.as_bytes-letter.result.now ≡ encode_utf8 c.args.letter = c.as_bytes-letter.ensures.value ∙ c.encode_utf8.ensures.value in
-    writes_last g.M.CountedWrite.contents g.M.CountedWrite.failures c.args.messages.now c.push_all.new.out c.write_line_behind.new.out (codes "grep: option -")
-    (output_line (encode_utf8 c.args.letter) c.args.need.now) c.write_line_behind.result c.in_ok-push_all.ensures
-    (subst (λ t. Writes g.M.CountedWrite.contents g.M.CountedWrite.failures c.push_all.new.out c.write_line_behind.new.out (output_line t c.args.need.now) c.write_line_behind.result) letter c.write_line_behind.ensures)
+    writes_last g.M.CountedWrite.contents g.M.CountedWrite.failures c.args.messages.now c.push_all.new.out c.write_line_after.new.out (codes "grep: option -")
+    (output_line (encode_utf8 c.args.letter) c.args.need.now) c.write_line_after.result c.in_ok-push_all.ensures
+    (subst (λ t. Writes g.M.CountedWrite.contents g.M.CountedWrite.failures c.push_all.new.out c.write_line_after.new.out (output_line t c.args.need.now) c.write_line_after.result) letter c.write_line_after.ensures)

@@ -8,4 +8,4 @@ pub returns : goal.returns
 unfolding fault_text
 returns g c =
     let letter : c.as_bytes-letter.result.now ≡ encode_utf8 c.args.letter = c.as_bytes-letter.ensures.value ∙ c.encode_utf8.ensures.value in
-    subst (λ t. Writes g.M.CountedWrite.contents g.M.CountedWrite.failures c.args.messages.now c.write_line_behind.new.out (output_line (codes "grep: unknown option -") t) c.write_line_behind.result) letter c.write_line_behind.ensures
+    subst (λ t. Writes g.M.CountedWrite.contents g.M.CountedWrite.failures c.args.messages.now c.write_line_after.new.out (output_line (codes "grep: unknown option -") t) c.write_line_after.result) letter c.write_line_after.ensures

@@ -1,5 +1,5 @@
 use Rattle.std.proofs.Common.{◌≡◌, true, false, ◌∙◌, ap, codes, Some}
-use Rattle.grep_core.specs.Sources.{GivesBack}
+use Rattle.grep_core.specs.Sources.{Returns}
 use Rattle.grep_core.specs.Run.{writer}
 use Rattle.grep_utility.specs.Working.Memory.{folder_of, bytes_of, returned_by}
 use Rattle.grep_utility.specs.Working.Worked.{row_text}
@@ -13,6 +13,6 @@ returns c c' same counts =
     let opens : folder.opens (codes "h") ≡ Some true = ap (λ n. (folder_of n.files.now n.input).opens (codes "h")) c'.new-files.ensures in
     let bytes : folder.bytes (codes "h") ≡ Some row_text = ap (λ n. (folder_of n.files.now n.input).bytes (codes "h")) c'.new-files.ensures ∙ ap bytes_of c'.new.ensures in
     let none : folder.opens (codes "missing") ≡ Some false = ap (λ n. (folder_of n.files.now n.input).opens (codes "missing")) c'.new-files.ensures in
-    row_given folder opens bytes none (GivesBack returned_by m c'.run_grep-status.new.files) (writer c.W.CountedWrite.contents c.W.CountedWrite.failures c'.args.out.now) (writer c.M.CountedWrite.contents c.M.CountedWrite.failures c'.args.messages.now)
+    row_given folder opens bytes none (Returns returned_by m c'.run_grep-status.new.files) (writer c.W.CountedWrite.contents c.W.CountedWrite.failures c'.args.out.now) (writer c.M.CountedWrite.contents c.M.CountedWrite.failures c'.args.messages.now)
     (writer c.W.CountedWrite.contents c.W.CountedWrite.failures c'.run_grep-status.new.out) (writer c.M.CountedWrite.contents c.M.CountedWrite.failures c'.run_grep-status.new.messages)
     m.failed c'.run_grep-status.new.files.failed c'.failures.result c'.args.meter.now c'.run_grep-status.new.meter c'.run_grep-status.result _ (ap (λ n. n.failed) c'.new-files.ensures) c'.failures.ensures same c'.run_grep-status.ensures counts

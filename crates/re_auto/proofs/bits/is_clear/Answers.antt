@@ -1,10 +1,10 @@
 use Rattle.std.proofs.Common.{◌≡◌, rules, tests}
 use Rattle.std.specs.Prelude.{◌≢◌}
 use Rattle.std.proofs.lemmas.Iterator.{cases_from_all, YieldsList-from_slice}
-use Rattle.re_auto.proofs.lemmas.BitLemmas.{clear_told}
+use Rattle.re_auto.proofs.lemmas.BitLemmas.{clear_says}
 use Rattle.re_auto.proofs.bits.is_clear.Goals as goal
 
 pub returns : goal.returns
 returns c =
-    clear_told c.args.words.now c.all.result (λ k. (c.type_inv.words k).fits)
+    clear_says c.args.words.now c.all.result (λ k. (c.type_inv.words k).fits)
     (cases_from_all _ _ _ (λ x. x ≡ 0) (λ x. x ≢ 0) c.all.ensures.ran (YieldsList-from_slice c.args.words.now cc) (λ x q k. search (rules, tests)) (λ x q k. search (rules, tests)))

@@ -14,8 +14,8 @@ sweep-requires g c =
     let whole = g.M.Sweeps.whole c.args.matcher.now in
     rw take_rest (block_after (λ (line : Text). ¬ Matches e line whole) c.args.block.now c.lines.start c.requires c.lines.invariant.passed)
 
-pub returns-in_default-clause-told : goal.returns-in_default-clause-told
-returns-in_default-clause-told g c =
+pub returns-in_default-clause-reported : goal.returns-in_default-clause-reported
+returns-in_default-clause-reported g c =
     let i = c.lines.invariant in
     let block = c.args.block.now in
     let e = g.M.Sweeps.expression c.args.matcher.now in
@@ -24,8 +24,8 @@ returns-in_default-clause-told g c =
     let passed : PassesUnmatched e whole block (c.lines.start + c.sweep.result) = passed_on (λ (line : Text). Matches e line whole) block c.lines.start c.sweep.result i.passed swept in
     none_next (λ (line : Text). Matches e line whole) block (c.lines.start + c.sweep.result) c.requires passed c.in_default.ensures
 
-pub returns-then-search-clause-told : goal.returns-then-search-clause-told
-returns-then-search-clause-told g c =
+pub returns-then-search-clause-reported : goal.returns-then-search-clause-reported
+returns-then-search-clause-reported g c =
     let i = c.lines.invariant in
     let block = c.args.block.now in
     let e = g.M.Sweeps.expression c.args.matcher.now in
@@ -33,7 +33,7 @@ returns-then-search-clause-told g c =
     let swept : PassesUnmatched e whole (drop c.lines.start block) c.sweep.result = rw (← i.same_expression, ← i.same_whole, ← take_rest) c.sweep.ensures.passes in
     let passed : PassesUnmatched e whole block (c.lines.start + c.sweep.result) = passed_on (λ (line : Text). Matches e line whole) block c.lines.start c.sweep.result i.passed swept in
     next_from (λ (line : Text). Matches e line whole) block (c.lines.start + c.sweep.result) c.in-Some.end c.in-Some.ensures passed
-    (rw (← i.same_expression, ← i.same_whole) (c.if-search.ensures.told.0 refl))
+    (rw (← i.same_expression, ← i.same_whole) (c.if-search.ensures.reported.0 refl))
 
 pub lines-preserved : goal.lines-preserved
 lines-preserved g c =
@@ -50,7 +50,7 @@ lines-preserved g c =
     record {
       within = omega (arith, cut.1);
       passed = passed_from (λ (line : Text). Matches e line whole) block (start + count) end cut passed
-          (rw (← i.same_expression, ← i.same_whole) (λ holds. false≢true (c.if-search.ensures.told.1 holds)));
+          (rw (← i.same_expression, ← i.same_whole) (λ holds. false≢true (c.if-search.ensures.reported.1 holds)));
       same_expression = c.search.ensures.same_expression ∙ i.same_expression;
       same_whole = c.search.ensures.same_whole ∙ i.same_whole;
       steps = adds_line (start + count) end _ _ _ _ cut.0 (long (λ (line : Text). Matches e line whole) block (start + count) end cut passed)

@@ -19,7 +19,7 @@ lines-preserved c =
     let k = c.in-Some-first_newline.length in
     let cut = rw take_rest at c.in-Some-first_newline.ensures in
     let place : at + (k + 1) ≡ at + k + 1 = omega arith in
-    let behind : drop (k + 1) (drop at rest) ≡ drop (at + k + 1) rest = drop-drop (k + 1) at rest ∙ ap (λ n. drop n rest) place in
+    let beyond : drop (k + 1) (drop at rest) ≡ drop (at + k + 1) rest = drop-drop (k + 1) at rest ∙ ap (λ n. drop n rest) place in
     rw take_rest
     (one_less c.args.finder.now c.args.block.now rest c.lines.count at c.requires.one_line c.requires.some c.lines.invariant c.in-Some.ensures (take k (drop at rest)) (drop (at + k + 1) rest) cut.1
-    (cut.2 ∙ ap (λ l. take k (drop at rest) ++ newline ∷ l) behind))
+    (cut.2 ∙ ap (λ l. take k (drop at rest) ++ newline ∷ l) beyond))

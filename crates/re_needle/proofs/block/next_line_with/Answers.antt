@@ -7,21 +7,21 @@ use Rattle.re_needle.proofs.lemmas.BlockLemmas.{passed_within}
 use Rattle.re_needle.proofs.lemmas.NextLines.{none_next, none_in_all, next_from, passed_without}
 use Rattle.re_needle.proofs.block.next_line_with.Goals as goal
 
-pub returns-in_default-clause-told : goal.returns-in_default-clause-told
-returns-in_default-clause-told c =
+pub returns-in_default-clause-reported : goal.returns-in_default-clause-reported
+returns-in_default-clause-reported c =
     let text = c.args.finder.now in
     let block = c.args.block.now in
     none_in_all (StandsIn text) block c.requires.block (passed_without text block (length block) (passes_whole text block c.requires.block c.in_default.ensures))
 
-pub returns-in_default-line_end-clause-told : goal.returns-in_default-line_end-clause-told
-returns-in_default-line_end-clause-told c =
+pub returns-in_default-line_end-clause-reported : goal.returns-in_default-line_end-clause-reported
+returns-in_default-line_end-clause-reported c =
     let text = c.args.finder.now in
     let block = c.args.block.now in
     let start = c.line_start-start.result in
     none_next (StandsIn text) block start c.requires.block (passed_without text block start (passes_front text block c.in-Some.at start c.in-Some.ensures c.line_start-start.ensures.lines)) c.in_default-line_end.ensures
 
-pub returns-clause-told : goal.returns-clause-told
-returns-clause-told c =
+pub returns-clause-reported : goal.returns-clause-reported
+returns-clause-reported c =
     let text = c.args.finder.now in
     let block = c.args.block.now in
     let at = c.in-Some.at in

@@ -15,7 +15,7 @@ returns c =
     let stands : drop c.args.start (map shown marks) ≡ map Some (map members sets) ++ run.0 = drop-map shown c.args.start marks ∙ run.1 in
     let some : 1 ≤ length (map members sets) = omega (arith, c.if-len-lt2.false, c.len.ensures, length-map sets members) in
     let all : IsTrue (nat_eq c.len-2.result (length marks)) → length (map members sets) ≡ length (map shown marks) =
-    λ told. omega (arith, eqb-true c.len-2.result (length marks) told, c.len-2.ensures, length-map sets members, length-map marks shown) in
-    let first : IsTrue (nat_eq c.args.start 0) → c.args.start ≡ 0 = λ told. eqb-true c.args.start 0 told in
+    λ reported. omega (arith, eqb-true c.len-2.result (length marks) reported, c.len-2.ensures, length-map sets members, length-map marks shown) in
+    let first : IsTrue (nat_eq c.args.start 0) → c.args.start ≡ 0 = λ reported. eqb-true c.args.start 0 reported in
     rw c.in-Some.ensures
     (run_is_needle (map shown marks) (r.Sets sets) (nat_eq c.args.start 0) (nat_eq c.len-2.result (length marks)) false run.0 c.args.start stands some first all)

@@ -14,6 +14,6 @@ returns c =
     let run = rw take_rest at (c.in_ok-sets.ensures) in
     let stands : drop c.args.start (map shown marks) ≡ map Some (map members sets) ++ run.0 = drop-map shown c.args.start marks ∙ run.1 in
     let some : 1 ≤ length (map members sets) = omega (arith, c.if-len-lt-MANY_SETS.false, c.len.ensures, length-map sets members) in
-    let first : IsTrue (nat_eq c.args.start 0) → c.args.start ≡ 0 = λ told. eqb-true c.args.start 0 told in
+    let first : IsTrue (nat_eq c.args.start 0) → c.args.start ≡ 0 = λ reported. eqb-true c.args.start 0 reported in
     rw c.in-Some.ensures
-    (run_is_needle (map shown marks) (r.Sets sets) (nat_eq c.args.start 0) false true run.0 c.args.start stands some first (λ told. absurd (false≢true told)))
+    (run_is_needle (map shown marks) (r.Sets sets) (nat_eq c.args.start 0) false true run.0 c.args.start stands some first (λ reported. absurd (false≢true reported)))

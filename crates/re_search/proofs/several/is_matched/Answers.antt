@@ -18,14 +18,14 @@ loop-matcher-preserved g c =
     let ws = same.same_wholes in
     let h = c.loop-matcher-test.true in
     record {
-      told = none_more _ _ _ i _ _ (within whole old now ws i d h).1 (value_at whole old now ws i d h _) (one_more expression old now es i d h)
-          c.loop-matcher.invariant.told (λ m. false≢true (c.if-is_match.ensures.told.1 m));
+      reported = none_more _ _ _ i _ _ (within whole old now ws i d h).1 (value_at whole old now ws i d h _) (one_more expression old now es i d h)
+          c.loop-matcher.invariant.reported (λ m. false≢true (c.if-is_match.ensures.reported.1 m));
       same_matchers = one_asked same i d _ c.is_match.ensures.same_expression c.is_match.ensures.same_whole;
       steps = steps_more i _ _ _ _ c.loop-matcher.invariant.steps c.is_match.ensures.steps;
     }
 
-pub returns-then-is_match-clause-told : goal.returns-then-is_match-clause-told
-returns-then-is_match-clause-told g c =
+pub returns-then-is_match-clause-reported : goal.returns-then-is_match-clause-reported
+returns-then-is_match-clause-reported g c =
     let expression = g.M.LineMatch.expression in
     let whole = g.M.LineMatch.whole in
     let old = c.args.matchers.now in
@@ -36,13 +36,13 @@ returns-then-is_match-clause-told g c =
     let ws = c.loop-matcher.invariant.same_matchers.same_wholes in
     let h = c.loop-matcher-test.true in
     one_matches _ _ _ i _ _ (within whole old now ws i d h).1 (value_at whole old now ws i d h _) (within expression old now es i d h).1 (value_at expression old now es i d h _)
-    (c.if-is_match.ensures.told.0 refl)
+    (c.if-is_match.ensures.reported.0 refl)
 
 pub returns-then-is_match-clause-same_matchers : goal.returns-then-is_match-clause-same_matchers
 returns-then-is_match-clause-same_matchers g c = one_asked c.loop-matcher.invariant.same_matchers _ c.matcher-item.result _ c.is_match.ensures.same_expression c.is_match.ensures.same_whole
 
-pub returns-clause-told : goal.returns-clause-told
-returns-clause-told g c =
+pub returns-clause-reported : goal.returns-clause-reported
+returns-clause-reported g c =
     let es = map g.M.LineMatch.expression c.args.matchers.now in
     let all : take c.loop-matcher.matcher-index es ≡ es = take_all _ _ (omega (arith, length-map c.args.matchers.now g.M.LineMatch.expression)) in
-    rw all at (c.loop-matcher.invariant.told)
+    rw all at (c.loop-matcher.invariant.reported)

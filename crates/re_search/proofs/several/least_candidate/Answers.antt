@@ -22,8 +22,8 @@ loop-matcher-preserved g c =
     let front : PassesAll (λ _. ⊤) block c.first_candidate-end.result =
     passes_fewer (expression m) (whole m) block c.loop-matcher.end c.first_candidate-end.result c.first_candidate-end.ensures in
     record {
-      told = least_more (take i (map expression ms)) (take (i + 1) (map expression ms)) (map whole ms) i (expression m) (whole m) (within whole ms ms refl i m h).1
-          (value_at whole ms ms refl i m h (whole m) ∙ ap whole at) next block c.loop-matcher.end c.first_candidate-end.result c.loop-matcher.invariant.told c.first_candidate-end.ensures;
+      reported = least_more (take i (map expression ms)) (take (i + 1) (map expression ms)) (map whole ms) i (expression m) (whole m) (within whole ms ms refl i m h).1
+          (value_at whole ms ms refl i m h (whole m) ∙ ap whole at) next block c.loop-matcher.end c.first_candidate-end.result c.loop-matcher.invariant.reported c.first_candidate-end.ensures;
       inside = passed_within (λ _. ⊤) block c.first_candidate-end.result front;
       is_block = passed_block (λ _. ⊤) block c.first_candidate-end.result front;
     }
@@ -32,4 +32,4 @@ pub returns : goal.returns
 returns g c =
     let es = map g.M.LineMatch.expression c.args.matchers.now in
     let all : take c.loop-matcher.matcher-index es ≡ es = take_all _ _ (omega (arith, c.loop-matcher-test.false, length-map c.args.matchers.now g.M.LineMatch.expression)) in
-    rw all at (c.loop-matcher.invariant.told)
+    rw all at (c.loop-matcher.invariant.reported)

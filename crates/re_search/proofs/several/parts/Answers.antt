@@ -17,14 +17,14 @@ loop-matcher-preserved g c =
     let ws = same.same_wholes in
     let h = c.loop-matcher-test.true in
     record {
-      told = part_more _ _ _ i _ _ (within whole old now ws i d h).1 (value_at whole old now ws i d h _) _ _ _ _ (one_more expression old now es i d h) c.better-best.ensures
-          c.loop-matcher.invariant.told c.find-found.ensures.told;
+      reported = part_more _ _ _ i _ _ (within whole old now ws i d h).1 (value_at whole old now ws i d h _) _ _ _ _ (one_more expression old now es i d h) c.better-best.ensures
+          c.loop-matcher.invariant.reported c.find-found.ensures.reported;
       same_matchers = one_asked same i d _ c.find-found.ensures.same_expression c.find-found.ensures.same_whole;
       steps = steps_more i _ _ _ _ c.loop-matcher.invariant.steps c.find-found.ensures.steps;
     }
 
-pub returns-clause-told : goal.returns-clause-told
-returns-clause-told g c =
+pub returns-clause-reported : goal.returns-clause-reported
+returns-clause-reported g c =
     let es = map g.M.LineMatch.expression c.args.matchers.now in
     let all : take c.loop-matcher.matcher-index es ≡ es = take_all _ _ (omega (arith, length-map c.args.matchers.now g.M.LineMatch.expression)) in
-    rw all at (c.loop-matcher.invariant.told)
+    rw all at (c.loop-matcher.invariant.reported)

@@ -5,7 +5,7 @@ use Rattle.std.proofs.lemmas.Bool.{cases_lt}
 use Rattle.re_syntax.specs.Bytes.{Text}
 use Rattle.re_strings.specs.declared.growth.Branch.{Branch}
 use Rattle.re_strings.specs.Working.Branches.{IsBranch, branch_at, no_branch, text_at}
-use Rattle.re_strings.proofs.lemmas.SetBranches.{run_behind, run_branch, run_text, child_more, found_still, found_last, run_found, row_done, longer}
+use Rattle.re_strings.proofs.lemmas.SetBranches.{run_after, run_branch, run_text, child_more, found_still, found_last, run_found, row_done, longer}
 use Rattle.re_strings.proofs.growth.expand.Goals as goal
 
 pub runs-preserved-in_ok-add_branch : goal.runs-preserved-in_ok-add_branch
@@ -16,7 +16,7 @@ runs-preserved-in_ok-add_branch c =
     let read : c.index-branch.result.now ≡ br = c.index-branch.ensures ∙ get_or_default c.args.branches.now.items c.args.node c.index-branch.result.now no_branch c.requires.within in
     let high : c.index-branch.result.now.high ≡ br.high = ap (λ (b : Branch). b.high) read in
     let deep : c.index-branch.result.now.depth ≡ br.depth = ap (λ (b : Branch). b.depth) read in
-    let key : c.key_at-key.result ≡ slice_get (text_at texts c.runs.at) br.depth = c.key_at-key.ensures.told ∙ ap (slice_get (text_at texts c.runs.at)) deep in
+    let key : c.key_at-key.result ≡ slice_get (text_at texts c.runs.at) br.depth = c.key_at-key.ensures.reported ∙ ap (slice_get (text_at texts c.runs.at)) deep in
     let here : slice_get (text_at texts c.runs.at) br.depth ≡ Some c.in-Some.byte = sym key ∙ c.in-Some.is in
     let end : ℕ = c.run_end-end.result in
     let on : c.runs.at < end = c.run_end-end.ensures.within.0 in
@@ -35,7 +35,7 @@ runs-preserved-in_ok-add_branch c =
       low = let l = c.runs.invariant.low in omega (arith, l, on);
       grown = (c.runs.invariant.grown.0 ++ nb ∷ [], ap (λ xs. xs ++ nb ∷ []) c.runs.invariant.grown.1 ∙ append_assoc c.args.branches.now.items c.runs.invariant.grown.0 (nb ∷ []));
       are = All-push (IsBranch texts) c.runs.branches.items nb c.runs.invariant.are made;
-      before = λ lt. run_behind texts c.requires.ordered br is c.runs.at end c.runs.invariant.low on before same other (omega (arith, lt, high));
+      before = λ lt. run_after texts c.requires.ordered br is c.runs.at end c.runs.invariant.low on before same other (omega (arith, lt, high));
       child = child_more texts br c.runs.branches.items nb (length c.args.branches.now.items) c.runs.invariant.child
           (ap (λ d. take d (text_at texts c.runs.at)) level
           ∙ run_text texts c.requires.ordered br is c.runs.at end c.in-Some.byte c.runs.invariant.low on top here before same other);

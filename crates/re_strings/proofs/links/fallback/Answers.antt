@@ -21,7 +21,7 @@ returns-clause-right c = λ all t s f.
 
 pub returns-then-node-eq0-clause-before : goal.returns-then-node-eq0-clause-before
 returns-then-node-eq0-clause-before c =
-    let behind = c.requires.trie.behind c.args.node (let few = c.requires.few in let within = c.requires.within in omega (arith, few, within)) in omega (arith, behind)
+    let beyond = c.requires.trie.beyond c.args.node (let few = c.requires.few in let within = c.requires.within in omega (arith, few, within)) in omega (arith, beyond)
 
 pub step-requires-clause-within : goal.step-requires-clause-within
 step-requires-clause-within c =

@@ -18,7 +18,7 @@ children-preserved c =
     let last : length fails < slice_index first (c.args.node + 1) = omega (arith, end_is, c.children-test.true, c.len.ensures) in
     let low = c.children.invariant.low in
     let in_trie = c.requires.trie.within c.args.node c.requires.within in
-    let behind = c.requires.trie.behind c.args.node c.requires.within in
+    let beyond = c.requires.trie.beyond c.args.node c.requires.within in
     let before = c.fallback-fail.ensures.before in
     let fail : c.fallback-fail.result < length fails = omega (arith, before, low) in
     let same = c.children.invariant.linked.all_ends in
@@ -33,7 +33,7 @@ children-preserved c =
       low = omega (arith, low, size);
       high = omega (arith, last, size);
       linked = linked_more fails ends c.add_link.new.links.fails.items c.add_link.new.links.ends.items c.fallback-fail.result c.longer_end-length.result
-          c.children.invariant.linked (omega (arith, low, behind)) fail added.0 added.1;
+          c.children.invariant.linked (omega (arith, low, beyond)) fail added.0 added.1;
       right = λ all t s o old.
           let now = c.children.invariant.right all t s o old in
           let owned = o (length fails) (let w = c.requires.owns in omega (arith, w, last, in_trie)) in

@@ -12,7 +12,7 @@ nodes-init c = record {
 
 pub returns-in-Some-clause-step : goal.returns-in-Some-clause-step
 returns-in-Some-clause-step c = λ all t s f w from stands.
-    rw (c.in-Some.ensures.told all t) (goes_on all.strings c.args.byte (all.label c.nodes.at) w from (c.nodes.invariant.may all t f w from stands))
+    rw (c.in-Some.ensures.reported all t) (goes_on all.strings c.args.byte (all.label c.nodes.at) w from (c.nodes.invariant.may all t f w from stands))
 
 pub nodes-preserved : goal.nodes-preserved
 nodes-preserved c = record {
@@ -20,7 +20,7 @@ nodes-preserved c = record {
   low = let lt = c.requires.fails c.nodes.at (omega arith) c.nodes.invariant.within in let le = c.nodes.invariant.low in omega (arith, lt, le);
   may = λ all t f w from stands.
       falls_back all.strings c.args.byte (all.label c.nodes.at) (all.label (slice_index c.args.fails.now c.nodes.at)) w from
-      (c.nodes.invariant.may all t f w from stands) (c.in_default.ensures.told all t) (f c.nodes.at (omega arith) c.nodes.invariant.within);
+      (c.nodes.invariant.may all t f w from stands) (c.in_default.ensures.reported all t) (f c.nodes.at (omega arith) c.nodes.invariant.within);
 }
 
 pub returns-clause-step : goal.returns-clause-step
@@ -30,7 +30,7 @@ returns-clause-step c = λ all t s f w from stands.
 
 pub returns-in-Some-clause-near : goal.returns-in-Some-clause-near
 returns-in-Some-clause-near c =
-    let near = c.in-Some.ensures.behind.2 in
+    let near = c.in-Some.ensures.beyond.2 in
     let up = ascends c.args.trie.now.first.items c.args.trie.now.bytes.items c.requires.trie c.nodes.at c.args.node c.nodes.invariant.low (let a = c.requires.within in let b = c.requires.few in omega (arith, a, b)) in
     omega (arith, near, up)
 

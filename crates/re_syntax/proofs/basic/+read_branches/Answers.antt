@@ -2,7 +2,7 @@ use Rattle.std.proofs.Common.{◌+◌, ◌-◌, ◌≢◌, inl, get_or, drop, re
 use Rattle.std.proofs.lemmas.Result.{err_from_is_err_and}
 use Rattle.re_syntax.specs.Expression.{one_of}
 use Rattle.re_syntax.specs.Working.BasicSteps.{DuplicationStands}
-use Rattle.re_syntax.specs.Working.PieceSteps.{memory, told}
+use Rattle.re_syntax.specs.Working.PieceSteps.{memory, reported}
 use Rattle.re_syntax.proofs.lemmas.ExpressionLaws.{expression-Set}
 use Rattle.re_syntax.proofs.lemmas.BasicEnds.{item_within}
 use Rattle.re_syntax.proofs.lemmas.Places.{ok_as, err_as, some_found, nothing_found, byte_here, front_here, refused_as}
@@ -31,7 +31,7 @@ read_atom-returns-in-91-clause-read t c =
 pub read_atom-returns-in-91-clause-refused : goal.read_atom-returns-in-91-clause-refused
 read_atom-returns-in-91-clause-refused t c =
     err_as _ _ c.read_bracket_atom.result c.read_bracket_atom.ensures.refused
-    (λ fault h p. told (no_bracket_atom c.args.text.now c.args.at fault (byte_here c.args.text.now c.args.at 91 (item_within c.args.text.now c.args.at c.requires.within c.requires.item) c.in-91.is) h p c.args.levels) (shown_no_bracket c.args.text.now c.args.at fault h))
+    (λ fault h p. reported (no_bracket_atom c.args.text.now c.args.at fault (byte_here c.args.text.now c.args.at 91 (item_within c.args.text.now c.args.at c.requires.within c.requires.item) c.in-91.is) h p c.args.levels) (shown_no_bracket c.args.text.now c.args.at fault h))
 
 pub read_atom-returns-in-92-clause-read : goal.read_atom-returns-in-92-clause-read
 read_atom-returns-in-92-clause-read t c = ok_as _ _ c.read_escaped.result c.read_escaped.ensures.read (λ piece h p b. h p)
@@ -46,7 +46,7 @@ read_atom-returns-in_default-clause-read t c =
     let not_backslash : get_or c.args.text.now c.args.at 0 ≢ 92 = search rules in
     single_stands c.args.levels c.args.text.now c.args.at (get_or c.args.text.now c.args.at 0) _ here
     (front_here c.args.text.now c.args.at (get_or c.args.text.now c.args.at 0) here refl) c.requires.item not_bracket not_backslash
-    (c.leaf.ensures.told _ (expression-Set c.meant_by.result ∙ ap one_of c.meant_by.ensures)) c.leaf.ensures.height c.leaf.ensures.place
+    (c.leaf.ensures.reported _ (expression-Set c.meant_by.result ∙ ap one_of c.meant_by.ensures)) c.leaf.ensures.height c.leaf.ensures.place
 
 pub read_escaped-read_group-requires : goal.read_escaped-read_group-requires
 read_escaped-read_group-requires t c =
@@ -62,19 +62,19 @@ read_escaped-returns-then-is_some-clause-refused t c = c.read_group.ensures.refu
 pub read_escaped-returns-then-needs_item-clause-refused : goal.read_escaped-returns-then-needs_item-clause-refused
 read_escaped-returns-then-needs_item-clause-refused t c p =
     let needs = c.if-needs_item.ensures in
-    told (no_atom_needed needs p c.args.levels) (needs, c.requires.opens needs)
+    reported (no_atom_needed needs p c.args.levels) (needs, c.requires.opens needs)
 
 pub read_escaped-returns-in_err-byte-clause-refused : goal.read_escaped-returns-in_err-byte-clause-refused
 read_escaped-returns-in_err-byte-clause-refused t c =
     let q = err_from_is_err_and c.from_residual.result c.from_residual.ensures.1 in
     let no_group = nothing_found _ _ c.after.result c.is_some.result c.is_some.ensures c.if-is_some.false c.after.ensures in
-    rw (q.1, q.2) (λ p. told (no_escape_atom c.requires.escapes no_group c.in_err-byte.ensures.refused p c.args.levels) (shown_escape c.args.text.now c.args.at _ c.in_err-byte.ensures.refused))
+    rw (q.1, q.2) (λ p. reported (no_escape_atom c.requires.escapes no_group c.in_err-byte.ensures.refused p c.args.levels) (shown_escape c.args.text.now c.args.at _ c.in_err-byte.ensures.refused))
 
 pub read_escaped-returns-clause-read : goal.read_escaped-returns-clause-read
 read_escaped-returns-clause-read t c p =
     let no_group = nothing_found _ _ c.after.result c.is_some.result c.is_some.ensures c.if-is_some.false c.after.ensures in
     escaped_stands c.args.levels c.args.text.now c.args.at c.in_ok-byte.byte _ c.in_ok-byte.ensures.read no_group c.requires.not_end c.if-needs_item.ensures
-    (c.leaf.ensures.told _ (expression-Set c.only.result ∙ ap one_of c.only.ensures)) c.leaf.ensures.height c.leaf.ensures.place p
+    (c.leaf.ensures.reported _ (expression-Set c.only.result ∙ ap one_of c.only.ensures)) c.leaf.ensures.height c.leaf.ensures.place p
 
 pub read_group-read_branches-requires : goal.read_group-read_branches-requires
 read_group-read_branches-requires t c =
@@ -82,7 +82,7 @@ read_group-read_branches-requires t c =
 
 pub read_group-returns-then-levels-eq0-clause-refused : goal.read_group-returns-then-levels-eq0-clause-refused
 read_group-returns-then-levels-eq0-clause-refused t c p =
-    told (no_group_left c.args.levels c.args.text.now c.args.at c.requires.opens c.if-levels-eq0.true p) (inl c.requires.opens)
+    reported (no_group_left c.args.levels c.args.text.now c.args.at c.requires.opens c.if-levels-eq0.true p) (inl c.requires.opens)
 
 pub read_group-returns-in_err-branches-clause-refused : goal.read_group-returns-in_err-branches-clause-refused
 read_group-returns-in_err-branches-clause-refused t c =
@@ -91,13 +91,13 @@ read_group-returns-in_err-branches-clause-refused t c =
 
 pub read_group-returns-in-None-clause-refused : goal.read_group-returns-in-None-clause-refused
 read_group-returns-in-None-clause-refused t c p =
-    told (no_group_end c.args.levels c.args.text.now c.args.at c.in_ok-branches.branches c.requires.opens c.in_ok-branches.ensures.read c.in-None.ensures p)
+    reported (no_group_end c.args.levels c.args.text.now c.args.at c.in_ok-branches.branches c.requires.opens c.in_ok-branches.ensures.read c.in-None.ensures p)
     (opens_unclosed (c.args.levels - 1) c.args.text.now c.args.at c.in_ok-branches.branches c.requires.opens c.in_ok-branches.ensures.read c.in-None.ensures)
 
 pub read_group-returns-in-Some-clause-read : goal.read_group-returns-in-Some-clause-read
 read_group-returns-in-Some-clause-read t c p =
     group_stands c.args.levels c.args.text.now c.args.at c.in_ok-branches.branches _ c.requires.opens c.if-levels-eq0.false c.in_ok-branches.ensures.read c.in-Some.ensures (ap (λ n. n + 1) c.any_of-inside.ensures.height)
-    (λ es are. let told = c.any_of-inside.ensures.told c.args.alloc es are in record { tree = told.tree; count = told.count }) p
+    (λ es are. let reported = c.any_of-inside.ensures.reported c.args.alloc es are in record { tree = reported.tree; count = reported.count }) p
 
 pub read_item-read_atom-requires : goal.read_item-read_atom-requires
 read_item-read_atom-requires t c = (search rules, (c.requires.within, (c.requires.item, (c.requires.opens, c.requires.few))))
@@ -114,17 +114,17 @@ pub read_item-returns-in_err-counts-clause-refused : goal.read_item-returns-in_e
 read_item-returns-in_err-counts-clause-refused t c =
     let q = err_from_is_err_and c.from_residual-in_err-counts.result c.from_residual-in_err-counts.ensures.1 in
     let bad = c.in_err-counts.ensures.refused in
-    rw (q.1, q.2) (λ p b. told (no_items_bad c.args.levels c.args.text.now c.args.at c.duplications.piece _ c.duplications.invariant bad p b) bad.shown)
+    rw (q.1, q.2) (λ p b. reported (no_items_bad c.args.levels c.args.text.now c.args.at c.duplications.piece _ c.duplications.invariant bad p b) bad.shown)
 
 pub read_item-returns-then-piece-levels-clause-refused : goal.read_item-returns-then-piece-levels-clause-refused
 read_item-returns-then-piece-levels-clause-refused t c p b =
     let d = rw c.in-Some.is at c.in_ok-counts.ensures.read in
-    told (too_deep c.args.levels c.args.text.now c.args.at c.duplications.piece c.in-Some.counts c.in-Some.behind c.duplications.invariant c.if-piece-levels.true d p b)
-    (shown_deep c.args.text.now c.duplications.piece.behind c.in-Some.counts c.in-Some.behind d)
+    reported (too_deep c.args.levels c.args.text.now c.args.at c.duplications.piece c.in-Some.counts c.in-Some.beyond c.duplications.invariant c.if-piece-levels.true d p b)
+    (shown_deep c.args.text.now c.duplications.piece.beyond c.in-Some.counts c.in-Some.beyond d)
 
 pub read_item-duplications-smaller : goal.read_item-duplications-smaller
 read_item-duplications-smaller t c =
-    let d : DuplicationStands c.args.text.now c.duplications.piece.behind c.in-Some.counts c.in-Some.behind = rw c.in-Some.is at c.in_ok-counts.ensures.read in
+    let d : DuplicationStands c.args.text.now c.duplications.piece.beyond c.in-Some.counts c.in-Some.beyond = rw c.in-Some.is at c.in_ok-counts.ensures.read in
     let takes = duplication_takes d in
     let within = d.within in
     let place = c.in_ok-piece-2.ensures.made.place in
@@ -132,8 +132,8 @@ read_item-duplications-smaller t c =
 
 pub read_item-duplications-preserved : goal.read_item-duplications-preserved
 read_item-duplications-preserved t c =
-    let d : DuplicationStands c.args.text.now c.duplications.piece.behind c.in-Some.counts c.in-Some.behind = rw c.in-Some.is at c.in_ok-counts.ensures.read in
-    item_repeated c.args.levels c.args.text.now c.args.at c.duplications.piece c.in_ok-piece-2.piece c.in-Some.counts c.in-Some.behind c.duplications.invariant
+    let d : DuplicationStands c.args.text.now c.duplications.piece.beyond c.in-Some.counts c.in-Some.beyond = rw c.in-Some.is at c.in_ok-counts.ensures.read in
+    item_repeated c.args.levels c.args.text.now c.args.at c.duplications.piece c.in_ok-piece-2.piece c.in-Some.counts c.in-Some.beyond c.duplications.invariant
     c.if-piece-levels.false d c.in_ok-piece-2.ensures.made
 
 pub read_item-returns-in_err-piece-2-clause-refused : goal.read_item-returns-in_err-piece-2-clause-refused
@@ -183,7 +183,7 @@ read_branch-returns-in_err-all-clause-refused t c =
 
 pub read_branch-returns-clause-read : goal.read_branch-returns-clause-read
 read_branch-returns-clause-read t c =
-    all_read c.args.levels c.args.text.now c.args.from c.items.items c.in_ok-all.all _ c.items.invariant c.in_ok-all.ensures.read (c.all_of.ensures.told c.args.alloc) c.all_of.ensures.height c.all_of.ensures.place
+    all_read c.args.levels c.args.text.now c.args.from c.items.items c.in_ok-all.all _ c.items.invariant c.in_ok-all.ensures.read (c.all_of.ensures.reported c.args.alloc) c.all_of.ensures.height c.all_of.ensures.place
 
 pub read_branches-read_branch-requires : goal.read_branches-read_branch-requires
 read_branches-read_branch-requires t c = (search rules, (c.requires.within, (c.requires.starts, c.requires.few)))
@@ -200,7 +200,7 @@ read_branches-returns-in_err-branches-clause-refused t c =
 
 pub read_branches-branches-init : goal.read_branches-branches-init
 read_branches-branches-init t c =
-    first_branch c.args.levels c.args.text.now c.args.from _ c.in_ok-branches.branches c.in_ok-first.first c.in_ok-first.ensures.read c.no_pieces-none.ensures.told c.no_pieces-none.ensures.height
+    first_branch c.args.levels c.args.text.now c.args.from _ c.in_ok-branches.branches c.in_ok-first.first c.in_ok-first.ensures.read c.no_pieces-none.ensures.reported c.no_pieces-none.ensures.height
     c.in_ok-branches.ensures.made
 
 pub read_branches-read_branch-requires-in-Some : goal.read_branches-read_branch-requires-in-Some
@@ -211,7 +211,7 @@ read_branches-returns-in_err-branch-clause-refused t c =
     let q = err_from_is_err_and c.from_residual-in_err-branch.result c.from_residual-in_err-branch.ensures.1 in
     rw (q.1, q.2)
     (refused_as c.in_err-branch.ensures.refused
-    (λ k. c.branches.invariant.back (drop c.in-Some.behind c.args.text.now) c.in-Some.ensures.front (no_branches k)))
+    (λ k. c.branches.invariant.back (drop c.in-Some.beyond c.args.text.now) c.in-Some.ensures.front (no_branches k)))
 
 pub read_branches-returns-in_err-branches-2-clause-refused : goal.read_branches-returns-in_err-branches-2-clause-refused
 read_branches-returns-in_err-branches-2-clause-refused t c =
@@ -225,7 +225,7 @@ read_branches-branches-smaller t c =
 
 pub read_branches-branches-preserved : goal.read_branches-branches-preserved
 read_branches-branches-preserved t c =
-    next_branch c.args.levels c.args.text.now c.args.from c.branches.branches c.in_ok-branches-2.branches c.in-Some.behind c.in_ok-branch.branch c.branches.invariant
+    next_branch c.args.levels c.args.text.now c.args.from c.branches.branches c.in_ok-branches-2.branches c.in-Some.beyond c.in_ok-branch.branch c.branches.invariant
     c.in-Some.ensures c.in_ok-branch.ensures.read c.in_ok-branches-2.ensures.made
 
 pub read_branches-returns-clause-read : goal.read_branches-returns-clause-read

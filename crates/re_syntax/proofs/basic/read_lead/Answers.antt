@@ -6,10 +6,10 @@ use Rattle.re_syntax.proofs.basic.read_lead.Goals as goal
 pub returns-in-None-clause-read : goal.returns-in-None-clause-read
 returns-in-None-clause-read c levels =
     without_lead levels c.args.text.now c.args.from c.no_pieces-items.result c.requires.within c.requires.starts
-    c.in-None.ensures c.no_pieces-items.ensures.told c.no_pieces-items.ensures.height c.no_pieces-items.ensures.place
+    c.in-None.ensures c.no_pieces-items.ensures.reported c.no_pieces-items.ensures.height c.no_pieces-items.ensures.place
 
 pub returns-in-Some-clause-read : goal.returns-in-Some-clause-read
 returns-in-Some-clause-read c =
     ok_as _ _ c.joined.result c.joined.ensures.made
-    (λ new j levels. with_lead levels c.args.text.now c.args.from _ new c.leaf.result c.requires.within (rw c.leaf.ensures.place c.in-Some.ensures) c.no_pieces-items.ensures.told
-    c.no_pieces-items.ensures.height (c.leaf.ensures.told _ expression-Begin) c.leaf.ensures.height j)
+    (λ new j levels. with_lead levels c.args.text.now c.args.from _ new c.leaf.result c.requires.within (rw c.leaf.ensures.place c.in-Some.ensures) c.no_pieces-items.ensures.reported
+    c.no_pieces-items.ensures.height (c.leaf.ensures.reported _ expression-Begin) c.leaf.ensures.height j)

@@ -9,4 +9,4 @@ returns-in-None-clause-read c = ended_without_tail c.args.text.now c.args.items 
 pub returns-in-Some-clause-read : goal.returns-in-Some-clause-read
 returns-in-Some-clause-read c =
     ok_as _ _ c.joined.result c.joined.ensures.made
-    (λ new j. ended_with_tail c.args.text.now c.args.items new c.leaf.result (rw c.leaf.ensures.place c.in-Some.ensures) (c.leaf.ensures.told _ expression-End) c.leaf.ensures.height j)
+    (λ new j. ended_with_tail c.args.text.now c.args.items new c.leaf.result (rw c.leaf.ensures.place c.in-Some.ensures) (c.leaf.ensures.reported _ expression-End) c.leaf.ensures.height j)

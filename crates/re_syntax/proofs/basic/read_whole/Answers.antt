@@ -13,4 +13,4 @@ returns-then-branches-text-clause-refused c = inr (not_whole c.args.text.now c.i
 
 pub returns-clause-read : goal.returns-clause-read
 returns-clause-read c =
-    whole_read c.args.text.now c.in_ok-branches.branches _ c.in_ok-branches.ensures.read c.if-branches-text.false (c.any_of.ensures.told c.args.alloc)
+    whole_read c.args.text.now c.in_ok-branches.branches _ c.in_ok-branches.ensures.read c.if-branches-text.false (c.any_of.ensures.reported c.args.alloc)

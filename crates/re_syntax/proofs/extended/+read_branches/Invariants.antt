@@ -26,16 +26,16 @@ abbrev pub invariant-read_item-duplications : goal.invariant-read_item-duplicati
 invariant-read_item-duplications l = ItemSoFar l.alloc l.in_group l.levels l.text l.at l.piece
 
 abbrev pub decreases-read_item-duplications : goal.decreases-read_item-duplications
-decreases-read_item-duplications l = length l.text - l.piece.behind
+decreases-read_item-duplications l = length l.text - l.piece.beyond
 
 abbrev pub invariant-read_branch-items : goal.invariant-read_branch-items
 invariant-read_branch-items l = SoFar l.alloc l.in_group l.levels l.text l.from l.items
 
 abbrev pub decreases-read_branch-items : goal.decreases-read_branch-items
-decreases-read_branch-items l = length l.text - l.items.behind
+decreases-read_branch-items l = length l.text - l.items.beyond
 
 abbrev pub invariant-read_branches-branches : goal.invariant-read_branches-branches
 invariant-read_branches-branches l = BranchesSoFar l.alloc l.in_group l.levels l.text l.from l.branches
 
 abbrev pub decreases-read_branches-branches : goal.decreases-read_branches-branches
-decreases-read_branches-branches l = length l.text - l.branches.behind
+decreases-read_branches-branches l = length l.text - l.branches.beyond

@@ -8,4 +8,4 @@ returns-in_err-branches-clause-refused c =
     rw (q.1, q.2) (memory_or_none c.args.text.now _ c.in_err-branches.ensures.refused)
 
 pub returns-clause-read : goal.returns-clause-read
-returns-clause-read c = whole_read c.args.text.now c.in_ok-branches.branches _ c.in_ok-branches.ensures.read (c.any_of.ensures.told c.args.alloc)
+returns-clause-read c = whole_read c.args.text.now c.in_ok-branches.branches _ c.in_ok-branches.ensures.read (c.any_of.ensures.reported c.args.alloc)

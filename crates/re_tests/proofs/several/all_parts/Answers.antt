@@ -4,6 +4,6 @@ pub loop-preserved : goal.loop-preserved
 loop-preserved g c =
     let alike = c.loop.invariant.alike in
     record {
-      within = (c.in-Some.ensures.told alike.0 alike.1).found.on_line;
+      within = (c.in-Some.ensures.reported alike.0 alike.1).found.on_line;
       alike = (alike.0, rw (c.in-Some.ensures.same_matchers.same_wholes) alike.1);
     }

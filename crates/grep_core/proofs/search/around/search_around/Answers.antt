@@ -3,7 +3,7 @@ use Rattle.re_syntax.specs.Lines.{terminated}
 use Rattle.re_search.proofs.lemmas.KeptMatchers.{unasked, asked_over, same_sought}
 use Rattle.grep_core.specs.Cost.{SearchesLines}
 use Rattle.grep_io.specs.Reading.{IsOneLineAndFew}
-use Rattle.grep_io.proofs.lemmas.WindowLemmas.{none_in_nothing, few_behind}
+use Rattle.grep_io.proofs.lemmas.WindowLemmas.{none_in_nothing, few_after}
 use Rattle.grep_core.specs.Working.LastLines.{LastLines}
 use Rattle.grep_core.specs.Working.Passed.{Waits}
 use Rattle.grep_core.proofs.lemmas.WaitingRows.{if_kept}
@@ -25,8 +25,8 @@ lines-init g c =
     let es = map g.M.LineMatch.expression c.args.searchers.now.matchers.now in
     let reader = c.args.lines.now.lines.reader in
     record {
-      so_far = rw c.requires.none_done (followed_none g.R.CountedRead.remaining g.R.CountedRead.failures es w.options w.many c.args.surroundings.now.progress.shown w.name.now reader c.args.surroundings.now.progress.context c.requires.is_asked c.args.lines.now _ _ c.args.surroundings.now.behind.lines refl c.requires.none_ahead c.requires.still_open c.requires.none_numbered (ap (λ (h : LastLines). h.lines) c.requires.none_behind));
-      limit = ap (λ (h : LastLines). h.limit) c.requires.none_behind;
+      so_far = rw c.requires.none_done (followed_none g.R.CountedRead.remaining g.R.CountedRead.failures es w.options w.many c.args.surroundings.now.progress.shown w.name.now reader c.args.surroundings.now.progress.context c.requires.is_asked c.args.lines.now _ _ c.args.surroundings.now.recent.lines refl c.requires.none_ahead c.requires.still_open c.requires.none_numbered (ap (λ (h : LastLines). h.lines) c.requires.none_after));
+      limit = ap (λ (h : LastLines). h.limit) c.requires.none_after;
       few_held = subst IsOneLineAndFew (sym c.requires.none_ahead) none_in_nothing;
       same = unasked;
     }
@@ -58,7 +58,7 @@ returns-then-is_err-clause-given g c =
     let (before, all, d, n) = held.divided in
     let spent = searched_bytes es w.options (length es) all c.lines.meter c.next_held-stretch.new.meter (stretch_spent es _ _ _ i.same.same_matchers.same_expressions d held.steps) in
     let now = passed_state c.lines.lines all n d.free in
-    followed_unkept g.R.CountedRead.remaining g.R.CountedRead.failures es w.options w.many c.args.surroundings.now.progress.shown w.name.now reader c.args.surroundings.now.progress.context c.requires.is_asked c.lines.lines now _ _ _ c.lines.meter c.lines.selected c.lines.surroundings.progress c.lines.surroundings.behind.lines i.so_far refl i.few_held all c.next_held-stretch.new.meter (handed_with c.lines.lines all n d.free g.R.CountedRead.remaining g.R.CountedRead.failures reader i.so_far.lines i.so_far.handed) spent c.number.result (sym c.number.ensures)
+    followed_unkept g.R.CountedRead.remaining g.R.CountedRead.failures es w.options w.many c.args.surroundings.now.progress.shown w.name.now reader c.args.surroundings.now.progress.context c.requires.is_asked c.lines.lines now _ _ _ c.lines.meter c.lines.selected c.lines.surroundings.progress c.lines.surroundings.recent.lines i.so_far refl i.few_held all c.next_held-stretch.new.meter (handed_with c.lines.lines all n d.free g.R.CountedRead.remaining g.R.CountedRead.failures reader i.so_far.lines i.so_far.handed) spent c.number.result (sym c.number.ensures)
 
 pub show_line-requires : goal.show_line-requires
 show_line-requires g c =
@@ -73,20 +73,20 @@ show_line-requires g c =
     let forward = asked_forward c.lines.surroundings.progress.left w.options.invert_match count held.none in
     let kept = divided_kept (sym (same_sought i.same)) d in
     let unselected = unselected_before es w.options c.args.searchers.now.whole c.requires.whole count forward before (before_within d) kept.none in
-    let waits = subst (λ ls. Waits ls c.lines.surroundings.progress c.wait.new.surroundings.progress c.lines.surroundings.behind c.wait.new.surroundings.behind) (before_lines d) (if_kept c.wait.result c.is_err.result c.is_err.ensures.value c.if-is_err.false c.wait.ensures) in
+    let waits = subst (λ ls. Waits ls c.lines.surroundings.progress c.wait.new.surroundings.progress c.lines.surroundings.recent c.wait.new.surroundings.recent) (before_lines d) (if_kept c.wait.result c.is_err.result c.is_err.ensures.value c.if-is_err.false c.wait.ensures) in
     let line = c.in-Some.text.now in
     let (holds, is) = rw c.in-Some.is at kept.next in
     let some : 1 ≤ count = omega (arith, d.counted, ap length is, length-append before (line ∷ [])) in
-    let told = decided_yes (selected_matched es w.options c.args.searchers.now.whole c.requires.whole (plain_if w.options.invert_match count forward some) line holds) in
+    let reported = decided_yes (selected_matched es w.options c.args.searchers.now.whole c.requires.whole (plain_if w.options.invert_match count forward some) line holds) in
     let first = next_first c.lines.lines before (line ∷ []) (subst (IsNextOf c.lines.lines) is n) in
     let mid = passed_state c.lines.lines before first (before_free d) in
-    let (s, are) = followed_waiting g.R.CountedRead.remaining g.R.CountedRead.failures es w.options w.many c.args.surroundings.now.progress.shown w.name.now reader c.args.surroundings.now.progress.context c.requires.is_asked c.lines.lines mid _ _ _ c.lines.meter c.lines.meter c.lines.selected c.lines.surroundings.progress c.wait.new.surroundings.progress c.lines.surroundings.behind c.wait.new.surroundings.behind i.limit i.so_far before (handed_with c.lines.lines before first (before_free d) g.R.CountedRead.remaining g.R.CountedRead.failures reader i.so_far.lines i.so_far.handed) unselected waits (searched_bytes es w.options (length es) before c.lines.meter c.lines.meter (adds_none (length es * length (terminated before)) c.lines.meter)) in
+    let (s, are) = followed_waiting g.R.CountedRead.remaining g.R.CountedRead.failures es w.options w.many c.args.surroundings.now.progress.shown w.name.now reader c.args.surroundings.now.progress.context c.requires.is_asked c.lines.lines mid _ _ _ c.lines.meter c.lines.meter c.lines.selected c.lines.surroundings.progress c.wait.new.surroundings.progress c.lines.surroundings.recent c.wait.new.surroundings.recent i.limit i.so_far before (handed_with c.lines.lines before first (before_free d) g.R.CountedRead.remaining g.R.CountedRead.failures reader i.so_far.lines i.so_far.handed) unselected waits (searched_bytes es w.options (length es) before c.lines.meter c.lines.meter (adds_none (length es * length (terminated before)) c.lines.meter)) in
     let same : i.so_far.lines ++ all ≡ s.lines ++ line ∷ [] = ap (λ ls. i.so_far.lines ++ ls) is ∙ sym (append_assoc i.so_far.lines before (line ∷ [])) ∙ ap (λ ls. ls ++ line ∷ []) (sym are) in
     let all_spent = subst (λ ls. SearchesLines es w.options (length es) ls c.args.meter.now c.next_held-stretch.new.meter) same (searched_more_lines es w.options (length es) i.so_far.lines all c.args.meter.now c.lines.meter c.next_held-stretch.new.meter i.so_far.steps spent) in
     let now = passed_state c.lines.lines all n d.free in
     let next = subst (λ ls. HasHanded g.R.CountedRead.remaining g.R.CountedRead.failures reader now ls) same (handed_with c.lines.lines all n d.free g.R.CountedRead.remaining g.R.CountedRead.failures reader i.so_far.lines i.so_far.handed) in
     let is_number : c.number-in-Some.result + count ≡ now.number = omega (arith, c.number-in-Some.ensures, d.counted) in
-    record { few = s.tracks.few; held = held_few g.R.CountedRead.remaining g.R.CountedRead.failures es w.options w.many c.args.surroundings.now.progress.shown w.name.now reader c.args.surroundings.now.progress.context c.requires.is_asked mid now _ _ _ c.lines.meter c.lines.selected c.wait.new.surroundings.progress c.wait.new.surroundings.behind.lines s line next (c.number-in-Some.result + count) is_number }
+    record { few = s.tracks.few; held = held_few g.R.CountedRead.remaining g.R.CountedRead.failures es w.options w.many c.args.surroundings.now.progress.shown w.name.now reader c.args.surroundings.now.progress.context c.requires.is_asked mid now _ _ _ c.lines.meter c.lines.selected c.wait.new.surroundings.progress c.wait.new.surroundings.recent.lines s line next (c.number-in-Some.result + count) is_number }
 
 pub returns-in_err-show_line-clause-given : goal.returns-in_err-show_line-clause-given
 returns-in_err-show_line-clause-given g c =
@@ -101,21 +101,21 @@ returns-in_err-show_line-clause-given g c =
     let forward = asked_forward c.lines.surroundings.progress.left w.options.invert_match count held.none in
     let kept = divided_kept (sym (same_sought i.same)) d in
     let unselected = unselected_before es w.options c.args.searchers.now.whole c.requires.whole count forward before (before_within d) kept.none in
-    let waits = subst (λ ls. Waits ls c.lines.surroundings.progress c.wait.new.surroundings.progress c.lines.surroundings.behind c.wait.new.surroundings.behind) (before_lines d) (if_kept c.wait.result c.is_err.result c.is_err.ensures.value c.if-is_err.false c.wait.ensures) in
+    let waits = subst (λ ls. Waits ls c.lines.surroundings.progress c.wait.new.surroundings.progress c.lines.surroundings.recent c.wait.new.surroundings.recent) (before_lines d) (if_kept c.wait.result c.is_err.result c.is_err.ensures.value c.if-is_err.false c.wait.ensures) in
     let line = c.in-Some.text.now in
     let (holds, is) = rw c.in-Some.is at kept.next in
     let some : 1 ≤ count = omega (arith, d.counted, ap length is, length-append before (line ∷ [])) in
-    let told = decided_yes (selected_matched es w.options c.args.searchers.now.whole c.requires.whole (plain_if w.options.invert_match count forward some) line holds) in
+    let reported = decided_yes (selected_matched es w.options c.args.searchers.now.whole c.requires.whole (plain_if w.options.invert_match count forward some) line holds) in
     let first = next_first c.lines.lines before (line ∷ []) (subst (IsNextOf c.lines.lines) is n) in
     let mid = passed_state c.lines.lines before first (before_free d) in
-    let (s, are) = followed_waiting g.R.CountedRead.remaining g.R.CountedRead.failures es w.options w.many c.args.surroundings.now.progress.shown w.name.now reader c.args.surroundings.now.progress.context c.requires.is_asked c.lines.lines mid _ _ _ c.lines.meter c.lines.meter c.lines.selected c.lines.surroundings.progress c.wait.new.surroundings.progress c.lines.surroundings.behind c.wait.new.surroundings.behind i.limit i.so_far before (handed_with c.lines.lines before first (before_free d) g.R.CountedRead.remaining g.R.CountedRead.failures reader i.so_far.lines i.so_far.handed) unselected waits (searched_bytes es w.options (length es) before c.lines.meter c.lines.meter (adds_none (length es * length (terminated before)) c.lines.meter)) in
+    let (s, are) = followed_waiting g.R.CountedRead.remaining g.R.CountedRead.failures es w.options w.many c.args.surroundings.now.progress.shown w.name.now reader c.args.surroundings.now.progress.context c.requires.is_asked c.lines.lines mid _ _ _ c.lines.meter c.lines.meter c.lines.selected c.lines.surroundings.progress c.wait.new.surroundings.progress c.lines.surroundings.recent c.wait.new.surroundings.recent i.limit i.so_far before (handed_with c.lines.lines before first (before_free d) g.R.CountedRead.remaining g.R.CountedRead.failures reader i.so_far.lines i.so_far.handed) unselected waits (searched_bytes es w.options (length es) before c.lines.meter c.lines.meter (adds_none (length es * length (terminated before)) c.lines.meter)) in
     let same : i.so_far.lines ++ all ≡ s.lines ++ line ∷ [] = ap (λ ls. i.so_far.lines ++ ls) is ∙ sym (append_assoc i.so_far.lines before (line ∷ [])) ∙ ap (λ ls. ls ++ line ∷ []) (sym are) in
     let all_spent = subst (λ ls. SearchesLines es w.options (length es) ls c.args.meter.now c.next_held-stretch.new.meter) same (searched_more_lines es w.options (length es) i.so_far.lines all c.args.meter.now c.lines.meter c.next_held-stretch.new.meter i.so_far.steps spent) in
     let now = passed_state c.lines.lines all n d.free in
     let next = subst (λ ls. HasHanded g.R.CountedRead.remaining g.R.CountedRead.failures reader now ls) same (handed_with c.lines.lines all n d.free g.R.CountedRead.remaining g.R.CountedRead.failures reader i.so_far.lines i.so_far.handed) in
     let is_number : c.number-in-Some.result + count ≡ now.number = omega (arith, c.number-in-Some.ensures, d.counted) in
-    followed_stops g.R.CountedRead.remaining g.R.CountedRead.failures es w.options w.many c.args.surroundings.now.progress.shown w.name.now reader c.args.surroundings.now.progress.context c.requires.is_asked mid now _ _ _ c.lines.meter c.lines.selected c.wait.new.surroundings.progress c.wait.new.surroundings.behind.lines s line next (c.number-in-Some.result + count) is_number true told c.next_held-stretch.new.meter all_spent
-    (few_behind (terminated all) n.rest (subst IsOneLineAndFew n.ahead i.few_held)) _ c.wait.new.surroundings.behind refl c.in_err-show_line.field-0.0 c.in_err-show_line.ensures c.from_residual.result c.from_residual.ensures.1
+    followed_stops g.R.CountedRead.remaining g.R.CountedRead.failures es w.options w.many c.args.surroundings.now.progress.shown w.name.now reader c.args.surroundings.now.progress.context c.requires.is_asked mid now _ _ _ c.lines.meter c.lines.selected c.wait.new.surroundings.progress c.wait.new.surroundings.recent.lines s line next (c.number-in-Some.result + count) is_number true reported c.next_held-stretch.new.meter all_spent
+    (few_after (terminated all) n.rest (subst IsOneLineAndFew n.ahead i.few_held)) _ c.wait.new.surroundings.recent refl c.in_err-show_line.field-0.0 c.in_err-show_line.ensures c.from_residual.result c.from_residual.ensures.1
 
 pub lines-preserved-in-Some : goal.lines-preserved-in-Some
 lines-preserved-in-Some g c =
@@ -130,14 +130,14 @@ lines-preserved-in-Some g c =
     let forward = asked_forward c.lines.surroundings.progress.left w.options.invert_match count held.none in
     let kept = divided_kept (sym (same_sought i.same)) d in
     let unselected = unselected_before es w.options c.args.searchers.now.whole c.requires.whole count forward before (before_within d) kept.none in
-    let waits = subst (λ ls. Waits ls c.lines.surroundings.progress c.wait.new.surroundings.progress c.lines.surroundings.behind c.wait.new.surroundings.behind) (before_lines d) (if_kept c.wait.result c.is_err.result c.is_err.ensures.value c.if-is_err.false c.wait.ensures) in
+    let waits = subst (λ ls. Waits ls c.lines.surroundings.progress c.wait.new.surroundings.progress c.lines.surroundings.recent c.wait.new.surroundings.recent) (before_lines d) (if_kept c.wait.result c.is_err.result c.is_err.ensures.value c.if-is_err.false c.wait.ensures) in
     let line = c.in-Some.text.now in
     let (holds, is) = rw c.in-Some.is at kept.next in
     let some : 1 ≤ count = omega (arith, d.counted, ap length is, length-append before (line ∷ [])) in
-    let told = decided_yes (selected_matched es w.options c.args.searchers.now.whole c.requires.whole (plain_if w.options.invert_match count forward some) line holds) in
+    let reported = decided_yes (selected_matched es w.options c.args.searchers.now.whole c.requires.whole (plain_if w.options.invert_match count forward some) line holds) in
     let first = next_first c.lines.lines before (line ∷ []) (subst (IsNextOf c.lines.lines) is n) in
     let mid = passed_state c.lines.lines before first (before_free d) in
-    let (s, are) = followed_waiting g.R.CountedRead.remaining g.R.CountedRead.failures es w.options w.many c.args.surroundings.now.progress.shown w.name.now reader c.args.surroundings.now.progress.context c.requires.is_asked c.lines.lines mid _ _ _ c.lines.meter c.lines.meter c.lines.selected c.lines.surroundings.progress c.wait.new.surroundings.progress c.lines.surroundings.behind c.wait.new.surroundings.behind i.limit i.so_far before (handed_with c.lines.lines before first (before_free d) g.R.CountedRead.remaining g.R.CountedRead.failures reader i.so_far.lines i.so_far.handed) unselected waits (searched_bytes es w.options (length es) before c.lines.meter c.lines.meter (adds_none (length es * length (terminated before)) c.lines.meter)) in
+    let (s, are) = followed_waiting g.R.CountedRead.remaining g.R.CountedRead.failures es w.options w.many c.args.surroundings.now.progress.shown w.name.now reader c.args.surroundings.now.progress.context c.requires.is_asked c.lines.lines mid _ _ _ c.lines.meter c.lines.meter c.lines.selected c.lines.surroundings.progress c.wait.new.surroundings.progress c.lines.surroundings.recent c.wait.new.surroundings.recent i.limit i.so_far before (handed_with c.lines.lines before first (before_free d) g.R.CountedRead.remaining g.R.CountedRead.failures reader i.so_far.lines i.so_far.handed) unselected waits (searched_bytes es w.options (length es) before c.lines.meter c.lines.meter (adds_none (length es * length (terminated before)) c.lines.meter)) in
     let same : i.so_far.lines ++ all ≡ s.lines ++ line ∷ [] = ap (λ ls. i.so_far.lines ++ ls) is ∙ sym (append_assoc i.so_far.lines before (line ∷ [])) ∙ ap (λ ls. ls ++ line ∷ []) (sym are) in
     let all_spent = subst (λ ls. SearchesLines es w.options (length es) ls c.args.meter.now c.next_held-stretch.new.meter) same (searched_more_lines es w.options (length es) i.so_far.lines all c.args.meter.now c.lines.meter c.next_held-stretch.new.meter i.so_far.steps spent) in
     let now = c.pass.new.self in
@@ -145,9 +145,9 @@ lines-preserved-in-Some g c =
     let is_number : c.number-in-Some.result + count ≡ now.number = omega (arith, c.number-in-Some.ensures, d.counted, next.counted, s.handed.counted, length-append s.lines (line ∷ []), ap length is, length-append before (line ∷ [])) in
     let shown = c.in_ok-show_line.ensures in
     record {
-      so_far = rw shown.goes_on (followed_line g.R.CountedRead.remaining g.R.CountedRead.failures es w.options w.many c.args.surroundings.now.progress.shown w.name.now reader c.args.surroundings.now.progress.context c.requires.is_asked mid now _ _ _ c.lines.meter c.lines.selected c.wait.new.surroundings.progress c.wait.new.surroundings.behind.lines s line next (c.number-in-Some.result + count) is_number true told c.next_held-stretch.new.meter all_spent _ c.count_found-selected.result c.show_line.new.surroundings.behind.lines shown.wrote c.count_found-selected.ensures (shown.holds ∙ ap (λ n. if (next_shown c.wait.new.surroundings.progress true).itself then [] else last_of n (c.wait.new.surroundings.behind.lines ++ line ∷ [])) (waiting_limit g.R.CountedRead.remaining g.R.CountedRead.failures es w.options w.many c.args.surroundings.now.progress.shown w.name.now reader c.args.surroundings.now.progress.context c.requires.is_asked before c.lines.surroundings.progress c.wait.new.surroundings.progress c.lines.surroundings.behind c.wait.new.surroundings.behind waits i.limit)));
-      limit = shown.same_limit ∙ waiting_limit g.R.CountedRead.remaining g.R.CountedRead.failures es w.options w.many c.args.surroundings.now.progress.shown w.name.now reader c.args.surroundings.now.progress.context c.requires.is_asked before c.lines.surroundings.progress c.wait.new.surroundings.progress c.lines.surroundings.behind c.wait.new.surroundings.behind waits i.limit;
-      few_held = few_behind (take c.next_held-stretch.result.bytes c.lines.lines.lines.ahead) now.lines.ahead (subst IsOneLineAndFew c.pass.ensures.ahead i.few_held);
+      so_far = rw shown.goes_on (followed_line g.R.CountedRead.remaining g.R.CountedRead.failures es w.options w.many c.args.surroundings.now.progress.shown w.name.now reader c.args.surroundings.now.progress.context c.requires.is_asked mid now _ _ _ c.lines.meter c.lines.selected c.wait.new.surroundings.progress c.wait.new.surroundings.recent.lines s line next (c.number-in-Some.result + count) is_number true reported c.next_held-stretch.new.meter all_spent _ c.count_found-selected.result c.show_line.new.surroundings.recent.lines shown.wrote c.count_found-selected.ensures (shown.holds ∙ ap (λ n. if (next_shown c.wait.new.surroundings.progress true).itself then [] else last_of n (c.wait.new.surroundings.recent.lines ++ line ∷ [])) (waiting_limit g.R.CountedRead.remaining g.R.CountedRead.failures es w.options w.many c.args.surroundings.now.progress.shown w.name.now reader c.args.surroundings.now.progress.context c.requires.is_asked before c.lines.surroundings.progress c.wait.new.surroundings.progress c.lines.surroundings.recent c.wait.new.surroundings.recent waits i.limit)));
+      limit = shown.same_limit ∙ waiting_limit g.R.CountedRead.remaining g.R.CountedRead.failures es w.options w.many c.args.surroundings.now.progress.shown w.name.now reader c.args.surroundings.now.progress.context c.requires.is_asked before c.lines.surroundings.progress c.wait.new.surroundings.progress c.lines.surroundings.recent c.wait.new.surroundings.recent waits i.limit;
+      few_held = few_after (take c.next_held-stretch.result.bytes c.lines.lines.lines.ahead) now.lines.ahead (subst IsOneLineAndFew c.pass.ensures.ahead i.few_held);
       same = asked_over held.same i.same;
     }
 
@@ -164,14 +164,14 @@ lines-smaller-in-Some g c =
     let forward = asked_forward c.lines.surroundings.progress.left w.options.invert_match count held.none in
     let kept = divided_kept (sym (same_sought i.same)) d in
     let unselected = unselected_before es w.options c.args.searchers.now.whole c.requires.whole count forward before (before_within d) kept.none in
-    let waits = subst (λ ls. Waits ls c.lines.surroundings.progress c.wait.new.surroundings.progress c.lines.surroundings.behind c.wait.new.surroundings.behind) (before_lines d) (if_kept c.wait.result c.is_err.result c.is_err.ensures.value c.if-is_err.false c.wait.ensures) in
+    let waits = subst (λ ls. Waits ls c.lines.surroundings.progress c.wait.new.surroundings.progress c.lines.surroundings.recent c.wait.new.surroundings.recent) (before_lines d) (if_kept c.wait.result c.is_err.result c.is_err.ensures.value c.if-is_err.false c.wait.ensures) in
     let line = c.in-Some.text.now in
     let (holds, is) = rw c.in-Some.is at kept.next in
     let some : 1 ≤ count = omega (arith, d.counted, ap length is, length-append before (line ∷ [])) in
-    let told = decided_yes (selected_matched es w.options c.args.searchers.now.whole c.requires.whole (plain_if w.options.invert_match count forward some) line holds) in
+    let reported = decided_yes (selected_matched es w.options c.args.searchers.now.whole c.requires.whole (plain_if w.options.invert_match count forward some) line holds) in
     let first = next_first c.lines.lines before (line ∷ []) (subst (IsNextOf c.lines.lines) is n) in
     let mid = passed_state c.lines.lines before first (before_free d) in
-    let (s, are) = followed_waiting g.R.CountedRead.remaining g.R.CountedRead.failures es w.options w.many c.args.surroundings.now.progress.shown w.name.now reader c.args.surroundings.now.progress.context c.requires.is_asked c.lines.lines mid _ _ _ c.lines.meter c.lines.meter c.lines.selected c.lines.surroundings.progress c.wait.new.surroundings.progress c.lines.surroundings.behind c.wait.new.surroundings.behind i.limit i.so_far before (handed_with c.lines.lines before first (before_free d) g.R.CountedRead.remaining g.R.CountedRead.failures reader i.so_far.lines i.so_far.handed) unselected waits (searched_bytes es w.options (length es) before c.lines.meter c.lines.meter (adds_none (length es * length (terminated before)) c.lines.meter)) in
+    let (s, are) = followed_waiting g.R.CountedRead.remaining g.R.CountedRead.failures es w.options w.many c.args.surroundings.now.progress.shown w.name.now reader c.args.surroundings.now.progress.context c.requires.is_asked c.lines.lines mid _ _ _ c.lines.meter c.lines.meter c.lines.selected c.lines.surroundings.progress c.wait.new.surroundings.progress c.lines.surroundings.recent c.wait.new.surroundings.recent i.limit i.so_far before (handed_with c.lines.lines before first (before_free d) g.R.CountedRead.remaining g.R.CountedRead.failures reader i.so_far.lines i.so_far.handed) unselected waits (searched_bytes es w.options (length es) before c.lines.meter c.lines.meter (adds_none (length es * length (terminated before)) c.lines.meter)) in
     let same : i.so_far.lines ++ all ≡ s.lines ++ line ∷ [] = ap (λ ls. i.so_far.lines ++ ls) is ∙ sym (append_assoc i.so_far.lines before (line ∷ [])) ∙ ap (λ ls. ls ++ line ∷ []) (sym are) in
     let all_spent = subst (λ ls. SearchesLines es w.options (length es) ls c.args.meter.now c.next_held-stretch.new.meter) same (searched_more_lines es w.options (length es) i.so_far.lines all c.args.meter.now c.lines.meter c.next_held-stretch.new.meter i.so_far.steps spent) in
     let now = c.pass.new.self in
@@ -192,20 +192,20 @@ count_found-selected-requires g c =
     let forward = asked_forward c.lines.surroundings.progress.left w.options.invert_match count held.none in
     let kept = divided_kept (sym (same_sought i.same)) d in
     let unselected = unselected_before es w.options c.args.searchers.now.whole c.requires.whole count forward before (before_within d) kept.none in
-    let waits = subst (λ ls. Waits ls c.lines.surroundings.progress c.wait.new.surroundings.progress c.lines.surroundings.behind c.wait.new.surroundings.behind) (before_lines d) (if_kept c.wait.result c.is_err.result c.is_err.ensures.value c.if-is_err.false c.wait.ensures) in
+    let waits = subst (λ ls. Waits ls c.lines.surroundings.progress c.wait.new.surroundings.progress c.lines.surroundings.recent c.wait.new.surroundings.recent) (before_lines d) (if_kept c.wait.result c.is_err.result c.is_err.ensures.value c.if-is_err.false c.wait.ensures) in
     let line = c.in-Some.text.now in
     let (holds, is) = rw c.in-Some.is at kept.next in
     let some : 1 ≤ count = omega (arith, d.counted, ap length is, length-append before (line ∷ [])) in
-    let told = decided_yes (selected_matched es w.options c.args.searchers.now.whole c.requires.whole (plain_if w.options.invert_match count forward some) line holds) in
+    let reported = decided_yes (selected_matched es w.options c.args.searchers.now.whole c.requires.whole (plain_if w.options.invert_match count forward some) line holds) in
     let first = next_first c.lines.lines before (line ∷ []) (subst (IsNextOf c.lines.lines) is n) in
     let mid = passed_state c.lines.lines before first (before_free d) in
-    let (s, are) = followed_waiting g.R.CountedRead.remaining g.R.CountedRead.failures es w.options w.many c.args.surroundings.now.progress.shown w.name.now reader c.args.surroundings.now.progress.context c.requires.is_asked c.lines.lines mid _ _ _ c.lines.meter c.lines.meter c.lines.selected c.lines.surroundings.progress c.wait.new.surroundings.progress c.lines.surroundings.behind c.wait.new.surroundings.behind i.limit i.so_far before (handed_with c.lines.lines before first (before_free d) g.R.CountedRead.remaining g.R.CountedRead.failures reader i.so_far.lines i.so_far.handed) unselected waits (searched_bytes es w.options (length es) before c.lines.meter c.lines.meter (adds_none (length es * length (terminated before)) c.lines.meter)) in
+    let (s, are) = followed_waiting g.R.CountedRead.remaining g.R.CountedRead.failures es w.options w.many c.args.surroundings.now.progress.shown w.name.now reader c.args.surroundings.now.progress.context c.requires.is_asked c.lines.lines mid _ _ _ c.lines.meter c.lines.meter c.lines.selected c.lines.surroundings.progress c.wait.new.surroundings.progress c.lines.surroundings.recent c.wait.new.surroundings.recent i.limit i.so_far before (handed_with c.lines.lines before first (before_free d) g.R.CountedRead.remaining g.R.CountedRead.failures reader i.so_far.lines i.so_far.handed) unselected waits (searched_bytes es w.options (length es) before c.lines.meter c.lines.meter (adds_none (length es * length (terminated before)) c.lines.meter)) in
     let same : i.so_far.lines ++ all ≡ s.lines ++ line ∷ [] = ap (λ ls. i.so_far.lines ++ ls) is ∙ sym (append_assoc i.so_far.lines before (line ∷ [])) ∙ ap (λ ls. ls ++ line ∷ []) (sym are) in
     let all_spent = subst (λ ls. SearchesLines es w.options (length es) ls c.args.meter.now c.next_held-stretch.new.meter) same (searched_more_lines es w.options (length es) i.so_far.lines all c.args.meter.now c.lines.meter c.next_held-stretch.new.meter i.so_far.steps spent) in
     let now = passed_state c.lines.lines all n d.free in
     let next = subst (λ ls. HasHanded g.R.CountedRead.remaining g.R.CountedRead.failures reader now ls) same (handed_with c.lines.lines all n d.free g.R.CountedRead.remaining g.R.CountedRead.failures reader i.so_far.lines i.so_far.handed) in
     let is_number : c.number-in-Some.result + count ≡ now.number = omega (arith, c.number-in-Some.ensures, d.counted) in
-    counts_on g.R.CountedRead.remaining g.R.CountedRead.failures es w.options w.many c.args.surroundings.now.progress.shown w.name.now reader c.args.surroundings.now.progress.context c.requires.is_asked mid now _ _ _ c.lines.meter c.lines.selected c.wait.new.surroundings.progress c.wait.new.surroundings.behind.lines s line next
+    counts_on g.R.CountedRead.remaining g.R.CountedRead.failures es w.options w.many c.args.surroundings.now.progress.shown w.name.now reader c.args.surroundings.now.progress.context c.requires.is_asked mid now _ _ _ c.lines.meter c.lines.selected c.wait.new.surroundings.progress c.wait.new.surroundings.recent.lines s line next
 
 pub pass-requires-in-lines : goal.pass-requires-in-lines
 pass-requires-in-lines g c =
@@ -225,16 +225,16 @@ show_line-requires-in-lines-clause-held g c =
     let forward = asked_forward c.lines.surroundings.progress.left w.options.invert_match count held.none in
     let kept = divided_kept (sym (same_sought i.same)) d in
     let unselected = unselected_before es w.options c.args.searchers.now.whole c.requires.whole count forward before (before_within d) kept.none in
-    let waits = subst (λ ls. Waits ls c.lines.surroundings.progress c.wait.new.surroundings.progress c.lines.surroundings.behind c.wait.new.surroundings.behind) (before_lines d) (if_kept c.wait.result c.is_err.result c.is_err.ensures.value c.if-is_err.false c.wait.ensures) in
+    let waits = subst (λ ls. Waits ls c.lines.surroundings.progress c.wait.new.surroundings.progress c.lines.surroundings.recent c.wait.new.surroundings.recent) (before_lines d) (if_kept c.wait.result c.is_err.result c.is_err.ensures.value c.if-is_err.false c.wait.ensures) in
     let is : all ≡ before = rw c.in_default.is at d.next in
     let now = c.pass-in-lines.new.self in
     let passed = subst (λ ls. HasHanded g.R.CountedRead.remaining g.R.CountedRead.failures reader now (i.so_far.lines ++ ls)) is (handed_passed c.lines.lines all n d.free g.R.CountedRead.remaining g.R.CountedRead.failures reader i.so_far.lines i.so_far.handed now c.next_held-stretch.result.bytes d.width c.pass-in-lines.ensures.passed) in
-    let (p, are) = followed_waiting g.R.CountedRead.remaining g.R.CountedRead.failures es w.options w.many c.args.surroundings.now.progress.shown w.name.now reader c.args.surroundings.now.progress.context c.requires.is_asked c.lines.lines now _ _ _ c.lines.meter c.next_held-stretch.new.meter c.lines.selected c.lines.surroundings.progress c.wait.new.surroundings.progress c.lines.surroundings.behind c.wait.new.surroundings.behind i.limit i.so_far before passed unselected waits (subst (λ ls. SearchesLines es w.options (length es) ls c.lines.meter c.next_held-stretch.new.meter) is spent) in
+    let (p, are) = followed_waiting g.R.CountedRead.remaining g.R.CountedRead.failures es w.options w.many c.args.surroundings.now.progress.shown w.name.now reader c.args.surroundings.now.progress.context c.requires.is_asked c.lines.lines now _ _ _ c.lines.meter c.next_held-stretch.new.meter c.lines.selected c.lines.surroundings.progress c.wait.new.surroundings.progress c.lines.surroundings.recent c.wait.new.surroundings.recent i.limit i.so_far before passed unselected waits (subst (λ ls. SearchesLines es w.options (length es) ls c.lines.meter c.next_held-stretch.new.meter) is spent) in
     let taken = rw c.in-Ok-None.field-0-is at c.in-Ok-None.ensures in
-    let s = followed_sent g.R.CountedRead.remaining g.R.CountedRead.failures es w.options w.many c.args.surroundings.now.progress.shown w.name.now reader c.args.surroundings.now.progress.context c.requires.is_asked now _ _ _ _ _ c.lines.selected c.wait.new.surroundings.progress c.wait.new.surroundings.behind.lines p (TakesAll-written g.W.CountedWrite.contents g.W.CountedWrite.failures c.lines.out c.take_next.new.out [] (taken reader p.lines p.handed).2) in
+    let s = followed_sent g.R.CountedRead.remaining g.R.CountedRead.failures es w.options w.many c.args.surroundings.now.progress.shown w.name.now reader c.args.surroundings.now.progress.context c.requires.is_asked now _ _ _ _ _ c.lines.selected c.wait.new.surroundings.progress c.wait.new.surroundings.recent.lines p (TakesAll-written g.W.CountedWrite.contents g.W.CountedWrite.failures c.lines.out c.take_next.new.out [] (taken reader p.lines p.handed).2) in
     let line = c.line-text.result.now in
     let next = subst (λ l. HasHanded g.R.CountedRead.remaining g.R.CountedRead.failures reader c.take_next.new.lines (s.lines ++ l ∷ [])) (sym c.line-text.ensures) (taken reader s.lines s.handed).0 in
-    held_few g.R.CountedRead.remaining g.R.CountedRead.failures es w.options w.many c.args.surroundings.now.progress.shown w.name.now reader c.args.surroundings.now.progress.context c.requires.is_asked now c.take_next.new.lines _ _ _ _ c.lines.selected c.wait.new.surroundings.progress c.wait.new.surroundings.behind.lines s line next c.number-number.result c.number-number.ensures
+    held_few g.R.CountedRead.remaining g.R.CountedRead.failures es w.options w.many c.args.surroundings.now.progress.shown w.name.now reader c.args.surroundings.now.progress.context c.requires.is_asked now c.take_next.new.lines _ _ _ _ c.lines.selected c.wait.new.surroundings.progress c.wait.new.surroundings.recent.lines s line next c.number-number.result c.number-number.ensures
 
 pub returns-in_err-show_line-2-clause-given : goal.returns-in_err-show_line-2-clause-given
 returns-in_err-show_line-2-clause-given g c =
@@ -249,21 +249,21 @@ returns-in_err-show_line-2-clause-given g c =
     let forward = asked_forward c.lines.surroundings.progress.left w.options.invert_match count held.none in
     let kept = divided_kept (sym (same_sought i.same)) d in
     let unselected = unselected_before es w.options c.args.searchers.now.whole c.requires.whole count forward before (before_within d) kept.none in
-    let waits = subst (λ ls. Waits ls c.lines.surroundings.progress c.wait.new.surroundings.progress c.lines.surroundings.behind c.wait.new.surroundings.behind) (before_lines d) (if_kept c.wait.result c.is_err.result c.is_err.ensures.value c.if-is_err.false c.wait.ensures) in
+    let waits = subst (λ ls. Waits ls c.lines.surroundings.progress c.wait.new.surroundings.progress c.lines.surroundings.recent c.wait.new.surroundings.recent) (before_lines d) (if_kept c.wait.result c.is_err.result c.is_err.ensures.value c.if-is_err.false c.wait.ensures) in
     let is : all ≡ before = rw c.in_default.is at d.next in
     let now = c.pass-in-lines.new.self in
     let passed = subst (λ ls. HasHanded g.R.CountedRead.remaining g.R.CountedRead.failures reader now (i.so_far.lines ++ ls)) is (handed_passed c.lines.lines all n d.free g.R.CountedRead.remaining g.R.CountedRead.failures reader i.so_far.lines i.so_far.handed now c.next_held-stretch.result.bytes d.width c.pass-in-lines.ensures.passed) in
-    let (p, are) = followed_waiting g.R.CountedRead.remaining g.R.CountedRead.failures es w.options w.many c.args.surroundings.now.progress.shown w.name.now reader c.args.surroundings.now.progress.context c.requires.is_asked c.lines.lines now _ _ _ c.lines.meter c.next_held-stretch.new.meter c.lines.selected c.lines.surroundings.progress c.wait.new.surroundings.progress c.lines.surroundings.behind c.wait.new.surroundings.behind i.limit i.so_far before passed unselected waits (subst (λ ls. SearchesLines es w.options (length es) ls c.lines.meter c.next_held-stretch.new.meter) is spent) in
+    let (p, are) = followed_waiting g.R.CountedRead.remaining g.R.CountedRead.failures es w.options w.many c.args.surroundings.now.progress.shown w.name.now reader c.args.surroundings.now.progress.context c.requires.is_asked c.lines.lines now _ _ _ c.lines.meter c.next_held-stretch.new.meter c.lines.selected c.lines.surroundings.progress c.wait.new.surroundings.progress c.lines.surroundings.recent c.wait.new.surroundings.recent i.limit i.so_far before passed unselected waits (subst (λ ls. SearchesLines es w.options (length es) ls c.lines.meter c.next_held-stretch.new.meter) is spent) in
     let taken = rw c.in-Ok-None.field-0-is at c.in-Ok-None.ensures in
-    let s = followed_sent g.R.CountedRead.remaining g.R.CountedRead.failures es w.options w.many c.args.surroundings.now.progress.shown w.name.now reader c.args.surroundings.now.progress.context c.requires.is_asked now _ _ _ _ _ c.lines.selected c.wait.new.surroundings.progress c.wait.new.surroundings.behind.lines p (TakesAll-written g.W.CountedWrite.contents g.W.CountedWrite.failures c.lines.out c.take_next.new.out [] (taken reader p.lines p.handed).2) in
+    let s = followed_sent g.R.CountedRead.remaining g.R.CountedRead.failures es w.options w.many c.args.surroundings.now.progress.shown w.name.now reader c.args.surroundings.now.progress.context c.requires.is_asked now _ _ _ _ _ c.lines.selected c.wait.new.surroundings.progress c.wait.new.surroundings.recent.lines p (TakesAll-written g.W.CountedWrite.contents g.W.CountedWrite.failures c.lines.out c.take_next.new.out [] (taken reader p.lines p.handed).2) in
     let line = c.line-text.result.now in
     let next = subst (λ l. HasHanded g.R.CountedRead.remaining g.R.CountedRead.failures reader c.take_next.new.lines (s.lines ++ l ∷ [])) (sym c.line-text.ensures) (taken reader s.lines s.handed).0 in
     let same = (asked_over held.same i.same).same_matchers.same_expressions in
-    let told = rw same at c.is_selected-found.ensures.told in
+    let reported = rw same at c.is_selected-found.ensures.reported in
     let once = searched_once es w.options line (length es) _ _ (rw same at c.is_selected-found.ensures.steps) in
     let all_spent = searched_one_line es w.options (length es) s.lines line _ _ _ s.steps once in
-    followed_stops g.R.CountedRead.remaining g.R.CountedRead.failures es w.options w.many c.args.surroundings.now.progress.shown w.name.now reader c.args.surroundings.now.progress.context c.requires.is_asked now c.take_next.new.lines _ _ _ _ c.lines.selected c.wait.new.surroundings.progress c.wait.new.surroundings.behind.lines s line next c.number-number.result c.number-number.ensures c.is_selected-found.result told c.is_selected-found.new.meter all_spent
-    (taken reader s.lines s.handed).1 _ c.wait.new.surroundings.behind refl c.in_err-show_line-2.field-0.0 c.in_err-show_line-2.ensures c.from_residual-in_err-show_line-2.result c.from_residual-in_err-show_line-2.ensures.1
+    followed_stops g.R.CountedRead.remaining g.R.CountedRead.failures es w.options w.many c.args.surroundings.now.progress.shown w.name.now reader c.args.surroundings.now.progress.context c.requires.is_asked now c.take_next.new.lines _ _ _ _ c.lines.selected c.wait.new.surroundings.progress c.wait.new.surroundings.recent.lines s line next c.number-number.result c.number-number.ensures c.is_selected-found.result reported c.is_selected-found.new.meter all_spent
+    (taken reader s.lines s.handed).1 _ c.wait.new.surroundings.recent refl c.in_err-show_line-2.field-0.0 c.in_err-show_line-2.ensures c.from_residual-in_err-show_line-2.result c.from_residual-in_err-show_line-2.ensures.1
 
 pub count_found-selected-requires-in-lines : goal.count_found-selected-requires-in-lines
 count_found-selected-requires-in-lines g c =
@@ -278,16 +278,16 @@ count_found-selected-requires-in-lines g c =
     let forward = asked_forward c.lines.surroundings.progress.left w.options.invert_match count held.none in
     let kept = divided_kept (sym (same_sought i.same)) d in
     let unselected = unselected_before es w.options c.args.searchers.now.whole c.requires.whole count forward before (before_within d) kept.none in
-    let waits = subst (λ ls. Waits ls c.lines.surroundings.progress c.wait.new.surroundings.progress c.lines.surroundings.behind c.wait.new.surroundings.behind) (before_lines d) (if_kept c.wait.result c.is_err.result c.is_err.ensures.value c.if-is_err.false c.wait.ensures) in
+    let waits = subst (λ ls. Waits ls c.lines.surroundings.progress c.wait.new.surroundings.progress c.lines.surroundings.recent c.wait.new.surroundings.recent) (before_lines d) (if_kept c.wait.result c.is_err.result c.is_err.ensures.value c.if-is_err.false c.wait.ensures) in
     let is : all ≡ before = rw c.in_default.is at d.next in
     let now = c.pass-in-lines.new.self in
     let passed = subst (λ ls. HasHanded g.R.CountedRead.remaining g.R.CountedRead.failures reader now (i.so_far.lines ++ ls)) is (handed_passed c.lines.lines all n d.free g.R.CountedRead.remaining g.R.CountedRead.failures reader i.so_far.lines i.so_far.handed now c.next_held-stretch.result.bytes d.width c.pass-in-lines.ensures.passed) in
-    let (p, are) = followed_waiting g.R.CountedRead.remaining g.R.CountedRead.failures es w.options w.many c.args.surroundings.now.progress.shown w.name.now reader c.args.surroundings.now.progress.context c.requires.is_asked c.lines.lines now _ _ _ c.lines.meter c.next_held-stretch.new.meter c.lines.selected c.lines.surroundings.progress c.wait.new.surroundings.progress c.lines.surroundings.behind c.wait.new.surroundings.behind i.limit i.so_far before passed unselected waits (subst (λ ls. SearchesLines es w.options (length es) ls c.lines.meter c.next_held-stretch.new.meter) is spent) in
+    let (p, are) = followed_waiting g.R.CountedRead.remaining g.R.CountedRead.failures es w.options w.many c.args.surroundings.now.progress.shown w.name.now reader c.args.surroundings.now.progress.context c.requires.is_asked c.lines.lines now _ _ _ c.lines.meter c.next_held-stretch.new.meter c.lines.selected c.lines.surroundings.progress c.wait.new.surroundings.progress c.lines.surroundings.recent c.wait.new.surroundings.recent i.limit i.so_far before passed unselected waits (subst (λ ls. SearchesLines es w.options (length es) ls c.lines.meter c.next_held-stretch.new.meter) is spent) in
     let taken = rw c.in-Ok-None.field-0-is at c.in-Ok-None.ensures in
-    let s = followed_sent g.R.CountedRead.remaining g.R.CountedRead.failures es w.options w.many c.args.surroundings.now.progress.shown w.name.now reader c.args.surroundings.now.progress.context c.requires.is_asked now _ _ _ _ _ c.lines.selected c.wait.new.surroundings.progress c.wait.new.surroundings.behind.lines p (TakesAll-written g.W.CountedWrite.contents g.W.CountedWrite.failures c.lines.out c.take_next.new.out [] (taken reader p.lines p.handed).2) in
+    let s = followed_sent g.R.CountedRead.remaining g.R.CountedRead.failures es w.options w.many c.args.surroundings.now.progress.shown w.name.now reader c.args.surroundings.now.progress.context c.requires.is_asked now _ _ _ _ _ c.lines.selected c.wait.new.surroundings.progress c.wait.new.surroundings.recent.lines p (TakesAll-written g.W.CountedWrite.contents g.W.CountedWrite.failures c.lines.out c.take_next.new.out [] (taken reader p.lines p.handed).2) in
     let line = c.line-text.result.now in
     let next = subst (λ l. HasHanded g.R.CountedRead.remaining g.R.CountedRead.failures reader c.take_next.new.lines (s.lines ++ l ∷ [])) (sym c.line-text.ensures) (taken reader s.lines s.handed).0 in
-    counts_on g.R.CountedRead.remaining g.R.CountedRead.failures es w.options w.many c.args.surroundings.now.progress.shown w.name.now reader c.args.surroundings.now.progress.context c.requires.is_asked now c.take_next.new.lines _ _ _ _ c.lines.selected c.wait.new.surroundings.progress c.wait.new.surroundings.behind.lines s line next
+    counts_on g.R.CountedRead.remaining g.R.CountedRead.failures es w.options w.many c.args.surroundings.now.progress.shown w.name.now reader c.args.surroundings.now.progress.context c.requires.is_asked now c.take_next.new.lines _ _ _ _ c.lines.selected c.wait.new.surroundings.progress c.wait.new.surroundings.recent.lines s line next
 
 pub lines-smaller : goal.lines-smaller
 lines-smaller g c =
@@ -302,16 +302,16 @@ lines-smaller g c =
     let forward = asked_forward c.lines.surroundings.progress.left w.options.invert_match count held.none in
     let kept = divided_kept (sym (same_sought i.same)) d in
     let unselected = unselected_before es w.options c.args.searchers.now.whole c.requires.whole count forward before (before_within d) kept.none in
-    let waits = subst (λ ls. Waits ls c.lines.surroundings.progress c.wait.new.surroundings.progress c.lines.surroundings.behind c.wait.new.surroundings.behind) (before_lines d) (if_kept c.wait.result c.is_err.result c.is_err.ensures.value c.if-is_err.false c.wait.ensures) in
+    let waits = subst (λ ls. Waits ls c.lines.surroundings.progress c.wait.new.surroundings.progress c.lines.surroundings.recent c.wait.new.surroundings.recent) (before_lines d) (if_kept c.wait.result c.is_err.result c.is_err.ensures.value c.if-is_err.false c.wait.ensures) in
     let is : all ≡ before = rw c.in_default.is at d.next in
     let now = c.pass-in-lines.new.self in
     let passed = subst (λ ls. HasHanded g.R.CountedRead.remaining g.R.CountedRead.failures reader now (i.so_far.lines ++ ls)) is (handed_passed c.lines.lines all n d.free g.R.CountedRead.remaining g.R.CountedRead.failures reader i.so_far.lines i.so_far.handed now c.next_held-stretch.result.bytes d.width c.pass-in-lines.ensures.passed) in
-    let (p, are) = followed_waiting g.R.CountedRead.remaining g.R.CountedRead.failures es w.options w.many c.args.surroundings.now.progress.shown w.name.now reader c.args.surroundings.now.progress.context c.requires.is_asked c.lines.lines now _ _ _ c.lines.meter c.next_held-stretch.new.meter c.lines.selected c.lines.surroundings.progress c.wait.new.surroundings.progress c.lines.surroundings.behind c.wait.new.surroundings.behind i.limit i.so_far before passed unselected waits (subst (λ ls. SearchesLines es w.options (length es) ls c.lines.meter c.next_held-stretch.new.meter) is spent) in
+    let (p, are) = followed_waiting g.R.CountedRead.remaining g.R.CountedRead.failures es w.options w.many c.args.surroundings.now.progress.shown w.name.now reader c.args.surroundings.now.progress.context c.requires.is_asked c.lines.lines now _ _ _ c.lines.meter c.next_held-stretch.new.meter c.lines.selected c.lines.surroundings.progress c.wait.new.surroundings.progress c.lines.surroundings.recent c.wait.new.surroundings.recent i.limit i.so_far before passed unselected waits (subst (λ ls. SearchesLines es w.options (length es) ls c.lines.meter c.next_held-stretch.new.meter) is spent) in
     let taken = rw c.in-Ok-None.field-0-is at c.in-Ok-None.ensures in
-    let s = followed_sent g.R.CountedRead.remaining g.R.CountedRead.failures es w.options w.many c.args.surroundings.now.progress.shown w.name.now reader c.args.surroundings.now.progress.context c.requires.is_asked now _ _ _ _ _ c.lines.selected c.wait.new.surroundings.progress c.wait.new.surroundings.behind.lines p (TakesAll-written g.W.CountedWrite.contents g.W.CountedWrite.failures c.lines.out c.take_next.new.out [] (taken reader p.lines p.handed).2) in
+    let s = followed_sent g.R.CountedRead.remaining g.R.CountedRead.failures es w.options w.many c.args.surroundings.now.progress.shown w.name.now reader c.args.surroundings.now.progress.context c.requires.is_asked now _ _ _ _ _ c.lines.selected c.wait.new.surroundings.progress c.wait.new.surroundings.recent.lines p (TakesAll-written g.W.CountedWrite.contents g.W.CountedWrite.failures c.lines.out c.take_next.new.out [] (taken reader p.lines p.handed).2) in
     let line = c.line-text.result.now in
     let next = subst (λ l. HasHanded g.R.CountedRead.remaining g.R.CountedRead.failures reader c.take_next.new.lines (s.lines ++ l ∷ [])) (sym c.line-text.ensures) (taken reader s.lines s.handed).0 in
-    omega (arith, numbers_left g.R.CountedRead.remaining g.R.CountedRead.failures es w.options w.many c.args.surroundings.now.progress.shown w.name.now reader c.args.surroundings.now.progress.context c.requires.is_asked now c.take_next.new.lines _ _ _ _ c.lines.selected c.wait.new.surroundings.progress c.wait.new.surroundings.behind.lines s line next, passed.counted, i.so_far.handed.counted, length-append i.so_far.lines before)
+    omega (arith, numbers_left g.R.CountedRead.remaining g.R.CountedRead.failures es w.options w.many c.args.surroundings.now.progress.shown w.name.now reader c.args.surroundings.now.progress.context c.requires.is_asked now c.take_next.new.lines _ _ _ _ c.lines.selected c.wait.new.surroundings.progress c.wait.new.surroundings.recent.lines s line next, passed.counted, i.so_far.handed.counted, length-append i.so_far.lines before)
 
 pub lines-preserved : goal.lines-preserved
 lines-preserved g c =
@@ -326,23 +326,23 @@ lines-preserved g c =
     let forward = asked_forward c.lines.surroundings.progress.left w.options.invert_match count held.none in
     let kept = divided_kept (sym (same_sought i.same)) d in
     let unselected = unselected_before es w.options c.args.searchers.now.whole c.requires.whole count forward before (before_within d) kept.none in
-    let waits = subst (λ ls. Waits ls c.lines.surroundings.progress c.wait.new.surroundings.progress c.lines.surroundings.behind c.wait.new.surroundings.behind) (before_lines d) (if_kept c.wait.result c.is_err.result c.is_err.ensures.value c.if-is_err.false c.wait.ensures) in
+    let waits = subst (λ ls. Waits ls c.lines.surroundings.progress c.wait.new.surroundings.progress c.lines.surroundings.recent c.wait.new.surroundings.recent) (before_lines d) (if_kept c.wait.result c.is_err.result c.is_err.ensures.value c.if-is_err.false c.wait.ensures) in
     let is : all ≡ before = rw c.in_default.is at d.next in
     let now = c.pass-in-lines.new.self in
     let passed = subst (λ ls. HasHanded g.R.CountedRead.remaining g.R.CountedRead.failures reader now (i.so_far.lines ++ ls)) is (handed_passed c.lines.lines all n d.free g.R.CountedRead.remaining g.R.CountedRead.failures reader i.so_far.lines i.so_far.handed now c.next_held-stretch.result.bytes d.width c.pass-in-lines.ensures.passed) in
-    let (p, are) = followed_waiting g.R.CountedRead.remaining g.R.CountedRead.failures es w.options w.many c.args.surroundings.now.progress.shown w.name.now reader c.args.surroundings.now.progress.context c.requires.is_asked c.lines.lines now _ _ _ c.lines.meter c.next_held-stretch.new.meter c.lines.selected c.lines.surroundings.progress c.wait.new.surroundings.progress c.lines.surroundings.behind c.wait.new.surroundings.behind i.limit i.so_far before passed unselected waits (subst (λ ls. SearchesLines es w.options (length es) ls c.lines.meter c.next_held-stretch.new.meter) is spent) in
+    let (p, are) = followed_waiting g.R.CountedRead.remaining g.R.CountedRead.failures es w.options w.many c.args.surroundings.now.progress.shown w.name.now reader c.args.surroundings.now.progress.context c.requires.is_asked c.lines.lines now _ _ _ c.lines.meter c.next_held-stretch.new.meter c.lines.selected c.lines.surroundings.progress c.wait.new.surroundings.progress c.lines.surroundings.recent c.wait.new.surroundings.recent i.limit i.so_far before passed unselected waits (subst (λ ls. SearchesLines es w.options (length es) ls c.lines.meter c.next_held-stretch.new.meter) is spent) in
     let taken = rw c.in-Ok-None.field-0-is at c.in-Ok-None.ensures in
-    let s = followed_sent g.R.CountedRead.remaining g.R.CountedRead.failures es w.options w.many c.args.surroundings.now.progress.shown w.name.now reader c.args.surroundings.now.progress.context c.requires.is_asked now _ _ _ _ _ c.lines.selected c.wait.new.surroundings.progress c.wait.new.surroundings.behind.lines p (TakesAll-written g.W.CountedWrite.contents g.W.CountedWrite.failures c.lines.out c.take_next.new.out [] (taken reader p.lines p.handed).2) in
+    let s = followed_sent g.R.CountedRead.remaining g.R.CountedRead.failures es w.options w.many c.args.surroundings.now.progress.shown w.name.now reader c.args.surroundings.now.progress.context c.requires.is_asked now _ _ _ _ _ c.lines.selected c.wait.new.surroundings.progress c.wait.new.surroundings.recent.lines p (TakesAll-written g.W.CountedWrite.contents g.W.CountedWrite.failures c.lines.out c.take_next.new.out [] (taken reader p.lines p.handed).2) in
     let line = c.line-text.result.now in
     let next = subst (λ l. HasHanded g.R.CountedRead.remaining g.R.CountedRead.failures reader c.take_next.new.lines (s.lines ++ l ∷ [])) (sym c.line-text.ensures) (taken reader s.lines s.handed).0 in
     let same = (asked_over held.same i.same).same_matchers.same_expressions in
-    let told = rw same at c.is_selected-found.ensures.told in
+    let reported = rw same at c.is_selected-found.ensures.reported in
     let once = searched_once es w.options line (length es) _ _ (rw same at c.is_selected-found.ensures.steps) in
     let all_spent = searched_one_line es w.options (length es) s.lines line _ _ _ s.steps once in
     let shown = c.in_ok-show_line-2.ensures in
-    let limit = waiting_limit g.R.CountedRead.remaining g.R.CountedRead.failures es w.options w.many c.args.surroundings.now.progress.shown w.name.now reader c.args.surroundings.now.progress.context c.requires.is_asked before c.lines.surroundings.progress c.wait.new.surroundings.progress c.lines.surroundings.behind c.wait.new.surroundings.behind waits i.limit in
+    let limit = waiting_limit g.R.CountedRead.remaining g.R.CountedRead.failures es w.options w.many c.args.surroundings.now.progress.shown w.name.now reader c.args.surroundings.now.progress.context c.requires.is_asked before c.lines.surroundings.progress c.wait.new.surroundings.progress c.lines.surroundings.recent c.wait.new.surroundings.recent waits i.limit in
     record {
-      so_far = rw shown.goes_on (followed_line g.R.CountedRead.remaining g.R.CountedRead.failures es w.options w.many c.args.surroundings.now.progress.shown w.name.now reader c.args.surroundings.now.progress.context c.requires.is_asked now c.take_next.new.lines _ _ _ _ c.lines.selected c.wait.new.surroundings.progress c.wait.new.surroundings.behind.lines s line next c.number-number.result c.number-number.ensures c.is_selected-found.result told c.is_selected-found.new.meter all_spent _ c.count_found-selected-in-lines.result c.show_line-in-lines.new.surroundings.behind.lines shown.wrote c.count_found-selected-in-lines.ensures (shown.holds ∙ ap (λ n. if (next_shown c.wait.new.surroundings.progress c.is_selected-found.result).itself then [] else last_of n (c.wait.new.surroundings.behind.lines ++ line ∷ [])) limit));
+      so_far = rw shown.goes_on (followed_line g.R.CountedRead.remaining g.R.CountedRead.failures es w.options w.many c.args.surroundings.now.progress.shown w.name.now reader c.args.surroundings.now.progress.context c.requires.is_asked now c.take_next.new.lines _ _ _ _ c.lines.selected c.wait.new.surroundings.progress c.wait.new.surroundings.recent.lines s line next c.number-number.result c.number-number.ensures c.is_selected-found.result reported c.is_selected-found.new.meter all_spent _ c.count_found-selected-in-lines.result c.show_line-in-lines.new.surroundings.recent.lines shown.wrote c.count_found-selected-in-lines.ensures (shown.holds ∙ ap (λ n. if (next_shown c.wait.new.surroundings.progress c.is_selected-found.result).itself then [] else last_of n (c.wait.new.surroundings.recent.lines ++ line ∷ [])) limit));
       limit = shown.same_limit ∙ limit;
       few_held = (taken reader s.lines s.handed).1;
       same = asked_over c.is_selected-found.ensures.same (asked_over held.same i.same);
@@ -361,12 +361,12 @@ returns-in-Ok-Some-clause-given g c =
     let forward = asked_forward c.lines.surroundings.progress.left w.options.invert_match count held.none in
     let kept = divided_kept (sym (same_sought i.same)) d in
     let unselected = unselected_before es w.options c.args.searchers.now.whole c.requires.whole count forward before (before_within d) kept.none in
-    let waits = subst (λ ls. Waits ls c.lines.surroundings.progress c.wait.new.surroundings.progress c.lines.surroundings.behind c.wait.new.surroundings.behind) (before_lines d) (if_kept c.wait.result c.is_err.result c.is_err.ensures.value c.if-is_err.false c.wait.ensures) in
+    let waits = subst (λ ls. Waits ls c.lines.surroundings.progress c.wait.new.surroundings.progress c.lines.surroundings.recent c.wait.new.surroundings.recent) (before_lines d) (if_kept c.wait.result c.is_err.result c.is_err.ensures.value c.if-is_err.false c.wait.ensures) in
     let is : all ≡ before = rw c.in_default.is at d.next in
     let now = c.pass-in-lines.new.self in
     let passed = subst (λ ls. HasHanded g.R.CountedRead.remaining g.R.CountedRead.failures reader now (i.so_far.lines ++ ls)) is (handed_passed c.lines.lines all n d.free g.R.CountedRead.remaining g.R.CountedRead.failures reader i.so_far.lines i.so_far.handed now c.next_held-stretch.result.bytes d.width c.pass-in-lines.ensures.passed) in
-    let (p, are) = followed_waiting g.R.CountedRead.remaining g.R.CountedRead.failures es w.options w.many c.args.surroundings.now.progress.shown w.name.now reader c.args.surroundings.now.progress.context c.requires.is_asked c.lines.lines now _ _ _ c.lines.meter c.next_held-stretch.new.meter c.lines.selected c.lines.surroundings.progress c.wait.new.surroundings.progress c.lines.surroundings.behind c.wait.new.surroundings.behind i.limit i.so_far before passed unselected waits (subst (λ ls. SearchesLines es w.options (length es) ls c.lines.meter c.next_held-stretch.new.meter) is spent) in
-    let ws = writes g.R.CountedRead.remaining g.R.CountedRead.failures es w.options w.many c.args.surroundings.now.progress.shown w.name.now reader c.args.surroundings.now.progress.context c.requires.is_asked now now _ _ _ _ c.lines.selected c.wait.new.surroundings.progress c.wait.new.surroundings.behind.lines p in
+    let (p, are) = followed_waiting g.R.CountedRead.remaining g.R.CountedRead.failures es w.options w.many c.args.surroundings.now.progress.shown w.name.now reader c.args.surroundings.now.progress.context c.requires.is_asked c.lines.lines now _ _ _ c.lines.meter c.next_held-stretch.new.meter c.lines.selected c.lines.surroundings.progress c.wait.new.surroundings.progress c.lines.surroundings.recent c.wait.new.surroundings.recent i.limit i.so_far before passed unselected waits (subst (λ ls. SearchesLines es w.options (length es) ls c.lines.meter c.next_held-stretch.new.meter) is spent) in
+    let ws = writes g.R.CountedRead.remaining g.R.CountedRead.failures es w.options w.many c.args.surroundings.now.progress.shown w.name.now reader c.args.surroundings.now.progress.context c.requires.is_asked now now _ _ _ _ c.lines.selected c.wait.new.surroundings.progress c.wait.new.surroundings.recent.lines p in
     ends_as g.R.CountedRead.remaining g.R.CountedRead.failures g.W.CountedWrite.contents g.W.CountedWrite.failures es w.options w.many c.args.surroundings.now.progress.shown w.name.now reader c.take_next.new.lines _ c.take_next.new.out _ _ c.lines.out p.lines c.lines.selected ws (λ early. never_early g.R.CountedRead.remaining g.R.CountedRead.failures es w.options w.many c.args.surroundings.now.progress.shown w.name.now reader c.args.surroundings.now.progress.context c.requires.is_asked early) p.steps c.in-Ok-Some.end ((rw c.in-Ok-Some.field-0-is at c.in-Ok-Some.ensures) reader p.lines p.handed)
 
 pub returns-in-Err-clause-given : goal.returns-in-Err-clause-given
@@ -382,10 +382,10 @@ returns-in-Err-clause-given g c =
     let forward = asked_forward c.lines.surroundings.progress.left w.options.invert_match count held.none in
     let kept = divided_kept (sym (same_sought i.same)) d in
     let unselected = unselected_before es w.options c.args.searchers.now.whole c.requires.whole count forward before (before_within d) kept.none in
-    let waits = subst (λ ls. Waits ls c.lines.surroundings.progress c.wait.new.surroundings.progress c.lines.surroundings.behind c.wait.new.surroundings.behind) (before_lines d) (if_kept c.wait.result c.is_err.result c.is_err.ensures.value c.if-is_err.false c.wait.ensures) in
+    let waits = subst (λ ls. Waits ls c.lines.surroundings.progress c.wait.new.surroundings.progress c.lines.surroundings.recent c.wait.new.surroundings.recent) (before_lines d) (if_kept c.wait.result c.is_err.result c.is_err.ensures.value c.if-is_err.false c.wait.ensures) in
     let is : all ≡ before = rw c.in_default.is at d.next in
     let now = c.pass-in-lines.new.self in
     let passed = subst (λ ls. HasHanded g.R.CountedRead.remaining g.R.CountedRead.failures reader now (i.so_far.lines ++ ls)) is (handed_passed c.lines.lines all n d.free g.R.CountedRead.remaining g.R.CountedRead.failures reader i.so_far.lines i.so_far.handed now c.next_held-stretch.result.bytes d.width c.pass-in-lines.ensures.passed) in
-    let (p, are) = followed_waiting g.R.CountedRead.remaining g.R.CountedRead.failures es w.options w.many c.args.surroundings.now.progress.shown w.name.now reader c.args.surroundings.now.progress.context c.requires.is_asked c.lines.lines now _ _ _ c.lines.meter c.next_held-stretch.new.meter c.lines.selected c.lines.surroundings.progress c.wait.new.surroundings.progress c.lines.surroundings.behind c.wait.new.surroundings.behind i.limit i.so_far before passed unselected waits (subst (λ ls. SearchesLines es w.options (length es) ls c.lines.meter c.next_held-stretch.new.meter) is spent) in
-    let ws = writes g.R.CountedRead.remaining g.R.CountedRead.failures es w.options w.many c.args.surroundings.now.progress.shown w.name.now reader c.args.surroundings.now.progress.context c.requires.is_asked now now _ _ _ _ c.lines.selected c.wait.new.surroundings.progress c.wait.new.surroundings.behind.lines p in
+    let (p, are) = followed_waiting g.R.CountedRead.remaining g.R.CountedRead.failures es w.options w.many c.args.surroundings.now.progress.shown w.name.now reader c.args.surroundings.now.progress.context c.requires.is_asked c.lines.lines now _ _ _ c.lines.meter c.next_held-stretch.new.meter c.lines.selected c.lines.surroundings.progress c.wait.new.surroundings.progress c.lines.surroundings.recent c.wait.new.surroundings.recent i.limit i.so_far before passed unselected waits (subst (λ ls. SearchesLines es w.options (length es) ls c.lines.meter c.next_held-stretch.new.meter) is spent) in
+    let ws = writes g.R.CountedRead.remaining g.R.CountedRead.failures es w.options w.many c.args.surroundings.now.progress.shown w.name.now reader c.args.surroundings.now.progress.context c.requires.is_asked now now _ _ _ _ c.lines.selected c.wait.new.surroundings.progress c.wait.new.surroundings.recent.lines p in
     stops_as g.R.CountedRead.remaining g.R.CountedRead.failures g.W.CountedWrite.contents g.W.CountedWrite.failures es w.options w.many c.args.surroundings.now.progress.shown w.name.now reader c.take_next.new.lines _ c.take_next.new.out _ _ c.lines.out p.lines c.lines.selected ws (λ early. never_early g.R.CountedRead.remaining g.R.CountedRead.failures es w.options w.many c.args.surroundings.now.progress.shown w.name.now reader c.args.surroundings.now.progress.context c.requires.is_asked early) p.steps c.in-Err.fault (c.in-Err.ensures reader p.lines p.handed)

@@ -7,37 +7,37 @@ use Rattle.grep_core.proofs.search.around.write_waiting.Goals as goal
 pub loop-k-init : goal.loop-k-init
 loop-k-init g c =
     let w = c.args.request.now in
-    rows_none_out g.W.CountedWrite.contents g.W.CountedWrite.failures c.args.out.now (rows_around w.options w.many w.name.now (c.args.number - length c.args.behind.now.lines) c.args.behind.now.lines)
+    rows_none_out g.W.CountedWrite.contents g.W.CountedWrite.failures c.args.out.now (rows_around w.options w.many w.name.now (c.args.number - length c.args.recent.now.lines) c.args.recent.now.lines)
 
 pub returns-in_err-write_around : goal.returns-in_err-write_around
 returns-in_err-write_around g c =
     let w = c.args.request.now in
-    let behind = c.args.behind.now.lines in
-    let first = c.args.number - length behind in
-    let inside : c.loop-k.k < length behind = omega (arith, c.loop-k-test.true, c.len-count.ensures) in
-    let within : c.loop-k.k < length (rows_around w.options w.many w.name.now first behind) = omega (arith, inside, length_rows w.options w.many w.name.now first behind) in
+    let recent = c.args.recent.now.lines in
+    let first = c.args.number - length recent in
+    let inside : c.loop-k.k < length recent = omega (arith, c.loop-k-test.true, c.len-count.ensures) in
+    let within : c.loop-k.k < length (rows_around w.options w.many w.name.now first recent) = omega (arith, inside, length_rows w.options w.many w.name.now first recent) in
     let place : first + c.loop-k.k ≡ c.args.number - (c.len-count.result - c.loop-k.k) = omega (arith, inside, c.len-count.ensures, c.requires) in
-    let row = row_at w.options w.many w.name.now first behind c.loop-k.k inside ∙ ap (λ n. row_with w.options w.many w.name.now hyphen n (get_or behind c.loop-k.k [])) place
+    let row = row_at w.options w.many w.name.now first recent c.loop-k.k inside ∙ ap (λ n. row_with w.options w.many w.name.now hyphen n (get_or recent c.loop-k.k [])) place
     ∙ ap (λ l. row_with w.options w.many w.name.now hyphen (c.args.number - (c.len-count.result - c.loop-k.k)) l) (sym c.line.ensures) in
     stops_err g.W.CountedWrite.contents g.W.CountedWrite.failures c.args.out.now c.write_around.new.out _ c.from_residual.result c.from_residual.ensures.0
-    (row_stops g.W.CountedWrite.contents g.W.CountedWrite.failures c.args.out.now c.loop-k.out c.write_around.new.out (rows_around w.options w.many w.name.now first behind) c.loop-k.k within _ row c.loop-k.invariant c.in_err-write_around.ensures)
+    (row_stops g.W.CountedWrite.contents g.W.CountedWrite.failures c.args.out.now c.loop-k.out c.write_around.new.out (rows_around w.options w.many w.name.now first recent) c.loop-k.k within _ row c.loop-k.invariant c.in_err-write_around.ensures)
 
 pub loop-k-preserved : goal.loop-k-preserved
 loop-k-preserved g c =
     let w = c.args.request.now in
-    let behind = c.args.behind.now.lines in
-    let first = c.args.number - length behind in
-    let inside : c.loop-k.k < length behind = omega (arith, c.loop-k-test.true, c.len-count.ensures) in
-    let within : c.loop-k.k < length (rows_around w.options w.many w.name.now first behind) = omega (arith, inside, length_rows w.options w.many w.name.now first behind) in
+    let recent = c.args.recent.now.lines in
+    let first = c.args.number - length recent in
+    let inside : c.loop-k.k < length recent = omega (arith, c.loop-k-test.true, c.len-count.ensures) in
+    let within : c.loop-k.k < length (rows_around w.options w.many w.name.now first recent) = omega (arith, inside, length_rows w.options w.many w.name.now first recent) in
     let place : first + c.loop-k.k ≡ c.args.number - (c.len-count.result - c.loop-k.k) = omega (arith, inside, c.len-count.ensures, c.requires) in
-    let row = row_at w.options w.many w.name.now first behind c.loop-k.k inside ∙ ap (λ n. row_with w.options w.many w.name.now hyphen n (get_or behind c.loop-k.k [])) place
+    let row = row_at w.options w.many w.name.now first recent c.loop-k.k inside ∙ ap (λ n. row_with w.options w.many w.name.now hyphen n (get_or recent c.loop-k.k [])) place
     ∙ ap (λ l. row_with w.options w.many w.name.now hyphen (c.args.number - (c.len-count.result - c.loop-k.k)) l) (sym c.line.ensures) in
-    row_out g.W.CountedWrite.contents g.W.CountedWrite.failures c.args.out.now c.loop-k.out c.write_around.new.out (rows_around w.options w.many w.name.now first behind) c.loop-k.k within _ row c.loop-k.invariant c.in_ok-write_around.ensures
+    row_out g.W.CountedWrite.contents g.W.CountedWrite.failures c.args.out.now c.loop-k.out c.write_around.new.out (rows_around w.options w.many w.name.now first recent) c.loop-k.k within _ row c.loop-k.invariant c.in_ok-write_around.ensures
 
 pub returns : goal.returns
 returns g c =
     let w = c.args.request.now in
-    let behind = c.args.behind.now.lines in
-    let first = c.args.number - length behind in
-    let all : length (rows_around w.options w.many w.name.now first behind) ≤ c.loop-k.k = omega (arith, c.loop-k-test.false, c.len-count.ensures, length_rows w.options w.many w.name.now first behind) in
-    rows_all_out g.W.CountedWrite.contents g.W.CountedWrite.failures c.args.out.now c.loop-k.out (rows_around w.options w.many w.name.now first behind) c.loop-k.k all c.loop-k.invariant
+    let recent = c.args.recent.now.lines in
+    let first = c.args.number - length recent in
+    let all : length (rows_around w.options w.many w.name.now first recent) ≤ c.loop-k.k = omega (arith, c.loop-k-test.false, c.len-count.ensures, length_rows w.options w.many w.name.now first recent) in
+    rows_all_out g.W.CountedWrite.contents g.W.CountedWrite.failures c.args.out.now c.loop-k.out (rows_around w.options w.many w.name.now first recent) c.loop-k.k all c.loop-k.invariant

@@ -14,7 +14,7 @@ returns-in_default-clause-passed g c = λ reader handed h.
 
 pub count_selected-requires : goal.count_selected-requires
 count_selected-requires g c =
-    let within = many_within (IsSought (sought_by g.M.LineMatch.expression c.args.searchers.now)) (lines_of c.ready-block.result.now) c.count_matched-matched.result c.count_matched-matched.ensures.told in
+    let within = many_within (IsSought (sought_by g.M.LineMatch.expression c.args.searchers.now)) (lines_of c.ready-block.result.now) c.count_matched-matched.result c.count_matched-matched.ensures.reported in
     omega (arith, within, c.in-Some.ensures.0)
 
 pub returns-clause-passed : goal.returns-clause-passed
@@ -24,7 +24,7 @@ returns-clause-passed g c = λ reader handed h.
     let ready = c.ready-block.result.now in
     let rest = c.ready-block.ensures.ahead in
     let block = c.ready-block.ensures.block in
-    let found = counted_block es options c.args.lines.now ready rest.0 c.in-Some.count c.count_matched-matched.result block rest.1 (rw c.requires.whole at c.count_matched-matched.ensures.told) c.in-Some.ensures.0 c.in-Some.ensures.1 in (
+    let found = counted_block es options c.args.lines.now ready rest.0 c.in-Some.count c.count_matched-matched.result block rest.1 (rw c.requires.whole at c.count_matched-matched.ensures.reported) c.in-Some.ensures.0 c.in-Some.ensures.1 in (
       c.count_selected.result,
       record {
         passed = lines_of ready;

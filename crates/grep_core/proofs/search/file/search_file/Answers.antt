@@ -1,7 +1,7 @@
 use Rattle.std.proofs.Common.{◌+◌, [], ◌∷◌, map, ap, subst, ◌∙◌}
 use Rattle.grep_io.specs.Working.Numbered.{Numbered}
 use Rattle.grep_core.specs.Run.{writer, count_more}
-use Rattle.grep_core.specs.Sources.{source_at, GivesBack}
+use Rattle.grep_core.specs.Sources.{source_at, Returns}
 use Rattle.grep_core.proofs.lemmas.SourceLaws.{gives_both}
 use Rattle.grep_core.proofs.lemmas.OpenedLemmas.{source_missing, source_unread, given_in}
 use Rattle.grep_core.proofs.search.file.search_file.Goals as goal
@@ -19,7 +19,7 @@ returns-in-Err-clause-given g c =
     let source = source_at (g.S.Sources.listed c.args.sources.now) c.args.source.now.place in
     let opened = c.in-Some.ensures.given in
     let counted = c.close.ensures.counted ∙ (λ i. count_more (opened.3 i) (g.S.Reader.CountedRead.failures (c.in-Err.ensures.err i))) ∙ ap (count_more (g.S.Sources.failures c.args.sources.now)) opened.2 in
-    source_unread es c.args.source.now.request.options c.args.source.now.many c.args.source.now.shown source _ (writer g.W.CountedWrite.contents g.W.CountedWrite.failures c.args.out.now) c.args.meter.now (g.S.Sources.failures c.args.sources.now) _ counted _ (ap g.S.Reader.CountedRead.remaining c.in-Err.ensures.err ∙ opened.1) (gives_both g.S.Sources.given_back c.args.sources.now c.open.new.self c.close.new.self [] _ c.open.ensures.none_back c.close.ensures.back)
+    source_unread es c.args.source.now.request.options c.args.source.now.many c.args.source.now.shown source _ (writer g.W.CountedWrite.contents g.W.CountedWrite.failures c.args.out.now) c.args.meter.now (g.S.Sources.failures c.args.sources.now) _ counted _ (ap g.S.Reader.CountedRead.remaining c.in-Err.ensures.err ∙ opened.1) (gives_both g.S.Sources.returned_readers c.args.sources.now c.open.new.self c.close.new.self [] _ c.open.ensures.none_back c.close.ensures.back)
 
 pub returns-clause-given : goal.returns-clause-given
 returns-clause-given g c =
@@ -28,8 +28,8 @@ returns-clause-given g c =
     let opened = c.in-Some.ensures.given in
     let named = c.name.ensures ∙ ap (λ l. (source_at l c.args.source.now.place).name) c.open.ensures.listed in
     let counted = c.close-2.ensures.counted ∙ (λ i. count_more (opened.3 i) (g.S.Reader.CountedRead.failures (c.into_reader.ensures i))) in
-    let gives = subst (λ rest. GivesBack g.S.Sources.given_back c.args.sources.now c.close-2.new.self (rest ∷ [])) (ap g.S.Reader.CountedRead.remaining c.into_reader.ensures)
-    (gives_both g.S.Sources.given_back c.args.sources.now c.open.new.self c.close-2.new.self [] _ c.open.ensures.none_back c.close-2.ensures.back) in
+    let gives = subst (λ rest. Returns g.S.Sources.returned_readers c.args.sources.now c.close-2.new.self (rest ∷ [])) (ap g.S.Reader.CountedRead.remaining c.into_reader.ensures)
+    (gives_both g.S.Sources.returned_readers c.args.sources.now c.open.new.self c.close-2.new.self [] _ c.open.ensures.none_back c.close-2.ensures.back) in
     given_in g.S.Reader.CountedRead.remaining g.S.Reader.CountedRead.failures es c.args.source.now.request.options c.args.source.now.many c.args.source.now.shown source _ _ gives opened.0 c.in-Some.reader opened.1 opened.2 c.in-Ok.lines.lines (ap (λ (n : Numbered _). n.lines.reader) c.in-Ok.ensures.ok)
     c.name.result.now named _ _ _ _ _ _ _ counted c.search_opened-found.result c.search_opened-found.ensures.given
 

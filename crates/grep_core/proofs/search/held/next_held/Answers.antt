@@ -29,7 +29,7 @@ returns-in_default-clause-divided g c =
     let room = c.if-not-may_number.ensures.room refl in (
       all,
       all,
-      record { free = free_lines block whole; bytes = bytes; many = many; width = ap length bytes; counted = many; none = c.in_default.ensures.told; next = refl },
+      record { free = free_lines block whole; bytes = bytes; many = many; width = ap length bytes; counted = many; none = c.in_default.ensures.reported; next = refl },
       record { rest = rest; ahead = ahead ∙ ap (λ b. b ++ rest) bytes; few = omega (arith, room, ap length bytes, lines_within all); open_still = c.ready-block.ensures.none_at_end },
     )
 
@@ -39,7 +39,7 @@ overflow_add-result-2 g c =
     let block = c.ready-block.result.now in
     let whole = c.ready-block.ensures.block in
     let at = c.in-Some.at in
-    let n = c.in-Some.ensures.told in
+    let n = c.in-Some.ensures.reported in
     let free = free_before n.before (n.line ∷ []) (free_up_to (IsSought s) block at whole n) in
     let many : c.count_newlines-before_count.result ≡ length n.before = c.count_newlines-before_count.ensures ∙ count_lines (take at.start block) n.before free (before_bytes (IsSought s) block at whole n) in
     let room = c.if-not-may_number.ensures.room refl in
@@ -52,7 +52,7 @@ returns-clause-divided g c =
     let block = c.ready-block.result.now in
     let whole = c.ready-block.ensures.block in
     let at = c.in-Some.at in
-    let n = c.in-Some.ensures.told in
+    let n = c.in-Some.ensures.reported in
     let all : List Text = n.before ++ n.line ∷ [] in
     let free = free_up_to (IsSought s) block at whole n in
     let many : c.count_newlines-before_count.result ≡ length n.before = c.count_newlines-before_count.ensures ∙ count_lines (take at.start block) n.before (free_before n.before (n.line ∷ []) free) (before_bytes (IsSought s) block at whole n) in

@@ -7,7 +7,7 @@ use Rattle.grep_core.proofs.search.line.search_line.Goals as goal
 pub returns-then-not-is_selected-clause-ok : goal.returns-then-not-is_selected-clause-ok
 returns-then-not-is_selected-clause-ok g c =
     let w = c.args.request.now in
-    line_passed (map g.M.LineMatch.expression c.args.searchers.now.matchers.now) w.options w.many w.name.now c.args.number c.args.line.now _ c.is_selected.result c.if-not-is_selected.true c.is_selected.ensures.told
+    line_passed (map g.M.LineMatch.expression c.args.searchers.now.matchers.now) w.options w.many w.name.now c.args.number c.args.line.now _ c.is_selected.result c.if-not-is_selected.true c.is_selected.ensures.reported
 
 pub returns-then-not-is_selected-clause-steps : goal.returns-then-not-is_selected-clause-steps
 returns-then-not-is_selected-clause-steps g c =
@@ -16,14 +16,14 @@ returns-then-not-is_selected-clause-steps g c =
 pub returns-clause-ok : goal.returns-clause-ok
 returns-clause-ok g c =
     let w = c.args.request.now in
-    line_selected (map g.M.LineMatch.expression c.args.searchers.now.matchers.now) _ w.options w.many w.name.now c.args.number c.args.line.now _ _ c.is_selected.result c.if-not-is_selected.false c.is_selected.ensures.told
+    line_selected (map g.M.LineMatch.expression c.args.searchers.now.matchers.now) _ w.options w.many w.name.now c.args.number c.args.line.now _ _ c.is_selected.result c.if-not-is_selected.false c.is_selected.ensures.reported
     c.is_selected.ensures.same.same_matchers.same_expressions c.in_ok-write_selected.ensures.ok
 
 pub returns-in_err-write_selected-clause-err : goal.returns-in_err-write_selected-clause-err
 returns-in_err-write_selected-clause-err g c =
     let w = c.args.request.now in
     err_with c.from_residual.result
-    (line_broken (map g.M.LineMatch.expression c.args.searchers.now.matchers.now) _ w.options w.many w.name.now c.args.number c.args.line.now _ _ c.is_selected.result c.if-not-is_selected.false c.is_selected.ensures.told
+    (line_broken (map g.M.LineMatch.expression c.args.searchers.now.matchers.now) _ w.options w.many w.name.now c.args.number c.args.line.now _ _ c.is_selected.result c.if-not-is_selected.false c.is_selected.ensures.reported
     c.is_selected.ensures.same.same_matchers.same_expressions c.in_err-write_selected.ensures.err)
 
 pub returns-clause-same : goal.returns-clause-same

@@ -15,12 +15,12 @@ part-requires g c = c.loop-part.invariant.parts.0.on_line
 
 pub write_part-requires : goal.write_part-requires
 write_part-requires g c =
-    let found = c.in-Some.ensures.told.found in
+    let found = c.in-Some.ensures.reported.found in
     record { in_order = omega (arith, found.not_empty); on_line = found.on_line }
 
 pub loop-part-smaller : goal.loop-part-smaller
 loop-part-smaller g c =
-    let found = c.in-Some.ensures.told.found in
+    let found = c.in-Some.ensures.reported.found in
     omega (arith, found.not_empty, found.on_line, found.begins)
 
 pub returns-in_err-write_part-clause-err : goal.returns-in_err-write_part-clause-err
@@ -30,9 +30,9 @@ returns-in_err-write_part-clause-err g c =
     let same = c.loop-part.invariant.same in
     let whole : asks_whole c.loop-part.searchers ≡ w.options.line_regexp = same.same_whole ∙ c.requires.whole in
     let part = c.in-Some.part in
-    let told = rw (whole, same.same_matchers.same_expressions) at c.in-Some.ensures.told in
+    let reported = rw (whole, same.same_matchers.same_expressions) at c.in-Some.ensures.reported in
     let out = c.in_err-write_part.ensures in
-    err_with c.from_residual.result (parts_broken es w.options w.many w.name.now c.args.number c.args.line.now c.requires.asked c.loop-part.from part.start part.end _ _ _ c.loop-part.invariant.parts.0 told
+    err_with c.from_residual.result (parts_broken es w.options w.many w.name.now c.args.number c.args.line.now c.requires.asked c.loop-part.from part.start part.end _ _ _ c.loop-part.invariant.parts.0 reported
     (TakesFront-line g.W.CountedWrite.contents g.W.CountedWrite.failures c.loop-part.out c.write_part.new.out _ out)
     out.counted)
 
@@ -43,10 +43,10 @@ loop-part-preserved g c =
     let same = c.loop-part.invariant.same in
     let whole : asks_whole c.loop-part.searchers ≡ w.options.line_regexp = same.same_whole ∙ c.requires.whole in
     let part = c.in-Some.part in
-    let told = rw (whole, same.same_matchers.same_expressions) at c.in-Some.ensures.told in
+    let reported = rw (whole, same.same_matchers.same_expressions) at c.in-Some.ensures.reported in
     record {
       parts =
-          parts_next es w.options w.many w.name.now c.args.number c.args.line.now c.loop-part.from part.start part.end _ _ _ c.args.meter.now c.loop-part.meter c.part.new.meter _ c.loop-part.invariant.parts.0 c.loop-part.invariant.parts.1 told
+          parts_next es w.options w.many w.name.now c.args.number c.args.line.now c.loop-part.from part.start part.end _ _ _ c.args.meter.now c.loop-part.meter c.part.new.meter _ c.loop-part.invariant.parts.0 c.loop-part.invariant.parts.1 reported
           (TakesAll-line g.W.CountedWrite.contents g.W.CountedWrite.failures c.loop-part.out c.write_part.new.out _ c.in_ok-write_part.ensures)
           (from_place (length es) c.args.line.now c.loop-part.from _ _ (rw same.same_matchers.same_expressions at c.in-Some.ensures.steps));
       same = asked_over c.in-Some.ensures.same same;
@@ -58,8 +58,8 @@ returns-clause-ok g c =
     let es = map g.M.LineMatch.expression c.args.searchers.now.matchers.now in
     let same = c.loop-part.invariant.same in
     let whole : asks_whole c.loop-part.searchers ≡ w.options.line_regexp = same.same_whole ∙ c.requires.whole in
-    let told = rw (whole, same.same_matchers.same_expressions) at c.in_default.ensures.told in
-    parts_done es w.options w.many w.name.now c.args.number c.args.line.now c.requires.asked c.loop-part.from _ _ c.loop-part.invariant.parts.0 told
+    let reported = rw (whole, same.same_matchers.same_expressions) at c.in_default.ensures.reported in
+    parts_done es w.options w.many w.name.now c.args.number c.args.line.now c.requires.asked c.loop-part.from _ _ c.loop-part.invariant.parts.0 reported
 
 pub returns-in_err-write_part-clause-same : goal.returns-in_err-write_part-clause-same
 returns-in_err-write_part-clause-same g c = asked_over c.in-Some.ensures.same c.loop-part.invariant.same

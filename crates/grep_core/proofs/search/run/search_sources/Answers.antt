@@ -5,7 +5,7 @@ use Rattle.grep_core.proofs.lemmas.RunLaws.{run_none, run_further, run_ends_at, 
 use Rattle.grep_core.proofs.search.run.search_sources.Goals as goal
 
 pub loop-k-init : goal.loop-k-init
-loop-k-init g c = record { so_far = run_none _ _ _ _ (gives_none g.S.Sources.given_back c.args.sources.now) _; listed = refl; within = omega arith; in_order = c.requires.in_order; same_loan = refl; same = unasked }
+loop-k-init g c = record { so_far = run_none _ _ _ _ (gives_none g.S.Sources.returned_readers c.args.sources.now) _; listed = refl; within = omega arith; in_order = c.requires.in_order; same_loan = refl; same = unasked }
 
 pub loop-k-preserved : goal.loop-k-preserved
 loop-k-preserved g c =
@@ -13,7 +13,7 @@ loop-k-preserved g c =
     let sources = g.S.Sources.listed c.args.sources.now in
     let s = c.loop-k.invariant in
     let given = rw (s.same.same_matchers.same_expressions, s.listed) at c.in-Ok.ensures.given in
-    let join = gives_both g.S.Sources.given_back c.args.sources.now c.loop-k.sources c.search_source.new.sources in
+    let join = gives_both g.S.Sources.returned_readers c.args.sources.now c.loop-k.sources c.search_source.new.sources in
     let inside : c.loop-k.k < length sources = omega (arith, c.loop-k-test.true, c.count-count.ensures) in
     record {
       so_far =
@@ -32,7 +32,7 @@ returns-then-request-has_selected-clause-run g c =
     let sources = g.S.Sources.listed c.args.sources.now in
     let s = c.loop-k.invariant in
     let given = rw (s.same.same_matchers.same_expressions, s.listed) at c.in-Ok.ensures.given in
-    let join = gives_both g.S.Sources.given_back c.args.sources.now c.loop-k.sources c.search_source.new.sources in
+    let join = gives_both g.S.Sources.returned_readers c.args.sources.now c.loop-k.sources c.search_source.new.sources in
     let inside : c.loop-k.k < length sources = omega (arith, c.loop-k-test.true, c.count-count.ensures) in
     run_ends_at es c.args.request.now.options _ sources c.loop-k.k inside _ _ _ join _ _ _ c.loop-k.some c.loop-k.faulty s.so_far (ap (nat_le 2) c.count-count.ensures) c.in-Ok.found.end c.in-Ok.found.selected c.has_selected.result
     given c.has_selected.ensures c.if-request-has_selected.true
@@ -42,7 +42,7 @@ returns-in-Err-clause-run g c =
     let es = map g.M.LineMatch.expression c.args.searchers.now.matchers.now in
     let sources = g.S.Sources.listed c.args.sources.now in
     let s = c.loop-k.invariant in
-    let join = gives_both g.S.Sources.given_back c.args.sources.now c.loop-k.sources c.search_source.new.sources in
+    let join = gives_both g.S.Sources.returned_readers c.args.sources.now c.loop-k.sources c.search_source.new.sources in
     let inside : c.loop-k.k < length sources = omega (arith, c.loop-k-test.true, c.count-count.ensures) in
     run_given_up es c.args.request.now.options _ sources c.loop-k.k inside _ _ _ join _ _ _ c.loop-k.some c.loop-k.faulty s.so_far (ap (nat_le 2) c.count-count.ensures) c.in-Err.fault _ _ s.same.same_matchers.same_expressions s.listed c.in-Err.ensures.given
 

@@ -1,14 +1,14 @@
 use Rattle.std.proofs.Common.{◌≡◌, ◌≤◌, length, map, take}
 use Rattle.re_search.specs.Working.Asking.{SameSearchers}
 use Rattle.grep_core.specs.Run.{writer}
-use Rattle.grep_core.specs.Sources.{GivesBack}
+use Rattle.grep_core.specs.Sources.{Returns}
 use Rattle.grep_core.proofs.lemmas.RunLaws.{RunSoFar}
 use Rattle.grep_core.proofs.search.run.search_sources.Given as goal
 
 -- the first k sources were run
 abbrev pub invariant-loop-k : goal.invariant-loop-k
 invariant-loop-k g l = record {
-  so_far : RunSoFar (map g.M.LineMatch.expression l.fn.searchers.matchers.now) l.request.options l.many (take l.k (g.S.Sources.listed l.fn.sources)) (GivesBack g.S.Sources.given_back l.fn.sources l.sources)
+  so_far : RunSoFar (map g.M.LineMatch.expression l.fn.searchers.matchers.now) l.request.options l.many (take l.k (g.S.Sources.listed l.fn.sources)) (Returns g.S.Sources.returned_readers l.fn.sources l.sources)
       (record {
         out = writer g.W.CountedWrite.contents g.W.CountedWrite.failures l.fn.out;
         messages = writer g.N.CountedWrite.contents g.N.CountedWrite.failures l.fn.messages;

@@ -23,8 +23,8 @@ returns-in-Err-read_matchers-clause-gives c =
     let list = c.args.list.now in
     let at : c.len.result ≡ length s.matchers.items = omega (arith, c.len.ensures, s.matchers.ok.0) in
     let refused = rw c.deref.ensures.value at c.in-Err-read_matchers.ensures.err in
-    let told = subst (λ ts. RefusesFirst s.syntax s.options.ignore_case ts c.in-Err-read_matchers.fault) c.in-Ok.ensures refused in
-    subst (λ old. EditGives {T = Unit {0}} (AddPatterns list) old old (Err c.in-Err-read_matchers.fault)) c.self.view_is (refuses_new list (inputs_of s) (not_too_many s c.args.list.now c.self.invariant c.len.result at c.if-too_many.ensures) (Unit {0}) c.in-Err-read_matchers.fault told)
+    let reported = subst (λ ts. RefusesFirst s.syntax s.options.ignore_case ts c.in-Err-read_matchers.fault) c.in-Ok.ensures refused in
+    subst (λ old. EditGives {T = Unit {0}} (AddPatterns list) old old (Err c.in-Err-read_matchers.fault)) c.self.view_is (refuses_new list (inputs_of s) (not_too_many s c.args.list.now c.self.invariant c.len.result at c.if-too_many.ensures) (Unit {0}) c.in-Err-read_matchers.fault reported)
 
 pub invariant_of-self-in-Err-find_columns : goal.invariant_of-self-in-Err-find_columns
 invariant_of-self-in-Err-find_columns c =

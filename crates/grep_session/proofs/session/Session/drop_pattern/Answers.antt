@@ -3,8 +3,8 @@ use Rattle.std.proofs.lemmas.List.{length-map}
 use Rattle.grep_core.specs.Files.{Inputs}
 use Rattle.grep_session.proofs.session.Session.drop_pattern.Goals as goal
 
-pub drop_parted-requires : goal.drop_parted-requires
-drop_parted-requires c =
+pub drop_with_parts-requires : goal.drop_with_parts-requires
+drop_with_parts-requires c =
     let texts = c.self.inside.texts.items in
     let inside : c.args.p < length (map (λ text. text.items) texts) = omega (arith, length-map texts (λ text. text.items)) in
     record { within = subst (λ (i : Inputs). c.args.p < length i.patterns) c.self.view_is inside }

@@ -1,9 +1,9 @@
 use Rattle.std.proofs.Common.{map, subst}
 use Rattle.re_search.specs.Working.Matchers.{matched_expression}
-use Rattle.grep_session.specs.Headline.{TellsInputs}
-use Rattle.grep_session.specs.Working.Report.{told_from}
+use Rattle.grep_session.specs.Headline.{ReportsAllInputs}
+use Rattle.grep_session.specs.Working.Report.{reported_from}
 use Rattle.grep_session.specs.Working.Sessions.{inputs_of}
-use Rattle.grep_session.proofs.lemmas.HeadlineLaws.{tells_inputs}
+use Rattle.grep_session.proofs.lemmas.HeadlineLaws.{reports_all_inputs}
 use Rattle.grep_session.proofs.lemmas.KeptLaws.{kept_messages}
 use Rattle.grep_session.proofs.session.Session.messages.Goals as goal
 
@@ -11,7 +11,7 @@ pub returns : goal.returns
 returns g c =
     let s = c.self.inside in
     let es = map matched_expression s.matchers.items in
-    let tells = rw c.deref.ensures.value at c.write_messages.ensures in
-    subst (λ inputs. TellsInputs g.W.CountedWrite.contents g.W.CountedWrite.failures inputs c.args.margin.now c.args.out.now c.write_messages.new.out c.write_messages.result) c.self.view_is
-    (tells_inputs (inputs_of s) es c.self.invariant.matchers.meant g.W.CountedWrite.contents g.W.CountedWrite.failures c.args.margin.now c.args.out.now c.write_messages.new.out c.write_messages.result
-    (record { told = told_from s.options s.files.items; are_messages = kept_messages es s.options s.files.items c.self.invariant.kept; wrote = tells }))
+    let reported_too = rw c.deref.ensures.value at c.write_messages.ensures in
+    subst (λ inputs. ReportsAllInputs g.W.CountedWrite.contents g.W.CountedWrite.failures inputs c.args.margin.now c.args.out.now c.write_messages.new.out c.write_messages.result) c.self.view_is
+    (reports_all_inputs (inputs_of s) es c.self.invariant.matchers.meant g.W.CountedWrite.contents g.W.CountedWrite.failures c.args.margin.now c.args.out.now c.write_messages.new.out c.write_messages.result
+    (record { reported = reported_from s.options s.files.items; are_messages = kept_messages es s.options s.files.items c.self.invariant.kept; wrote = reported_too }))

@@ -14,13 +14,13 @@ returns-then-not-is_ready-clause-searches c =
     c.args.meter.now c.step_over.new.meter c.step_over.result c.is_ready.ensures.readied
     (c.step_over.ensures.searches (cache_of c.is_ready.new.self) (c.if-not-is_ready.ensures.blank refl).entries))
 
-pub returns-in-Told-clause-searches : goal.returns-in-Told-clause-searches
-returns-in-Told-clause-searches c =
+pub returns-in-Reported-clause-searches : goal.returns-in-Reported-clause-searches
+returns-in-Reported-clause-searches c =
     let inside = c.self.inside in
-    let gives = rw (c.automaton.ensures, c.mode.ensures) at c.in-Told.ensures.gives in
+    let gives = rw (c.automaton.ensures, c.mode.ensures) at c.in-Reported.ensures.gives in
     rw (← c.self.view_is)
     (searches_readied (expression_of inside.simulated.tree) c.args.line.now (mode_for inside.simulated.whole) (cache_of inside.table) (cache_of c.is_ready.new.self) (cache_of c.search.new.self)
-    c.args.meter.now c.search.new.meter c.in-Told.told c.is_ready.ensures.readied gives.1)
+    c.args.meter.now c.search.new.meter c.in-Reported.reported c.is_ready.ensures.readied gives.1)
 
 pub returns-in-GaveUp-clause-searches : goal.returns-in-GaveUp-clause-searches
 returns-in-GaveUp-clause-searches c =
@@ -52,17 +52,17 @@ returns-in-GaveUp-clause-same_tree c = rw (← c.self.view_is) (ap (λ (s : Tree
 pub returns-in-GaveUp-clause-same_whole : goal.returns-in-GaveUp-clause-same_whole
 returns-in-GaveUp-clause-same_whole c = rw (← c.self.view_is) (ap (λ (s : TreeMatcher). s.whole) c.finish.ensures.same)
 
-pub returns-in-Told-clause-same_tree : goal.returns-in-Told-clause-same_tree
-returns-in-Told-clause-same_tree c = rw (← c.self.view_is) refl
+pub returns-in-Reported-clause-same_tree : goal.returns-in-Reported-clause-same_tree
+returns-in-Reported-clause-same_tree c = rw (← c.self.view_is) refl
 
-pub returns-in-Told-clause-same_whole : goal.returns-in-Told-clause-same_whole
-returns-in-Told-clause-same_whole c = rw (← c.self.view_is) refl
+pub returns-in-Reported-clause-same_whole : goal.returns-in-Reported-clause-same_whole
+returns-in-Reported-clause-same_whole c = rw (← c.self.view_is) refl
 
 pub returns-then-not-is_ready-clause-same_most : goal.returns-then-not-is_ready-clause-same_most
 returns-then-not-is_ready-clause-same_most c = rw (← c.self.view_is) c.is_ready.ensures.keeps.most
 
-pub returns-in-Told-clause-same_most : goal.returns-in-Told-clause-same_most
-returns-in-Told-clause-same_most c = rw (← c.self.view_is) (c.in-Told.ensures.lasts.most ∙ c.is_ready.ensures.keeps.most)
+pub returns-in-Reported-clause-same_most : goal.returns-in-Reported-clause-same_most
+returns-in-Reported-clause-same_most c = rw (← c.self.view_is) (c.in-Reported.ensures.lasts.most ∙ c.is_ready.ensures.keeps.most)
 
 pub returns-in-GaveUp-clause-same_most : goal.returns-in-GaveUp-clause-same_most
 returns-in-GaveUp-clause-same_most c = rw (← c.self.view_is) (c.give_up.ensures.keeps.most ∙ c.in-GaveUp.ensures.lasts.most ∙ c.is_ready.ensures.keeps.most)

@@ -6,11 +6,11 @@ use Rattle.re_needle.proofs.lemmas.NextLines.{CountsTo, counts_next, counts_all}
 use Rattle.re_match.proofs.lemmas.StepSums.{adds_both, adds_within}
 use Rattle.re_match.proofs.line_match.LineMatch.count_matched.Goals as goal
 
-pub returns-in_default-clause-told : goal.returns-in_default-clause-told
-returns-in_default-clause-told g c =
+pub returns-in_default-clause-reported : goal.returns-in_default-clause-reported
+returns-in_default-clause-reported g c =
     let i = c.lines.invariant in
     counts_all (λ (line : Text). Matches (g.Self.LineMatch.expression c.args.self.now) line (g.Self.LineMatch.whole c.args.self.now)) c.args.block.now c.lines.rest.now c.lines.count i.counts
-    (rw (← i.same_expression, ← i.same_whole) c.in_default.ensures.told)
+    (rw (← i.same_expression, ← i.same_whole) c.in_default.ensures.reported)
 
 pub lines-preserved : goal.lines-preserved
 lines-preserved g c =
@@ -21,7 +21,7 @@ lines-preserved g c =
     let within = c.in-Some.ensures.within in
     let next : CountsTo (λ (line : Text). Matches (g.Self.LineMatch.expression c.args.self.now) line (g.Self.LineMatch.whole c.args.self.now)) block (drop (at.end + 1) rest) (c.lines.count + 1) =
     counts_next (λ (line : Text). Matches (g.Self.LineMatch.expression c.args.self.now) line (g.Self.LineMatch.whole c.args.self.now)) block rest c.lines.count at within.1 i.counts
-    (rw (← i.same_expression, ← i.same_whole) c.in-Some.ensures.told) in
+    (rw (← i.same_expression, ← i.same_whole) c.in-Some.ensures.reported) in
     let few : length block - length rest + (at.end + 1) ≤ length block - length (drop (at.end + 1) rest) = omega (arith, length-drop (at.end + 1) rest, i.counts.few, within.1) in
     rw take_rest
     record {

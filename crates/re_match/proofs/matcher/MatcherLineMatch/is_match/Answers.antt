@@ -1,7 +1,7 @@
 use Rattle.re_match.proofs.matcher.MatcherLineMatch.is_match.Goals as goal
 
-pub returns-in-Fixed-clause-told : goal.returns-in-Fixed-clause-told
-returns-in-Fixed-clause-told c = rw c.in-Fixed.is c.is_match.ensures.told
+pub returns-in-Fixed-clause-reported : goal.returns-in-Fixed-clause-reported
+returns-in-Fixed-clause-reported c = rw c.in-Fixed.is c.is_match.ensures.reported
 
 pub returns-in-Fixed-clause-same_expression : goal.returns-in-Fixed-clause-same_expression
 returns-in-Fixed-clause-same_expression c = rw c.in-Fixed.is c.is_match.ensures.same_expression
@@ -12,8 +12,8 @@ returns-in-Fixed-clause-same_whole c = rw c.in-Fixed.is c.is_match.ensures.same_
 pub returns-in-Fixed-clause-steps : goal.returns-in-Fixed-clause-steps
 returns-in-Fixed-clause-steps c = c.is_match.ensures.steps
 
-pub returns-in-FixedSet-clause-told : goal.returns-in-FixedSet-clause-told
-returns-in-FixedSet-clause-told c = rw c.in-FixedSet.is (rw c.deref_mut.ensures.value at c.is_match-in-FixedSet.ensures.told)
+pub returns-in-FixedSet-clause-reported : goal.returns-in-FixedSet-clause-reported
+returns-in-FixedSet-clause-reported c = rw c.in-FixedSet.is (rw c.deref_mut.ensures.value at c.is_match-in-FixedSet.ensures.reported)
 
 pub returns-in-FixedSet-clause-same_expression : goal.returns-in-FixedSet-clause-same_expression
 returns-in-FixedSet-clause-same_expression c = rw c.in-FixedSet.is (rw c.deref_mut.ensures.value at c.is_match-in-FixedSet.ensures.same_expression)
@@ -24,8 +24,8 @@ returns-in-FixedSet-clause-same_whole c = rw c.in-FixedSet.is (rw c.deref_mut.en
 pub returns-in-FixedSet-clause-steps : goal.returns-in-FixedSet-clause-steps
 returns-in-FixedSet-clause-steps c = c.is_match-in-FixedSet.ensures.steps
 
-pub returns-in-Simulated-clause-told : goal.returns-in-Simulated-clause-told
-returns-in-Simulated-clause-told c = rw c.in-Simulated.is (rw c.deref_mut-in-Simulated.ensures.value at c.is_match-in-Simulated.ensures.told)
+pub returns-in-Simulated-clause-reported : goal.returns-in-Simulated-clause-reported
+returns-in-Simulated-clause-reported c = rw c.in-Simulated.is (rw c.deref_mut-in-Simulated.ensures.value at c.is_match-in-Simulated.ensures.reported)
 
 pub returns-in-Simulated-clause-same_expression : goal.returns-in-Simulated-clause-same_expression
 returns-in-Simulated-clause-same_expression c = rw c.in-Simulated.is (rw c.deref_mut-in-Simulated.ensures.value at c.is_match-in-Simulated.ensures.same_expression)
@@ -36,8 +36,8 @@ returns-in-Simulated-clause-same_whole c = rw c.in-Simulated.is (rw c.deref_mut-
 pub returns-in-Simulated-clause-steps : goal.returns-in-Simulated-clause-steps
 returns-in-Simulated-clause-steps c = c.is_match-in-Simulated.ensures.steps
 
-pub returns-in-Cached-clause-told : goal.returns-in-Cached-clause-told
-returns-in-Cached-clause-told c = rw c.in-Cached.is (rw c.deref_mut-in-Cached.ensures.value at c.is_match-in-Cached.ensures.told)
+pub returns-in-Cached-clause-reported : goal.returns-in-Cached-clause-reported
+returns-in-Cached-clause-reported c = rw c.in-Cached.is (rw c.deref_mut-in-Cached.ensures.value at c.is_match-in-Cached.ensures.reported)
 
 pub returns-in-Cached-clause-same_expression : goal.returns-in-Cached-clause-same_expression
 returns-in-Cached-clause-same_expression c = rw c.in-Cached.is (rw c.deref_mut-in-Cached.ensures.value at c.is_match-in-Cached.ensures.same_expression)

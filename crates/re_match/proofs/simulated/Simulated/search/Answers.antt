@@ -1,21 +1,21 @@
 use Rattle.std.proofs.Common.{[], refl}
 use Rattle.re_syntax.specs.Expression.{expression_of}
 use Rattle.re_steps.specs.Working.Stages.{Cache, mode_for}
-use Rattle.re_needle.proofs.lemmas.NeedleLaws.{settled_told}
-use Rattle.re_steps.proofs.lemmas.StageLaws.{searches_told, searches_steps}
+use Rattle.re_needle.proofs.lemmas.NeedleLaws.{settled_says}
+use Rattle.re_steps.proofs.lemmas.StageLaws.{searches_say, searches_steps}
 use Rattle.re_match.proofs.simulated.Simulated.search.Goals as goal
 
 -- a cache that holds nothing
 nothing : Cache
 nothing = record { classes = []; stride = 0; sets = []; entries = [] }
 
-pub returns-in-Some-clause-told : goal.returns-in-Some-clause-told
-returns-in-Some-clause-told c = settled_told (expression_of c.args.self.now.tree) c.args.line.now c.args.self.now.whole c.in-Some.told c.in-Some.ensures
+pub returns-in-Some-clause-reported : goal.returns-in-Some-clause-reported
+returns-in-Some-clause-reported c = settled_says (expression_of c.args.self.now.tree) c.args.line.now c.args.self.now.whole c.in-Some.reported c.in-Some.ensures
 
-pub returns-clause-told : goal.returns-clause-told
+pub returns-clause-reported : goal.returns-clause-reported
 unfolding nothing
-returns-clause-told c =
-    searches_told (expression_of c.args.self.now.tree) c.args.line.now c.args.self.now.whole nothing nothing c.args.meter.now c.step_over.new.meter c.step_over.result (c.step_over.ensures.searches nothing refl)
+returns-clause-reported c =
+    searches_say (expression_of c.args.self.now.tree) c.args.line.now c.args.self.now.whole nothing nothing c.args.meter.now c.step_over.new.meter c.step_over.result (c.step_over.ensures.searches nothing refl)
 
 pub returns-clause-steps : goal.returns-clause-steps
 unfolding nothing

@@ -1,7 +1,7 @@
 use Rattle.std.proofs.Common.{◌≡◌, ◌+◌, ◌∙◌, ap, subst, length, length-append, map}
 use Rattle.std.proofs.lemmas.List.{map-append}
 use Rattle.re_search.proofs.lemmas.KeptMatchers.{none_asked}
-use Rattle.re_search.proofs.lemmas.PartedMatchers.{front_answers, back_answers, back_matches, front_decides, same_joined, steps_joined, steps_of_rest}
+use Rattle.re_search.proofs.lemmas.WithPartsMatchers.{front_answers, back_answers, back_matches, front_decides, same_joined, steps_joined, steps_of_rest}
 use Rattle.re_auto.specs.Searching.{AllAnswer}
 use Rattle.re_search.proofs.filter.Filter.is_matched.Goals as goal
 
@@ -19,25 +19,25 @@ is_matched_from-requires-2 g c =
     let wholes = ap (map whole) c.split_at_mut-before.ensures.value ∙ map-append whole parts.0.now parts.1.now in
     (c.requires.0, front_answers c.requires.0 (map whole parts.0.now) (map whole parts.1.now) (subst (AllAnswer c.requires.0) wholes c.requires.1))
 
-pub returns-then-is_matched_from-clause-told : goal.returns-then-is_matched_from-clause-told
-returns-then-is_matched_from-clause-told g c =
+pub returns-then-is_matched_from-clause-reported : goal.returns-then-is_matched_from-clause-reported
+returns-then-is_matched_from-clause-reported g c =
     let expression = g.M.LineMatch.expression in
     let whole = g.M.LineMatch.whole in
     let parts = c.split_at_mut-before.result in
     let value = c.split_at_mut-before.ensures.value in
     back_matches _ (map expression parts.0.now) (map expression parts.1.now) _ (map whole parts.0.now) (map whole parts.1.now)
     (ap (map expression) value ∙ map-append expression parts.0.now parts.1.now) (ap (map whole) value ∙ map-append whole parts.0.now parts.1.now)
-    c.args.line.now (rw c.if-is_matched_from.true at c.is_matched_from.ensures.told)
+    c.args.line.now (rw c.if-is_matched_from.true at c.is_matched_from.ensures.reported)
 
-pub returns-clause-told : goal.returns-clause-told
-returns-clause-told g c =
+pub returns-clause-reported : goal.returns-clause-reported
+returns-clause-reported g c =
     let expression = g.M.LineMatch.expression in
     let whole = g.M.LineMatch.whole in
     let parts = c.split_at_mut-before.result in
     let value = c.split_at_mut-before.ensures.value in
     front_decides _ (map expression parts.0.now) (map expression parts.1.now) _ (map whole parts.0.now) (map whole parts.1.now)
     (ap (map expression) value ∙ map-append expression parts.0.now parts.1.now) (ap (map whole) value ∙ map-append whole parts.0.now parts.1.now)
-    c.args.line.now c.is_matched_from-2.result (rw c.if-is_matched_from.false at c.is_matched_from.ensures.told) c.is_matched_from-2.ensures.told
+    c.args.line.now c.is_matched_from-2.result (rw c.if-is_matched_from.false at c.is_matched_from.ensures.reported) c.is_matched_from-2.ensures.reported
 
 pub returns-then-is_matched_from-clause-same_matchers : goal.returns-then-is_matched_from-clause-same_matchers
 returns-then-is_matched_from-clause-same_matchers g c =

@@ -22,8 +22,8 @@ sweep-requires-clause-needed g c = rw c.lines.invariant.same_matchers.same_expre
 pub any_matches-requires-clause-needed : goal.any_matches-requires-clause-needed
 any_matches-requires-clause-needed g c = rw c.lines.invariant.same_matchers.same_expressions c.requires.needed
 
-pub returns-in_default-clause-told : goal.returns-in_default-clause-told
-returns-in_default-clause-told g c =
+pub returns-in_default-clause-reported : goal.returns-in_default-clause-reported
+returns-in_default-clause-reported g c =
     let s : Sought = record { expressions = map g.M.LineMatch.expression c.args.matchers.now; whole = c.args.whole } in
     let i = c.lines.invariant in
     let block = c.args.block.now in
@@ -42,15 +42,15 @@ returns-in_default-clause-steps g c =
     adds_within (n * from) (n * length block) _ _ (mul-le-mul_left n (passed_within (λ (line : Text). ¬ IsSought s line) block from passed))
     (adds_sweep_by n c.lines.start c.sweep.result _ _ _ c.requires.some i.steps c.sweep.ensures.steps)
 
-pub returns-then-any_matches-clause-told : goal.returns-then-any_matches-clause-told
-returns-then-any_matches-clause-told g c =
+pub returns-then-any_matches-clause-reported : goal.returns-then-any_matches-clause-reported
+returns-then-any_matches-clause-reported g c =
     let s : Sought = record { expressions = map g.M.LineMatch.expression c.args.matchers.now; whole = c.args.whole } in
     let i = c.lines.invariant in
     let block = c.args.block.now in
     let swept : PassesUnsought s (drop c.lines.start block) c.sweep.result = rw (← take_rest) (swept_by _ _ _ _ c.args.whole i.same_matchers.same_expressions i.same_matchers.same_wholes c.requires.alike _ _ c.sweep.ensures.passes) in
     let passed : PassesUnsought s block (c.lines.start + c.sweep.result) = passed_on (IsSought s) block c.lines.start c.sweep.result i.passed swept in
     next_from (IsSought s) block (c.lines.start + c.sweep.result) c.in-Some.end c.in-Some.ensures passed
-    (rw (← i.same_matchers.same_expressions) (c.if-any_matches.ensures.told.0 refl))
+    (rw (← i.same_matchers.same_expressions) (c.if-any_matches.ensures.reported.0 refl))
 
 pub returns-then-any_matches-clause-steps : goal.returns-then-any_matches-clause-steps
 returns-then-any_matches-clause-steps g c =
@@ -81,7 +81,7 @@ lines-preserved g c =
     let many = same_length g.M.LineMatch.expression c.lines.matchers c.args.matchers.now i.same_matchers.same_expressions in
     record {
       within = omega (arith, cut.1);
-      passed = passed_from (IsSought s) block from end cut passed (rw (← i.same_matchers.same_expressions) (λ holds. false≢true (c.if-any_matches.ensures.told.1 holds)));
+      passed = passed_from (IsSought s) block from end cut passed (rw (← i.same_matchers.same_expressions) (λ holds. false≢true (c.if-any_matches.ensures.reported.1 holds)));
       same_matchers = same_over c.any_matches.ensures.same_matchers i.same_matchers;
       steps = adds_line_by n from from end _ _ _ _ (omega arith) cut.0 (long (IsSought s) block from end cut passed)
           (adds_sweep_by n c.lines.start c.sweep.result _ _ _ c.requires.some i.steps c.sweep.ensures.steps) (rw many at c.any_matches.ensures.steps);

@@ -5,10 +5,10 @@ use Rattle.re_search.proofs.lemmas.OneMatcher.{only_one}
 use Rattle.re_search.proofs.lemmas.OneMatcher.{finds_of_one}
 use Rattle.re_search.proofs.searchers.asking.next_of_one.Goals as goal
 
-pub returns-clause-told : goal.returns-clause-told
-returns-clause-told g c =
+pub returns-clause-reported : goal.returns-clause-reported
+returns-clause-reported g c =
     let ms = c.args.matchers.now in
     let m = get_or ms 0 c.index-matchers-0.result in
     let is : get_or ms 0 m ≡ m = get_or_default ms 0 m c.index-matchers-0.result (omega (arith, c.requires.one)) in
     finds_of_one (map g.M.LineMatch.expression ms) (map g.M.LineMatch.whole ms) (g.M.LineMatch.expression m) (g.M.LineMatch.whole m) c.args.whole (only_one g.M.LineMatch.expression ms m c.requires.one is) (only_one g.M.LineMatch.whole ms m c.requires.one is) c.requires.alike
-    (lines_of c.args.block.now) c.next_matched.result c.next_matched.ensures.told
+    (lines_of c.args.block.now) c.next_matched.result c.next_matched.ensures.reported

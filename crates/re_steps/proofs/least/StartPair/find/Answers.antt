@@ -17,13 +17,13 @@ places-init c =
       steps = no_step (c.args.from - c.args.from) c.args.meter.now;
     }
 
-pub returns-then-is_settled-clause-told : goal.returns-then-is_settled-clause-told
-returns-then-is_settled-clause-told c =
+pub returns-then-is_settled-clause-reported : goal.returns-then-is_settled-clause-reported
+returns-then-is_settled-clause-reported c =
     let e = expression_of c.args.automaton.now in
     best_is_part e c.args.from c.args.line.now c.places.best (c.is_settled.ensures c.if-is_settled.true e c.args.from c.args.line.now c.places.place c.places.invariant.carries)
 
-pub returns-clause-told : goal.returns-clause-told
-returns-clause-told c =
+pub returns-clause-reported : goal.returns-clause-reported
+returns-clause-reported c =
     let line = c.args.line.now in
     let last : c.places.place ≡ length line = omega (arith, c.places.invariant.within) in
     best_is_part (expression_of c.args.automaton.now) c.args.from line c.places.best (rw last at c.places.invariant.carries.best)

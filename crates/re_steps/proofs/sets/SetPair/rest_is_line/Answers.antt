@@ -30,5 +30,5 @@ returns-clause-finishes c = λ first cache none goes. record {
   within = omega arith;
   set = c.places.self.current;
   goes = c.places.invariant.goes first cache none goes;
-  decides = inr (inr (record { last = omega arith; told = c.accepts.ensures.told }));
+  decides = inr (inr (record { last = omega arith; reported = c.accepts.ensures.reported }));
 }

@@ -6,7 +6,7 @@ pub places-preserved : goal.places-preserved
 places-preserved c = record {
   within = c.pass-place.ensures.on.1;
   made = c.pass-place.ensures.made;
-  goes = λ first cache none goes. c.pass-place.ensures.goes first cache none (λ search accepts. false≢true (c.if-accepts.ensures.told.1 accepts)) (c.places.invariant.goes first cache none goes);
+  goes = λ first cache none goes. c.pass-place.ensures.goes first cache none (λ search accepts. false≢true (c.if-accepts.ensures.reported.1 accepts)) (c.places.invariant.goes first cache none goes);
 }
 
 pub returns-then-accepts-clause-finishes : goal.returns-then-accepts-clause-finishes
@@ -15,7 +15,7 @@ returns-then-accepts-clause-finishes c = λ first cache none goes. record {
   within = c.places.invariant.within;
   set = c.places.self.current;
   goes = c.places.invariant.goes first cache none goes;
-  decides = inl (record { search = refl; within = c.places-test.true; accepting = c.if-accepts.ensures.told.0 refl; yes = refl });
+  decides = inl (record { search = refl; within = c.places-test.true; accepting = c.if-accepts.ensures.reported.0 refl; yes = refl });
 }
 
 pub returns-clause-finishes : goal.returns-clause-finishes
@@ -26,5 +26,5 @@ returns-clause-finishes c = λ first cache none goes.
       within = c.places.invariant.within;
       set = c.places.self.current;
       goes = c.places.invariant.goes first cache none goes;
-      decides = inr (inr (record { last = last; told = c.accepts-2.ensures.told }));
+      decides = inr (inr (record { last = last; reported = c.accepts-2.ensures.reported }));
     }

@@ -2,7 +2,7 @@ use Rattle.std.proofs.Common.{arith, refl, sym, ◌∙◌, subst}
 use Rattle.std.proofs.lemmas.Option.{slice_get_within}
 use Rattle.re_auto.specs.Working.StateSets.{IsMadeFor, IsSame}
 use Rattle.re_steps.specs.Working.Rows.{expression_in, rows_of}
-use Rattle.re_steps.proofs.lemmas.RowLaws.{first_later, tells_cell, row_small}
+use Rattle.re_steps.proofs.lemmas.RowLaws.{first_later, says_cell, row_small}
 use Rattle.re_steps.proofs.table.Table.begin_anew.Goals as goal
 
 pub number_of-requires-clause-made : goal.number_of-requires-clause-made
@@ -31,5 +31,5 @@ returns-clause-cell c = λ from byte next.
     let same = c.in_ok-number.ensures.number in
     let alike = subst (IsSame same.0) (c.begin.ensures.keeps.scratch ∙ c.clear.ensures.keeps.scratch) same.2 in
     let mark = c.in_ok-number.ensures.sound.marked c.in_ok-number.number same.0 same.1 in
-    tells_cell e c.args.asked.now.mode known.sets.keys known.stride from c.args.self.now.scratch same.0 byte c.in_ok-number.number c.cell_of.result mark.mark same.1 alike next mark.tells
+    says_cell e c.args.asked.now.mode known.sets.keys known.stride from c.args.self.now.scratch same.0 byte c.in_ok-number.number c.cell_of.result mark.mark same.1 alike next mark.reported_too
     (row_small e c.args.asked.now.mode (rows_of known) c.in_ok-number.ensures.sound c.in_ok-number.number same.0 same.1) (c.cell_of.ensures mark.mark mark.is)

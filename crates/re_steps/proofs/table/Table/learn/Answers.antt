@@ -5,7 +5,7 @@ use Rattle.re_steps.specs.declared.table.Table.{Table}
 use Rattle.re_steps.specs.Working.Pairs.{unknown, IsKeptOrLost}
 use Rattle.re_steps.specs.Working.Stages.{HoldsNoOther}
 use Rattle.re_steps.specs.Working.Rows.{Rows, IsRowOf, AreSound, cache_of, expression_in, rows_of}
-use Rattle.re_steps.proofs.lemmas.RowLaws.{first_later, cell_within, sound_held, tells_cell, set_of_row, row_small}
+use Rattle.re_steps.proofs.lemmas.RowLaws.{first_later, cell_within, sound_held, says_cell, set_of_row, row_small}
 use Rattle.re_steps.proofs.lemmas.WalkLaws.{holds_no_other}
 use Rattle.re_steps.proofs.table.Table.learn.Goals as goal
 
@@ -52,7 +52,7 @@ put-requires-clause-known c =
     (set_of_row (expression_in c.args.asked.now) c.args.asked.now.mode (rows_of c.args.self.now)
     c.requires.ready.0.sound c.args.row c.number.result row.0 c.index-as_slice-number.result c.as_slice.result.now row.1 c.as_slice.ensures.keys c.number.ensures c.index-as_slice-number.is)
     c.advance.ensures.next in
-    (tells_cell e c.args.asked.now.mode known.sets.keys known.stride row.0 c.advance.new.into same.0 c.args.byte c.in_ok-number.number c.cell_of-cell.result mark.mark same.1 same.2 next mark.tells
+    (says_cell e c.args.asked.now.mode known.sets.keys known.stride row.0 c.advance.new.into same.0 c.args.byte c.in_ok-number.number c.cell_of-cell.result mark.mark same.1 same.2 next mark.reported_too
     (row_small e c.args.asked.now.mode (rows_of known) c.in_ok-number.ensures.sound c.in_ok-number.number same.0 same.1) (c.cell_of-cell.ensures mark.mark mark.is)).0
 
 pub returns-clause-found : goal.returns-clause-found
@@ -65,7 +65,7 @@ returns-clause-found c = λ set row.
     (set_of_row (expression_in c.args.asked.now) c.args.asked.now.mode (rows_of c.args.self.now)
     c.requires.ready.0.sound c.args.row c.number.result set c.index-as_slice-number.result c.as_slice.result.now row c.as_slice.ensures.keys c.number.ensures c.index-as_slice-number.is)
     c.advance.ensures.next in
-    tells_cell e c.args.asked.now.mode known.sets.keys known.stride set c.advance.new.into same.0 c.args.byte c.in_ok-number.number c.cell_of-cell.result mark.mark same.1 same.2 next mark.tells
+    says_cell e c.args.asked.now.mode known.sets.keys known.stride set c.advance.new.into same.0 c.args.byte c.in_ok-number.number c.cell_of-cell.result mark.mark same.1 same.2 next mark.reported_too
     (row_small e c.args.asked.now.mode (rows_of known) c.in_ok-number.ensures.sound c.in_ok-number.number same.0 same.1) (c.cell_of-cell.ensures mark.mark mark.is)
 
 pub returns-clause-right : goal.returns-clause-right

@@ -11,7 +11,7 @@ returns-then-is_matched_at_once-clause-gives c =
     let e = expression_in c.args.asked.now in
     let right = c.requires.ready.0 in
     let first = first_stage c.args.asked.now c.args.self.now right c.args.meter.now in
-    let told = c.if-is_matched_at_once.ensures.yes right.first.start right.first.is_start refl in (
+    let reported = c.if-is_matched_at_once.ensures.yes right.first.start right.first.is_start refl in (
       right,
       record {
         first = first;
@@ -23,7 +23,7 @@ returns-then-is_matched_at_once-clause-gives c =
           within = omega arith;
           set = right.first.start;
           goes = goes_nowhere e c.args.asked.now.mode c.args.asked.now.line.now first;
-          decides = inl told;
+          decides = inl reported;
         };
       },
     )
@@ -52,15 +52,15 @@ places-preserved c =
       comes = λ first came. on.comes first (c.places.invariant.comes first came);
     }
 
-pub returns-in-Told-clause-gives : goal.returns-in-Told-clause-gives
-returns-in-Told-clause-gives c =
+pub returns-in-Reported-clause-gives : goal.returns-in-Reported-clause-gives
+returns-in-Reported-clause-gives c =
     let e = expression_in c.args.asked.now in
     let right = c.requires.ready.0 in
-    let told = c.in-Told.ensures.arrives in
+    let reported = c.in-Reported.ensures.arrives in
     let first = first_stage c.args.asked.now c.args.self.now right c.args.meter.now in
     let came = comes_first c.args.asked.now c.args.self.now right c.args.meter.now (c.if-is_matched_at_once.ensures.no right.first.start right.first.is_start refl) in (
-      told.right,
-      record { first = first; stands = right.first.stands c.args.asked.now.line.now; cache = inl refl; steps = refl; finishes = told.finishes first (c.places.invariant.comes first came) },
+      reported.right,
+      record { first = first; stands = right.first.stands c.args.asked.now.line.now; cache = inl refl; steps = refl; finishes = reported.finishes first (c.places.invariant.comes first came) },
     )
 
 pub returns-in-Alone-clause-gives : goal.returns-in-Alone-clause-gives
@@ -108,7 +108,7 @@ returns-clause-gives c =
           within = c.places.invariant.within;
           set = came.set;
           goes = came.goes;
-          decides = inr (inr (record { last = last; told = mark.at_end }));
+          decides = inr (inr (record { last = last; reported = mark.at_end }));
         };
       },
     )

@@ -24,7 +24,7 @@ returns-then-walk-ne-UNKNOWN-clause-cell c =
     subst (λ cell. (cell < unknown) × IsRow known (row_under cell)) (sym c.requires.cell) (
       held,
       row_below (expression_in c.args.asked.now) c.args.asked.now.mode (rows_of known) c.requires.ready.0.sound c.requires.row.0 c.args.byte (cell_at known.classes.items known.pairs.cells c.args.walk.row c.args.byte)
-          (c.requires.ready.0.sound.tells c.args.walk.row c.requires.row.0 c.args.byte c.requires.row.1 c.ranges.byte.fits) held,
+          (c.requires.ready.0.sound.reported_too c.args.walk.row c.requires.row.0 c.args.byte c.requires.row.1 c.ranges.byte.fits) held,
     )
 
 pub returns-then-walk-ne-UNKNOWN-clause-lands : goal.returns-then-walk-ne-UNKNOWN-clause-lands
@@ -63,9 +63,9 @@ returns-in_default-clause-cell c =
     let next = c.learn.ensures.next c.requires.row.0 c.requires.row.1 in
     each c.begin_anew.result (λ cell. (cell < unknown) × IsRow new (row_under cell)) (λ cell is.
     let right = subst (λ o. IfSome o (λ _. IsRightFor c.args.asked.now new)) is c.begin_anew.ensures.right in
-    let told = subst (λ o. IfSome o (IsKnownCell c.args.asked.now new c.requires.row.0 c.args.byte)) is (c.begin_anew.ensures.cell c.requires.row.0 c.args.byte next) in (
-      told.0,
-      row_below e c.args.asked.now.mode (rows_of new) right.sound c.requires.row.0 c.args.byte cell told.1 told.0,
+    let reported = subst (λ o. IfSome o (IsKnownCell c.args.asked.now new c.requires.row.0 c.args.byte)) is (c.begin_anew.ensures.cell c.requires.row.0 c.args.byte next) in (
+      reported.0,
+      row_below e c.args.asked.now.mode (rows_of new) right.sound c.requires.row.0 c.args.byte cell reported.1 reported.0,
     ))
 
 pub returns-in_default-clause-lands : goal.returns-in_default-clause-lands

@@ -15,7 +15,7 @@ places-preserved c =
     let same : slice_index c.cells-cells.result.now (at + slice_index c.as_slice-classes.result.now byte) ≡ cell_at known.classes.items known.pairs.cells at byte =
     rw (c.places.invariant.classes, c.places.invariant.cells) refl in
     let row = c.places.invariant.row in
-    let on = (c.requires.right.sound.tells at row.0 byte row.1 small).plain (omega (arith, same, c.if-cell-ge-LIMIT.false)) in
+    let on = (c.requires.right.sound.reported_too at row.0 byte row.1 small).plain (omega (arith, same, c.if-cell-ge-LIMIT.false)) in
     record {
       classes = c.places.invariant.classes;
       cells = c.places.invariant.cells;

@@ -14,7 +14,7 @@ returns-in_default c = λ all t.
     let line = keys fold c.args.line.now in
     let size : length line ≡ length c.args.line.now = length-map c.args.line.now (key fold) in
     let here : c.key_of.result ≡ slice_index line c.places.place = c.key_of.ensures ∙ sym (key_at fold c.args.line.now c.places.place c.places-test.true) in
-    let none = subst (λ b. IsFront all.strings (all.label c.places.node ++ b ∷ []) → ⊥) here (c.in_default.ensures.told all t.trie) in (
+    let none = subst (λ b. IsFront all.strings (all.label c.places.node ++ b ∷ []) → ⊥) here (c.in_default.ensures.reported all t.trie) in (
       (λ h. absurd (false≢true h)),
       (λ whole. absurd (goes_on_in_line all.strings line (all.label c.places.node) c.places.place (let lt = c.places-test.true in omega (arith, size, lt)) (c.places.invariant.read all t) none whole)),
     )
@@ -26,9 +26,9 @@ places-preserved c =
     let size : length line ≡ length c.args.line.now = length-map c.args.line.now (key fold) in
     let here : c.key_of.result ≡ slice_index line c.places.place = c.key_of.ensures ∙ sym (key_at fold c.args.line.now c.places.place c.places-test.true) in
     record {
-      in_trie = c.in-Some.ensures.behind.1;
+      in_trie = c.in-Some.ensures.beyond.1;
       read = λ all t.
-          c.in-Some.ensures.told all t.trie ∙ ap (λ b. all.label c.places.node ++ b ∷ []) here ∙ ap (λ w. w ++ slice_index line c.places.place ∷ []) (c.places.invariant.read all t)
+          c.in-Some.ensures.reported all t.trie ∙ ap (λ b. all.label c.places.node ++ b ∷ []) here ∙ ap (λ w. w ++ slice_index line c.places.place ∷ []) (c.places.invariant.read all t)
           ∙ sym (one_more_byte line c.places.place (let lt = c.places-test.true in omega (arith, size, lt)));
     }
 

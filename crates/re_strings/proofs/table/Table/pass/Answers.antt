@@ -3,7 +3,7 @@ use Rattle.std.proofs.lemmas.List.{length-map}
 use Rattle.re_strings.specs.Working.FixedSets.{Steps}
 use Rattle.re_strings.specs.Working.Keys.{key, keys}
 use Rattle.re_strings.proofs.lemmas.KeyLaws.{key_at, start_of_key}
-use Rattle.re_strings.proofs.lemmas.SetSearch.{stands_behind}
+use Rattle.re_strings.proofs.lemmas.SetSearch.{stands_after}
 use Rattle.re_strings.proofs.table.Table.pass.Goals as goal
 
 pub returns-then-start-line-clause-between : goal.returns-then-start-line-clause-between
@@ -22,5 +22,5 @@ returns-clause-stands c = λ all t from low s.
     let here : c.key_of-byte.result ≡ slice_index line start = is ∙ sym (key_at fold c.args.line.now start inside) in
     let steps = (rw (c.deref.ensures.value, c.deref-2.ensures.value) at c.step-into.ensures.step) all t.trie
     (start_of_key fold all c.args.self.now.starts.items t.starts (slice_index c.args.line.now start) c.key_of-byte.result is (omega arith)) t.fails in
-    stands_behind all from line start c.args.node c.step-into.result (omega (arith, size, inside)) (c.next_start-start.ensures.stands all t from low s)
+    stands_after all from line start c.args.node c.step-into.result (omega (arith, size, inside)) (c.next_start-start.ensures.stands all t from low s)
     (subst (λ b. Steps all c.args.node b c.step-into.result) here steps)

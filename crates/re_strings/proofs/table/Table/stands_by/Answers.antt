@@ -16,12 +16,12 @@ places-init c = record {
 pub returns-then-index-gt0 : goal.returns-then-index-gt0
 returns-then-index-gt0 c = λ all t.
     let size : length (keys c.args.self.now.fold c.args.line.now) ≡ length c.args.line.now = length-map c.args.line.now (key c.args.self.now.fold) in
-    let in_rows : c.pass-behind.result.1 < length c.args.self.now.ends.items = let r = c.requires.table.ends in let w = c.pass-behind.ensures.in_trie in omega (arith, r, w) in
-    let read = row_read c.args.self.now.ends.items c.pass-behind.result.1 c.index.result.now in_rows c.index.ensures in (
-      (λ _. some_ends all 0 (keys c.args.self.now.fold c.args.line.now) c.pass-behind.result.0 c.pass-behind.result.1 (slice_index c.args.self.now.ends.items c.pass-behind.result.1)
-          (let w = c.pass-behind.ensures.on.1 in omega (arith, size, w))
-          (c.pass-behind.ensures.stands all t 0 (omega arith) (c.places.invariant.stands all t))
-          (t.ends c.pass-behind.result.1 c.pass-behind.ensures.in_trie)
+    let in_rows : c.pass-beyond.result.1 < length c.args.self.now.ends.items = let r = c.requires.table.ends in let w = c.pass-beyond.ensures.in_trie in omega (arith, r, w) in
+    let read = row_read c.args.self.now.ends.items c.pass-beyond.result.1 c.index.result.now in_rows c.index.ensures in (
+      (λ _. some_ends all 0 (keys c.args.self.now.fold c.args.line.now) c.pass-beyond.result.0 c.pass-beyond.result.1 (slice_index c.args.self.now.ends.items c.pass-beyond.result.1)
+          (let w = c.pass-beyond.ensures.on.1 in omega (arith, size, w))
+          (c.pass-beyond.ensures.stands all t 0 (omega arith) (c.places.invariant.stands all t))
+          (t.ends c.pass-beyond.result.1 c.pass-beyond.ensures.in_trie)
           (omega (arith, read, c.if-index-gt0.true))),
       (λ _. refl),
     )
@@ -29,18 +29,18 @@ returns-then-index-gt0 c = λ all t.
 pub places-preserved : goal.places-preserved
 places-preserved c =
     let size : length (keys c.args.self.now.fold c.args.line.now) ≡ length c.args.line.now = length-map c.args.line.now (key c.args.self.now.fold) in
-    let in_rows : c.pass-behind.result.1 < length c.args.self.now.ends.items = let r = c.requires.table.ends in let w = c.pass-behind.ensures.in_trie in omega (arith, r, w) in
-    let read = row_read c.args.self.now.ends.items c.pass-behind.result.1 c.index.result.now in_rows c.index.ensures in
+    let in_rows : c.pass-beyond.result.1 < length c.args.self.now.ends.items = let r = c.requires.table.ends in let w = c.pass-beyond.ensures.in_trie in omega (arith, r, w) in
+    let read = row_read c.args.self.now.ends.items c.pass-beyond.result.1 c.index.result.now in_rows c.index.ensures in
     record {
-      within = c.pass-behind.ensures.on.1;
-      in_trie = c.pass-behind.ensures.in_trie;
-      stands = λ all t. c.pass-behind.ensures.stands all t 0 (omega arith) (c.places.invariant.stands all t);
+      within = c.pass-beyond.ensures.on.1;
+      in_trie = c.pass-beyond.ensures.in_trie;
+      stands = λ all t. c.pass-beyond.ensures.stands all t 0 (omega arith) (c.places.invariant.stands all t);
       none = λ all t.
-          none_up_to all 0 (keys c.args.self.now.fold c.args.line.now) c.places.place c.pass-behind.result.0 c.pass-behind.result.1 (slice_index c.args.self.now.ends.items c.pass-behind.result.1)
-          (let w = c.pass-behind.ensures.on.1 in omega (arith, size, w)) (c.places.invariant.none all t)
-          (c.pass-behind.ensures.between all t 0 (omega arith) (c.places.invariant.stands all t))
-          (c.pass-behind.ensures.stands all t 0 (omega arith) (c.places.invariant.stands all t))
-          (t.ends c.pass-behind.result.1 c.pass-behind.ensures.in_trie)
+          none_up_to all 0 (keys c.args.self.now.fold c.args.line.now) c.places.place c.pass-beyond.result.0 c.pass-beyond.result.1 (slice_index c.args.self.now.ends.items c.pass-beyond.result.1)
+          (let w = c.pass-beyond.ensures.on.1 in omega (arith, size, w)) (c.places.invariant.none all t)
+          (c.pass-beyond.ensures.between all t 0 (omega arith) (c.places.invariant.stands all t))
+          (c.pass-beyond.ensures.stands all t 0 (omega arith) (c.places.invariant.stands all t))
+          (t.ends c.pass-beyond.result.1 c.pass-beyond.ensures.in_trie)
           (omega (arith, read, c.if-index-gt0.false));
     }
 

@@ -3,8 +3,8 @@ use Rattle.std.proofs.lemmas.Grind.{get_or_default_zero}
 use Rattle.re_strings.proofs.lemmas.SetTries.{found_between, not_between}
 use Rattle.re_strings.proofs.trie.Trie.child.Goals as goal
 
-pub returns-in_err-place-clause-told : goal.returns-in_err-place-clause-told
-returns-in_err-place-clause-told c = λ all t. rw c.from_residual.ensures (λ front.
+pub returns-in_err-place-clause-reported : goal.returns-in_err-place-clause-reported
+returns-in_err-place-clause-reported c = λ all t. rw c.from_residual.ensures (λ front.
     let found = t.complete c.args.node c.args.byte c.requires.within front in
     let i : c.index.result.now ≡ slice_index c.args.self.now.first.items c.args.node =
     c.index.ensures ∙ get_or_default_zero c.args.self.now.first.items c.args.node c.index.result.now (let r = c.requires.trie.rows in let w = c.requires.within in omega (arith, r, w)) in
@@ -30,17 +30,17 @@ found_of c =
     found_between c.deref.result.now c.index.result.now c.index-2.result.now c.args.byte c.in_ok-place.place
     (omega (arith, low_of c, high_of c, ordered)) (omega (arith, high_of c, within, same)) c.in_ok-place.ensures.0.high c.in_ok-place.ensures.1
 
-pub returns-clause-behind : goal.returns-clause-behind
-returns-clause-behind c =
+pub returns-clause-beyond : goal.returns-clause-beyond
+returns-clause-beyond c =
     let low = low_of c in
     let high = high_of c in
     let found = (found_of c).0 in
-    let behind = c.requires.trie.behind c.args.node c.requires.within in
+    let beyond = c.requires.trie.beyond c.args.node c.requires.within in
     let within = c.requires.trie.within c.args.node c.requires.within in
-    (omega (arith, low, behind), omega (arith, high, within, found), omega (arith, high, found))
+    (omega (arith, low, beyond), omega (arith, high, within, found), omega (arith, high, found))
 
-pub returns-clause-told : goal.returns-clause-told
-returns-clause-told c = λ all t.
+pub returns-clause-reported : goal.returns-clause-reported
+returns-clause-reported c = λ all t.
     let low = low_of c in
     let high = high_of c in
     let found = found_of c in

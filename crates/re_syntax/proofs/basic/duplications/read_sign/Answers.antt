@@ -8,4 +8,4 @@ pub returns-in-Some-after : goal.returns-in-Some-after
 returns-in-Some-after c = plus_stands c.in-Some-after.ensures
 
 pub returns : goal.returns
-returns c = question_stands c.in_ok-behind.ensures
+returns c = question_stands c.in_ok-beyond.ensures

@@ -1,7 +1,7 @@
 use Rattle.std.proofs.Common.{◌≡◌, ◌+◌, ◌-◌, ◌<◌, [], ◌∷◌, length, take, drop, rules, arith, sym, ap, ◌∙◌, add-one}
 use Rattle.std.proofs.lemmas.List.{take_rest}
 use Rattle.re_syntax.specs.Lines.{lines_of}
-use Rattle.re_syntax.proofs.lemmas.SplittingLaws.{lines_of-at, lines_of-none, lines_of-empty, lines_of-behind}
+use Rattle.re_syntax.proofs.lemmas.SplittingLaws.{lines_of-at, lines_of-none, lines_of-empty, lines_of-beyond}
 use Rattle.re_syntax.proofs.split.FilePatternsIterator.next.Goals as goal
 
 -- nothing is left
@@ -26,7 +26,7 @@ at_end : (c : goal.After-self-in-None-2-1) →
     c.args.self.now ≡ c.self.inside.rest.now ∷ lines_of (take (length c.self.inside.rest.now - length c.self.inside.rest.now) (drop (length c.self.inside.rest.now) c.self.inside.rest.now))
 at_end c =
     let full : 0 < length c.self.inside.rest.now = search rules in
-    sym c.self.view_is ∙ lines_of-none c.self.inside.rest.now full (search rules) ∙ simp (take_rest, lines_of-behind)
+    sym c.self.view_is ∙ lines_of-none c.self.inside.rest.now full (search rules) ∙ simp (take_rest, lines_of-beyond)
 
 pub returns-in-None-clause-steps : goal.returns-in-None-clause-steps
 returns-in-None-clause-steps c = at_end c

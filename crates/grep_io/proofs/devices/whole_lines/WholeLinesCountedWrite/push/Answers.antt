@@ -1,5 +1,5 @@
 use Rattle.std.proofs.Common.{arith, rules}
-use Rattle.grep_io.proofs.lemmas.LineSentLemmas.{no_newline_waits, line_taken, line_within, line_written, line_counted, text_gathered}
+use Rattle.grep_io.proofs.lemmas.LineSentLemmas.{no_newline_waits, line_taken, line_within, line_written, line_counted, text_collected}
 use Rattle.grep_io.proofs.devices.whole_lines.WholeLinesCountedWrite.push.Goals as goal
 
 pub invariant_of-self-2 : goal.invariant_of-self-2
@@ -34,4 +34,4 @@ returns-clause-bound g c = line_within g.W.CountedWrite.contents g.W.CountedWrit
 
 pub returns-in_default-clause-bytes : goal.returns-in_default-clause-bytes
 returns-in_default-clause-bytes g c =
-    text_gathered g.W.CountedWrite.contents g.W.CountedWrite.failures c.args.self.now c.make_room.new.self c.self.inside.inner c.self.inside.buffer.items c.gather.new.buffer.items _ c.self.view_is c.make_room.ensures.kept c.gather.ensures.items
+    text_collected g.W.CountedWrite.contents g.W.CountedWrite.failures c.args.self.now c.make_room.new.self c.self.inside.inner c.self.inside.buffer.items c.collect_text.new.buffer.items _ c.self.view_is c.make_room.ensures.kept c.collect_text.ensures.items

@@ -15,8 +15,8 @@ returns-in-Ok-true-clause-next g c = λ reader handed s.
 
 pub returns-in-Ok-true-2-clause-next : goal.returns-in-Ok-true-2-clause-next
 returns-in-Ok-true-2-clause-next g c = λ reader handed s.
-    let told = rw c.in-Ok-true.field-0-test at c.in-Ok-true.ensures.line in
-    let handed_out = rw (← c.self.view_is) at told in
+    let reported = rw c.in-Ok-true.field-0-test at c.in-Ok-true.ensures.line in
+    let handed_out = rw (← c.self.view_is) at reported in
     let same = rw (← c.self.view_is) at c.next_line.ensures.same_number in
     let below : c.self.inside.number < most_lines = omega arith in
     next_is_line g.R.CountedRead.remaining g.R.CountedRead.failures reader c.args.self.now _ same handed s below handed_out
@@ -45,8 +45,8 @@ returns-in-Ok-true-clause-held g c =
 
 pub returns-in-Ok-true-2-clause-held : goal.returns-in-Ok-true-2-clause-held
 returns-in-Ok-true-2-clause-held g c =
-    let told = rw c.in-Ok-true.field-0-test at c.in-Ok-true.ensures.line in
-    let handed_out = rw (← c.self.view_is) at told in
+    let reported = rw c.in-Ok-true.field-0-test at c.in-Ok-true.ensures.line in
+    let handed_out = rw (← c.self.view_is) at reported in
     one_line_and_few [] c.self.inside.window.ahead none_in_nothing handed_out.few_held
 
 pub returns-in-Ok-false-clause-held : goal.returns-in-Ok-false-clause-held

@@ -3,7 +3,7 @@ use Rattle.std.specs.Prelude.{⊤}
 use Rattle.re_syntax.proofs.lemmas.LinesLaws.{none_in_empty}
 use Rattle.re_needle.specs.Working.Blocks.{PassesAll}
 use Rattle.grep_io.specs.Working.Held.{Held, waiting}
-use Rattle.grep_io.proofs.lemmas.WindowBlocks.{past_waiting, passed_before, ahead_behind}
+use Rattle.grep_io.proofs.lemmas.WindowBlocks.{past_waiting, passed_before, ahead_after}
 use Rattle.grep_io.proofs.input.window.Window.pass.Goals as goal
 
 pub overflow_sub-self : goal.overflow_sub-self
@@ -58,4 +58,4 @@ returns-then-count-gt0-clause-ahead c =
     let passes = subst (λ (h : Held). PassesAll (λ _. ⊤) h.ahead c.args.count) (sym c.self.view_is) c.requires in
     let spilled : c.len.result ≡ length c.empty_where_shown.new.spill.items = search rules in
     let waits : c.len.result ≡ length (waiting a.shown a.spill.items) = spilled ∙ ap length c.empty_where_shown.ensures in
-    rw (← c.self.view_is, c.clear.ensures.items, waits) (ahead_behind a.buffer.items (waiting a.shown a.spill.items) a.start a.last a.end c.args.count within ordered i.cut_off i.unfinished passes c.if-count-gt0.true i.before_end)
+    rw (← c.self.view_is, c.clear.ensures.items, waits) (ahead_after a.buffer.items (waiting a.shown a.spill.items) a.start a.last a.end c.args.count within ordered i.cut_off i.unfinished passes c.if-count-gt0.true i.before_end)

@@ -6,10 +6,10 @@ use Rattle.grep_utility.proofs.words.pieces.WordPieces.option.Goals as goal
 
 pub returns-then-not-is_empty : goal.returns-then-not-is_empty
 returns-then-not-is_empty c =
-    let behind = pieces (words_left c.args.self.now) in
-    group-argument behind c.args.letter c.in-Some-Takes.argument (search rules) c.args.rest.now c.utf8.rest (search rules)
-    ∙ ap (λ p. p ∷ behind None) (sym c.with_argument.ensures)
-    ∙ ap (λ ps. piece_of c.with_argument.result ∷ ps) (sym (group-end behind [] refl))
+    let beyond = pieces (words_left c.args.self.now) in
+    group-argument beyond c.args.letter c.in-Some-Takes.argument (search rules) c.args.rest.now c.utf8.rest (search rules)
+    ∙ ap (λ p. p ∷ beyond None) (sym c.with_argument.ensures)
+    ∙ ap (λ ps. piece_of c.with_argument.result ∷ ps) (sym (group-end beyond [] refl))
 
 pub returns-in-Some : goal.returns-in-Some
 returns-in-Some c =

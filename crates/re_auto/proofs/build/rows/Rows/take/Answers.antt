@@ -11,6 +11,6 @@ returns c =
       takes_length = ap length is ∙ c.mark_takers.ensures.len ∙ ap length c.deref_mut.ensures.value;
       follow = λ p q within. (inl, λ h. elim h [ inl a ↦ a | inr none ↦ absurd none ]);
       takes = λ b q lt.
-          let told = rw c.deref_mut.ensures.value at (c.mark_takers.ensures.added b q lt) in
-          rw is ((λ h. elim (told.0 h) [ inl a ↦ inl a | inr m ↦ inr (m.1, m.0) ]), (λ h. told.1 (elim h [ inl a ↦ inl a | inr m ↦ inr (m.1, m.0) ])));
+          let reported = rw c.deref_mut.ensures.value at (c.mark_takers.ensures.added b q lt) in
+          rw is ((λ h. elim (reported.0 h) [ inl a ↦ inl a | inr m ↦ inr (m.1, m.0) ]), (λ h. reported.1 (elim h [ inl a ↦ inl a | inr m ↦ inr (m.1, m.0) ])));
     }

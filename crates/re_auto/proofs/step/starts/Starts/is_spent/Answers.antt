@@ -11,8 +11,8 @@ returns-in-Some-clause-spent c =
 
 pub returns-in-None-clause-spent : goal.returns-in-None-clause-spent
 returns-in-None-clause-spent c =
-    let told = spent_by c.args.self.now None c.args.start (rw (c.deref.ensures.value, c.in-None.is) at c.least_among.ensures) in
-    (λ h. told.0 (λ none. none), λ h. refl)
+    let reported = spent_by c.args.self.now None c.args.start (rw (c.deref.ensures.value, c.in-None.is) at c.least_among.ensures) in
+    (λ h. reported.0 (λ none. none), λ h. refl)
 
 pub returns-in-Some-clause-over : goal.returns-in-Some-clause-over
 returns-in-Some-clause-over c = λ h. over_by c.args.self.now c.args.start ((returns-in-Some-clause-spent c).0 h)

@@ -1,0 +1,28 @@
+use Rattle.std.proofs.Common.{◌≡◌, ◌≢◌, ◌-◌, length, take, sym, ap, ◌∙◌, arith}
+use Rattle.std.proofs.lemmas.List.{length-take}
+use Rattle.re_syntax.specs.Lines.{lines_of, terminated}
+use Rattle.grep_core.proofs.lemmas.BlockLines.{begins_none, begins_all, begins_last, begins_before}
+use Rattle.grep_core.proofs.search.recent.last_lines.Goals as goal
+
+pub loop-init : goal.loop-init
+loop-init c = record { within = omega arith; recent = begins_none c.args.block.now c.requires }
+
+pub returns-then-start-eq0-clause-begin : goal.returns-then-start-eq0-clause-begin
+returns-then-start-eq0-clause-begin c =
+    let zero_start : c.loop.start ≡ 0 = omega arith in
+    begins_all c.args.block.now c.requires c.loop.counter c.args.most (sym zero_start ∙ c.loop.invariant.recent) (omega (arith, c.loop-test.true))
+
+pub loop-preserved : goal.loop-preserved
+loop-preserved c =
+    let next = c.lines_end-start.ensures in
+    let some : c.loop.start ≢ 0 = λ none. omega (arith, none) in
+    record {
+      within = omega (arith, next.within, length-take (c.loop.start - 1) c.args.block.now);
+      recent = begins_before c.args.block.now c.requires c.loop.start c.loop.counter c.loop.invariant.recent some c.lines_end-start.result next.within next.ended next.cut_off;
+    }
+
+pub returns-clause-begin : goal.returns-clause-begin
+returns-clause-begin c =
+    let lines = lines_of c.args.block.now in
+    let all : c.loop.counter ≡ c.args.most = omega (arith, c.loop-test.false, c.loop.auto.counter-end) in
+    begins_last c.args.block.now c.requires c.loop.start c.args.most (c.loop.invariant.recent ∙ ap (λ k. length (terminated (take (length lines - k) lines))) all)

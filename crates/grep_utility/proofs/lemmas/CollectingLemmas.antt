@@ -1,0 +1,77 @@
+-- The buffered patterns, with one more line of a file at a time.
+use Rattle.std.proofs.Common.{◌≡◌, ℕ, ◌-◌, ◌<◌, true, false, List, [], ◌∷◌, ◌++◌, All, Option, Ok, Err, refl, sym, ap, subst, ◌∙◌, append_assoc, append-nil, arith}
+use Rattle.std.proofs.lemmas.List.{length_push}
+use Rattle.std.proofs.lemmas.List.Elements.{All-append}
+use Rattle.re_syntax.specs.Bytes.{Text}
+use Rattle.re_syntax.specs.Lines.{newline, terminated, HasNoNewline}
+use Rattle.re_syntax.proofs.lemmas.LinesLaws.{all_none, AreLines-lines_of}
+use Rattle.grep_io.specs.declared.input.lines.ReadFault.TheVariants.{Device}
+use Rattle.grep_io.specs.declared.input.lines.Stage.{Stage}
+use Rattle.grep_io.specs.declared.input.lines.Stage.TheVariants.{Open, Ended, Failed}
+use Rattle.grep_core.specs.Reading.{most_lines}
+use Rattle.grep_core.specs.Working.Handed.{AreHanded}
+use Rattle.grep_core.specs.Working.Numbered.{Numbered, HasHanded, NextIs}
+use Rattle.grep_core.proofs.lemmas.NumberedLemmas.{has_handed_none}
+use Rattle.grep_utility.specs.Working.CollectedTexts.{Adds, AddsLines}
+
+-- two lists of texts, one after the other
+pub terminated-append : (ts us : List Text) → terminated (ts ++ us) ≡ terminated ts ++ terminated us
+terminated-append [] us = refl
+terminated-append (t ∷ ts) us = ap (λ l. t ++ newline ∷ l) (terminated-append ts us) ∙ sym (append_assoc t (newline ∷ terminated ts) (terminated us))
+
+-- nothing was added yet
+pub Adds-none : (bytes : Text) → Adds bytes bytes []
+Adds-none bytes = record { bytes = sym (append-nil bytes); no_newlines = all_none }
+
+-- some patterns were added, and then others
+pub Adds-trans : (old mid new : Text) (ts us : List Text) → Adds old mid ts → Adds mid new us → Adds old new (ts ++ us)
+Adds-trans old mid new ts us h k = record {
+  bytes = k.bytes ∙ ap (λ l. l ++ terminated us) h.bytes ∙ append_assoc old (terminated ts) (terminated us) ∙ ap (λ l. old ++ l) (sym (terminated-append ts us));
+  no_newlines = All-append HasNoNewline ts us h.no_newlines k.no_newlines;
+}
+
+-- no line that was handed out has a newline
+free_lines : (stage : Stage) (given : Text) (handed : List Text) → AreHanded stage given handed → All HasNoNewline handed
+free_lines Open given handed h = h.1
+free_lines Ended given handed h = subst (All HasNoNewline) h (AreLines-lines_of given).0
+free_lines Failed given handed h = absurd h
+
+module _ {R : Type 0} (remaining : R → Option Text) (failures : R → ℕ) where
+  -- the lines of a reader that were handed out were added
+  pub record LinesSoFar (reader : R) (now : Numbered R) (before after : Text) : Type 0 where
+    pub lines : List Text
+    pub handed : HasHanded remaining failures reader now lines
+    pub bytes : after ≡ before ++ terminated lines
+
+  -- none yet
+  pub so_far_none : (now : Numbered R) (bytes : Text) → now.lines.ahead ≡ [] → now.lines.stage ≡ Open → now.number ≡ 0 → LinesSoFar now.lines.reader now bytes bytes
+  so_far_none now bytes none is_open zero =
+      record { lines = []; handed = has_handed_none remaining failures now none is_open zero; bytes = sym (append-nil bytes) }
+
+  module _ (reader : R) (old new : Numbered R) (before mid : Text) (s : LinesSoFar reader old before mid) where
+    added : Adds before mid s.lines
+    added = record { bytes = s.bytes; no_newlines = free_lines old.lines.stage s.handed.hands.given s.lines s.handed.hands.are_handed }
+
+    -- one more line
+    pub so_far_line : (after line : Text) → NextIs remaining failures reader s.lines new (Ok true) → line ≡ new.lines.line → after ≡ mid ++ (line ++ newline ∷ []) → LinesSoFar reader new before after
+    so_far_line after line next is pushed =
+        let beyond : after ≡ mid ++ terminated (new.lines.line ∷ []) = pushed ∙ ap (λ l. mid ++ (l ++ newline ∷ [])) is in
+        record {
+          lines = s.lines ++ new.lines.line ∷ [];
+          handed = next;
+          bytes =
+              beyond ∙ ap (λ l. l ++ terminated (new.lines.line ∷ [])) s.bytes ∙ append_assoc before (terminated s.lines) (terminated (new.lines.line ∷ []))
+              ∙ ap (λ l. before ++ l) (sym (terminated-append s.lines (new.lines.line ∷ [])));
+        }
+
+    -- no line is left
+    pub all_added : NextIs remaining failures reader s.lines new (Ok false) → AddsLines (remaining reader) (remaining new.lines.reader) (failures reader) (failures new.lines.reader) before mid true
+    all_added stands = record { texts = s.lines; adds = added; stands = stands }
+
+    -- a read failed, or there is one line more than can be numbered
+    pub some_added : NextIs remaining failures reader s.lines new (Err Device) → AddsLines (remaining reader) (remaining new.lines.reader) (failures reader) (failures new.lines.reader) before mid false
+    some_added stands = record { texts = s.lines; adds = added; stands = stands }
+
+    -- with each line there are fewer that can be numbered
+    pub fewer_left : NextIs remaining failures reader s.lines new (Ok true) → most_lines - new.number < most_lines - old.number
+    fewer_left next = omega (arith, next.few, next.counted, s.handed.counted, length_push s.lines new.lines.line)

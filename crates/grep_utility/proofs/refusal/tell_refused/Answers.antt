@@ -1,6 +1,0 @@
-use Rattle.grep_utility.specs.Texts.{pattern_refused}
-use Rattle.grep_utility.proofs.lemmas.TellingLemmas.{tells_line}
-use Rattle.grep_utility.proofs.refusal.tell_refused.Goals as goal
-
-pub returns : goal.returns
-returns g c = tells_line g.M.CountedWrite.contents g.M.CountedWrite.failures _ _ (pattern_refused c.args.place c.args.fault) c.write_pattern_refused.result c.write_pattern_refused.ensures
