@@ -1,5 +1,5 @@
-//! One matcher: what decides whether a line is matched by an expression, and finds its matched parts, in
-//! counted steps.
+//! One matcher: what decides whether a line is matched by an expression, and finds its matched
+//! parts, in counted steps.
 #![tactic(auto)]
 
 mod cached;

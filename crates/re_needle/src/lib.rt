@@ -1,4 +1,4 @@
-//! What every match of an expression contains, and the search for it in lines and in blocks of lines.
+//! What every match of an expression contains, and the search for it in lines and blocks of lines.
 #![tactic(auto)]
 
 mod alike;

@@ -1,5 +1,5 @@
-//! Several matchers over one line or block, with the strings that all of them need. What the crates above
-//! use of one matcher is passed on.
+//! Several matchers over one line or block, with the strings that all of them need. What the crates
+//! above use of one matcher is passed on.
 #![tactic(auto)]
 
 mod filter;

@@ -1,5 +1,5 @@
-//! Searches by the steps of an automaton: sets of positions and least starts on their way over a line,
-//! and a bounded cache of the steps between sets.
+//! Searches by the steps of an automaton: sets of positions and least starts on their way over a
+//! line, and a bounded cache of the steps between sets.
 #![tactic(auto)]
 
 mod least;

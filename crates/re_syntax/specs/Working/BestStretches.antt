@@ -1,5 +1,5 @@
--- The best of the stretches that end up to a place: the one that begins earliest, and of those that begin
--- there the longest.
+-- The best of the stretches that end up to a place: the one that begins earliest, and of those that
+-- begin there the longest.
 use Rattle.std.specs.Prelude.{ℕ, ◌≤◌, nat_le, if◌then◌else◌, Option, Some, None, nat_lt}
 use Rattle.re_syntax.specs.declared.span.Span.{Span}
 
