@@ -22,7 +22,11 @@ UNCOUNTED = {"re_needle", "re_strings", "re_steps", "re_match"}
 SEARCH = {*UNCOUNTED, "re_search"}
 """The crates that search, and count the steps of their callers."""
 
-MAY_LIST = {MAKES_METERS: SEARCH | {"grep", "occur", "examples"}, **{name: SEARCH for name in UNCOUNTED}}
+DEFINITIONS = {"grep_io": "re_needle"}
+"""A crate that lists one of these for its definitions, and names it in no code."""
+
+MAY_LIST = {MAKES_METERS: SEARCH | {"grep", "occur", "examples"},
+            **{name: SEARCH | {user for user, used in DEFINITIONS.items() if used == name} for name in UNCOUNTED}}
 """For each of these crates those that may list it, beside the crates of tests."""
 
 MATCHERS = {"Cached", "Fixed", "FixedSet", "LineMatch", "Matcher", "Simulated"}
@@ -77,6 +81,16 @@ def crates_without_them(bench: Bench) -> Verdict:
 def head_of_search(bench: Bench) -> Verdict:
     shown = passed_on((CRATES / "re_search" / "src" / "lib.rt").read_text(encoding="utf-8"))
     return judged([f"lib.rt passes on {name}" for name in shown])
+
+
+@case("A crate that lists a search for its definitions names it in no code.")
+def code_of_readers(bench: Bench) -> Verdict:
+    faults = []
+    for crate, below in DEFINITIONS.items():
+        for file in sorted((CRATES / crate / "src").glob("**/*.rt")):
+            code = re.sub(r"(?m)^\s*ghost use .*$", "", file.read_text(encoding="utf-8"))
+            faults += [f"{crate}/{file.name} names {below}"] if re.search(rf"\b{below}\b", code) else []
+    return judged(faults)
 
 
 @case("The crates that search make no meter.")

@@ -3,6 +3,7 @@
 ;; Copyright (c) 2026 The Gaxtrel authors
 
 ;; Author: The Gaxtrel authors
+;; URL: https://gaxtrel.example/
 ;; Version: 0.1.0
 ;; Package-Requires: ((emacs "28.1"))
 ;; Keywords: matching, tools, convenience
@@ -16,10 +17,9 @@
 ;; isearch looks for.  The list is kept right while the buffers are edited, and
 ;; its rows can be edited themselves.  C-h m in it describes the keys.
 ;;
-;; What matches is decided by the program `occur' of Gaxtrel, one process for
-;; each list.  Each change of a buffer is sent as the lines that it touched, and
-;; the program answers what changed of the lines that match.  Set
-;; `live-occur-program' where `occur' is not on your path.
+;; What matches is decided by the program `occur' of Gaxtrel, one process a
+;; list: it is sent the lines that a change touched, and answers what changed
+;; of the hits.  Set `live-occur-program' where `occur' is not on your path.
 
 ;;; Code:
 

@@ -1,7 +1,7 @@
 //! Lines that are handed out.
 
-// crates/grep_core/README.md
-use grep_core::{Lines, ReadFault, Tally};
+// crates/grep_io/README.md
+use grep_io::{Lines, ReadFault, Tally};
 use std::alloc::Global;
 
 /// How long the longest line of a text is.

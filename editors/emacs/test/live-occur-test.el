@@ -1856,7 +1856,7 @@ The answer is the seconds until then, and those of the longest step."
 (declare-function package-load-all-descriptors "package")
 
 (ert-deftest live-occur-passes-package-lint ()
-  "The project has no home page, and some releases know no Emacs 28."
+  "Some releases of package-lint know no Emacs 28."
   (require 'package)
   (add-to-list 'package-directory-list "/usr/share/emacs/site-lisp/elpa")
   (package-load-all-descriptors)
@@ -1866,8 +1866,7 @@ The answer is the seconds until then, and those of the longest step."
     (unwind-protect
         (should-not (cl-remove-if
                      (lambda (text)
-                       (string-match-p "Homepage or URL header\\|in all released Emacs versions"
-                                       text))
+                       (string-match-p "in all released Emacs versions" text))
                      (mapcar (lambda (found) (nth 3 found)) (package-lint-buffer))))
       (kill-buffer))))
 

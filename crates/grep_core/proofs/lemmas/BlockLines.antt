@@ -7,11 +7,10 @@ use Rattle.std.proofs.lemmas.List.{length-take, length-drop, get_or-drop, get_or
 use Rattle.std.proofs.lemmas.List.Elements.{All-drop}
 use Rattle.re_syntax.specs.Bytes.{Text}
 use Rattle.re_syntax.specs.Lines.{newline, terminated, lines_of, HasNoNewline}
-use Rattle.re_syntax.proofs.lemmas.LinesLaws.{lines_of-terminated}
+use Rattle.re_syntax.proofs.lemmas.LinesLaws.{lines_of-terminated, terminated-append}
 use Rattle.re_search.specs.Working.Blocks.{IsBlock}
 use Rattle.grep_core.specs.Working.LastLines.{LastLines, with_lines}
 use Rattle.grep_core.specs.Working.Progress.{last_of}
-use Rattle.grep_io.proofs.lemmas.PassedLemmas.{terminated-append}
 use Rattle.grep_io.proofs.lemmas.WindowBlocks.{ends_in_newline, drop_past}
 use Rattle.grep_core.proofs.lemmas.WaitingRows.{length-last_of}
 

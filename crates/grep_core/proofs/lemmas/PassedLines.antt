@@ -4,7 +4,7 @@ use Rattle.std.proofs.Math.Seq.{take-append_seam}
 use Rattle.re_syntax.specs.Bytes.{Text}
 use Rattle.re_syntax.specs.Lines.{terminated, lines_of, HasNoNewline}
 use Rattle.re_syntax.specs.Expression.{Expression}
-use Rattle.re_syntax.proofs.lemmas.LinesLaws.{lines_of-terminated}
+use Rattle.re_syntax.proofs.lemmas.LinesLaws.{lines_of-terminated, terminated-append}
 use Rattle.re_search.specs.Meters.{Steps}
 use Rattle.re_search.specs.Searching.{AddsAtMost}
 use Rattle.re_search.specs.Working.Blocks.{IsBlock, HoldsOfMany}
@@ -19,7 +19,7 @@ use Rattle.grep_core.specs.Working.Passed.{AddsCounted}
 use Rattle.grep_core.specs.Working.Stretches.{IsNextOf}
 use Rattle.grep_core.proofs.lemmas.CostLaws.{searched_no_line, searched_bytes}
 use Rattle.grep_core.proofs.lemmas.CountedLines.{many_others}
-use Rattle.grep_io.proofs.lemmas.PassedLemmas.{HasHanded-pass, terminated-append}
+use Rattle.grep_io.proofs.lemmas.PassedLemmas.{HasHanded-pass}
 
 -- its lines are passed
 pub passed_block : {R : Type 0} (remaining : R → Option Text) (failures : R → ℕ) (reader : R) (handed : List Text) (old new : Numbered R) (block : Text) (count : ℕ) → AreAhead old block count → PassesNext remaining failures old new (lines_of (take (length block) old.lines.ahead))

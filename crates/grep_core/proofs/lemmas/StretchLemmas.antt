@@ -8,7 +8,7 @@ use Rattle.std.proofs.lemmas.List.Elements.{All-cons, All-nil, All-head, All-tai
 use Rattle.re_syntax.specs.Bytes.{Text}
 use Rattle.re_syntax.specs.Expression.{Expression}
 use Rattle.re_syntax.specs.Lines.{newline, terminated, lines_of, HasNoNewline}
-use Rattle.re_syntax.proofs.lemmas.LinesLaws.{lines_of-terminated}
+use Rattle.re_syntax.proofs.lemmas.LinesLaws.{lines_of-terminated, terminated-append}
 use Rattle.re_syntax.specs.declared.span.Span.{Span}
 use Rattle.re_search.specs.Working.Blocks.{IsBlock, IsNext}
 use Rattle.re_search.specs.Working.Sought.{Sought, IsSought}
@@ -24,7 +24,6 @@ use Rattle.grep_core.specs.Working.Stretches.{IsDivided}
 use Rattle.grep_core.specs.declared.search.stretch.Stretch.{Stretch}
 use Rattle.re_search.specs.Meters.{Steps}
 use Rattle.re_search.specs.Searching.{AddsAtMost}
-use Rattle.grep_io.proofs.lemmas.PassedLemmas.{terminated-append}
 use Rattle.grep_core.proofs.lemmas.Verdicts.{decided_yes, decided_no}
 
 -- ---- where the lines lie

@@ -9,7 +9,7 @@ use Rattle.std.proofs.lemmas.List.Elements.{All-append}
 use Rattle.std.specs.Io.KnownBytes.{prepend_known, Consumes, Keeps, IsAtEnd}
 use Rattle.re_syntax.specs.Bytes.{Text}
 use Rattle.re_syntax.specs.Lines.{newline, terminated, lines_of, HasNoNewline}
-use Rattle.re_syntax.proofs.lemmas.LinesLaws.{lines_of-terminated, first_differs, rest_has_none, all_head, all_tail}
+use Rattle.re_syntax.proofs.lemmas.LinesLaws.{lines_of-terminated, first_differs, rest_has_none, all_head, all_tail, terminated-append}
 use Rattle.re_needle.specs.Working.Blocks.{IsBlock, PassesAll}
 use Rattle.memchr.specs.Find.{is_byte, places, places_from}
 use Rattle.grep_io.specs.declared.input.lines.Stage.{Stage}
@@ -72,10 +72,6 @@ pub count_block : (block : Text) → IsBlock block → length (places (is_byte n
 count_block block h = count_lines block h.0 h.1 h.2 ∙ ap length (sym (ap lines_of h.2 ∙ lines_of-terminated h.0 h.1))
 
 -- ---- what was handed out and what is passed
-
-pub terminated-append : (ts us : List Text) → terminated (ts ++ us) ≡ terminated ts ++ terminated us
-terminated-append [] us = refl
-terminated-append (t ∷ ts) us = ap (λ l. t ++ newline ∷ l) (terminated-append ts us) ∙ sym (append_assoc t (newline ∷ terminated ts) (terminated us))
 
 no_lines : (ts : List Text) (rest : Text) → [] ≡ terminated ts ++ rest → ts ≡ []
 no_lines [] rest e = refl

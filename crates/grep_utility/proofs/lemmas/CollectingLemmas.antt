@@ -4,7 +4,7 @@ use Rattle.std.proofs.lemmas.List.{length_push}
 use Rattle.std.proofs.lemmas.List.Elements.{All-append}
 use Rattle.re_syntax.specs.Bytes.{Text}
 use Rattle.re_syntax.specs.Lines.{newline, terminated, HasNoNewline}
-use Rattle.re_syntax.proofs.lemmas.LinesLaws.{all_none, AreLines-lines_of}
+use Rattle.re_syntax.proofs.lemmas.LinesLaws.{all_none, terminated-append, AreLines-lines_of}
 use Rattle.grep_io.specs.declared.input.lines.ReadFault.TheVariants.{Device}
 use Rattle.grep_io.specs.declared.input.lines.Stage.{Stage}
 use Rattle.grep_io.specs.declared.input.lines.Stage.TheVariants.{Open, Ended, Failed}
@@ -13,11 +13,6 @@ use Rattle.grep_core.specs.Working.Handed.{AreHanded}
 use Rattle.grep_core.specs.Working.Numbered.{Numbered, HasHanded, NextIs}
 use Rattle.grep_core.proofs.lemmas.NumberedLemmas.{has_handed_none}
 use Rattle.grep_utility.specs.Working.CollectedTexts.{Adds, AddsLines}
-
--- two lists of texts, one after the other
-pub terminated-append : (ts us : List Text) → terminated (ts ++ us) ≡ terminated ts ++ terminated us
-terminated-append [] us = refl
-terminated-append (t ∷ ts) us = ap (λ l. t ++ newline ∷ l) (terminated-append ts us) ∙ sym (append_assoc t (newline ∷ terminated ts) (terminated us))
 
 -- nothing was added yet
 pub Adds-none : (bytes : Text) → Adds bytes bytes []
