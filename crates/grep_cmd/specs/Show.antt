@@ -14,8 +14,8 @@ status_line NoneSelected = codes "status 1"
 status_line Error = codes "status 2"
 
 -- the lines, each after the margin
-abbrev pub beyond : Text → List Text → List Text
-beyond margin text = map (λ line. margin ++ line) text
+abbrev pub with_margin : Text → List Text → List Text
+with_margin margin text = map (λ line. margin ++ line) text
 
 -- the lines that are shown of the inputs
 pub record AreShown (inputs : Inputs) (shown : List Text) : Type 0 where
@@ -23,7 +23,7 @@ pub record AreShown (inputs : Inputs) (shown : List Text) : Type 0 where
   pub reported : List Text
   pub status : Status
   pub gives : GrepGives inputs out reported status
-  pub is : shown ≡ beyond (codes "o ") out ++ (beyond (codes "e ") reported ++ status_line status ∷ [])
+  pub is : shown ≡ with_margin (codes "o ") out ++ (with_margin (codes "e ") reported ++ status_line status ∷ [])
 
 -- they were written, or a beginning of them
 abbrev pub Shows : {W T E : Type 0} → (W → Option Text) → (W → ℕ) → Inputs → W → W → Result T E →

@@ -22,7 +22,7 @@ module _ (es : List Expression) (options : Options) (context : Context) where
     pub on : place < length lines
     pub selected : Selected es options (get_or lines place [])
     pub before : place ≤ k + context.before
-    pub recent : k ≤ place + context.after
+    pub after : k ≤ place + context.after
 
   -- the line before place k is not shown, or there is none
   abbrev pub BeginsGroup : List Text → ℕ → Type 0

@@ -17,7 +17,7 @@ use Rattle.grep_core.specs.Run.{Writer, Devices, TakesAll, TakesFront, count_mor
 use Rattle.grep_utility.specs.Folder.{Folder, sources_named, searched}
 use Rattle.re_syntax.specs.Profile.{most_patterns}
 use Rattle.grep_core.specs.Matchers.{IsFirstRefused}
-use Rattle.grep_utility.specs.Patterns.{Unread, after_all, GivePatterns, FirstUnread}
+use Rattle.grep_utility.specs.Patterns.{Unread, folder_after_all, GivePatterns, FirstUnread}
 use Rattle.grep_utility.specs.Texts.{usage_texts, out_of_memory, write_error, too_many_patterns}
 use Rattle.grep_utility.specs.Texts.{pattern_refused}
 use Rattle.grep_utility.specs.Words.{Asked, read}
@@ -95,7 +95,7 @@ module _ (folder : Folder) (given : List (Option Text) → Type 0) (old new : De
       ((unread : Unread) × FirstUnread folder asked.sources unread ×
       GivesUp old new (unread.message ∷ []) unread.failures status)
       ⊎ ((texts : List Text) × (read : List (Option Text)) × GivePatterns folder asked.sources texts
-      × DoesForPatterns asked (after_all folder asked.sources) texts (λ left. given (read ++ left))
+      × DoesForPatterns asked (folder_after_all folder asked.sources) texts (λ left. given (read ++ left))
       old new status)
 
   -- or it was out of memory before the search

@@ -33,20 +33,20 @@ GivesPatterns folder (list text) given = given ≡ Ok (list_of text)
 GivesPatterns folder (file name) given = FileGives (source_named folder name) given
 
 -- what is known of files once the source of patterns was read
-abbrev pub beyond : Folder → PatternsFrom → Folder
-beyond folder (list text) = folder
-beyond folder (file name) = after_use folder name
+abbrev pub folder_after : Folder → PatternsFrom → Folder
+folder_after folder (list text) = folder
+folder_after folder (file name) = after_use folder name
 
-abbrev pub after_all : Folder → List PatternsFrom → Folder
-after_all folder [] = folder
-after_all folder (source ∷ sources) = after_all (beyond folder source) sources
+abbrev pub folder_after_all : Folder → List PatternsFrom → Folder
+folder_after_all folder [] = folder
+folder_after_all folder (source ∷ sources) = folder_after_all (folder_after folder source) sources
 
 -- sources, each of which is read, give these patterns in order
 abbrev pub GivePatterns : Folder → List PatternsFrom → List Text → Type 0
 GivePatterns folder [] texts = texts ≡ []
 GivePatterns folder (source ∷ sources) texts =
     (first : List Text) × (rest : List Text) × GivesPatterns folder source (Ok first)
-    × GivePatterns (beyond folder source) sources rest × (texts ≡ first ++ rest)
+    × GivePatterns (folder_after folder source) sources rest × (texts ≡ first ++ rest)
 
 -- the first source that is not read, after some that are
 abbrev pub FirstUnread : Folder → List PatternsFrom → Unread → Type 0
@@ -54,4 +54,4 @@ FirstUnread folder [] fault = ⊥
 FirstUnread folder (source ∷ sources) fault =
     GivesPatterns folder source (Err fault)
     ⊎ ((first : List Text) × GivesPatterns folder source (Ok first) ×
-    FirstUnread (beyond folder source) sources fault)
+    FirstUnread (folder_after folder source) sources fault)

@@ -126,15 +126,15 @@ pub record Wanting : Type 0 where
 
 -- the options of a group and the pieces after it. The argument of an option is the rest of the
 -- group or, where there is none, the next word (Guidelines 6 and 7)
-module _ (beyond : Option Wanting → List Piece) where
+module _ (following : Option Wanting → List Piece) where
   abbrev pub group : List ℕ → List Piece
-  group [] = beyond None
+  group [] = following None
   group (c ∷ cs) = elim (meaning_of c) [
     | Some (meaning.Flag f) ↦ flag f ∷ group cs
     | Some (meaning.Syntax s) ↦ reads_as s ∷ group cs
     | Some (meaning.Takes a) ↦ elim cs [
-      | [] ↦ beyond (Some (record { letter = c; argument = a }))
-      | d ∷ ds ↦ with_argument c a (encode_utf8_all (d ∷ ds)) ∷ beyond None
+      | [] ↦ following (Some (record { letter = c; argument = a }))
+      | d ∷ ds ↦ with_argument c a (encode_utf8_all (d ∷ ds)) ∷ following None
     ]
     | None ↦ fault (UnknownOption c) ∷ group cs
   ]

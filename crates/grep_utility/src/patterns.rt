@@ -5,7 +5,7 @@ ghost use Rattle.re_syntax.specs.Lines.{newline, lines_of};
 ghost use Rattle.grep_io.specs.declared.input.lines.Stage.{Stage};
 ghost use Rattle.grep_core.specs.Sources.{Returns};
 ghost use Rattle.grep_utility.specs.Folder.{source_named, after_use};
-ghost use Rattle.grep_utility.specs.Patterns.{GivesPatterns, beyond, after_all, GivePatterns};
+ghost use Rattle.grep_utility.specs.Patterns.{GivesPatterns, folder_after, folder_after_all, GivePatterns};
 ghost use Rattle.grep_utility.specs.Patterns.{FirstUnread};
 ghost use Rattle.grep_utility.specs.Working.CollectedTexts.{AddsLines, ReadsFile, AddsSource, StopsFor};
 ghost use Rattle.grep_utility.specs.Words.{given_source};
@@ -122,7 +122,7 @@ fn add_source<'a, F: Files>(
     source: &'a PatternSource,
     texts: &mut Vec<u8>,
 ) -> Result<(), PatternsFault<'a>>
-    ensures used { F.folder files.new ≡ beyond (F.folder files.old) (given_source source.now) }
+    ensures used { F.folder files.new ≡ folder_after (F.folder files.old) (given_source source.now) }
     ensures same_loan { F.loan files.new ≡ F.loan files.old }
     ensures back { (left : List (Option Text)) × Returns F.returned_readers files.old files.new left }
     ensures ok { IfOk result
@@ -162,7 +162,7 @@ pub fn read_patterns<'a, F: Files>(
     ensures same_loan { F.loan files.new ≡ F.loan files.old }
     ensures back { (left : List (Option Text)) × Returns F.returned_readers files.old files.new left }
     ensures used { IfOk result
-        (λ _. F.folder files.new ≡ after_all (F.folder files.old) (map given_source sources.now)) }
+        (λ _. F.folder files.new ≡ folder_after_all (F.folder files.old) (map given_source sources.now)) }
     ensures none_failed { IfOk result (λ _. F.failures files.new ≡ F.failures files.old) }
     ensures ok { IfOk result
         (λ texts.

@@ -21,7 +21,7 @@ use Rattle.grep_live.specs.Rows.{changes_rows, total_row, page_row, page_rows, a
 use Rattle.grep_live.specs.Writing.{all_known}
 use Rattle.grep_live.proofs.lemmas.ListLemmas.{three-length}
 use Rattle.grep_cmd.specs.Script.{Step, does, reports, reports_changes, reports_page, is_bad, is_truncated}
-use Rattle.grep_cmd.specs.Show.{AreShown, beyond, status_line}
+use Rattle.grep_cmd.specs.Show.{AreShown, with_margin, status_line}
 use Rattle.grep_cmd.specs.Lists.{ReportsChanges}
 use Rattle.grep_cmd.specs.Replies.{RepliesTo, Replies, IsAnswered, AnswersScript, cause, reply_to}
 use Rattle.grep_cmd.specs.Editor.{IsHeld, bytes_of, has_status, EndsWithStatus, IsOneReply, ReadsChanges, ListsAfter, ListsAfterAll, ArePresent, Took, EditorsFollow}
@@ -44,9 +44,9 @@ shown_ends : (inputs : Inputs) (shown : List Text) → AreShown inputs shown →
 shown_ends inputs shown s =
     let out = none_mapped has_status (λ line. codes "o " ++ line) s.out (λ line. refl) in
     let reported = none_mapped has_status (λ line. codes "e " ++ line) s.reported (λ line. refl) in
-    ends_with (beyond (codes "o ") s.out ++ beyond (codes "e ") s.reported) s.status shown
-    (s.is ∙ sym (append_assoc (beyond (codes "o ") s.out) (beyond (codes "e ") s.reported) (status_line s.status ∷ [])))
-    (none_joined has_status (beyond (codes "o ") s.out) (beyond (codes "e ") s.reported) out reported)
+    ends_with (with_margin (codes "o ") s.out ++ with_margin (codes "e ") s.reported) s.status shown
+    (s.is ∙ sym (append_assoc (with_margin (codes "o ") s.out) (with_margin (codes "e ") s.reported) (status_line s.status ∷ [])))
+    (none_joined has_status (with_margin (codes "o ") s.out) (with_margin (codes "e ") s.reported) out reported)
 
 -- the reply to a step is taken whole
 is_one_reply : (step : Step) (before after : Watched) (reply : List Text) → RepliesTo step before reply after → IsOneReply step reply

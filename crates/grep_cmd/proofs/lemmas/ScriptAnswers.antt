@@ -25,7 +25,7 @@ use Rattle.grep_cmd.specs.declared.script.reply.Answer.{Answer}
 use Rattle.grep_cmd.specs.declared.script.reply.Answer.TheVariants.{Accepted, Refused, Truncated}
 use Rattle.grep_live.specs.Marks.{Watched}
 use Rattle.grep_live.specs.Rows.{changes_rows, total_row, page_row, page_rows, all_hits}
-use Rattle.grep_cmd.specs.Show.{AreShown, beyond, status_line}
+use Rattle.grep_cmd.specs.Show.{AreShown, with_margin, status_line}
 use Rattle.grep_cmd.specs.Lists.{ReportsChanges, ReportsPage}
 use Rattle.grep_cmd.specs.Script.{Step, counts, IsStep, line_command}
 use Rattle.grep_cmd.specs.Replies.{RepliesTo, SearchesAtMost, reply_to, truncated, is_refusal}
@@ -72,9 +72,9 @@ pub shown_is_no_refusal : (inputs : Inputs) (shown : List Text) → AreShown inp
 shown_is_no_refusal inputs shown s =
     let out = none_mapped is_refusal (λ line. codes "o " ++ line) s.out (λ line. refl) in
     let reported = none_mapped is_refusal (λ line. codes "e " ++ line) s.reported (λ line. refl) in
-    status_after (beyond (codes "o ") s.out ++ beyond (codes "e ") s.reported) s.status shown
-    (s.is ∙ sym (append_assoc (beyond (codes "o ") s.out) (beyond (codes "e ") s.reported) (status_line s.status ∷ [])))
-    (none_joined is_refusal (beyond (codes "o ") s.out) (beyond (codes "e ") s.reported) out reported)
+    status_after (with_margin (codes "o ") s.out ++ with_margin (codes "e ") s.reported) s.status shown
+    (s.is ∙ sym (append_assoc (with_margin (codes "o ") s.out) (with_margin (codes "e ") s.reported) (status_line s.status ∷ [])))
+    (none_joined is_refusal (with_margin (codes "o ") s.out) (with_margin (codes "e ") s.reported) out reported)
 
 pub changes_is_no_refusal : (before after : Watched) (reported : List Text) → ReportsChanges before after reported → list_any is_refusal reported ≡ false
 changes_is_no_refusal before after reported t = status_after (changes_rows 0 t.changes) t.status reported t.is (none_changes is_refusal (λ hit. refl) (λ k change. refl) 0 t.changes)

@@ -10,25 +10,25 @@ use Rattle.grep_core.specs.Written.{GoesOut, StopsWithin, Writes}
 use Rattle.grep_core.proofs.lemmas.RowLemmas.{stops_early, stops_later, writes_last}
 use Rattle.grep_core.proofs.lemmas.WriterLaws.{written-append}
 use Rattle.grep_session.specs.Headline.{GrepGives, ReportsAllInputs}
-use Rattle.grep_cmd.specs.Show.{status_line, beyond, Shows}
+use Rattle.grep_cmd.specs.Show.{status_line, with_margin, Shows}
 use Rattle.grep_session.proofs.lemmas.HeadlineLaws.{one_report}
 use Rattle.grep_session.proofs.lemmas.Writing.{writes_err}
 
 -- a margin is as good as a beginning of each line
-beyond-written : (margin : Text) (text : List Text) → written [] (beyond margin text) ≡ written margin text
-beyond-written margin [] = refl
-beyond-written margin (line ∷ text) = ap (λ l. output_line margin line ++ l) (beyond-written margin text)
+with_margin-written : (margin : Text) (text : List Text) → written [] (with_margin margin text) ≡ written margin text
+with_margin-written margin [] = refl
+with_margin-written margin (line ∷ text) = ap (λ l. output_line margin line ++ l) (with_margin-written margin text)
 
 abbrev shown_of : List Text → List Text → Status → List Text
-shown_of out reported status = beyond (codes "o ") out ++ (beyond (codes "e ") reported ++ status_line status ∷ [])
+shown_of out reported status = with_margin (codes "o ") out ++ (with_margin (codes "e ") reported ++ status_line status ∷ [])
 
 -- the bytes of what is shown
 shown_bytes : (out reported : List Text) (status : Status) → written [] (shown_of out reported status) ≡ written (codes "o ") out ++ (written (codes "e ") reported ++ output_line [] (status_line status))
 shown_bytes out reported status =
     let line : written [] (status_line status ∷ []) ≡ output_line [] (status_line status) = append-nil (output_line [] (status_line status)) in
-    let rest : written [] (beyond (codes "e ") reported ++ status_line status ∷ []) ≡ written (codes "e ") reported ++ output_line [] (status_line status) =
-    written-append [] (beyond (codes "e ") reported) (status_line status ∷ []) ∙ (λ i. beyond-written (codes "e ") reported i ++ line i) in
-    written-append [] (beyond (codes "o ") out) (beyond (codes "e ") reported ++ status_line status ∷ []) ∙ (λ i. beyond-written (codes "o ") out i ++ rest i)
+    let rest : written [] (with_margin (codes "e ") reported ++ status_line status ∷ []) ≡ written (codes "e ") reported ++ output_line [] (status_line status) =
+    written-append [] (with_margin (codes "e ") reported) (status_line status ∷ []) ∙ (λ i. with_margin-written (codes "e ") reported i ++ line i) in
+    written-append [] (with_margin (codes "o ") out) (with_margin (codes "e ") reported ++ status_line status ∷ []) ∙ (λ i. with_margin-written (codes "o ") out i ++ rest i)
 
 module _ {W : Type 0} (contents : W → Option Text) (failures : W → ℕ) (inputs : Inputs) (out reported : List Text) (status : Status) (gives : GrepGives inputs out reported status) where
   -- what was written of the lines that are shown

@@ -58,7 +58,7 @@ module _ (es : List Expression) (options : Options) (context : Context) where
   -- whether the line at a place is shown is decided
   pub dec_shown : (text : List Text) (k : ℕ) → Dec (IsShown es options context text k)
   dec_shown text k =
-      map_dec (λ h. record { place = h.0; on = h.1; selected = h.2.0; before = h.2.1.0; recent = h.2.1.1 }) (λ s. (s.place, s.on, (s.selected, (s.before, s.recent))))
+      map_dec (λ h. record { place = h.0; on = h.1; selected = h.2.0; before = h.2.1.0; after = h.2.1.1 }) (λ s. (s.place, s.on, (s.selected, (s.before, s.after))))
       (dec_below Near (λ place. dec_both (dec_selected es options (get_or text place [])) (dec_both (dec_le place (k + context.before)) (dec_le k (place + context.after)))) (length text))
     where
       Near : ℕ → Type 0
@@ -126,7 +126,7 @@ module _ (es : List Expression) (options : Options) (context : Context) where
               | inl begins ↦ absurd (some_row begins.1)
               | inr goes_on ↦ absurd (some_row goes_on.1)
             ]
-            | inr hidden ↦ absurd (hidden.0 (record { place = at.0; on = at.1; selected = at.2; before = omega arith; recent = omega arith }))
+            | inr hidden ↦ absurd (hidden.0 (record { place = at.0; on = at.1; selected = at.2; before = omega arith; after = omega arith }))
           ]
         where
           some_row : {row : Text} {rows : List Text} → ◌≡◌ {A = List Text} [] (row ∷ rows) → ⊥

@@ -117,7 +117,7 @@ module _ (es : List Expression) (options : Options) (many : Bool) (name : Text) 
         ];
         left = λ d. (
           (λ below. shown_near es options context lines line (length all + d) selected (omega (arith, one_more)) (omega (arith, subst (λ (c : Context). d < c.after) t.same_context below, one_more))),
-          (λ s. subst (λ (c : Context). d < c.after) (sym t.same_context) (omega (arith, s.on, s.recent, one_more))),
+          (λ s. subst (λ (c : Context). d < c.after) (sym t.same_context) (omega (arith, s.on, s.after, one_more))),
         );
         gap = ((λ e. absurd (false≢true e)), (λ b. absurd (begins_at es options context all (length all) (length lines) b one_more (near (length lines) (omega (arith, long)) (omega arith)))));
         groups = t.groups ++ (separator ++ written);
@@ -140,7 +140,7 @@ module _ (es : List Expression) (options : Options) (many : Bool) (name : Text) 
       let none : All (λ l. ¬ Selected es options l) (line ∷ []) = All-cons (λ l. ¬ Selected es options l) line [] passed (All-nil (λ l. ¬ Selected es options l)) in
       let here : IsShown es options context lines (length lines + 0) = (t.left 0).0 some in
       let here_on : here.place < length lines = here.on in
-      let last_one : IsShown es options context lines (length lines - 1) = record { place = here.place; on = here.on; selected = here.selected; before = omega (arith, here_on); recent = omega (arith, here.recent) } in
+      let last_one : IsShown es options context lines (length lines - 1) = record { place = here.place; on = here.on; selected = here.selected; before = omega (arith, here_on); after = omega (arith, here.after) } in
       let all_before : length lines ≤ length t.front = elim (cases_lt (length t.front) (length lines)) [
         | inl low ↦ absurd (t.kept (length lines - 1) (omega (arith, low)) (omega (arith, low)) last_one)
         | inr high ↦ high

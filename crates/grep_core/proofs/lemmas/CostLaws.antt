@@ -36,14 +36,14 @@ pub from_place : (matchers : ℕ) (line : Text) (from : ℕ) (old new : Steps) �
 from_place matchers line from old new a =
     adds_within (matchers * (length line - from + 1)) (search_cost matchers line) old new (mul-le-mul_left matchers (let shorter : length line - from + 1 ≤ length line + 1 = omega arith in shorter)) a
 
--- one more line was searched; `recent` bytes are after it
-pub adds_line : (matchers all before recent : ℕ) (line : Text) (old mid new : Steps) → length line + 1 + recent ≤ before → before ≤ all → AddsAtMost (matchers * (all - before)) old mid → AddsAtMost (search_cost matchers line) mid new
-    → AddsAtMost (matchers * (all - recent)) old new
-adds_line matchers all before recent line old mid new fits within a b =
-    let further : all - before + (length line + 1) ≤ all - recent = omega (arith, fits, within) in
+-- one more line was searched; `after` bytes are after it
+pub adds_line : (matchers all before after : ℕ) (line : Text) (old mid new : Steps) → length line + 1 + after ≤ before → before ≤ all → AddsAtMost (matchers * (all - before)) old mid → AddsAtMost (search_cost matchers line) mid new
+    → AddsAtMost (matchers * (all - after)) old new
+adds_line matchers all before after line old mid new fits within a b =
+    let further : all - before + (length line + 1) ≤ all - after = omega (arith, fits, within) in
     let joined : matchers * (all - before) + search_cost matchers line ≡ matchers * (all - before + (length line + 1)) = omega arith in
     let most = mul-le-mul_left matchers further in
-    adds_within (matchers * (all - before) + search_cost matchers line) (matchers * (all - recent)) old new (omega (arith, joined, most)) (adds_both (matchers * (all - before)) (search_cost matchers line) old mid new a b)
+    adds_within (matchers * (all - before) + search_cost matchers line) (matchers * (all - after)) old new (omega (arith, joined, most)) (adds_both (matchers * (all - before)) (search_cost matchers line) old mid new a b)
 
 -- lists that are mapped to the same have the same length
 pub same_length : {A B : Type 0} (f : A → B) (xs ys : List A) → map f xs ≡ map f ys → length xs ≡ length ys

@@ -13,18 +13,18 @@ use Rattle.grep_core.proofs.lemmas.Exist.{Reached-exist, Message-exist}
 
 module _ (es : List Expression) (options : Options) where
   -- after files at which a run does not stop, the files that are reached follow
-  pub Reached-recent : (front rest reached : List File) → (Any (Stops es options) front → ⊥) → Reached es options rest reached → Reached es options (front ++ rest) (front ++ reached)
-  Reached-recent [] rest reached none r = r
-  Reached-recent (file ∷ front) rest reached none r =
-      (front ++ reached, refl, inr ((λ s. none (Any-first (Stops es options) file front s)), Reached-recent front rest reached (λ a. none (Any-later (Stops es options) file front a)) r))
+  pub Reached-after : (front rest reached : List File) → (Any (Stops es options) front → ⊥) → Reached es options rest reached → Reached es options (front ++ rest) (front ++ reached)
+  Reached-after [] rest reached none r = r
+  Reached-after (file ∷ front) rest reached none r =
+      (front ++ reached, refl, inr ((λ s. none (Any-first (Stops es options) file front s)), Reached-after front rest reached (λ a. none (Any-later (Stops es options) file front a)) r))
 
   -- where a run stops at no file, all are reached
   pub Reached-all : (files : List File) → (Any (Stops es options) files → ⊥) → Reached es options files files
-  Reached-all files none = subst (λ xs. Reached es options xs xs) (append-nil files) (Reached-recent files [] [] none refl)
+  Reached-all files none = subst (λ xs. Reached es options xs xs) (append-nil files) (Reached-after files [] [] none refl)
 
   -- where a run stops at a file, it is the last that is reached
   pub Reached-stopped : (front rest : List File) (file : File) → (Any (Stops es options) front → ⊥) → Stops es options file → Reached es options (front ++ file ∷ rest) (front ++ file ∷ [])
-  Reached-stopped front rest file none stops = Reached-recent front (file ∷ rest) (file ∷ []) none ([], refl, inl (stops, refl))
+  Reached-stopped front rest file none stops = Reached-after front (file ∷ rest) (file ∷ []) none ([], refl, inl (stops, refl))
 
   -- the messages are those about the files that are reached
   pub Messages-reached : (files reached : List File) (reported : List Text) → Reached es options files reached → Reported es options reached reported → Messages es options files reported
@@ -65,4 +65,4 @@ module _ (es : List Expression) (options : Options) where
   Messages-front front rest reported none t =
       let reached = Reached-exist es options rest in
       let more = Reported-exist reached.0 in
-      (more.0, Messages-reached (front ++ rest) (front ++ reached.0) (reported ++ more.0) (Reached-recent front rest reached.0 none reached.1) (Reported-append front reached.0 reported more.0 t more.1))
+      (more.0, Messages-reached (front ++ rest) (front ++ reached.0) (reported ++ more.0) (Reached-after front rest reached.0 none reached.1) (Reported-append front reached.0 reported more.0 t more.1))

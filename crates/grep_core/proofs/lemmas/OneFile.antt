@@ -7,13 +7,13 @@ use Rattle.grep_core.specs.declared.options.Options.{Options}
 use Rattle.grep_core.specs.Files.{File, Ending, whole, broken, HasSelected}
 use Rattle.grep_core.specs.Messages.{FaultMet, FaultMetBy}
 use Rattle.grep_io.specs.Reading.{Reading, not_opened, fails_after, ends_after, up_to_limit, file_of, failures_of}
-use Rattle.grep_io.proofs.lemmas.FileLaws.{up_to_limit-recent}
+use Rattle.grep_io.proofs.lemmas.FileLaws.{up_to_limit-beyond}
 
 -- ---- readings
 
 not_whole : (name : Text) (ls : List Text) → (up_to_limit name ls broken).ending ≡ broken
 not_whole name ls =
-    let file = up_to_limit-recent name [] ls broken (omega arith) in
+    let file = up_to_limit-beyond name [] ls broken (omega arith) in
     ap (λ (f : File). f.ending) file.2 ∙ elim file.3 [ inl e ↦ e | inr e ↦ e ]
 
 -- a source that stands for a whole file did not fail

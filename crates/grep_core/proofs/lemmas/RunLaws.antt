@@ -173,8 +173,8 @@ module _ (es : List Expression) (options : Options) (many : Bool) where
       abbrev first : List File
       first = files_of before s.readings
 
-      abbrev recent : List File
-      recent = files_of after rest.0
+      abbrev following : List File
+      following = files_of after rest.0
 
       abbrev all_sources : List Source
       all_sources = before ++ source ∷ after
@@ -182,7 +182,7 @@ module _ (es : List Expression) (options : Options) (many : Bool) where
       are_all : AreReadings all_sources readings
       are_all = AreReadings-append before (source ∷ after) s.readings (r ∷ rest.0) s.are_readings (is_reading, rest.1)
 
-      all_files : files_of all_sources readings ≡ first ++ file ∷ recent
+      all_files : files_of all_sources readings ≡ first ++ file ∷ following
       all_files = files_of-append before (source ∷ after) s.readings (r ∷ rest.0) s.are_readings
 
       all_many : many ≡ are_many (files_of all_sources readings)
@@ -190,7 +190,7 @@ module _ (es : List Expression) (options : Options) (many : Bool) where
 
       -- the steps for the first sources and this one are within the cost of all
       spent : (new : Devices) → SearchesLines es options (length es) file.lines mid.steps new.steps → SearchesFiles es options (length es) (files_of all_sources readings) old.steps new.steps
-      spent new steps = subst (λ fs. SearchesFiles es options (length es) fs old.steps new.steps) (sym all_files) (searched_up_to es options (length es) first file recent old.steps mid.steps new.steps s.steps steps)
+      spent new steps = subst (λ fs. SearchesFiles es options (length es) fs old.steps new.steps) (sym all_files) (searched_up_to es options (length es) first file following old.steps mid.steps new.steps s.steps steps)
 
       -- the first sources and this one
       up_to_here : take (suc (length before)) all_sources ≡ before ++ source ∷ []
@@ -210,7 +210,7 @@ module _ (es : List Expression) (options : Options) (many : Bool) where
       as_many = length-files_of before s.readings s.are_readings
 
       front : take (length before) (files_of all_sources readings) ≡ first
-      front = ap (λ k. take k (files_of all_sources readings)) (sym as_many) ∙ ap (take (length first)) all_files ∙ take-append_seam first (file ∷ recent)
+      front = ap (λ k. take k (files_of all_sources readings)) (sym as_many) ∙ ap (take (length first)) all_files ∙ take-append_seam first (file ∷ following)
 
       -- what was written and reported of them
       out_before : OutAs es options (are_many (files_of all_sources readings)) (form options) (take (length before) (files_of all_sources readings)) (rows_after (form options) false s.output)
@@ -260,16 +260,16 @@ module _ (es : List Expression) (options : Options) (many : Bool) where
       out_front : (rows : List Text) → GroupedAs es options many (form options) (file ∷ []) rows → (more : List Text) × Out es options (files_of all_sources readings) (rows_after (form options) false s.output ++ (rows_after (form options) some rows ++ more))
       out_front rows is =
           let both = GroupedAs-append es options many (form options) first (file ∷ []) s.output rows s.is_output is in
-          let more = GroupedAs-front es options many (form options) (first ++ file ∷ []) recent (s.output ++ rows) both in
-          let all = grouped_out es options many (form options) ((first ++ file ∷ []) ++ recent) ((s.output ++ rows) ++ more.0) more.1 in
+          let more = GroupedAs-front es options many (form options) (first ++ file ∷ []) following (s.output ++ rows) both in
+          let all = grouped_out es options many (form options) ((first ++ file ∷ []) ++ following) ((s.output ++ rows) ++ more.0) more.1 in
           let longer = after_longer (form options) false (s.output ++ rows) more.0 in
-          let regroup : (first ++ file ∷ []) ++ recent ≡ first ++ file ∷ recent = append_assoc first (file ∷ []) recent in
+          let regroup : (first ++ file ∷ []) ++ following ≡ first ++ file ∷ following = append_assoc first (file ∷ []) following in
           let with_parts : rows_after (form options) false (s.output ++ rows) ++ longer.0 ≡ rows_after (form options) false s.output ++ (rows_after (form options) some rows ++ longer.0) =
           ap (λ l. l ++ longer.0) (wrote_both rows) ∙ append_assoc (rows_after (form options) false s.output) (rows_after (form options) some rows) longer.0 in (
             longer.0,
             subst (λ m. OutAs es options m (form options) (files_of all_sources readings) (rows_after (form options) false s.output ++ (rows_after (form options) some rows ++ longer.0))) all_many
                 (subst (λ fs. OutAs es options many (form options) fs (rows_after (form options) false s.output ++ (rows_after (form options) some rows ++ longer.0))) (regroup ∙ sym all_files)
-                (subst (OutAs es options many (form options) ((first ++ file ∷ []) ++ recent)) (longer.1 ∙ with_parts) all)),
+                (subst (OutAs es options many (form options) ((first ++ file ∷ []) ++ following)) (longer.1 ∙ with_parts) all)),
           )
 
       -- a write failed within the output for this source
@@ -278,7 +278,7 @@ module _ (es : List Expression) (options : Options) (many : Bool) where
           → BreaksOff es options all_sources all_given old new
       breaks_out new rows is front_here same failed steps =
           let out = out_front rows is in
-          let reported = Messages-front es options first (file ∷ recent) s.messages s.goes_on s.are_reported in
+          let reported = Messages-front es options first (file ∷ following) s.messages s.goes_on s.are_reported in
           record {
             readings = readings;
             are_readings = are_all;
@@ -309,11 +309,11 @@ module _ (es : List Expression) (options : Options) (many : Bool) where
           elim (dec_stops es options file) [
             | yes here ↦ (
               [],
-              subst (λ fs. Messages es options fs ((s.messages ++ messages) ++ [])) (sym all_files) (subst (Messages es options (first ++ file ∷ recent)) (sym (append-nil (s.messages ++ messages)))
-                  (Messages-reached es options (first ++ file ∷ recent) (first ++ file ∷ []) (s.messages ++ messages) (Reached-stopped es options first recent file s.goes_on here) both)),
+              subst (λ fs. Messages es options fs ((s.messages ++ messages) ++ [])) (sym all_files) (subst (Messages es options (first ++ file ∷ following)) (sym (append-nil (s.messages ++ messages)))
+                  (Messages-reached es options (first ++ file ∷ following) (first ++ file ∷ []) (s.messages ++ messages) (Reached-stopped es options first following file s.goes_on here) both)),
             )
-            | no goes ↦ (let more = Messages-front es options (first ++ file ∷ []) recent (s.messages ++ messages) (none_more (Stops es options) first file s.goes_on goes) both in
-                (more.0, subst (λ fs. Messages es options fs ((s.messages ++ messages) ++ more.0)) (append_assoc first (file ∷ []) recent ∙ sym all_files) more.1))
+            | no goes ↦ (let more = Messages-front es options (first ++ file ∷ []) following (s.messages ++ messages) (none_more (Stops es options) first file s.goes_on goes) both in
+                (more.0, subst (λ fs. Messages es options fs ((s.messages ++ messages) ++ more.0)) (append_assoc first (file ∷ []) following ∙ sym all_files) more.1))
           ]
         where
           both : Reported es options (first ++ file ∷ []) (s.messages ++ messages)
@@ -356,7 +356,7 @@ module _ (es : List Expression) (options : Options) (many : Bool) where
       stops new n rows last inside read are took same none_failed gives steps =
           let first_rows = GroupedAs-append es options many (form options) first (begun (form options) n file) s.output rows s.is_output are in
           let here : file_at (files_of all_sources readings) (length before) ≡ file =
-          ap (file_at (files_of all_sources readings)) (sym as_many) ∙ ap (λ fs. file_at fs (length first)) all_files ∙ get_or-append_seam first file recent (record { name = []; lines = []; ending = missing }) in
+          ap (file_at (files_of all_sources readings)) (sym as_many) ∙ ap (λ fs. file_at fs (length first)) all_files ∙ get_or-append_seam first file following (record { name = []; lines = []; ending = missing }) in
           record {
             readings = readings;
             are_readings = are_all;
@@ -389,11 +389,11 @@ module _ (es : List Expression) (options : Options) (many : Bool) where
       finishes_here new end found rows messages own here is took reported_too reported are_own counted own_left is_left gives steps =
           let quiet_form : form options ≡ nothing = cond-true _ _ _ here.0 in
           let none_out : (xs : List File) → GroupedAs es options many (form options) xs [] = λ xs. subst (λ shape. GroupedAs es options many shape xs []) (sym quiet_form) refl in
-          let grouped = GroupedAs-append es options many (form options) (first ++ file ∷ []) recent (s.output ++ rows) [] (GroupedAs-append es options many (form options) first (file ∷ []) s.output rows s.is_output is) (none_out recent) in
-          let output = grouped_out es options many (form options) ((first ++ file ∷ []) ++ recent) (s.output ++ rows) (subst (GroupedAs es options many (form options) ((first ++ file ∷ []) ++ recent)) (append-nil (s.output ++ rows)) grouped) in
-          let regroup : (first ++ file ∷ []) ++ recent ≡ first ++ file ∷ recent = append_assoc first (file ∷ []) recent in
-          let reached = Reached-stopped es options first recent file s.goes_on here in
-          let all_reported = Messages-reached es options (first ++ file ∷ recent) (first ++ file ∷ []) (s.messages ++ messages) reached (Reported-append es options first (file ∷ []) s.messages messages s.are_reported reported_too) in
+          let grouped = GroupedAs-append es options many (form options) (first ++ file ∷ []) following (s.output ++ rows) [] (GroupedAs-append es options many (form options) first (file ∷ []) s.output rows s.is_output is) (none_out following) in
+          let output = grouped_out es options many (form options) ((first ++ file ∷ []) ++ following) (s.output ++ rows) (subst (GroupedAs es options many (form options) ((first ++ file ∷ []) ++ following)) (append-nil (s.output ++ rows)) grouped) in
+          let regroup : (first ++ file ∷ []) ++ following ≡ first ++ file ∷ following = append_assoc first (file ∷ []) following in
+          let reached = Reached-stopped es options first following file s.goes_on here in
+          let all_reported = Messages-reached es options (first ++ file ∷ following) (first ++ file ∷ []) (s.messages ++ messages) reached (Reported-append es options first (file ∷ []) s.messages messages s.are_reported reported_too) in
           record {
             readings = readings;
             are_readings = are_all;
@@ -402,7 +402,7 @@ module _ (es : List Expression) (options : Options) (many : Bool) where
                 (subst (λ fs. OutAs es options many (form options) fs (rows_after (form options) false (s.output ++ rows))) (regroup ∙ sym all_files) output);
             messages = s.messages ++ messages;
             are_messages = subst (λ fs. Messages es options fs (s.messages ++ messages)) (sym all_files) all_reported;
-            is_status = subst (λ fs. StatusOf es options fs selected) (sym all_files) (StatusOf-stopped es options first recent file here.0 here.1);
+            is_status = subst (λ fs. StatusOf es options fs selected) (sym all_files) (StatusOf-stopped es options first following file here.0 here.1);
             wrote = takes_both new.out rows took;
             reported = TakesAll-more old.messages mid.messages new.messages s.messages messages s.reported reported;
             failures = s.failures + own;

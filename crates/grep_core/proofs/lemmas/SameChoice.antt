@@ -97,7 +97,7 @@ EachGives-map R S f (x ∷ xs) ys h = (h.0, h.1, f x h.0 h.2, EachGives-map R S 
 
 module _ (options : Options) (context : Context) where
   IsShown-same : (ds es : List Expression) → IsSameChoice ds es → (text : List Text) (k : ℕ) → IsShown ds options context text k → IsShown es options context text k
-  IsShown-same ds es same text k s = record { place = s.place; on = s.on; selected = Selected-same ds es options same (get_or text s.place []) s.selected; before = s.before; recent = s.recent }
+  IsShown-same ds es same text k s = record { place = s.place; on = s.on; selected = Selected-same ds es options same (get_or text s.place []) s.selected; before = s.before; after = s.after }
 
   BeginsGroup-same : (ds es : List Expression) → IsSameChoice ds es → (text : List Text) (k : ℕ) → BeginsGroup ds options context text k → BeginsGroup es options context text k
   BeginsGroup-same ds es same text zero begins = begins

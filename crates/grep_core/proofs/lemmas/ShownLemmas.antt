@@ -48,7 +48,7 @@ module _ (es : List Expression) (options : Options) (context : Context) where
     on = omega (arith, h.on, length-append lines more);
     selected = subst (Selected es options) (sym (get_or_append_left lines more [] h.place h.on)) h.selected;
     before = h.before;
-    recent = h.recent;
+    after = h.after;
   }
 
   -- lines that are not selected show no other
@@ -59,7 +59,7 @@ module _ (es : List Expression) (options : Options) (context : Context) where
       on = on;
       selected = subst (Selected es options) (get_or_append_left lines more [] h.place on) h.selected;
       before = h.before;
-      recent = h.recent;
+      after = h.after;
     }
     | inr out ↦ absurd (All-get_or (λ line. ¬ Selected es options line) more (h.place - length lines) [] (omega (arith, out, h.on, length-append lines more)) none
         (subst (Selected es options) (get_or-append_right lines more (length lines) h.place [] refl out) h.selected))
@@ -73,21 +73,21 @@ module _ (es : List Expression) (options : Options) (context : Context) where
       on = on;
       selected = subst (Selected es options) (get_or_append_left lines (line ∷ []) [] h.place on) h.selected;
       before = h.before;
-      recent = h.recent;
+      after = h.after;
     })
     | inr out ↦
         let same : h.place ≡ length lines = omega (arith, out, h.on, length-append lines (line ∷ [])) in
-        inr (omega (arith, h.before, same), omega (arith, h.recent, same))
+        inr (omega (arith, h.before, same), omega (arith, h.after, same))
   ]
 
   -- one more line, which is selected, shows those near it
   pub shown_near : (lines : List Text) (line : Text) (k : ℕ) → Selected es options line → length lines ≤ k + context.before → k ≤ length lines + context.after → IsShown es options context (lines ++ line ∷ []) k
-  shown_near lines line k selected before recent = record {
+  shown_near lines line k selected before after = record {
     place = length lines;
     on = omega (arith, length-append lines (line ∷ []));
     selected = subst (Selected es options) (sym (get_or_push lines line [] (length lines) refl)) selected;
     before = before;
-    recent = recent;
+    after = after;
   }
 
   -- a group begins where no line just before is shown

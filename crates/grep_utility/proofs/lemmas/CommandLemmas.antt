@@ -29,7 +29,7 @@ use Rattle.grep_utility.specs.Working.CollectedTexts.{StopsFor, reported_of_patt
 use Rattle.re_syntax.specs.Profile.{most_patterns}
 use Rattle.grep_core.specs.Matchers.{IsFirstRefused}
 use Rattle.grep_utility.specs.Working.Serving.{ServeFor}
-use Rattle.grep_utility.specs.Patterns.{after_all, GivePatterns, FirstUnread}
+use Rattle.grep_utility.specs.Patterns.{folder_after_all, GivePatterns, FirstUnread}
 use Rattle.grep_utility.specs.Texts.{too_many_patterns, pattern_refused, fault_text, usage_texts}
 use Rattle.grep_utility.specs.Words.{Asked, PatternsFrom, read, OrMemory}
 
@@ -94,20 +94,20 @@ patterns_given asked folder texts given other more old new status (inl does) = i
 
 module _ (asked : Asked) (folder : Folder) (given : List (Option Text) → Type 0) (old new : Devices) (status : ℕ) where
   -- the patterns of the sources were read
-  sources_read : (texts : List Text) (read : List (Option Text)) → GivePatterns folder asked.sources texts → PatternsGive asked (after_all folder asked.sources) texts (λ left. given (read ++ left)) old new status
+  sources_read : (texts : List Text) (read : List (Option Text)) → GivePatterns folder asked.sources texts → PatternsGive asked (folder_after_all folder asked.sources) texts (λ left. given (read ++ left)) old new status
       → RequestGives folder given old new status asked
   sources_read texts read gives (inl does) = inl (inr (texts, read, gives, does))
   sources_read texts read gives (inr memory) = inr memory
 
   -- the same, by what the calls said
-  pub patterns_read : (mid : Folder) (sources : List PatternsFrom) (texts read_texts : List Text) (between : Devices) → sources ≡ asked.sources → read_texts ≡ texts → mid ≡ after_all folder sources → between ≡ old
+  pub patterns_read : (mid : Folder) (sources : List PatternsFrom) (texts read_texts : List Text) (between : Devices) → sources ≡ asked.sources → read_texts ≡ texts → mid ≡ folder_after_all folder sources → between ≡ old
       → GivePatterns folder sources texts → (read : List (Option Text)) (beyond : List (Option Text) → Type 0) → ((left : List (Option Text)) → beyond left → given (read ++ left))
       → PatternsGive asked mid read_texts beyond between new status → RequestGives folder given old new status asked
   patterns_read mid sources texts read_texts between is same used same_devices gave read beyond join gives =
       let all = patterns_given asked mid read_texts beyond (λ left. given (read ++ left)) join between new status gives in
-      let there = subst (λ f. PatternsGive asked f read_texts (λ left. given (read ++ left)) between new status) (used ∙ ap (after_all folder) is) all in
-      let of_texts = subst (λ t. PatternsGive asked (after_all folder asked.sources) t (λ left. given (read ++ left)) between new status) same there in
-      sources_read texts read (subst (λ s. GivePatterns folder s texts) is gave) (subst (λ d. PatternsGive asked (after_all folder asked.sources) texts (λ left. given (read ++ left)) d new status) same_devices of_texts)
+      let there = subst (λ f. PatternsGive asked f read_texts (λ left. given (read ++ left)) between new status) (used ∙ ap (folder_after_all folder) is) all in
+      let of_texts = subst (λ t. PatternsGive asked (folder_after_all folder asked.sources) t (λ left. given (read ++ left)) between new status) same there in
+      sources_read texts read (subst (λ s. GivePatterns folder s texts) is gave) (subst (λ d. PatternsGive asked (folder_after_all folder asked.sources) texts (λ left. given (read ++ left)) d new status) same_devices of_texts)
 
 module _ (asked : Asked) (folder : Folder) (given : List (Option Text) → Type 0) (out old new : Writer) (before after : ℕ) (steps : Steps) where
   -- they were not

@@ -16,26 +16,26 @@ no_chars [] e = chars-nil
 no_chars (b ∷ t) e = absurd (omega arith)
 
 -- nothing is left of a group
-pub group-end : (beyond : Option Wanting → List Piece) (t : Text) → length t ≡ 0 → group beyond (chars t) ≡ beyond None
-group-end beyond t e = ap (group beyond) (no_chars t e)
+pub group-end : (following : Option Wanting → List Piece) (t : Text) → length t ≡ 0 → group following (chars t) ≡ following None
+group-end following t e = ap (group following) (no_chars t e)
 
 -- where no letter of a group is left, the pieces are those of the words
 pub used_up : (letters : Option (Bor Text)) (words : List Text) → AreUsedUp letters → pieces_from letters words ≡ pieces words None
 used_up (Some rest) words none = ap (group (pieces words)) none
 used_up None words never = absurd never
 
-module _ (beyond : Option Wanting → List Piece) (c : ℕ) (a : Argument) (takes : meaning_of c ≡ Some (Takes a)) where
+module _ (following : Option Wanting → List Piece) (c : ℕ) (a : Argument) (takes : meaning_of c ≡ Some (Takes a)) where
   -- the rest of the group is the argument
-  pub group-argument : (t : Text) → IsUtf8 t → length t ≢ 0 → group beyond (c ∷ chars t) ≡ with_argument c a t ∷ beyond None
+  pub group-argument : (t : Text) → IsUtf8 t → length t ≢ 0 → group following (c ∷ chars t) ≡ with_argument c a t ∷ following None
   group-argument t utf8 more = by (chars t) (encodes-chars t utf8)
     where
-      by : (cs : List ℕ) → encode_utf8_all cs ≡ t → group beyond (c ∷ cs) ≡ with_argument c a t ∷ beyond None
+      by : (cs : List ℕ) → encode_utf8_all cs ≡ t → group following (c ∷ cs) ≡ with_argument c a t ∷ following None
       by [] e = absurd (more (sym (ap length e)))
-      by (d ∷ ds) e = rw (takes, group) (ap (λ u. with_argument c a u ∷ beyond None) e)
+      by (d ∷ ds) e = rw (takes, group) (ap (λ u. with_argument c a u ∷ following None) e)
 
   -- the argument is after the group
-  pub group-wants : (t : Text) → length t ≡ 0 → group beyond (c ∷ chars t) ≡ beyond (Some (record { letter = c; argument = a }))
-  group-wants t none = ap (λ cs. group beyond (c ∷ cs)) (no_chars t none) ∙ rw (takes, group) refl
+  pub group-wants : (t : Text) → length t ≡ 0 → group following (c ∷ chars t) ≡ following (Some (record { letter = c; argument = a }))
+  group-wants t none = ap (λ cs. group following (c ∷ cs)) (no_chars t none) ∙ rw (takes, group) refl
 
 module _ (words : List Text) (w : Wanting) (letters : Option (Bor Text)) (rest : Bor Text) (are : letters ≡ Some rest) (none : length rest.now ≡ 0) where
   -- the pieces of words after a group

@@ -17,7 +17,7 @@ use Rattle.grep_utility.specs.declared.patterns.FileRead.TheVariants.{Whole, Bro
 use Rattle.grep_utility.specs.declared.patterns.PatternsFault.{PatternsFault}
 use Rattle.grep_utility.specs.declared.patterns.PatternsFault.TheVariants as fault
 use Rattle.grep_utility.specs.Folder.{Folder}
-use Rattle.grep_utility.specs.Patterns.{Unread, patterns_by, GivesPatterns, beyond, after_all, GivePatterns, FirstUnread}
+use Rattle.grep_utility.specs.Patterns.{Unread, patterns_by, GivesPatterns, folder_after, folder_after_all, GivePatterns, FirstUnread}
 use Rattle.grep_utility.specs.Working.CollectedTexts.{Adds, AddsLines, ReadsFile, AddsSource, StopsFor}
 use Rattle.grep_utility.specs.Words.{PatternsFrom, list, given_source}
 use Rattle.grep_utility.proofs.lemmas.CollectingLemmas.{Adds-trans}
@@ -77,11 +77,11 @@ pub record SourcesSoFar (start : Folder) (all : List PatternsFrom) (now : Folder
   pub adds : Adds [] bytes texts
   pub give : (more : List Text) → GivePatterns now left more → GivePatterns start all (texts ++ more)
   pub stop : (unread : Unread) → FirstUnread now left unread → FirstUnread start all unread
-  pub used : after_all now left ≡ after_all start all
+  pub used : folder_after_all now left ≡ folder_after_all start all
 
 module _ (start : Folder) (all : List PatternsFrom) (now : Folder) (source : PatternsFrom) (left : List PatternsFrom) (bytes : Text) (s : SourcesSoFar start all now (source ∷ left) bytes) where
   -- one more source was read
-  pub sources_more : (after : Text) → AddsSource now source bytes after → SourcesSoFar start all (beyond now source) left after
+  pub sources_more : (after : Text) → AddsSource now source bytes after → SourcesSoFar start all (folder_after now source) left after
   sources_more after h = record {
     texts = s.texts ++ h.0;
     adds = Adds-trans [] bytes after s.texts h.0 s.adds h.2;

@@ -101,7 +101,7 @@ are_files other = refl
 -- ---- what is written
 
 shown : (k : ℕ) → k ≤ 2 → IsShown es row_options (record { before = 2; after = 0 }) row_lines k
-shown k near = record { place = 2; on = omega arith; selected = selected_a; before = omega arith; beyond = omega (arith, near) }
+shown k near = record { place = 2; on = omega arith; selected = selected_a; before = omega arith; after = omega (arith, near) }
 
 groups : Groups es row_options (record { before = 2; after = 0 }) (Some (codes "h")) (λ n. Some n) row_lines (codes "--" ∷ row_output)
 unfolding digits

@@ -6,10 +6,10 @@ use Rattle.grep_utility.proofs.words.pieces.WordPieces.option.Goals as goal
 
 pub returns-then-not-is_empty : goal.returns-then-not-is_empty
 returns-then-not-is_empty c =
-    let beyond = pieces (words_left c.args.self.now) in
-    group-argument beyond c.args.letter c.in-Some-Takes.argument (search rules) c.args.rest.now c.utf8.rest (search rules)
-    ∙ ap (λ p. p ∷ beyond None) (sym c.with_argument.ensures)
-    ∙ ap (λ ps. piece_of c.with_argument.result ∷ ps) (sym (group-end beyond [] refl))
+    let following = pieces (words_left c.args.self.now) in
+    group-argument following c.args.letter c.in-Some-Takes.argument (search rules) c.args.rest.now c.utf8.rest (search rules)
+    ∙ ap (λ p. p ∷ following None) (sym c.with_argument.ensures)
+    ∙ ap (λ ps. piece_of c.with_argument.result ∷ ps) (sym (group-end following [] refl))
 
 pub returns-in-Some : goal.returns-in-Some
 returns-in-Some c =
