@@ -27,7 +27,7 @@ MOST_WORDS = {
     "docs/SPECIFICATION.md": 5_320,
     "docs/ARCHITECTURE.md": 2_850,
     "docs/PROVING.md": 6_200,
-    "docs/DECISIONS.md": 4_750,
+    "docs/DECISIONS.md": 4_780,
     "docs/PERFORMANCE.md": 1_500,
     "docs/CHANGING.md": 1_900,
     "docs/ROADMAP.md": 1_000,
