@@ -29,7 +29,7 @@ MOST_WORDS = {
     "docs/PROVING.md": 6_200,
     "docs/DECISIONS.md": 4_780,
     "docs/PERFORMANCE.md": 1_500,
-    "docs/CHANGING.md": 1_900,
+    "docs/CHANGING.md": 1_930,
     "docs/ROADMAP.md": 1_000,
     "docs/GLOSSARY.md": 820,
     "crates/*/README.md": 3_750,

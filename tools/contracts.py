@@ -1,93 +1,84 @@
 #!/usr/bin/env python3
-"""Lists the public functions of all libraries with their contracts, one paragraph each.
+"""Lists the public functions of all libraries with their contracts, a paragraph each:
 
-    tools/contracts.py [FOLDER] > before
+    tools/contracts.py [CHECKOUT] > before
 
-Two such lists, of two checkouts, differ where a public contract does. A function is public if its crate's `lib.rt`
-passes on its name, or that of its type or trait. It is listed under the crate that passes it on, and so under each
-crate that does.
+Two such lists, of two checkouts, differ where a public contract does. A function is public if the `lib.rt` of its crate
+passes on its name, or that of its type or trait. A crate that passes on what another has lists it too.
 """
+
+from __future__ import annotations
+
 import re
 import sys
+from collections.abc import Iterator
 from pathlib import Path
 
-ITEM = re.compile(r"^( *)(pub )?(?:const )?(?:unsafe )?fn (\w+)", re.M)
-HEAD = re.compile(r"^(?:pub )?(trait|impl)\b(.*?)(?:\{|;)\s*$", re.M | re.S)
+NESTED = r"<(?:[^<>]|<[^<>]*>)*>"
+"""Parameters of a type, which may have parameters themselves."""
+
+OWNER = re.compile(rf"(?:pub )?trait (\w+)|impl\s*(?:{NESTED})?\s*(?:([\w:]+)(?:{NESTED})?\s+for\s+)?&?([\w:]+)")
+"""What the head of a trait or of an `impl` names: the trait, or perhaps a trait, and a type."""
 
 
-def exported(crate):
-    """The names that a crate passes on: {name: crate that it names, or None for its own}."""
+def passed_on(crate: Path) -> dict[str, str]:
+    """The names that a crate passes on, each with the module or crate that it is in."""
     names = {}
-    text = (crate / "src/lib.rt").read_text()
-    for path, many in re.findall(r"pub use ([\w:]+?)(?:::\{([^}]*)\})?;", text):
-        first, last = path.split("::")[0], path.split("::")[-1]
-        for name in [n.strip() for n in many.split(",") if n.strip()] if many else [last]:
-            names[name] = first
+    text = (crate / "src/lib.rt").read_text(encoding="utf-8")
+    for path, several in re.findall(r"pub use ([\w:]+?)(?:::\{([^}]*)\})?;", text):
+        parts = path.split("::")
+        listed = [name.strip() for name in several.split(",") if name.strip()] if several else parts[-1:]
+        names |= {name: parts[0] for name in listed}
     return names
 
 
-def functions(crate):
-    """(owner, name, text) of the functions of a crate; the owner is a type, a trait or ''."""
-    for file in sorted((crate / "src").rglob("*.rt")):
-        owner, is_trait, owner_indent = "", False, 0
-        lines = file.read_text().split("\n")
-        at = 0
-        while at < len(lines):
-            line = lines[at]
-            if re.match(r"(pub )?trait \w|impl\b", line):
-                head = line
-                while not head.rstrip().endswith("{") and at + 1 < len(lines):
-                    at += 1
-                    head += " " + lines[at].strip()
-                found = re.match(r"(?:pub )?trait (\w+)", head)
-                if found:
-                    owner, is_trait = found.group(1), True
-                else:
-                    rest = re.sub(r"^impl\s*(<(?:[^<>]|<[^<>]*>)*>)?\s*", "", head)
-                    of = re.match(r"(?:[\w:]+(?:<(?:[^<>]|<[^<>]*>)*>)?\s+for\s+)?&?(?:'\w+ )?(?:mut )?([\w:]+)", rest)
-                    owner, is_trait = of.group(1).split("::")[-1], " for " in rest
-            elif line.startswith("}"):
-                owner, is_trait = "", False
-            found = re.match(r"( *)(pub )?(?:const )?fn (\w+)", line)
-            if found and (found.group(2) or is_trait):
-                text = [line.strip()]
-                while not (re.search(r"[;{]\s*$|\{\}\s*$", lines[at])
-                           and not re.match(r"\s*(requires|ensures)\b.*\{\s*$", lines[at])
-                           and balanced(text)):
-                    at += 1
-                    text.append(lines[at].strip())
-                joined = re.sub(r"\s+", " ", " ".join(text))
-                yield owner, found.group(3), re.sub(r" ?(\{\}|\{|;)$", "", joined)
-            at += 1
+def is_whole(text: str) -> bool:
+    """Whether a head of a function is there up to its body, with all its clauses."""
+    head = re.sub(r"\s*(\{\}|\{|;)$", "", text)
+    return head != text and head.count("{") == head.count("}") and not re.search(r"(requires|ensures)( \w+)?$", head)
 
 
-def balanced(text):
-    """Whether no clause is open; a body that begins is no clause."""
-    joined = " ".join(text)
-    joined = re.sub(r"\{\}?\s*$|;\s*$", "", joined)
-    return joined.count("{") == joined.count("}")
+def functions(file: Path) -> Iterator[tuple[str, str, str]]:
+    """The type or trait, if there is one, the name and the contract of the public functions of a file."""
+    owner, all_public = "", False
+    lines = iter(file.read_text(encoding="utf-8").splitlines())
+    for line in lines:
+        if re.match(r"(pub )?trait \w|impl\b", line):
+            while not line.endswith("{"):
+                line += " " + next(lines).strip()
+            trait, of_trait, of_type = OWNER.match(line).groups()
+            owner, all_public = trait or of_type.split("::")[-1], bool(trait or of_trait)
+        elif line.startswith("}"):
+            owner, all_public = "", False
+        found = re.match(r" *(pub )?(?:const )?fn (\w+)", line)
+        if found and (found[1] or all_public):
+            text = line.strip()
+            while not is_whole(text):
+                text += " " + next(lines).strip()
+            yield owner, found[2], re.sub(r"\s*(\{\}|\{|;)$", "", re.sub(r"\s+", " ", text))
 
 
-def main():
-    root = Path(sys.argv[1] if len(sys.argv) > 1 else Path(__file__).resolve().parent.parent) / "crates"
-    own = {c.name: list(functions(c)) for c in sorted(root.iterdir()) if (c / "src").exists()}
-    for name in own:
-        if not (root / name / "src/lib.rt").exists():
+def contracts(crates: Path, name: str) -> set[str]:
+    """The paragraphs of a crate."""
+    found, todo = set(), [(name, item, source) for item, source in passed_on(crates / name).items()]
+    while todo:
+        crate, item, source = todo.pop()
+        if source != crate and (crates / source / "src/lib.rt").exists():
+            todo.append((source, item, passed_on(crates / source).get(item, "")))
             continue
-        wanted = exported(root / name)
-        found = set()
-        todo = [(name, item, source) for item, source in wanted.items()]
-        while todo:
-            crate, item, source = todo.pop()
-            if source in own and source != crate and source not in ("crate",):
-                below = exported(root / source)
-                todo.append((source, item, below.get(item, "")))
-                continue
-            for owner, function, text in own[crate]:
-                if owner == item or (not owner and function == item):
-                    found.add(f"{name} {owner + '::' if owner else ''}{function}\n    {text}\n")
-        for text in sorted(found):
-            print(text)
+        for file in sorted((crates / crate / "src").rglob("*.rt")):
+            for owner, function, text in functions(file):
+                if item == (owner or function):
+                    found.add(f"{name} {owner}{'::' if owner else ''}{function}\n    {text}\n")
+    return found
 
 
-main()
+def main() -> None:
+    checkout = Path(sys.argv[1]) if len(sys.argv) > 1 else Path(__file__).resolve().parent.parent
+    for lib in sorted((checkout / "crates").glob("*/src/lib.rt")):
+        for paragraph in sorted(contracts(checkout / "crates", lib.parent.parent.name)):
+            print(paragraph)
+
+
+if __name__ == "__main__":
+    main()
