@@ -79,7 +79,7 @@ fn refused_words_are_reported(rt: HostRuntime) -> Result<(), Fail> {
     let folder = folder();
     let files = folder.as_slice();
     for (line, reported) in refused_words() {
-        let messages = format!(in rt.alloc(); "{told}{USAGE}")?;
+        let messages = format!(in rt.alloc(); "{reported}{USAGE}")?;
         let row = (
             *line,
             b"a\n".as_slice(),
