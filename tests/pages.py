@@ -36,7 +36,7 @@ MOST_WORDS = {
     "tests/README.md": 1_000,
     "editors/emacs/README.md": 1_500,
     "editors/nvim/*.md": 1_500,
-    "*": 35_200,
+    "*": 35_300,
 }
 """How many words pages have at most, by the pattern of their names."""
 
