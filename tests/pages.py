@@ -23,7 +23,7 @@ import count  # noqa: E402
 MOST_WORDS = {
     "README.md": 1_400,
     "CONTRIBUTING.md": 500,
-    "docs/GUARANTEES.md": 1_600,
+    "docs/GUARANTEES.md": 1_620,
     "docs/SPECIFICATION.md": 5_320,
     "docs/ARCHITECTURE.md": 2_850,
     "docs/PROVING.md": 6_200,
