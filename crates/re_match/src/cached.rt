@@ -1,6 +1,6 @@
 //! Search by stepping an automaton over the line, with a cache of the steps between sets of
 //! positions.
-ghost use Rattle.std.specs.Prelude.{◌≡◌, ℕ, ◌+◌, ◌-◌, ◌≤◌, ◌↔◌, [], ◌∷◌, false, IsTrue, IfOk};
+ghost use Rattle.std.specs.Prelude.{◌≡◌, ℕ, ◌+◌, ◌-◌, ◌<◌, ◌≤◌, ◌↔◌, [], ◌∷◌, false, IsTrue, IfOk};
 ghost use Rattle.std.specs.Prelude.{IfErr, IfSome, length};
 ghost use Rattle.std.specs.NonZero.{non_zero_usize_get};
 ghost use Rattle.re_syntax.specs.Expression.{expression_of};
@@ -9,6 +9,7 @@ ghost use Rattle.re_syntax.specs.Lines.{lines_of};
 ghost use Rattle.re_needle.specs.Working.Needles.{IsNeeded};
 ghost use Rattle.re_auto.specs.Searching.{FindsPart, AddsAtMost};
 ghost use Rattle.re_needle.specs.Working.Blocks.{IsBlock, PassesUnmatched, CountsMatched};
+ghost use Rattle.re_needle.specs.Working.Blocks.{FindsMatched, next_cost};
 ghost use Rattle.re_steps.specs.Working.Stages.{Searches, mode_for};
 ghost use Rattle.re_match.specs.Working.CachedMatchers.{AnswersLine};
 
@@ -204,7 +205,17 @@ impl LineMatch for Cached {
         self.simulated.find(line, from, meter)
     }
 
-    fn next_matched(&mut self, block: &[u8], meter: &mut Meter) -> Option<Span> {
+    fn next_matched(&mut self, block: &[u8], meter: &mut Meter) -> Option<Span>
+        requires { IsBlock block.now }
+        ensures reported { FindsMatched (expression_of self.old.tree) self.old.whole
+            (lines_of block.now) result }
+        ensures within { IfSome result
+            (λ at. (at.start ≤ at.end) × (at.end < length block.now)) }
+        ensures same_expression { expression_of self.new.tree ≡ expression_of self.old.tree }
+        ensures same_whole { self.new.whole ≡ self.old.whole }
+        ensures steps { AddsAtMost (next_cost block.now result) meter.old meter.new }
+        ensures same_most { self.new.most ≡ self.old.most }
+    {
         next_by_sweeps(self, block, meter)
     }
 
@@ -230,6 +241,8 @@ impl Sweeps for Cached {
     ghost expression = { λ c. expression_of c.tree };
 
     ghost whole = { λ c. c.whole };
+
+    ghost room = { λ c. c.most };
 
     fn sweep(&self, block: &[u8], meter: &mut Meter) -> usize {
         self.simulated.sweep(block, meter)

@@ -241,6 +241,8 @@ impl Sweeps for Fixed {
 
     ghost whole = { λ f. f.whole };
 
+    ghost room = { λ f. 0 };
+
     fn sweep(&self, block: &[u8], meter: &mut Meter) -> usize {
         let passed = self.candidate(block);
         meter.add_built(passed as u64);

@@ -291,6 +291,8 @@ impl Sweeps for FixedSet {
 
     ghost whole = { λ f. f.whole };
 
+    ghost room = { λ f. 0 };
+
     fn sweep(&self, block: &[u8], meter: &mut Meter) -> usize {
         if !self.looks.is_due() {
             return 0;

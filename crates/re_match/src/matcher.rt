@@ -1,5 +1,5 @@
 //! Matchers made from the texts of patterns.
-ghost use Rattle.std.specs.Prelude.{◌≡◌, ◌+◌, ◌-◌, ◌≤◌, ◌↔◌, ◌⊎◌, [], ◌∷◌, not, false, IsTrue};
+ghost use Rattle.std.specs.Prelude.{◌≡◌, ◌+◌, ◌-◌, ◌<◌, ◌≤◌, ◌↔◌, ◌⊎◌, [], ◌∷◌, not, false, IsTrue};
 ghost use Rattle.std.specs.Prelude.{IfOk, IfErr, IfSome, length};
 ghost use Rattle.re_syntax.specs.Expression.{expression_of};
 ghost use Rattle.re_syntax.specs.Holds.{Matches, positions};
@@ -14,6 +14,7 @@ ghost use Rattle.re_match.specs.Working.Matchers.{matched_expression, wants_whol
 ghost use Rattle.re_match.specs.Working.Matchers.{room_of, entries_of, CountsSteps, IsBuildFault};
 ghost use Rattle.re_auto.specs.Searching.{FindsPart, AddsAtMost};
 ghost use Rattle.re_needle.specs.Working.Blocks.{IsBlock, PassesUnmatched, CountsMatched};
+ghost use Rattle.re_needle.specs.Working.Blocks.{FindsMatched, next_cost};
 
 use crate::cached::Cached;
 use crate::fixed::Fixed;
@@ -147,7 +148,17 @@ impl LineMatch for Matcher {
         }
     }
 
-    fn next_matched(&mut self, block: &[u8], meter: &mut Meter) -> Option<Span> {
+    fn next_matched(&mut self, block: &[u8], meter: &mut Meter) -> Option<Span>
+        requires { IsBlock block.now }
+        ensures reported { FindsMatched (matched_expression self.old) (wants_whole self.old)
+            (lines_of block.now) result }
+        ensures within { IfSome result
+            (λ at. (at.start ≤ at.end) × (at.end < length block.now)) }
+        ensures same_expression { matched_expression self.new ≡ matched_expression self.old }
+        ensures same_whole { wants_whole self.new ≡ wants_whole self.old }
+        ensures steps { AddsAtMost (next_cost block.now result) meter.old meter.new }
+        ensures same_room { room_of self.new ≡ room_of self.old }
+    {
         match self {
             Matcher::Fixed(fixed) => fixed.next_matched(block, meter),
             Matcher::FixedSet(set) => set.next_matched(block, meter),

@@ -286,6 +286,8 @@ impl Sweeps for Simulated {
 
     ghost whole = { λ s. s.whole };
 
+    ghost room = { λ s. 0 };
+
     fn sweep(&self, block: &[u8], meter: &mut Meter) -> usize {
         self.prefilter.sweep(block, self.whole, meter)
     }

@@ -1,6 +1,6 @@
 //! Matchers that pass lines of a block in one sweep, as far as it is known without a search that
 //! they are not matched.
-ghost use Rattle.std.specs.Prelude.{Bool, ◌≡◌, ◌+◌, ◌<◌, ◌≤◌, ◌↔◌, IsTrue, IfSome, length};
+ghost use Rattle.std.specs.Prelude.{Bool, ℕ, ◌≡◌, ◌+◌, ◌<◌, ◌≤◌, ◌↔◌, IsTrue, IfSome, length};
 ghost use Rattle.re_syntax.specs.Expression.{Expression};
 ghost use Rattle.re_syntax.specs.Holds.{Matches};
 ghost use Rattle.re_syntax.specs.Lines.{lines_of};
@@ -20,6 +20,9 @@ pub trait Sweeps {
     /// Whether the whole line has to be matched.
     ghost whole: { Self → Bool };
 
+    /// How many entries its cache may have; 0 without a cache.
+    ghost room: { Self → ℕ };
+
     /// How many bytes of a block of whole lines are passed: whole lines, none of which is matched.
     /// It takes at most one step for each of these bytes.
     fn sweep(&self, block: &[u8], meter: &mut Meter) -> usize
@@ -32,6 +35,7 @@ pub trait Sweeps {
         ensures reported { IsTrue result ↔ Matches (expression self.old) line.now (whole self.old) }
         ensures same_expression { expression self.new ≡ expression self.old }
         ensures same_whole { whole self.new ≡ whole self.old }
+        ensures same_room { room self.new ≡ room self.old }
         ensures steps { AddsAtMost (length line.now + 1) meter.old meter.new };
 }
 
@@ -44,6 +48,7 @@ pub fn next_by_sweeps<M: Sweeps>(matcher: &mut M, block: &[u8], meter: &mut Mete
     ensures within { IfSome result (λ at. (at.start ≤ at.end) × (at.end < length block.now)) }
     ensures same_expression { M.expression matcher.new ≡ M.expression matcher.old }
     ensures same_whole { M.whole matcher.new ≡ M.whole matcher.old }
+    ensures same_room { M.room matcher.new ≡ M.room matcher.old }
     ensures steps { AddsAtMost (next_cost block.now result) meter.old meter.new }
 {
     let mut start = 0;

@@ -53,6 +53,7 @@ lines-preserved g c =
           (rw (← i.same_expression, ← i.same_whole) (λ holds. false≢true (c.if-search.ensures.reported.1 holds)));
       same_expression = c.search.ensures.same_expression ∙ i.same_expression;
       same_whole = c.search.ensures.same_whole ∙ i.same_whole;
+      same_room = c.search.ensures.same_room ∙ i.same_room;
       steps = adds_line (start + count) end _ _ _ _ cut.0 (long (λ (line : Text). Matches e line whole) block (start + count) end cut passed)
           (adds_both start count _ _ _ i.steps c.sweep.ensures.steps) c.search.ensures.steps;
     }

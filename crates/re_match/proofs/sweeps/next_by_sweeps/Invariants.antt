@@ -10,6 +10,7 @@ invariant-lines g l = record {
   passed : PassesUnmatched (g.M.Sweeps.expression l.fn.matcher) (g.M.Sweeps.whole l.fn.matcher) l.block l.start;
   same_expression : g.M.Sweeps.expression l.matcher ≡ g.M.Sweeps.expression l.fn.matcher;
   same_whole : g.M.Sweeps.whole l.matcher ≡ g.M.Sweeps.whole l.fn.matcher;
+  same_room : g.M.Sweeps.room l.matcher ≡ g.M.Sweeps.room l.fn.matcher;
   steps : AddsAtMost l.start l.fn.meter l.meter;
 }
 
