@@ -22,8 +22,8 @@ UNCOUNTED = {"re_needle", "re_strings", "re_steps", "re_match"}
 SEARCH = {*UNCOUNTED, "re_search"}
 """The crates that search, and count the steps of their callers."""
 
-DEFINITIONS = {"grep_io": "re_needle"}
-"""A crate that lists one of these for its definitions, and names it in no code."""
+DEFINITIONS = {"grep_io": "re_needle", "line_chunks": "re_needle", "grep_session": "re_needle"}
+"""Crates that list one of these for its definitions, and name it in no code."""
 
 MAY_LIST = {MAKES_METERS: SEARCH | {"grep", "occur", "examples"},
             **{name: SEARCH | {user for user, used in DEFINITIONS.items() if used == name} for name in UNCOUNTED}}

@@ -5,6 +5,10 @@
 #[cfg(test)]
 mod automata;
 #[cfg(test)]
+mod chunks;
+#[cfg(test)]
+mod finds;
+#[cfg(test)]
 mod lines;
 #[cfg(test)]
 mod matchers;

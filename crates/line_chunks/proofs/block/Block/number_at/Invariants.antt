@@ -1,0 +1,11 @@
+use Rattle.std.proofs.Common.{◌≡◌, ◌≤◌, ◌-◌, ℕ, length, take}
+use Rattle.re_syntax.specs.Lines.{terminated}
+use Rattle.line_chunks.proofs.block.Block.number_at.Given as goal
+
+abbrev pub invariant-loop-number : goal.invariant-loop-number
+invariant-loop-number l =
+    (l.number ≤ length l.self) ×
+    ((k : ℕ) → l.from ≤ k → k ≤ length l.self → l.place ≡ length (terminated (take k l.self)) → l.number ≤ k)
+
+abbrev pub decreases-loop-number : goal.decreases-loop-number
+decreases-loop-number l = length l.self - l.number

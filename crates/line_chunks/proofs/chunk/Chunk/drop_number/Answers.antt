@@ -1,0 +1,10 @@
+use Rattle.std.proofs.Common.{◌∙◌, ap, map}
+use Rattle.line_chunks.specs.Working.Chunks.{line_without}
+use Rattle.line_chunks.proofs.lemmas.SeenLaws.{seen_without}
+use Rattle.line_chunks.proofs.chunk.Chunk.drop_number.Goals as goal
+
+pub returns : goal.returns
+returns c =
+    seen_without 0 c.args.p c.self.inside.block c.self.inside.found c.drop_number.new.self
+    c.drop_number.ensures.finds ∙
+    ap (map (line_without c.args.p)) c.self.view_is

@@ -1,0 +1,14 @@
+use Rattle.std.proofs.Common.{arith, ◌∙◌, ap, length}
+use Rattle.std.specs.Prelude.{not, ◌==◌}
+use Rattle.line_finds.specs.Working.Finds.{Finds}
+use Rattle.line_chunks.proofs.lemmas.SeenLaws.{as_many, found_at}
+use Rattle.line_chunks.proofs.chunk.Chunk.is_matched.Goals as goal
+
+pub is_matched-requires : goal.is_matched-requires
+is_matched-requires c = omega (arith, c.requires, c.self.invariant, as_many c.args.self.now c.self.inside.block c.self.inside.found c.self.view_is)
+
+pub returns : goal.returns
+returns c =
+    c.is_matched.ensures ∙
+    ap (λ (finds : Finds). not (length finds.numbers == 0))
+    (found_at c.args.self.now c.self.inside.block c.self.inside.found c.self.view_is c.args.k c.requires)

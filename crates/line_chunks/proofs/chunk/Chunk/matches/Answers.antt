@@ -1,0 +1,15 @@
+use Rattle.std.proofs.Common.{ℕ, ◌∙◌, ap, subst}
+use Rattle.line_finds.specs.Working.Finds.{Finds, numbers_at, AreBelow}
+use Rattle.line_chunks.proofs.lemmas.SeenLaws.{as_many, found_at}
+use Rattle.line_chunks.proofs.chunk.Chunk.matches.Goals as goal
+
+pub returns-clause-at : goal.returns-clause-at
+returns-clause-at c =
+    λ k h.
+    ap (numbers_at k) c.matches.ensures.same ∙
+    ap (λ (finds : Finds). finds.numbers) (found_at c.args.self.now c.self.inside.block c.self.inside.found c.self.view_is k h)
+
+pub returns-clause-within : goal.returns-clause-within
+returns-clause-within c =
+    subst (λ (n : ℕ). AreBelow n c.matches.result.now)
+    (c.self.invariant ∙ as_many c.args.self.now c.self.inside.block c.self.inside.found c.self.view_is) c.matches.ensures.within

@@ -1,0 +1,9 @@
+use Rattle.std.proofs.Common.{◌∙◌, ap}
+use Rattle.line_finds.specs.Working.Finds.{Finds}
+use Rattle.line_chunks.proofs.lemmas.SeenLaws.{found_at}
+use Rattle.line_chunks.proofs.chunk.Chunk.spans.Goals as goal
+
+pub returns : goal.returns
+returns c =
+    c.spans.ensures ∙
+    ap (λ (finds : Finds). finds.spans) (found_at c.args.self.now c.self.inside.block c.self.inside.found c.self.view_is c.args.k c.requires)

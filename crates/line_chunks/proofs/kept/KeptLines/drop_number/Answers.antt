@@ -1,0 +1,12 @@
+use Rattle.std.proofs.Common.{arith, ap, length}
+use Rattle.line_chunks.specs.Working.Chunks.{all_of, line_without}
+use Rattle.line_chunks.specs.Working.Sums.{chunks_of}
+use Rattle.line_chunks.proofs.lemmas.Columns.{lines_mapped}
+use Rattle.line_chunks.proofs.kept.KeptLines.drop_number.Goals as goal
+
+pub sum_from-requires-clause-few : goal.sum_from-requires-clause-few
+sum_from-requires-clause-few c =
+    let now = ap (λ cs. length (all_of cs)) c.drop_in_all.ensures in
+    let same = lines_mapped (chunks_of c.self.inside.entries.items) (line_without c.args.p) in
+    let all = ap (λ cs. length (all_of cs)) c.self.view_is in
+    omega (arith, now, same, all, c.len-lines.ensures, c.len-lines.type_inv)

@@ -1,0 +1,13 @@
+use Rattle.std.proofs.Common.{arith, ap, length}
+use Rattle.std.specs.Vec.Iter.{into_iter_items}
+use Rattle.line_chunks.specs.Working.Chunks.{all_of}
+use Rattle.line_chunks.specs.Working.Sums.{chunks_of}
+use Rattle.line_chunks.proofs.lemmas.Columns.{lines_with_columns}
+use Rattle.line_chunks.proofs.kept.KeptLines.put_columns.Goals as goal
+
+pub sum_from-requires-clause-few : goal.sum_from-requires-clause-few
+sum_from-requires-clause-few c =
+    let now = ap (λ cs. length (all_of cs)) c.put_all.ensures.chunks in
+    let same = lines_with_columns (chunks_of c.self.inside.entries.items) (into_iter_items c.args.found.now) in
+    let all = ap (λ cs. length (all_of cs)) c.self.view_is in
+    omega (arith, now, same, all, c.len-lines.ensures, c.len-lines.type_inv)

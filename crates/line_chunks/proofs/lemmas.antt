@@ -1,0 +1,10 @@
+-- what a crate above uses of the crate below
+pub use Rattle.line_finds.proofs.lemmas.PairLaws
+pub mod Joins
+pub mod Sums
+pub mod Pieces
+pub mod Edits
+pub mod Columns
+pub mod BlockLemmas
+pub mod SeenLaws
+pub mod NextLines

@@ -1,0 +1,226 @@
+-- Entries that are changed, removed or put in the place of others.
+use Rattle.std.proofs.Common.{◌≡◌, ℕ, suc, ◌+◌, ◌-◌, ◌^◌, ◌<◌, ◌≤◌, List, [], ◌∷◌, ◌++◌, length, take, drop, set, get_or, ap, sym, ◌∙◌, arith, length-append, add-one, subst, inl, inr}
+use Rattle.std.proofs.lemmas.List.{take_all, length-take, length-drop, map-append, set-get_or, length-set, take-append-le, take-take, drop-map, drop_all}
+use Rattle.std.proofs.lemmas.Bool.{cases_lt}
+use Rattle.std.specs.Prelude.{IfOk, OnErr}
+use Rattle.std.specs.List.{remove_range}
+use Rattle.std.specs.declared.result.Result.{Result}
+use Rattle.std.specs.declared.result.Result.TheVariants.{Ok, Err}
+use Rattle.re_syntax.specs.Bytes.{Text}
+use Rattle.line_chunks.specs.Working.Chunks.{KeptLine, all_of, new_line, matched_count}
+use Rattle.line_chunks.specs.Working.Places.{IsPlace}
+use Rattle.line_chunks.specs.Working.Sums.{chunks_of, AreSummed, IsSummedTo}
+use Rattle.line_chunks.specs.declared.entries.Entry.{Entry}
+use Rattle.line_chunks.proofs.lemmas.Joins.{joined_more, size_suc, all_taken, seams_in_order, put_in}
+use Rattle.line_chunks.proofs.lemmas.Pieces.{lines_set_last, lines_push}
+use Rattle.line_chunks.proofs.lemmas.Sums.{chunks_of-set, chunks_of-take, length-chunks_of, chunk_at, summed_to, summed_all, summed_set, summed_take, end_suc, hits_suc, matched-append, summed_push}
+
+-- ---- what an entry says of the lines up to its chunk
+
+pub entry_end : (es : List Entry) (k : ℕ) (e : Entry) → k < length es → AreSummed 0 0 es → e ≡ get_or es k e
+    → e.end ≡ length (all_of (take k (chunks_of es))) + length e.chunk
+entry_end es k e h s read =
+    let is = end_suc 0 0 k es e h (summed_take 0 0 (suc k) es s) in
+    let here = ap (λ (one : Entry). one.end) read in
+    let lines = ap (λ (one : Entry). length one.chunk) read in
+    let chunk = ap length (chunk_at es k e h) in
+    let size = size_suc (chunks_of es) k in
+    omega (arith, is, here, lines, chunk, size)
+
+pub entry_hits : (es : List Entry) (k : ℕ) (e : Entry) → k < length es → AreSummed 0 0 es → e ≡ get_or es k e
+    → e.hits ≡ matched_count (all_of (take k (chunks_of es))) + matched_count e.chunk
+entry_hits es k e h s read =
+    let is = hits_suc 0 0 k es e h (summed_take 0 0 (suc k) es s) in
+    let here = ap (λ (one : Entry). one.hits) read in
+    let lines = ap (λ (one : Entry). matched_count one.chunk) read in
+    let chunk = ap matched_count (chunk_at es k e h) in
+    let inside : k < length (chunks_of es) = omega (arith, h, length-chunks_of es) in
+    let more = ap matched_count (joined_more (chunks_of es) k inside) in
+    let sum = matched-append (all_of (take k (chunks_of es))) (get_or (chunks_of es) k []) in
+    let one = ap (λ n. matched_count (all_of (take n (chunks_of es)))) (add-one k) in
+    omega (arith, is, here, lines, chunk, more, sum, one)
+
+pub last_end : (es : List Entry) (k : ℕ) (e : Entry) → k + 1 ≡ length es → AreSummed 0 0 es → e ≡ get_or es k e
+    → e.end ≡ length (all_of (chunks_of es))
+last_end es k e h s read =
+    let is = end_suc 0 0 k es e (omega arith) (summed_take 0 0 (suc k) es s) in
+    let here = ap (λ (one : Entry). one.end) read in
+    let all = all_taken (chunks_of es) (suc k) (omega (arith, h, length-chunks_of es)) in
+    omega (arith, is, here, all)
+
+-- ---- a line is added to the last chunk
+
+module _ (es : List Entry) (k : ℕ) (old new : Entry) (text : Text) (h : k + 1 ≡ length es)
+    (s : AreSummed 0 0 es) (read : old ≡ get_or es k old) where
+  one_more : new ≡ record { chunk = old.chunk ++ new_line text ∷ []; end = old.end + 1; hits = old.hits }
+      → AreSummed 0 0 (set es k new)
+  one_more is =
+      let inside : k < length es = omega arith in
+      let end_is = ap (λ (one : Entry). one.end) is in
+      let hits_is = ap (λ (one : Entry). one.hits) is in
+      let size = ap (λ (one : Entry). length one.chunk) is in
+      let matched = ap (λ (one : Entry). matched_count one.chunk) is in
+      let longer = length-append old.chunk (new_line text ∷ []) in
+      let none = matched-append old.chunk (new_line text ∷ []) in
+      let before = entry_end es k old inside s read in
+      let before_hits = entry_hits es k old inside s read in
+      let now = summed_set es k new inside (summed_take 0 0 k es s) (omega (arith, end_is, size, longer, before))
+      (omega (arith, hits_is, matched, none, before_hits)) in
+      summed_all (k + 1) (set es k new) (omega (arith, h, length-set es k new)) now
+
+  same_again : new ≡ old → set es k new ≡ es
+  same_again is = ap (set es k) (is ∙ read) ∙ set-get_or es k old
+
+  pub add_summed : {T E : Type 0} (result : Result T E)
+      → IfOk result (λ _. new ≡ record { chunk = old.chunk ++ new_line text ∷ []; end = old.end + 1; hits = old.hits })
+      → OnErr result (new ≡ old) → AreSummed 0 0 (set es k new)
+  add_summed (Ok a) is same = one_more is
+  add_summed (Err a) is same = subst (λ (xs : List Entry). AreSummed 0 0 xs) (sym (same_again same)) s
+
+  pub add_ok : {T E : Type 0} (result : Result T E)
+      → IfOk result (λ _. new ≡ record { chunk = old.chunk ++ new_line text ∷ []; end = old.end + 1; hits = old.hits })
+      → IfOk result (λ _. all_of (chunks_of (set es k new)) ≡ all_of (chunks_of es) ++ new_line text ∷ [])
+  add_ok (Ok a) is =
+      lines_set_last es k old new (new_line text ∷ []) h read (ap (λ (one : Entry). one.chunk) is)
+  add_ok (Err a) is = tt
+
+-- ---- entries are removed
+
+pub chunks_of-without : (es new : List Entry) (from to : ℕ) → new ≡ remove_range es from to
+    → chunks_of new ≡ remove_range (chunks_of es) from to
+chunks_of-without es new from to is =
+    ap chunks_of is ∙ map-append (λ (e : Entry). e.chunk) (take from es) (drop to es) ∙
+    ap (λ xs. xs ++ chunks_of (drop to es)) (chunks_of-take from es) ∙
+    ap (λ xs. take from (chunks_of es) ++ xs) (sym (drop-map (λ (e : Entry). e.chunk) to es))
+
+-- an entry has fewer lines
+pub chunks_of-set_at : (es : List Entry) (k from to : ℕ) (old new : Entry) → k < length es → old ≡ get_or es k old
+    → new.chunk ≡ remove_range old.chunk from to
+    → chunks_of (set es k new) ≡ set (chunks_of es) k (remove_range (get_or (chunks_of es) k []) from to)
+chunks_of-set_at es k from to old new h read is =
+    let here : old.chunk ≡ get_or (chunks_of es) k [] =
+    ap (λ (e : Entry). e.chunk) read ∙ sym (chunk_at es k old h) in
+    chunks_of-set es k new ∙
+    ap (λ lines. set (chunks_of es) k lines) (is ∙ ap (λ lines. remove_range lines from to) here)
+
+-- ---- seams that were found in a slice of the entries
+
+pub seam_in : (ds es : List Entry) (place k i : ℕ) → ds ≡ es → IsPlace (chunks_of ds) place k i
+    → IsPlace (chunks_of es) place k i
+seam_in ds es place k i e h = subst (λ (xs : List Entry). IsPlace (chunks_of xs) place k i) e h
+
+pub seam_order : (ds fs es : List Entry) (start count k i l j : ℕ) → ds ≡ es → fs ≡ es
+    → IsPlace (chunks_of ds) start k i → IsPlace (chunks_of fs) (start + count) l j → (start ≡ 0 → k ≡ 0)
+    → (0 < start → 0 < i) → k ≤ l
+seam_order ds fs es start count k i l j e f here there first after =
+    seams_in_order (chunks_of es) start (start + count) k i l j (seam_in ds es start k i e here)
+    (seam_in fs es (start + count) l j f there) (omega arith) first after
+
+pub seam_summed : (es : List Entry) (k : ℕ) → k < length es → AreSummed 0 0 es → IsSummedTo es k
+seam_summed es k h s = summed_to k es (omega arith) s
+
+-- ---- other chunks are put in
+
+-- where the chunks after the last one touched begin
+pub rest_same : (cs : List (List KeptLine)) (count last end : ℕ) → count ≡ length cs
+    → (last < count → end ≡ last + 1) → (count ≤ last → end ≡ count) → drop end cs ≡ drop (last + 1) cs
+rest_same cs count last end many next past =
+    elim (cases_lt last count) [
+      | inl h ↦ ap (λ n. drop n cs) (next h)
+      | inr h ↦ drop_all end cs (omega (arith, many, past h)) ∙ sym (drop_all (last + 1) cs (omega (arith, many, h)))
+    ]
+
+pub seam_end : (es : List Entry) (count first last end : ℕ) → count ≡ length es → first ≤ last
+    → first ≤ length (chunks_of es) → (last < count → end ≡ last + 1) → (count ≤ last → end ≡ count) → first ≤ end
+seam_end es count first last end many order within next past =
+    grind (arith, many, order, within, next, past, length-chunks_of es)
+
+module _ (es new fresh : List Entry) (lines : List KeptLine) (start count first before last after end : ℕ)
+    (p : IsPlace (chunks_of es) start first before) (q : IsPlace (chunks_of es) (start + count) last after)
+    (rest : drop end (chunks_of es) ≡ drop (last + 1) (chunks_of es))
+    (is : new ≡ take first es ++ (fresh ++ drop end es))
+    (made : all_of (chunks_of fresh) ≡
+    take before (get_or (chunks_of es) first []) ++ (lines ++ drop after (get_or (chunks_of es) last []))) where
+  chunks_put : chunks_of new ≡ take first (chunks_of es) ++ (chunks_of fresh ++ drop end (chunks_of es))
+  chunks_put =
+      ap chunks_of is ∙ map-append (λ (e : Entry). e.chunk) (take first es) (fresh ++ drop end es) ∙
+      ap (λ xs. xs ++ chunks_of (fresh ++ drop end es)) (chunks_of-take first es) ∙
+      ap (λ xs. take first (chunks_of es) ++ xs) (map-append (λ (e : Entry). e.chunk) fresh (drop end es)) ∙
+      ap (λ xs. take first (chunks_of es) ++ (chunks_of fresh ++ xs))
+      (sym (drop-map (λ (e : Entry). e.chunk) end es))
+
+  pub lines_put : all_of (chunks_of new) ≡
+      take start (all_of (chunks_of es)) ++ (lines ++ drop (start + count) (all_of (chunks_of es)))
+  lines_put =
+      put_in (chunks_of es) start count first before last after p q (chunks_of fresh) (drop end (chunks_of es))
+      (chunks_of new) lines rest chunks_put made
+
+  pub put_summed : AreSummed 0 0 es → IsSummedTo new first
+  put_summed s =
+      let inside : first ≤ length es = omega (arith, p.chunk_within, length-chunks_of es) in
+      let many = length-take first es in
+      let size = ap length is in
+      let more = length-append (take first es) (fresh ++ drop end es) in
+      let enough : first ≤ length (take first es) = omega (arith, inside, many) in
+      let same : take first new ≡ take first es =
+      ap (take first) is ∙ take-append-le first (take first es) (fresh ++ drop end es) enough ∙
+      take-take first first es (omega arith) in
+      record {
+        within = omega (arith, size, more, enough);
+        summed = subst (λ (xs : List Entry). AreSummed 0 0 xs) (sym same) (summed_take 0 0 first es s);
+      }
+
+  pub put_few : start + count ≤ length (all_of (chunks_of es))
+      → length (all_of (chunks_of es)) - count + length lines < 2 ^ 64 → length (all_of (chunks_of new)) < 2 ^ 64
+  put_few within few =
+      let all : List KeptLine = all_of (chunks_of es) in
+      let size = ap length lines_put in
+      omega (
+        arith,
+        size,
+        few,
+        within,
+        length-append (take start all) (lines ++ drop (start + count) all),
+        length-append lines (drop (start + count) all),
+        length-take start all,
+        length-drop (start + count) all,
+      )
+
+pub made_in : (ds es fresh : List Entry) (lines : List KeptLine) (first before last after : ℕ) → ds ≡ es
+    → all_of (chunks_of fresh) ≡
+    take before (get_or (chunks_of ds) first []) ++ (lines ++ drop after (get_or (chunks_of ds) last []))
+    → all_of (chunks_of fresh) ≡
+    take before (get_or (chunks_of es) first []) ++ (lines ++ drop after (get_or (chunks_of es) last []))
+made_in ds es fresh lines first before last after e made =
+    made ∙ ap (λ xs.
+    take before (get_or (chunks_of xs) first []) ++ (lines ++ drop after (get_or (chunks_of xs) last []))) e
+
+-- ---- a chunk of one line is added
+
+module _ (es new : List Entry) (lines hits : ℕ) (empty chunk : List KeptLine) (text : Text) (none : empty ≡ [])
+    (chunk_is : chunk ≡ empty ++ new_line text ∷ [])
+    (is : new ≡ es ++ record { chunk = chunk; end = lines + 1; hits = hits } ∷ []) where
+  one_line : chunk ≡ new_line text ∷ []
+  one_line = chunk_is ∙ ap (λ xs. xs ++ new_line text ∷ []) none
+
+  pub new_chunk_lines : all_of (chunks_of new) ≡ all_of (chunks_of es) ++ new_line text ∷ []
+  new_chunk_lines =
+      ap (λ xs. all_of (chunks_of xs)) is ∙
+      lines_push es (record { chunk = chunk; end = lines + 1; hits = hits }) ∙
+      ap (λ xs. all_of (chunks_of es) ++ xs) one_line
+
+  pub new_chunk_summed : (ds fs : List Entry) (count : ℕ) → AreSummed 0 0 es → ds ≡ es → fs ≡ es
+      → count ≡ length es → lines ≡ length (all_of (take count (chunks_of ds)))
+      → hits ≡ matched_count (all_of (take count (chunks_of fs))) → AreSummed 0 0 new
+  new_chunk_summed ds fs count s same same_too many lines_are hits_are =
+      let end = ap (λ xs. length (all_of (take count (chunks_of xs)))) same in
+      let matched = ap (λ xs. matched_count (all_of (take count (chunks_of xs)))) same_too in
+      let enough : length (chunks_of es) ≤ count = omega (arith, many, length-chunks_of es) in
+      let whole = take_all count (chunks_of es) enough in
+      let all = ap (λ cs. length (all_of cs)) whole in
+      let all_hits = ap (λ cs. matched_count (all_of cs)) whole in
+      let size = ap length one_line in
+      let ones = ap matched_count one_line in
+      subst (λ (xs : List Entry). AreSummed 0 0 xs) (sym is)
+      (summed_push 0 0 es (record { chunk = chunk; end = lines + 1; hits = hits }) s
+      (omega (arith, lines_are, end, all, size)) (omega (arith, hits_are, matched, all_hits, ones)))

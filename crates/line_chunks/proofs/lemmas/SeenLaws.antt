@@ -1,0 +1,234 @@
+-- Lines with what is found in each, looked up by their numbers.
+use Rattle.std.proofs.Common.{◌≡◌, ℕ, suc, zero, ◌+◌, ◌-◌, ◌<◌, ◌≤◌, List, [], ◌∷◌, ◌++◌, length, map, take, drop, get_or, refl, ap, sym, ◌∙◌, arith, add-zero, length-append}
+use Rattle.std.proofs.lemmas.List.{take-append-le, drop_all, take_all, append-nil, length-take, length-drop}
+use Rattle.re_syntax.specs.Bytes.{Text}
+use Rattle.line_finds.specs.Working.Finds.{no_finds, FoundIn, finds_at, numbers_at, without, paired_before}
+use Rattle.line_chunks.specs.Working.Chunks.{KeptLine, no_line, new_line, line_text, matched_count, seen_from, seen, line_without}
+
+pub length-seen : (k : ℕ) (texts : List Text) (found : FoundIn) → length (seen_from k texts found) ≡ length texts
+length-seen k [] found = refl
+length-seen k (text ∷ texts) found = ap suc (length-seen (suc k) texts found)
+
+pub texts-seen : (k : ℕ) (texts : List Text) (found : FoundIn) → map line_text (seen_from k texts found) ≡ texts
+texts-seen k [] found = refl
+texts-seen k (text ∷ texts) found = ap (λ more. text ∷ more) (texts-seen (suc k) texts found)
+
+pub seen-append : (k : ℕ) (xs ys : List Text) (found : FoundIn)
+    → seen_from k (xs ++ ys) found ≡ seen_from k xs found ++ seen_from (k + length xs) ys found
+seen-append k [] ys found = rw add-zero refl
+seen-append k (x ∷ xs) ys found =
+    let same : suc k + length xs ≡ k + suc (length xs) = omega arith in
+    let line : KeptLine = record { text = x; found = finds_at found k } in
+    ap (λ more. line ∷ more) (seen-append (suc k) xs ys found) ∙
+    ap (λ at. line ∷ (seen_from (suc k) xs found ++ seen_from at ys found)) same
+
+-- lines that move take what is found in them along: it is enough that the same is found in each
+pub seen_moved : (from to : ℕ) (texts : List Text) (f g : FoundIn)
+    → ((i : ℕ) → i < length texts → finds_at f (from + i) ≡ finds_at g (to + i))
+    → seen_from from texts f ≡ seen_from to texts g
+seen_moved from to [] f g same = refl
+seen_moved from to (text ∷ texts) f g same =
+    let first : finds_at f from ≡ finds_at g to =
+    ap (finds_at f) (sym (add-zero from)) ∙ same 0 (omega arith) ∙ ap (finds_at g) (add-zero to) in
+    let later : (i : ℕ) → i < length texts → finds_at f (suc from + i) ≡ finds_at g (suc to + i) =
+    λ i h.
+    (let a : suc from + i ≡ from + suc i = omega arith in
+    let b : to + suc i ≡ suc to + i = omega arith in
+    ap (finds_at f) a ∙ same (suc i) (omega arith) ∙ ap (finds_at g) b) in
+    ap (λ found. record { text = text; found = found } ∷ seen_from (suc from) texts f) first ∙
+    ap (λ more. record { text = text; found = finds_at g to } ∷ more) (seen_moved (suc from) (suc to) texts f g later)
+
+-- what is seen of a line
+pub line_seen : (k : ℕ) (texts : List Text) (found : FoundIn) (i : ℕ) → i < length texts
+    → get_or (seen_from k texts found) i no_line ≡ record { text = get_or texts i []; found = finds_at found (k + i) }
+line_seen k [] found i h = absurd (omega arith)
+line_seen k (text ∷ texts) found zero h =
+    ap (λ at. record { text = text; found = finds_at found at }) (sym (add-zero k))
+line_seen k (text ∷ texts) found (suc i) h =
+    let same : suc k + i ≡ k + suc i = omega arith in
+    line_seen (suc k) texts found i (omega arith) ∙
+    ap (λ at. record { text = get_or texts i []; found = finds_at found at }) same
+
+pub take-seen : (k n : ℕ) (texts : List Text) (found : FoundIn)
+    → take n (seen_from k texts found) ≡ seen_from k (take n texts) found
+take-seen k zero [] found = refl
+take-seen k zero (text ∷ texts) found = refl
+take-seen k (suc n) [] found = refl
+take-seen k (suc n) (text ∷ texts) found =
+    ap (λ more. record { text = text; found = finds_at found k } ∷ more) (take-seen (suc k) n texts found)
+
+pub drop-seen : (k n : ℕ) (texts : List Text) (found : FoundIn)
+    → drop n (seen_from k texts found) ≡ seen_from (k + n) (drop n texts) found
+drop-seen k zero [] found = refl
+drop-seen k zero (text ∷ texts) found =
+    ap (λ at. seen_from at (text ∷ texts) found) (sym (add-zero k))
+drop-seen k (suc n) [] found = refl
+drop-seen k (suc n) (text ∷ texts) found =
+    let same : suc k + n ≡ k + suc n = omega arith in
+    drop-seen (suc k) n texts found ∙ ap (λ at. seen_from at (drop n texts) found) same
+
+-- ---- matched lines
+
+pub matched_seen : (k : ℕ) (texts : List Text) (found : FoundIn)
+    → paired_before (k + length texts) found.pairs ≡
+    paired_before k found.pairs + matched_count (seen_from k texts found)
+matched_seen k [] found = let same : k + 0 ≡ k = add-zero k in let all = ap (λ n. paired_before n found.pairs) same in omega (arith, all)
+matched_seen k (text ∷ texts) found =
+    let same : k + suc (length texts) ≡ suc k + length texts = omega arith in
+    let all = ap (λ n. paired_before n found.pairs) same in
+    omega (arith, all, matched_seen (suc k) texts found)
+
+pub hits_seen : (texts : List Text) (found : FoundIn) (hits : ℕ) → found.size ≡ length texts
+    → hits ≡ paired_before found.size found.pairs → hits ≡ matched_count (seen texts found)
+hits_seen texts found hits size is =
+    let all = matched_seen 0 texts found in
+    let same : 0 + length texts ≡ found.size = omega (arith, size) in
+    let here = ap (λ n. paired_before n found.pairs) same in
+    omega (arith, is, all, here)
+
+-- ---- a pattern is removed
+
+pub seen_without : (k p : ℕ) (texts : List Text) (f g : FoundIn)
+    → ((i : ℕ) → finds_at g i ≡ record { numbers = without p (numbers_at i f.pairs); spans = get_or f.parts i [] })
+    → seen_from k texts g ≡ map (line_without p) (seen_from k texts f)
+seen_without k p [] f g each = refl
+seen_without k p (text ∷ texts) f g each =
+    ap (λ found. record { text = text; found = found } ∷ seen_from (suc k) texts g) (each k) ∙
+    ap (λ more. line_without p (record { text = text; found = finds_at f k }) ∷ more)
+    (seen_without (suc k) p texts f g each)
+
+-- ---- lines are added
+
+pub line_added : (texts new : List Text) (text : Text) (f g : FoundIn) → f.size ≡ length texts
+    → new ≡ texts ++ text ∷ [] → ((k : ℕ) → k < f.size → finds_at g k ≡ finds_at f k)
+    → finds_at g f.size ≡ no_finds → seen new g ≡ seen texts f ++ new_line text ∷ []
+line_added texts new text f g size is old last =
+    let here : 0 + length texts ≡ f.size = omega (arith, size) in
+    let same : (i : ℕ) → i < length texts → finds_at g (0 + i) ≡ finds_at f (0 + i) =
+    λ i h.
+    (let at : 0 + i ≡ i = omega arith in
+    ap (finds_at g) at ∙ old i (omega (arith, size, h)) ∙ ap (finds_at f) (sym at)) in
+    ap (λ xs. seen xs g) is ∙ seen-append 0 texts (text ∷ []) g ∙
+    ap (λ xs. xs ++ seen_from (0 + length texts) (text ∷ []) g) (seen_moved 0 0 texts g f same) ∙
+    ap (λ found. seen texts f ++ record { text = text; found = found } ∷ []) (ap (finds_at g) here ∙ last)
+
+pub part_added : (texts new others : List Text) (f g h : FoundIn) (from to : ℕ) → f.size ≡ length texts
+    → to ≤ length others → from ≤ to → new ≡ texts ++ take (to - from) (drop from others)
+    → ((k : ℕ) → k < f.size → finds_at g k ≡ finds_at f k)
+    → ((k : ℕ) → k < to - from → finds_at g (f.size + k) ≡ finds_at h (from + k))
+    → seen new g ≡ seen texts f ++ take (to - from) (drop from (seen others h))
+part_added texts new others f g h from to size within order is old more =
+    let xs : List Text = take (to - from) (drop from others) in
+    let many : length xs ≤ to - from = omega (arith, length-take (to - from) (drop from others)) in
+    let same : (i : ℕ) → i < length texts → finds_at g (0 + i) ≡ finds_at f (0 + i) =
+    λ i inside.
+    (let at : 0 + i ≡ i = omega arith in
+    ap (finds_at g) at ∙ old i (omega (arith, size, inside)) ∙ ap (finds_at f) (sym at)) in
+    let moved : (i : ℕ) → i < length xs → finds_at g (0 + length texts + i) ≡ finds_at h (0 + from + i) =
+    λ i inside.
+    (let at : 0 + length texts + i ≡ f.size + i = omega (arith, size) in
+    let to_at : from + i ≡ 0 + from + i = omega arith in
+    ap (finds_at g) at ∙ more i (omega (arith, inside, many)) ∙ ap (finds_at h) to_at) in
+    ap (λ ys. seen ys g) is ∙ seen-append 0 texts xs g ∙
+    ap (λ ys. ys ++ seen_from (0 + length texts) xs g) (seen_moved 0 0 texts g f same) ∙
+    ap (λ ys. seen texts f ++ ys)
+    (seen_moved (0 + length texts) (0 + from) xs g h moved ∙
+    sym (take-seen (0 + from) (to - from) (drop from others) h) ∙
+    ap (take (to - from)) (sym (drop-seen 0 from others h)))
+
+-- ---- lines are removed
+
+pub lines_removed : (texts new : List Text) (f g : FoundIn) (from to : ℕ) → from ≤ to → to ≤ length texts
+    → new ≡ take from texts ++ drop to texts → ((k : ℕ) → k < from → finds_at g k ≡ finds_at f k)
+    → ((k : ℕ) → finds_at g (from + k) ≡ finds_at f (to + k))
+    → seen new g ≡ take from (seen texts f) ++ drop to (seen texts f)
+lines_removed texts new f g from to order within is before after =
+    let size : length (take from texts) ≡ from = omega (arith, length-take from texts) in
+    let same : (i : ℕ) → i < length (take from texts) → finds_at g (0 + i) ≡ finds_at f (0 + i) =
+    λ i h.
+    (let at : 0 + i ≡ i = omega arith in
+    ap (finds_at g) at ∙ before i (omega (arith, size, h)) ∙ ap (finds_at f) (sym at)) in
+    let moved : (i : ℕ) → i < length (drop to texts)
+    → finds_at g (0 + length (take from texts) + i) ≡ finds_at f (0 + to + i) =
+    λ i h.
+    (let at : 0 + length (take from texts) + i ≡ from + i = omega (arith, size) in
+    let to_at : to + i ≡ 0 + to + i = omega arith in
+    ap (finds_at g) at ∙ after i ∙ ap (finds_at f) to_at) in
+    ap (λ xs. seen xs g) is ∙ seen-append 0 (take from texts) (drop to texts) g ∙
+    ap (λ xs. xs ++ seen_from (0 + length (take from texts)) (drop to texts) g)
+    (seen_moved 0 0 (take from texts) g f same) ∙
+    ap (λ xs. seen_from 0 (take from texts) f ++ xs)
+    (seen_moved (0 + length (take from texts)) (0 + to) (drop to texts) g f moved) ∙
+    ap (λ xs. xs ++ seen_from (0 + to) (drop to texts) f) (sym (take-seen 0 from texts f)) ∙
+    ap (λ xs. take from (seen texts f) ++ xs) (sym (drop-seen 0 to texts f))
+
+-- ---- a chunk's lines, of which the text and what is found are kept apart
+
+module _ (lines : List KeptLine) (texts : List Text) (found : FoundIn) (view : seen texts found ≡ lines) where
+  pub texts_are : texts ≡ map line_text lines
+  texts_are = sym (texts-seen 0 texts found) ∙ ap (map line_text) view
+
+  pub as_many : length texts ≡ length lines
+  as_many = sym (length-seen 0 texts found) ∙ ap length view
+
+  seen_at : (k : ℕ) → k < length lines
+      → record { text = get_or texts k []; found = finds_at found k } ≡ get_or lines k no_line
+  seen_at k h =
+      let inside : k < length texts = omega (arith, as_many, h) in
+      let at : k ≡ 0 + k = omega arith in
+      ap (λ n. record { text = get_or texts k []; found = finds_at found n }) at ∙
+      sym (line_seen 0 texts found k inside) ∙ ap (λ xs. get_or xs k no_line) view
+
+  pub text_at : (k : ℕ) → k < length lines → get_or texts k [] ≡ line_text (get_or lines k no_line)
+  text_at k h = ap line_text (seen_at k h)
+
+  pub found_at : (k : ℕ) → k < length lines → finds_at found k ≡ (get_or lines k no_line).found
+  found_at k h = ap (λ (line : KeptLine). line.found) (seen_at k h)
+
+-- ---- as many findings as lines
+
+pub size_removed : (texts new : List Text) (f g : FoundIn) (from to : ℕ) → from ≤ to → to ≤ length texts
+    → f.size ≡ length texts → new ≡ take from texts ++ drop to texts → g.size ≡ f.size - (to - from)
+    → g.size ≡ length new
+size_removed texts new f g from to order within size is less =
+    omega (
+      arith,
+      size,
+      less,
+      ap length is,
+      length-append (take from texts) (drop to texts),
+      length-take from texts,
+      length-drop to texts,
+    )
+
+pub size_added : (texts new others : List Text) (f g : FoundIn) (from to : ℕ) → f.size ≡ length texts
+    → to ≤ length others → from ≤ to → new ≡ texts ++ take (to - from) (drop from others)
+    → g.size ≡ f.size + (to - from) → g.size ≡ length new
+size_added texts new others f g from to size within order is more =
+    omega (
+      arith,
+      size,
+      more,
+      ap length is,
+      length-append texts (take (to - from) (drop from others)),
+      length-take (to - from) (drop from others),
+      length-drop from others,
+    )
+
+-- what was added is removed again
+pub part_undone : (texts longer new : List Text) (f g : FoundIn) (more : List Text) (before after : ℕ)
+    → before ≡ length texts → longer ≡ texts ++ more → after ≡ length longer
+    → new ≡ take before longer ++ drop after longer → ((k : ℕ) → k < f.size → finds_at g k ≡ finds_at f k)
+    → f.size ≡ length texts → seen new g ≡ seen texts f
+part_undone texts longer new f g more before after first is last undone old size =
+    let none : drop after longer ≡ [] = drop_all after longer (omega (arith, last)) in
+    let enough : before ≤ length texts = omega (arith, first) in
+    let kept : take before longer ≡ texts =
+    ap (take before) is ∙ take-append-le before texts more enough ∙ take_all before texts (omega (arith, first)) in
+    let same : new ≡ texts =
+    undone ∙ ap (λ xs. take before longer ++ xs) none ∙ append-nil (take before longer) ∙ kept in
+    let each : (i : ℕ) → i < length texts → finds_at g (0 + i) ≡ finds_at f (0 + i) =
+    λ i h.
+    (let at : 0 + i ≡ i = omega arith in
+    ap (finds_at g) at ∙ old i (omega (arith, size, h)) ∙ ap (finds_at f) (sym at)) in
+    ap (λ xs. seen xs g) same ∙ seen_moved 0 0 texts g f each

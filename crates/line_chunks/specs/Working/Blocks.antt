@@ -1,0 +1,16 @@
+-- Lines as one text, each ended by a newline, and where each begins.
+use Rattle.std.specs.Prelude.{◌≡◌, ℕ, ◌+◌, ◌^◌, ◌≤◌, List, [], ◌∷◌, length}
+use Rattle.re_syntax.specs.Bytes.{Text}
+use Rattle.re_syntax.specs.Lines.{lines_of}
+use Rattle.re_needle.specs.Working.Blocks.{IsBlock}
+
+-- where each of the lines begins, if the first begins at `from`
+abbrev pub starts_from : ℕ → List Text → List ℕ
+starts_from from [] = []
+starts_from from (line ∷ lines) = from ∷ starts_from (from + length line + 1) lines
+
+-- the bytes are whole lines, which begin at these places
+pub record IsCut (bytes : Text) (starts : List ℕ) : Type 0 where
+  pub is_block : IsBlock bytes
+  pub starts_are : starts ≡ starts_from 0 (lines_of bytes)
+  pub few : length starts ≤ 2 ^ 32

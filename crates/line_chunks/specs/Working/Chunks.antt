@@ -1,0 +1,73 @@
+-- Lines with what was found in each, in chunks.
+use Rattle.std.specs.Prelude.{◌≡◌, ℕ, suc, ◌+◌, ◌==◌, Bool, not, List, [], ◌∷◌, ◌++◌, length, map, if◌then◌else◌, Option, Some, None, IfSome, ⊤}
+use Rattle.re_syntax.specs.Bytes.{Text}
+use Rattle.line_finds.specs.Working.Finds.{Finds, no_finds, FoundIn, finds_at, without}
+
+-- a line, and what was found in it
+pub record KeptLine : Type 0 where
+  pub text : Text
+  pub found : Finds
+
+abbrev pub no_line : KeptLine
+no_line = record { text = []; found = no_finds }
+
+abbrev pub line_text : KeptLine → Text
+line_text line = line.text
+
+-- some pattern matches the line
+abbrev pub is_matched : KeptLine → Bool
+is_matched line = not (length line.found.numbers == 0)
+
+-- how many of the lines some pattern matches
+abbrev pub matched_count : List KeptLine → ℕ
+matched_count [] = 0
+matched_count (line ∷ lines) = (if is_matched line then 1 else 0) + matched_count lines
+
+-- a line in which nothing was found
+abbrev pub new_line : Text → KeptLine
+new_line text = record { text = text; found = no_finds }
+
+-- a line after pattern p is removed
+abbrev pub line_without : ℕ → KeptLine → KeptLine
+line_without p line =
+    record {
+      text = line.text;
+      found = record { numbers = without p line.found.numbers; spans = line.found.spans };
+    }
+
+-- lines, the first of which has this number, with what was found in each
+abbrev pub seen_from : ℕ → List Text → FoundIn → List KeptLine
+seen_from k [] found = []
+seen_from k (text ∷ texts) found =
+    record { text = text; found = finds_at found k } ∷ seen_from (suc k) texts found
+
+abbrev pub seen : List Text → FoundIn → List KeptLine
+seen texts found = seen_from 0 texts found
+
+-- all lines of some chunks
+abbrev pub all_of : List (List KeptLine) → List KeptLine
+all_of [] = []
+all_of (lines ∷ chunks) = lines ++ all_of chunks
+
+-- ---- what was found, chunk by chunk
+
+-- a chunk with what was found in its lines; None says that what was found before stays
+abbrev pub with_column : List KeptLine → Option FoundIn → List KeptLine
+with_column lines None = lines
+with_column lines (Some found) = seen (map line_text lines) found
+
+-- the chunks with what was found in each of them
+abbrev pub with_columns : List (List KeptLine) → List (Option FoundIn) → List (List KeptLine)
+with_columns [] found = []
+with_columns (lines ∷ chunks) [] = lines ∷ chunks
+with_columns (lines ∷ chunks) (one ∷ found) = with_column lines one ∷ with_columns chunks found
+
+-- what was found is of as many lines as the chunk has
+abbrev pub FitsColumn : List KeptLine → Option FoundIn → Type 0
+FitsColumn lines found = IfSome found (λ one. one.size ≡ length lines)
+
+-- so it is of each chunk
+abbrev pub FitColumns : List (List KeptLine) → List (Option FoundIn) → Type 0
+FitColumns [] found = ⊤
+FitColumns (lines ∷ chunks) [] = ⊥
+FitColumns (lines ∷ chunks) (one ∷ found) = FitsColumn lines one × FitColumns chunks found

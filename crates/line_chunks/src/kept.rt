@@ -1,0 +1,202 @@
+//! The lines of a file, in chunks.
+ghost use Rattle.std.specs.Prelude.{◌≡◌, ℕ, ◌+◌, ◌<◌, ◌≤◌, [], ◌∷◌, ◌++◌, length, map, take, drop, get_or, not, IfOk, OnErr, IfErr};
+ghost use Rattle.std.specs.List.{splice};
+ghost use Rattle.std.specs.Vec.Iter.{into_iter_items};
+ghost use Rattle.re_syntax.specs.Lines.{HasNoNewline};
+ghost use Rattle.line_chunks.specs.Working.Chunks.{no_line, new_line, line_text, is_matched, matched_count, all_of, line_without, with_columns, FitColumns};
+
+use crate::chunk::Chunk;
+use crate::chunks::{add_line, insert, remove};
+use crate::columns::{drop_in_all, put_all};
+use crate::entries::{
+    Entry, find_line, find_next, hits_to, lines_before, matched_before, sum_from,
+};
+use line_finds::Found;
+use re_syntax::Span;
+use std::alloc::{AllocError, Global};
+use std::marker::Model;
+use std::vec::IntoIter;
+
+/// The lines of a file with what is found in each, in chunks. It is seen as the list of its chunks.
+#[derive(Drop)]
+pub struct KeptLines {
+    entries: Vec<Entry>,
+    /// The most bytes of a chunk to which lines are added.
+    limit: u32,
+}
+
+impl Model for KeptLines {
+    ghost use Rattle.std.specs.Prelude.{List};
+    ghost use Rattle.line_chunks.specs.Working.Chunks.{KeptLine};
+
+    ghost Value = { List (List KeptLine) };
+
+    ghost use Rattle.line_chunks.specs.Working.Sums.{chunks_of, AreSummed};
+
+    ghost view = { λ lines. chunks_of lines.entries.items };
+
+    // each entry says how many lines, and how many matched lines, there are up to its chunk's end
+    ghost invariant = { λ lines. AreSummed 0 0 lines.entries.items };
+}
+
+impl KeptLines {
+    /// No lines. One goes to the last chunk if this has at most `limit` bytes then.
+    pub fn new(alloc: Global, limit: u32) -> KeptLines
+        ensures { result ≡ [] }
+    {
+        KeptLines {
+            entries: Vec::new(alloc),
+            limit,
+        }
+    }
+
+    /// The number of lines.
+    pub fn len(&self) -> usize
+        ensures { result ≡ length (all_of self.now) }
+    {
+        let count = self.entries.len();
+        lines_before(&self.entries, count)
+    }
+
+    /// How many lines some pattern matches.
+    pub fn hits(&self) -> usize
+        ensures { result ≡ matched_count (all_of self.now) }
+    {
+        let count = self.entries.len();
+        matched_before(&self.entries, count)
+    }
+
+    /// How many of the lines before line `place` some pattern matches.
+    pub fn hits_before(&self, place: usize) -> usize
+        requires { place ≤ length (all_of self.now) }
+        ensures { result ≡ matched_count (take place (all_of self.now)) }
+    {
+        hits_to(&self.entries, place)
+    }
+
+    /// The number of chunks.
+    pub fn chunk_count(&self) -> usize
+        ensures { result ≡ length self.now }
+    {
+        self.entries.len()
+    }
+
+    /// Chunk `i`.
+    pub fn chunk(&self, i: usize) -> &Chunk
+        requires { i < length self.now }
+        ensures { result.now ≡ get_or self.now i [] }
+    {
+        let entry = &self.entries[i];
+        &entry.chunk
+    }
+
+    /// Line `place`, without its newline.
+    pub fn line(&self, place: usize) -> &[u8]
+        requires { place < length (all_of self.now) }
+        ensures line { result.now ≡ line_text (get_or (all_of self.now) place no_line) }
+        ensures free { HasNoNewline result.now }
+    {
+        let (at, offset) = find_line(&self.entries, place);
+        let entry = &self.entries[at];
+        entry.chunk.line(offset)
+    }
+
+    /// Whether some pattern matches line `place`.
+    pub fn is_matched(&self, place: usize) -> bool
+        requires { place < length (all_of self.now) }
+        ensures { result ≡ is_matched (get_or (all_of self.now) place no_line) }
+    {
+        let (at, offset) = find_line(&self.entries, place);
+        let entry = &self.entries[at];
+        entry.chunk.is_matched(offset)
+    }
+
+    /// The kept parts of line `place`.
+    pub fn spans(&self, place: usize) -> &[Span]
+        requires { place < length (all_of self.now) }
+        ensures { result.now ≡ (get_or (all_of self.now) place no_line).found.spans }
+    {
+        let (at, offset) = find_line(&self.entries, place);
+        let entry = &self.entries[at];
+        entry.chunk.spans(offset)
+    }
+
+    /// The first line from line `from` on that some pattern matches (`matched`), or that none does,
+    /// and the number of all lines if there is none. A chunk that has no such line is passed by its
+    /// count.
+    pub fn next_line(&self, from: usize, matched: bool) -> usize
+        requires { from ≤ length (all_of self.now) }
+        ensures after { from ≤ result }
+        ensures within { result ≤ length (all_of self.now) }
+        ensures passed { (k : ℕ) → from ≤ k → k < result →
+            is_matched (get_or (all_of self.now) k no_line) ≡ not matched }
+        ensures there { result < length (all_of self.now) →
+            is_matched (get_or (all_of self.now) result no_line) ≡ matched }
+    {
+        let _lines = self.len();
+        find_next(&self.entries, from, matched)
+    }
+
+    /// Adds a line in which nothing is found.
+    pub fn push(&mut self, alloc: Global, line: &[u8]) -> Result<(), AllocError>
+        requires { HasNoNewline line.now }
+        ensures ok { IfOk result (λ _. all_of self.new ≡ all_of self.old ++ new_line line.now ∷ []) }
+        ensures err { OnErr result (self.new ≡ self.old) }
+    {
+        add_line(alloc, &mut self.entries, self.limit as usize, line)
+    }
+
+    /// Puts other lines in the place of `count` lines from `start` on. If there is no memory for
+    /// them all lines stay as they are; without new lines none is asked for.
+    pub fn splice(
+        &mut self,
+        alloc: Global,
+        start: usize,
+        count: usize,
+        new: &KeptLines,
+    ) -> Result<(), AllocError>
+        requires { start + count ≤ length (all_of self.old) }
+        ensures ok { IfOk result (λ _. all_of self.new ≡
+            splice (all_of self.old) start (start + count) (all_of new.now)) }
+        ensures err { OnErr result (self.new ≡ self.old) }
+        ensures memory { all_of new.now ≡ [] → IfErr result (λ _. ⊥) }
+    {
+        let left = self.len() - count;
+        if new.len() == 0 {
+            remove(&mut self.entries, start, count);
+            return Ok(());
+        }
+        if left.checked_add(new.len()).is_none() {
+            return Err(AllocError);
+        }
+        insert(
+            alloc,
+            &mut self.entries,
+            self.limit as usize,
+            start,
+            count,
+            &new.entries,
+        )
+    }
+
+    /// Replaces what is found in the lines of each chunk with the next of these; where that is
+    /// `None` it stays. No memory is asked for.
+    pub fn put_columns(&mut self, found: &mut IntoIter<Option<Found>>)
+        requires { FitColumns self.old (into_iter_items found.old) }
+        ensures lines { self.new ≡ with_columns self.old (into_iter_items found.old) }
+        ensures rest { into_iter_items found.new ≡ drop (length self.old) (into_iter_items found.old) }
+    {
+        let _lines = self.len();
+        put_all(&mut self.entries, found);
+        sum_from(&mut self.entries, 0);
+    }
+
+    /// Removes pattern `p` from what is found; later patterns move up. No memory is asked for.
+    pub fn drop_number(&mut self, p: usize)
+        ensures { self.new ≡ map (map (line_without p)) self.old }
+    {
+        let _lines = self.len();
+        drop_in_all(&mut self.entries, p);
+        sum_from(&mut self.entries, 0);
+    }
+}

@@ -1,0 +1,5 @@
+pub mod MappedLemmas
+pub mod SpanLemmas
+pub mod PairLaws
+pub mod MarkLaws
+pub mod FoundLaws

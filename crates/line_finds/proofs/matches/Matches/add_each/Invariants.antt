@@ -1,0 +1,7 @@
+use Rattle.std.proofs.Common.{◌≡◌, ◌++◌, take}
+use Rattle.line_finds.specs.Working.Pairs.{pairs_of, moved_to}
+use Rattle.line_finds.proofs.matches.Matches.add_each.Given as goal
+
+-- the first pairs are added
+abbrev pub invariant-loop-pair : goal.invariant-loop-pair
+invariant-loop-pair l = l.self ≡ l.fn.self ++ moved_to l.at l.from l.to (pairs_of (take l.pair-index l.pair-items))

@@ -1,0 +1,7 @@
+use Rattle.std.proofs.Common.{rules, tests}
+use Rattle.std.proofs.lemmas.Fn.{filter_same}
+use Rattle.line_finds.specs.Working.Pairs.{is_outside}
+use Rattle.line_finds.proofs.matches.drop_within.Goals as goal
+
+pub returns : goal.returns
+returns c = filter_same _ (is_outside c.args.from c.args.to) _ (λ x b f' k. search (rules, tests)) _ _ c.retain.ensures.filtered

@@ -1,0 +1,8 @@
+use Rattle.std.proofs.Common.{◌≡◌}
+use Rattle.line_finds.specs.Working.Pairs.{lowered_pair}
+use Rattle.line_finds.proofs.lemmas.MappedLemmas.{mapped_to}
+use Rattle.line_finds.proofs.matches.lower_each.Given as goal
+
+-- the first are lowered, and the others are as they were
+abbrev pub invariant-loop-pair : goal.invariant-loop-pair
+invariant-loop-pair l = l.pairs ≡ mapped_to (lowered_pair l.p) l.fn.pairs l.pair-index

@@ -1,0 +1,4 @@
+pub mod Finds
+pub mod Spans
+pub mod Pairs
+pub mod Marked

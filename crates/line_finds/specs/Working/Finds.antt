@@ -1,0 +1,57 @@
+-- What is found in the lines of a chunk, and how it is kept.
+use Rattle.std.specs.Prelude.{ℕ, zero, suc, ◌+◌, ◌-◌, ◌<◌, ◌==◌, Bool, not, List, [], ◌∷◌, All, length, map, get_or, nat_eq, nat_lt, if◌then◌else◌}
+use Rattle.std.specs.List.{filter}
+use Rattle.re_syntax.specs.declared.span.Span.{Span}
+
+-- the numbers of the patterns that match a line, in ascending order, and the parts of it that are
+-- kept
+pub record Finds : Type 0 where
+  pub numbers : List ℕ
+  pub spans : List Span
+
+-- no pattern matches the line
+abbrev pub no_finds : Finds
+no_finds = record { numbers = []; spans = [] }
+
+-- ---- pairs of a line's number and a pattern's number
+
+-- the numbers of the patterns that are paired with line `k`, in the order of the pairs
+abbrev pub numbers_at : ℕ → List (ℕ × ℕ) → List ℕ
+numbers_at k [] = []
+numbers_at k (pair ∷ pairs) = if nat_eq pair.0 k then pair.1 ∷ numbers_at k pairs else numbers_at k pairs
+
+-- whether line `k` is paired with some pattern
+abbrev pub is_paired : ℕ → List (ℕ × ℕ) → Bool
+is_paired k pairs = not (length (numbers_at k pairs) == 0)
+
+-- all pairs are of the first `size` lines
+abbrev pub AreBelow : ℕ → List (ℕ × ℕ) → Type 0
+AreBelow size pairs = All (λ pair. pair.0 < size) pairs
+
+-- how many of the lines before line `k` are paired with some pattern
+abbrev pub paired_before : ℕ → List (ℕ × ℕ) → ℕ
+paired_before zero pairs = 0
+paired_before (suc k) pairs = (if is_paired k pairs then 1 else 0) + paired_before k pairs
+
+-- ---- a pattern is removed, and the later ones move up
+
+-- the number that a pattern has after pattern p is removed
+abbrev pub lowered : ℕ → ℕ → ℕ
+lowered p n = if nat_lt p n then n - 1 else n
+
+-- the numbers of the patterns after pattern p is removed
+abbrev pub without : ℕ → List ℕ → List ℕ
+without p numbers = map (lowered p) (filter (λ n. not (nat_eq n p)) numbers)
+
+-- ---- what is kept for some lines
+
+-- the number of lines, the pairs of lines and patterns that match them, and the parts of the first
+-- lines; others have none
+pub record FoundIn : Type 0 where
+  pub size : ℕ
+  pub pairs : List (ℕ × ℕ)
+  pub parts : List (List Span)
+
+-- what is found in line `k`
+abbrev pub finds_at : FoundIn → ℕ → Finds
+finds_at found k = record { numbers = numbers_at k found.pairs; spans = get_or found.parts k [] }

@@ -1,0 +1,11 @@
+//! What is found in the lines of a chunk: which patterns match which line, how many lines some
+//! pattern matches, and the parts of lines that are kept.
+#![tactic(auto)]
+
+mod found;
+mod matches;
+mod spans;
+
+pub use found::Found;
+pub use matches::Matches;
+pub use spans::SpanLists;

@@ -1,0 +1,2 @@
+-- a lemma; the answers to goals of functions are in folders of their modules
+pub mod Fitting

@@ -1,0 +1,151 @@
+//! What is found in lines: pattern `p` matches the lines that have its letter, and the kept part of a
+//! line is its first `a`.
+ghost use Rattle.std.specs.Prelude.{◌≡◌, ℕ, ◌+◌, ◌<◌, ◌≤◌, length, get_or, IfOk, IsTrue};
+ghost use Rattle.re_syntax.specs.Lines.{HasNoNewline};
+ghost use Rattle.line_chunks.specs.Working.Finds.{AreBelow};
+ghost use Rattle.line_chunks.specs.Working.Chunks.{FitColumns};
+
+use line_chunks::{Chunk, Found, KeptLines, Matches, SpanLists};
+use re_syntax::Span;
+use std::alloc::{AllocError, Global};
+
+/// Whether the line has the letter.
+pub fn has(line: &[u8], letter: u8) -> bool {
+    for byte in line {
+        if *byte == letter {
+            return true;
+        }
+    }
+    false
+}
+
+/// Whether some pattern matches the line.
+pub fn is_matched(line: &[u8], letters: &[u8]) -> bool {
+    for letter in letters {
+        if has(line, *letter) {
+            return true;
+        }
+    }
+    false
+}
+
+/// The place of the first `a`, or the length of the line.
+pub fn first_a(line: &[u8]) -> usize
+    ensures { result ≤ length line.now }
+{
+    for k in 0..line.len() {
+        if line[k] == b'a' {
+            return k;
+        }
+    }
+    line.len()
+}
+
+/// Notes the patterns that match line `k`.
+fn note_line(matches: &mut Matches, k: usize, line: &[u8], letters: &[u8]) -> Result<(), AllocError>
+    requires { AreBelow (k + 1) matches.old }
+    ensures { IfOk result (λ _. AreBelow (k + 1) matches.new) }
+{
+    for p in 0..letters.len() {
+        if has(line, letters[p]) {
+            matches.note(k, p)?;
+        }
+    }
+    Ok(())
+}
+
+/// Which patterns match which lines of a chunk.
+fn matches_of(alloc: Global, chunk: &Chunk, letters: &[u8]) -> Result<Matches, AllocError>
+    ensures { IfOk result (λ matches. AreBelow (length chunk.now) matches) }
+{
+    let mut matches = Matches::new(alloc);
+    for k in 0..chunk.len() {
+        note_line(&mut matches, k, chunk.line(k), letters)?;
+    }
+    Ok(matches)
+}
+
+/// Notes the first `a` of line `k` where it has one.
+fn put_part(parts: &mut SpanLists, k: usize, line: &[u8]) -> Result<(), AllocError>
+    requires { length parts.old ≤ k }
+    ensures { IfOk result (λ _. length parts.new ≤ k + 1) }
+{
+    let start = first_a(line);
+    if start == line.len() {
+        return Ok(());
+    }
+    parts.put(
+        k,
+        &[Span {
+            start,
+            end: start + 1,
+        }],
+    )
+}
+
+/// The parts of the lines of a chunk.
+fn parts_of(alloc: Global, chunk: &Chunk) -> Result<SpanLists, AllocError>
+    ensures { IfOk result (λ parts. length parts ≤ length chunk.now) }
+{
+    let mut parts = SpanLists::new(alloc);
+    for k in 0..chunk.len() {
+        put_part(&mut parts, k, chunk.line(k))?;
+    }
+    Ok(parts)
+}
+
+/// What is found in the lines of a chunk.
+fn found_in(alloc: Global, chunk: &Chunk, letters: &[u8]) -> Result<Found, AllocError>
+    ensures { IfOk result (λ found. found.size ≡ length chunk.now) }
+{
+    let matches = matches_of(alloc, chunk, letters)?;
+    let parts = parts_of(alloc, chunk)?;
+    Found::of(alloc, chunk.len(), matches, parts)
+}
+
+/// What is found in the lines of each chunk.
+fn columns_of(
+    alloc: Global,
+    lines: &KeptLines,
+    letters: &[u8],
+) -> Result<Vec<Option<Found>>, AllocError>
+    ensures { IfOk result (λ found. FitColumns lines.now found.items) }
+{
+    let mut columns = Vec::new(alloc);
+    for i in 0..lines.chunk_count() {
+        let found = found_in(alloc, lines.chunk(i), letters)?;
+        columns.push(Some(found))?;
+    }
+    Ok(columns)
+}
+
+/// Puts in place what is found in all lines.
+pub fn find(alloc: Global, lines: &mut KeptLines, letters: &[u8]) -> Result<(), AllocError> {
+    let columns = columns_of(alloc, lines, letters)?;
+    lines.put_columns(&mut columns.into_iter());
+    Ok(())
+}
+
+/// Whether no byte of the line is a newline.
+fn is_line(line: &[u8]) -> bool
+    ensures { IsTrue result → HasNoNewline line.now }
+{
+    !line.contains(&b'\n')
+}
+
+/// These lines in chunks, with what is found in them. One with a newline in it is left out.
+pub fn kept_of(
+    alloc: Global,
+    limit: u32,
+    texts: &[Vec<u8>],
+    letters: &[u8],
+) -> Result<KeptLines, AllocError> {
+    let mut lines = KeptLines::new(alloc, limit);
+    for text in texts {
+        if is_line(text) {
+            lines.push(alloc, text)?;
+        }
+    }
+    find(alloc, &mut lines, letters)?;
+    Ok(lines)
+}

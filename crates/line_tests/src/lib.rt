@@ -1,0 +1,19 @@
+//! The tests of `line_finds` and `line_chunks`: nothing but tests, by what these show.
+#![tactic(auto)]
+
+#[cfg(test)]
+mod borders;
+#[cfg(test)]
+mod finding;
+#[cfg(test)]
+mod harness;
+#[cfg(test)]
+mod judging;
+#[cfg(test)]
+mod marks;
+#[cfg(test)]
+mod memory;
+#[cfg(test)]
+mod numbers;
+#[cfg(test)]
+mod splices;

@@ -1,0 +1,67 @@
+//! A splice of which each request for memory is refused in turn, and one that makes none.
+//!
+//! Where no library refuses requests, as tools/refuse_growths.sh has it, each is granted, and each
+//! splice is made once.
+use super::finding::kept_of;
+use super::harness::{splice_kept, splice_plain};
+use super::judging::assert_same;
+use super::marks::{refuse, was_refused};
+use std::alloc::{AllocError, Global};
+use std::process::Abort;
+use std::test::Fail;
+
+/// How many requests a splice makes at most.
+const MOST: usize = 1_000;
+
+/// The most bytes of a chunk to which lines are added.
+const LIMIT: u32 = 9;
+
+/// Lines of which each three fill a chunk.
+fn texts_of(alloc: Global, count: usize) -> Result<Vec<Vec<u8>>, AllocError> {
+    let mut texts = Vec::new(alloc);
+    for k in 0..count {
+        let line = Vec::from_slice(alloc, if k % 2 == 0 { &b"ab"[..] } else { b"ca" })?;
+        texts.push(line)?;
+    }
+    Ok(texts)
+}
+
+/// Puts `new` lines in the place of five over three chunks, while the N-th request for memory is
+/// refused; whether one was. Where the splice was refused for that, all is as it was.
+fn assert_refusal(rt: &impl Abort, alloc: Global, new: usize, n: usize) -> Result<bool, Fail> {
+    let mut texts = texts_of(alloc, 12)?;
+    let mut lines = kept_of(alloc, LIMIT, &texts, b"ab")?;
+    let fresh = texts_of(alloc, new)?;
+    let kept = kept_of(alloc, LIMIT, &fresh, b"ab")?;
+    refuse(alloc, n)?;
+    let given = splice_kept(alloc, &mut lines, 2, 5, &kept);
+    let refused = was_refused(alloc);
+    match given {
+        Ok(made) => {
+            assert!(rt; made, "the lines are there");
+            splice_plain(&mut texts, 2, 5, fresh)?;
+        }
+        Err(_) => assert!(rt; refused, "request {n}"),
+    }
+    assert_same(rt, alloc, &lines, LIMIT, &texts, b"ab")?;
+    Ok(refused)
+}
+
+/// Refuses each request of a splice of `new` lines in turn. Without new lines it makes none.
+fn assert_each_refused(rt: &impl Abort, alloc: Global, new: usize) -> Result<(), Fail> {
+    for n in 1..=MOST {
+        if !assert_refusal(rt, alloc, new, n)? {
+            return Ok(());
+        }
+        assert!(rt; new > 0, "request {n}");
+    }
+    Err(Fail::from("a splice asks for memory again and again"))
+}
+
+#[test]
+fn splices_without_memory(rt: HostRuntime) -> Result<(), Fail> {
+    for new in [0, 1, 4, 9] {
+        assert_each_refused(&rt, rt.alloc(), new)?;
+    }
+    Ok(())
+}

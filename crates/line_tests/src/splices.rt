@@ -1,0 +1,131 @@
+//! Splices at places that look random, also with patterns that go and come.
+use super::finding::find;
+use super::harness::splice_both;
+use super::judging::assert_same;
+use super::numbers::{Numbers, some_lines};
+use line_chunks::KeptLines;
+use std::alloc::Global;
+use std::process::Abort;
+use std::test::Fail;
+
+/// How many splices are made at each limit: at six limits 100,000 in all.
+const SPLICES: usize = 16_700;
+
+/// The letters of the patterns, of which some go and come.
+const LETTERS: [u8; 3] = [b'a', b'b', b'd'];
+
+/// Removes a pattern if there is one.
+fn drop_one(numbers: &mut Numbers, lines: &mut KeptLines, letters: &mut Vec<u8>) {
+    let p = numbers.below(letters.len());
+    if p < letters.len() {
+        letters.remove(p);
+        lines.drop_number(p);
+    }
+}
+
+/// Adds a pattern if one more is wanted.
+fn add_one(
+    alloc: Global,
+    numbers: &mut Numbers,
+    lines: &mut KeptLines,
+    letters: &mut Vec<u8>,
+) -> Result<(), Fail> {
+    if letters.len() < 4 {
+        letters.push(LETTERS[numbers.below(3).min(2)])?;
+        find(alloc, lines, letters)?;
+    }
+    Ok(())
+}
+
+/// Makes a splice at a random place. Where there are many lines, many go.
+fn splice_once(
+    rt: &impl Abort,
+    alloc: Global,
+    numbers: &mut Numbers,
+    lines: &mut KeptLines,
+    limit: u32,
+    texts: &mut Vec<Vec<u8>>,
+    letters: &[u8],
+) -> Result<(), Fail> {
+    let start = numbers.below(texts.len().saturating_add(1));
+    let most = if texts.len() > 200 { 100 } else { 41 };
+    let count = numbers.below(most).min(texts.len().saturating_sub(start));
+    let new = some_lines(alloc, numbers)?;
+    let made = splice_both(alloc, lines, limit, texts, letters, start, count, new)?;
+    assert!(rt; made, "{start} and {count} lines are there");
+    Ok(())
+}
+
+/// Makes an edit: most are splices, and now and then a pattern goes or comes.
+fn edit_once(
+    rt: &impl Abort,
+    alloc: Global,
+    numbers: &mut Numbers,
+    lines: &mut KeptLines,
+    limit: u32,
+    texts: &mut Vec<Vec<u8>>,
+    letters: &mut Vec<u8>,
+) -> Result<(), Fail> {
+    let kind = numbers.below(128);
+    if kind == 0 {
+        drop_one(numbers, lines, letters);
+    }
+    if kind == 1 {
+        add_one(alloc, numbers, lines, letters)?;
+    }
+    splice_once(rt, alloc, numbers, lines, limit, texts, letters)
+}
+
+/// Makes many edits of lines in chunks of this size, and compares after some of them.
+fn assert_edits(rt: &impl Abort, alloc: Global, limit: u32) -> Result<(), Fail> {
+    let mut numbers = Numbers::from(limit as u64);
+    let mut lines = KeptLines::new(alloc, limit);
+    let mut texts = Vec::new(alloc);
+    let mut letters = Vec::from_slice(alloc, b"ab")?;
+    for k in 0..SPLICES {
+        edit_once(
+            rt,
+            alloc,
+            &mut numbers,
+            &mut lines,
+            limit,
+            &mut texts,
+            &mut letters,
+        )?;
+        assert_eq!(rt; lines.len(), texts.len());
+        if k % 4 == 0 {
+            assert_same(rt, alloc, &lines, limit, &texts, &letters)?;
+        }
+    }
+    assert_same(rt, alloc, &lines, limit, &texts, &letters)
+}
+
+#[test]
+fn chunks_of_one_line(rt: HostRuntime) -> Result<(), Fail> {
+    assert_edits(&rt, rt.alloc(), 0)
+}
+
+#[test]
+fn chunks_of_a_byte(rt: HostRuntime) -> Result<(), Fail> {
+    assert_edits(&rt, rt.alloc(), 1)
+}
+
+#[test]
+fn chunks_of_4_bytes(rt: HostRuntime) -> Result<(), Fail> {
+    assert_edits(&rt, rt.alloc(), 4)
+}
+
+#[test]
+fn chunks_of_8_bytes(rt: HostRuntime) -> Result<(), Fail> {
+    assert_edits(&rt, rt.alloc(), 8)
+}
+
+#[test]
+fn chunks_of_64_bytes(rt: HostRuntime) -> Result<(), Fail> {
+    assert_edits(&rt, rt.alloc(), 64)
+}
+
+#[test]
+fn chunks_of_1000_bytes(rt: HostRuntime) -> Result<(), Fail> {
+    assert_edits(&rt, rt.alloc(), 1_000)
+}
