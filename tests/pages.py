@@ -26,7 +26,7 @@ MOST_WORDS = {
     "docs/GUARANTEES.md": 1_620,
     "docs/SPECIFICATION.md": 5_330,
     "docs/ARCHITECTURE.md": 2_950,
-    "docs/PROVING.md": 6_400,
+    "docs/PROVING.md": 6_480,
     "docs/DECISIONS.md": 4_880,
     "docs/PERFORMANCE.md": 1_500,
     "docs/CHANGING.md": 1_930,
@@ -36,7 +36,7 @@ MOST_WORDS = {
     "tests/README.md": 1_000,
     "editors/emacs/README.md": 1_500,
     "editors/nvim/*.md": 1_500,
-    "*": 36_800,
+    "*": 36_900,
 }
 """How many words pages have at most, by the pattern of their names."""
 

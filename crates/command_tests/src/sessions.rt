@@ -1,6 +1,7 @@
 //! Sessions under edits: what they return, show and report, and in how many steps.
 mod caches;
 mod edits;
+mod given;
 mod harness;
 mod large;
 mod memory;

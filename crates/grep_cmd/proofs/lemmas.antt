@@ -1,6 +1,7 @@
 pub mod ScriptWords
 pub mod ScriptCommands
 pub mod RowTests
+pub mod FreeLines
 pub mod ScriptAnswers
 pub mod ScriptSteps
 pub mod ScriptRuns

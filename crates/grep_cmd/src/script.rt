@@ -11,6 +11,7 @@ mod answer;
 mod command;
 mod counted;
 mod line_words;
+mod pattern_lines;
 mod reply;
 
 use crate::script::answer::answer_command;

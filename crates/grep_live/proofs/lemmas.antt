@@ -6,9 +6,7 @@ pub mod LostLemmas
 pub mod Pushing
 pub mod ListingLemmas
 pub mod NumberLemmas
-pub mod RankLemmas
 pub mod StatusLemmas
-pub mod WatchLemmas
 pub mod ChangesLemmas
 pub mod CatchLemmas
 pub mod PageLemmas

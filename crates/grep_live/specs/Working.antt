@@ -1,5 +1,4 @@
 pub mod Fits
 pub mod Listing
 pub mod Paging
-pub mod Ranks
 pub mod Live

@@ -10,12 +10,10 @@ ghost use Rattle.grep_live.specs.Changes.{Change, IsChange};
 ghost use Rattle.grep_live.specs.Rows.{hit_row, change_row, change_rows, changes_rows};
 ghost use Rattle.grep_live.specs.Working.Fits.{AreFit};
 ghost use Rattle.grep_live.specs.Working.Listing.{Mean, HitsBetween};
-ghost use Rattle.grep_live.specs.Working.Ranks.{AreRanks, AreRanked, marks_of, ranks_of};
 
-use crate::counting::Stretch;
-use crate::ranks::{Rank, count_between};
+use crate::hits::{Stretch, count_hits, first_hit};
+use crate::mark::Mark;
 use crate::rows::{write_hit_row, write_number_row};
-use crate::watch::Watch;
 use grep_core::{CountedWrite, WriteFault};
 use grep_session::Session;
 
@@ -26,16 +24,16 @@ fn write_hits<W: CountedWrite>(
     margin: &[u8],
     out: &mut W,
 ) -> Result<(), WriteFault>
-    requires { stretch.to ≤ length (file_at session.now.files stretch.k).lines }
+    requires in_order { stretch.from ≤ stretch.to }
+    requires within { stretch.to ≤ length (file_at session.now.files stretch.k).lines }
     ensures { (es : List Expression) → Mean session.now es → (hits : List Hit) →
         HitsBetween es session.now stretch.k stretch.from stretch.to hits → Writes W.contents W.failures out.old out.new
         (written margin.now (map hit_row hits)) result }
 {
-    for place in stretch.from..stretch.to {
-        let Some(hit) = session.hit(stretch.k, place) else {
-            continue;
-        };
-        write_hit_row(out, margin, b"r", &[place], hit)?;
+    let mut from = stretch.from;
+    while let Some(found) = first_hit(session, Stretch { from, ..stretch }) {
+        write_hit_row(out, margin, b"r", &[found.place], found.hit)?;
+        from = found.place + 1;
     }
     Ok(())
 }
@@ -51,14 +49,12 @@ fn is_idle(removed: usize, added: usize) -> bool
 /// a row for each hit among the new ones.
 fn write_rows<W: CountedWrite>(
     session: &Session,
-    ranks: &[Rank],
     removed: usize,
     stretch: Stretch,
     margin: &[u8],
     out: &mut W,
 ) -> Result<(), WriteFault>
-    requires are_ranks { AreRanks session.now (file_at session.now.files stretch.k) ranks.now }
-    requires order { stretch.from ≤ stretch.to }
+    requires in_order { stretch.from ≤ stretch.to }
     requires within { stretch.to ≤ length (file_at session.now.files stretch.k).lines }
     ensures { (es : List Expression) → Mean session.now es → (hits : List Hit) →
         HitsBetween es session.now stretch.k stretch.from stretch.to hits → Writes W.contents W.failures out.old out.new
@@ -70,7 +66,7 @@ fn write_rows<W: CountedWrite>(
         }) ∷ map hit_row hits)) result }
 {
     let Stretch { k, from, to } = stretch;
-    let count = count_between(session, k, ranks, from, to);
+    let count = count_hits(session, stretch);
     let numbers = [k, from, removed, to - from, count];
     write_number_row(out, margin, b"h", &numbers)?;
     write_hits(session, stretch, margin, out)
@@ -80,45 +76,42 @@ fn write_rows<W: CountedWrite>(
 fn write_change<W: CountedWrite>(
     session: &Session,
     k: usize,
-    watch: &Watch,
+    mark: &Mark,
     margin: &[u8],
     out: &mut W,
 ) -> Result<(), WriteFault>
-    requires are_ranks { AreRanks session.now (file_at session.now.files k) watch.now.ranks.items }
-    requires within { watch.now.mark.front ≤ length (file_at session.now.files k).lines }
+    requires { mark.now.front ≤ length (file_at session.now.files k).lines }
     ensures { (es : List Expression) → Mean session.now es → (change : Change) →
-        IsChange es session.now.options (file_at session.now.files k) watch.now.mark change →
+        IsChange es session.now.options (file_at session.now.files k) mark.now change →
         Writes W.contents W.failures out.old out.new (written margin.now (change_rows k change))
         result }
 {
-    let removed = watch.mark.removed();
-    let added = watch.mark.added(session.line_count(k));
+    let removed = mark.removed();
+    let added = mark.added(session.line_count(k));
     if is_idle(removed, added) {
         return Ok(());
     }
-    let from = watch.mark.front;
+    let from = mark.front;
     let to = from + added;
     let stretch = Stretch { k, from, to };
-    write_rows(session, &watch.ranks, removed, stretch, margin, out)
+    write_rows(session, removed, stretch, margin, out)
 }
 
 /// Writes what changed of each file, by its mark.
 pub fn write_changes<W: CountedWrite>(
     session: &Session,
-    watches: &[Watch],
+    marks: &[Mark],
     margin: &[u8],
     out: &mut W,
 ) -> Result<(), WriteFault>
-    requires fit { AreFit session.now.files (marks_of watches.now) }
-    requires ranked { AreRanked session.now session.now.files (ranks_of watches.now) }
+    requires { AreFit session.now.files marks.now }
     ensures { (es : List Expression) → Mean session.now es → (changes : List Change) →
-        AllThree (IsChange es session.now.options) session.now.files (marks_of watches.now)
-        changes →
+        AllThree (IsChange es session.now.options) session.now.files marks.now changes →
         Writes W.contents W.failures out.old out.new (written margin.now (changes_rows 0 changes))
         result }
 {
-    for (k, watch) in watches.iter().enumerate() {
-        write_change(session, k, watch, margin, out)?;
+    for (k, mark) in marks.iter().enumerate() {
+        write_change(session, k, mark, margin, out)?;
     }
     Ok(())
 }

@@ -2,17 +2,15 @@
 #![tactic(auto)]
 
 mod changing;
-mod counting;
-mod cut;
+mod found;
+mod hits;
 mod laws;
 mod live;
 mod mark;
-mod page;
+mod marks;
 mod paging;
-mod ranks;
 mod rows;
 mod status;
-mod watch;
 
 pub use laws::{nothing_twice, one_splice, only_touched};
 pub use live::Live;

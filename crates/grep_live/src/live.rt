@@ -5,21 +5,20 @@ ghost use Rattle.grep_live.specs.Marks.{new_watched};
 ghost use Rattle.grep_live.specs.Following.{Follows};
 
 mod edits;
+mod giving;
 mod listing;
 mod reporting;
 
-use crate::watch::Watch;
+use crate::mark::Mark;
 use grep_session::Session;
 use std::alloc::Global;
 use std::marker::Model;
 
-/// A session, and for each of its files a mark and the number of hits before some places. A
-/// contract sees the inputs of grep and the marks.
+/// A session, and a mark for each of its files. A contract sees the inputs of grep and the marks.
 #[derive(Drop)]
 pub struct Live {
-    alloc: Global,
     session: Session,
-    watches: Vec<Watch>,
+    marks: Vec<Mark>,
 }
 
 impl Model for Live {
@@ -44,9 +43,8 @@ impl Live {
         ensures followed { Follows result [] }
     {
         Live {
-            alloc,
             session: Session::new(alloc, states),
-            watches: Vec::new(alloc),
+            marks: Vec::new(alloc),
         }
     }
 }

@@ -1,5 +1,5 @@
 //! A page of the hits of all files.
-ghost use Rattle.std.specs.Prelude.{◌≡◌, ◌≤◌, ◌<◌, ◌-◌, ◌^◌, ◌∷◌, List, min, length, map, IfOk};
+ghost use Rattle.std.specs.Prelude.{◌≡◌, ◌≤◌, ◌-◌, ◌^◌, ◌∷◌, List, min, length, map, IfOk};
 ghost use Rattle.re_syntax.specs.Expression.{Expression};
 ghost use Rattle.grep_core.specs.Output.{written};
 ghost use Rattle.grep_core.specs.Run.{file_at};
@@ -8,104 +8,73 @@ ghost use Rattle.grep_live.specs.Hits.{Hit, View, AreHits};
 ghost use Rattle.grep_live.specs.Rows.{all_hits, page_rows, total_row};
 ghost use Rattle.grep_live.specs.Working.Listing.{Mean, HitsBetween};
 ghost use Rattle.grep_live.specs.Working.Paging.{IsRest};
-ghost use Rattle.grep_live.specs.Working.Ranks.{AreRanks, AreRanked, ranks_of};
 
-use crate::counting::Stretch;
-use crate::page::{Page, show_hit};
-use crate::ranks::{FIRST, Rank, count_file};
-use crate::rows::write_number_row;
-use crate::watch::Watch;
+use crate::hits::{Stretch, count_file, first_hit, place_after};
+use crate::rows::{write_hit_row, write_number_row};
 use grep_core::{CountedWrite, WriteFault};
 use grep_session::Session;
 
+/// How many hits are still to be skipped, and how many more are written at most.
+#[derive(Drop)]
+pub struct Page {
+    /// The hits to be skipped.
+    pub skip: usize,
+    /// The hits to be written.
+    pub left: usize,
+}
+
 /// The number of hits of all files, at most the greatest `usize`.
-pub fn count_all(session: &Session, watches: &[Watch]) -> usize
-    requires { AreRanked session.now session.now.files (ranks_of watches.now) }
+fn count_all(session: &Session) -> usize
     ensures { (es : List Expression) → Mean session.now es → (view : View) →
         AreHits es session.now.options session.now.files view →
         result ≡ min (length (all_hits 0 view)) (2 ^ 64 - 1) }
 {
     let mut total: usize = 0;
-    for (k, watch) in watches.iter().enumerate() {
-        let count = count_file(session, k, &watch.ranks);
+    for k in 0..session.file_count() {
+        let count = count_file(session, k);
         total = total.saturating_add(count);
     }
     total
 }
 
-/// Writes the rows of those hits among some lines that are on the page.
-fn show_lines<W: CountedWrite>(
+/// Writes the rows of at most `left` hits among some lines, and returns how many more are left.
+fn show_hits<W: CountedWrite>(
     session: &Session,
     stretch: Stretch,
-    page: &mut Page,
+    left: usize,
     margin: &[u8],
     out: &mut W,
-) -> Result<(), WriteFault>
+) -> Result<usize, WriteFault>
+    requires in_order { stretch.from ≤ stretch.to }
     requires within { stretch.to ≤ length (file_at session.now.files stretch.k).lines }
-    requires some { 0 < page.old.left }
     ensures wrote { (es : List Expression) → Mean session.now es → (hits : List Hit) →
         HitsBetween es session.now stretch.k stretch.from stretch.to hits →
-        Writes W.contents W.failures out.old out.new (written margin.now
-        (page_rows page.old.skip page.old.left (map (λ hit. (stretch.k, hit)) hits))) result }
-    ensures rest { IfOk result (λ _. (es : List Expression) → Mean session.now es →
+        Writes W.contents W.failures out.old out.new
+        (written margin.now (page_rows 0 left (map (λ hit. (stretch.k, hit)) hits))) result }
+    ensures rest { IfOk result (λ more. (es : List Expression) → Mean session.now es →
         (hits : List Hit) → HitsBetween es session.now stretch.k stretch.from stretch.to hits →
-        IsRest page.old (length hits) page.new) }
+        more ≡ left - length hits) }
 {
-    for place in stretch.from..stretch.to {
-        if page.left == 0 {
-            return Ok(());
-        }
-        let Some(hit) = session.hit(stretch.k, place) else {
-            continue;
+    let mut from = stretch.from;
+    for shown in 0..left {
+        let Some(found) = first_hit(session, Stretch { from, ..stretch }) else {
+            return Ok(left - shown);
         };
-        show_hit(page, stretch.k, place, hit, margin, out)?;
+        write_hit_row(out, margin, b"p", &[stretch.k, found.place], found.hit)?;
+        from = found.place + 1;
     }
-    Ok(())
+    Ok(0)
 }
 
-/// The same where the number of these hits is known: hits that are all skipped are not looked for,
-/// nor any where the page is full.
-fn show_counted<W: CountedWrite>(
-    session: &Session,
-    stretch: Stretch,
-    count: usize,
-    page: &mut Page,
-    margin: &[u8],
-    out: &mut W,
-) -> Result<(), WriteFault>
-    requires within { stretch.to ≤ length (file_at session.now.files stretch.k).lines }
-    requires counted { (es : List Expression) → Mean session.now es → (hits : List Hit) →
-        HitsBetween es session.now stretch.k stretch.from stretch.to hits → count ≡ length hits }
-    ensures wrote { (es : List Expression) → Mean session.now es → (hits : List Hit) →
-        HitsBetween es session.now stretch.k stretch.from stretch.to hits →
-        Writes W.contents W.failures out.old out.new (written margin.now
-        (page_rows page.old.skip page.old.left (map (λ hit. (stretch.k, hit)) hits))) result }
-    ensures rest { IfOk result (λ _. (es : List Expression) → Mean session.now es →
-        (hits : List Hit) → HitsBetween es session.now stretch.k stretch.from stretch.to hits →
-        IsRest page.old (length hits) page.new) }
-{
-    if count <= page.skip {
-        page.skip -= count;
-        return Ok(());
-    }
-    if page.left == 0 {
-        page.skip = 0;
-        return Ok(());
-    }
-    show_lines(session, stretch, page, margin, out)
-}
-
-/// Writes the rows of the hits of file `k` that are on the page, from rank to rank.
+/// Writes the rows of the hits of file `k` that are on the page. Hits that are skipped are counted,
+/// and not looked for.
 fn show_file<W: CountedWrite>(
     session: &Session,
     k: usize,
-    ranks: &[Rank],
     page: &mut Page,
     margin: &[u8],
     out: &mut W,
 ) -> Result<(), WriteFault>
-    requires are_ranks { AreRanks session.now (file_at session.now.files k) ranks.now }
-    requires some { 0 < page.old.left }
     ensures wrote { (es : List Expression) → Mean session.now es → (hits : List Hit) →
         HitsBetween es session.now k 0 (length (file_at session.now.files k).lines) hits →
         Writes W.contents W.failures out.old out.new (written margin.now
@@ -115,42 +84,26 @@ fn show_file<W: CountedWrite>(
         HitsBetween es session.now k 0 (length (file_at session.now.files k).lines) hits →
         IsRest page.old (length hits) page.new) }
 {
-    let mut last = FIRST;
-    for rank in ranks {
-        if rank.place < last.place {
-            continue;
-        }
-        let count = rank.before.saturating_sub(last.before);
-        let stretch = Stretch {
-            k,
-            from: last.place,
-            to: rank.place,
-        };
-        show_counted(session, stretch, count, page, margin, out)?;
-        last = *rank;
-    }
-    if page.left == 0 {
+    let count = count_file(session, k);
+    if count <= page.skip {
+        page.skip -= count;
         return Ok(());
     }
-    let rest = Stretch {
-        k,
-        from: last.place,
-        to: session.line_count(k),
-    };
-    show_lines(session, rest, page, margin, out)?;
+    let from = place_after(session, k, page.skip);
+    let to = session.line_count(k);
+    page.skip = 0;
+    page.left = show_hits(session, Stretch { k, from, to }, page.left, margin, out)?;
     Ok(())
 }
 
 /// Writes the rows of at most `count` hits from number `first` on, of all files in order.
-pub fn write_page<W: CountedWrite>(
+fn write_page<W: CountedWrite>(
     session: &Session,
-    watches: &[Watch],
     first: usize,
     count: usize,
     margin: &[u8],
     out: &mut W,
 ) -> Result<(), WriteFault>
-    requires { AreRanked session.now session.now.files (ranks_of watches.now) }
     ensures { (es : List Expression) → Mean session.now es → (view : View) →
         AreHits es session.now.options session.now.files view →
         Writes W.contents W.failures out.old out.new (written margin.now
@@ -160,11 +113,11 @@ pub fn write_page<W: CountedWrite>(
         skip: first,
         left: count,
     };
-    for (k, watch) in watches.iter().enumerate() {
+    for k in 0..session.file_count() {
         if page.left == 0 {
             return Ok(());
         }
-        show_file(session, k, &watch.ranks, &mut page, margin, out)?;
+        show_file(session, k, &mut page, margin, out)?;
     }
     Ok(())
 }
@@ -172,20 +125,18 @@ pub fn write_page<W: CountedWrite>(
 /// Writes the number of hits, and the rows of at most `count` of them from number `first` on.
 pub fn write_hits_page<W: CountedWrite>(
     session: &Session,
-    watches: &[Watch],
     first: usize,
     count: usize,
     margin: &[u8],
     out: &mut W,
 ) -> Result<(), WriteFault>
-    requires { AreRanked session.now session.now.files (ranks_of watches.now) }
     ensures { (es : List Expression) → Mean session.now es → (view : View) →
         AreHits es session.now.options session.now.files view →
         Writes W.contents W.failures out.old out.new (written margin.now
         (total_row (min (length (all_hits 0 view)) (2 ^ 64 - 1)) ∷
         page_rows first count (all_hits 0 view))) result }
 {
-    let total = count_all(session, watches);
+    let total = count_all(session);
     write_number_row(out, margin, b"hits", &[total])?;
-    write_page(session, watches, first, count, margin, out)
+    write_page(session, first, count, margin, out)
 }

@@ -1,5 +1,3 @@
-pub mod Finds
-pub mod Boxed
 pub mod Kept
 pub mod Sessions
 pub mod Splicing
@@ -7,8 +5,9 @@ pub mod Found
 pub mod Reading
 pub mod Again
 pub mod Effects
-pub mod Dropping
 pub mod Report
 pub mod Looking
 pub mod Changed
+pub mod Columns
+pub mod Counts
 pub mod Rooms

@@ -1,9 +1,10 @@
 //! Matchers of which it is known how much they may keep.
-ghost use Rattle.std.specs.Prelude.{◌≡◌, ℕ, ◌+◌, ◌-◌, ◌*◌, ◌≤◌, ◌<◌, ◌↔◌, ◌++◌, [], ◌∷◌, List, Bool, IsTrue};
+ghost use Rattle.std.specs.Prelude.{◌≡◌, ℕ, ◌+◌, ◌-◌, ◌*◌, ◌≤◌, ◌<◌, ◌++◌, [], ◌∷◌, List, Bool};
 ghost use Rattle.std.specs.Prelude.{IfSome, length, map};
 ghost use Rattle.re_syntax.specs.Bytes.{Text};
 ghost use Rattle.re_syntax.specs.Expression.{Expression};
-ghost use Rattle.re_syntax.specs.Holds.{Matches};
+ghost use Rattle.re_syntax.specs.Lines.{lines_of};
+ghost use Rattle.re_search.specs.Working.Blocks.{IsBlock, FindsMatched, next_cost};
 ghost use Rattle.re_search.specs.Searching.{AddsAtMost, AllAnswer, FindsPart, FindsPartOfAll};
 ghost use Rattle.grep_core.specs.Cost.{search_cost};
 ghost use Rattle.grep_session.specs.Working.Rooms.{SameBounded};
@@ -16,14 +17,15 @@ pub trait Bounded: LineMatch {
     /// How many entries its cache may have.
     ghost room: { Self → ℕ };
 
-    /// Whether the line is matched.
-    fn matches(&mut self, line: &[u8], meter: &mut Meter) -> bool
-        ensures reported { IsTrue result ↔
-            Matches (Self.expression self.old) line.now (Self.whole self.old) }
+    /// The first line of a block of whole lines that is matched.
+    fn next(&mut self, block: &[u8], meter: &mut Meter) -> Option<Span>
+        requires { IsBlock block.now }
+        ensures reported { FindsMatched (Self.expression self.old) (Self.whole self.old)
+            (lines_of block.now) result }
         ensures same_expression { Self.expression self.new ≡ Self.expression self.old }
         ensures same_whole { Self.whole self.new ≡ Self.whole self.old }
         ensures same_room { room self.new ≡ room self.old }
-        ensures steps { AddsAtMost (length line.now + 1) meter.old meter.new };
+        ensures steps { AddsAtMost (next_cost block.now result) meter.old meter.new };
 
     /// The next part of the line at `from` or later.
     fn part(&mut self, line: &[u8], from: usize, meter: &mut Meter) -> Option<Span>
@@ -41,8 +43,8 @@ impl Bounded for Matcher {
 
     ghost room = { room_of };
 
-    fn matches(&mut self, line: &[u8], meter: &mut Meter) -> bool {
-        self.is_match(line, meter)
+    fn next(&mut self, block: &[u8], meter: &mut Meter) -> Option<Span> {
+        self.next_matched(block, meter)
     }
 
     fn part(&mut self, line: &[u8], from: usize, meter: &mut Meter) -> Option<Span> {

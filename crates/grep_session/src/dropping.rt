@@ -3,32 +3,11 @@ ghost use Rattle.std.specs.Prelude.{◌≡◌, ◌<◌, List, length, map, false
 ghost use Rattle.std.specs.Prelude.{vec_capacity};
 ghost use Rattle.re_syntax.specs.Expression.{Expression};
 ghost use Rattle.grep_core.specs.declared.options.Options.{Options};
-ghost use Rattle.grep_session.specs.Working.Kept.{IsKept, IsFileKept, kept_file, line_text};
+ghost use Rattle.grep_session.specs.Working.Kept.{IsFileKept, kept_file};
 ghost use Rattle.std.specs.List.{remove, insert};
-ghost use Rattle.grep_session.specs.Working.Dropping.{without};
 
-use crate::kept::{KeptFile, KeptLine};
+use crate::kept::KeptFile;
 use re_search::Matcher;
-
-/// Removes pattern `p` from what is kept of a line.
-fn drop_in_line(line: &mut KeptLine, p: usize)
-    ensures text { line.new.text ≡ line.old.text }
-    ensures matched { line.new.found.numbers ≡ without p line.old.found.numbers }
-{
-    line.found.drop_number(p);
-}
-
-/// Removes pattern `p` from what is kept of lines.
-fn drop_in_lines(lines: &mut [KeptLine], p: usize)
-    ensures texts { map line_text lines.new ≡ map line_text lines.old }
-    ensures kept { (es : List Expression) (options : Options) → p < length es →
-        options.only_matching ≡ false → All (IsKept es options) lines.old →
-        All (IsKept (remove es p) options) lines.new }
-{
-    for line in lines.iter_mut() {
-        drop_in_line(line, p);
-    }
-}
 
 /// Removes pattern `p` from what is kept of a file.
 fn drop_in_file(file: &mut KeptFile, p: usize)
@@ -39,7 +18,7 @@ fn drop_in_file(file: &mut KeptFile, p: usize)
 {
     match &mut file.lines {
         None => {}
-        Some(lines) => drop_in_lines(lines, p),
+        Some(lines) => lines.drop_number(p),
     }
 }
 

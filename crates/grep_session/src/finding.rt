@@ -1,23 +1,22 @@
 //! What is found in lines, and kept.
-ghost use Rattle.std.specs.Prelude.{◌≡◌, ℕ, ◌+◌, ◌*◌, ◌≤◌, ◌<◌, length, map, IfOk};
-ghost use Rattle.std.specs.Prelude.{IfErr, true, [], ◌∷◌, All};
+ghost use Rattle.std.specs.Prelude.{◌≡◌, ℕ, ◌≤◌, length, map, IfOk, IfErr, true, [], All};
 ghost use Rattle.re_search.specs.Working.Matchers.{matched_expression, wants_whole, room_of};
 ghost use Rattle.re_search.specs.Searching.{AllAnswer, AddsAtMost};
-ghost use Rattle.grep_session.specs.Working.Rooms.{SameBounded};
+ghost use Rattle.re_syntax.specs.Lines.{HasNoNewline};
 ghost use Rattle.re_syntax.specs.Parts.{AreParts};
-ghost use Rattle.grep_core.specs.Cost.{search_cost};
 ghost use Rattle.re_syntax.specs.Profile.{most_patterns};
-ghost use Rattle.grep_session.specs.Working.Found.{IsRight};
-ghost use Rattle.grep_session.specs.Working.Changed.{CostAnew, SearchesEach, SearchesOne};
-ghost use Rattle.grep_session.specs.Working.Kept.{AreMatching, AddsMatching, IsKept, span_places};
-ghost use Rattle.grep_session.specs.Working.Kept.{ArePartsKept, line_text};
+ghost use Rattle.line_chunks.specs.Working.Chunks.{all_of, line_text};
 ghost use Rattle.grep_session.specs.Touched.{PartsCostOf};
+ghost use Rattle.grep_session.specs.Working.Changed.{CostAnew, SearchesEach};
+ghost use Rattle.grep_session.specs.Working.Kept.{ArePartsKept, IsKept, span_places};
+ghost use Rattle.grep_session.specs.Working.Rooms.{SameBounded};
 
 use crate::bounded::{Bounded, next_part};
-use crate::findings::Findings;
-use crate::kept::KeptLine;
-use crate::pushing::push;
+use crate::change::Change;
+use crate::columns::find_in_lines;
+use crate::new_lines::{NewLines, kept_of};
 use grep_core::Options;
+use line_chunks::KeptLines;
 use re_search::{Matcher, Meter, Span};
 use std::alloc::{AllocError, Global};
 
@@ -28,59 +27,6 @@ pub struct Search {
     pub alloc: Global,
     /// The options under which lines are searched.
     pub options: Options,
-}
-
-/// Adds the matcher's number if it matches the line.
-fn note_matching<M: Bounded>(
-    matcher: &mut M,
-    number: usize,
-    search: &Search,
-    line: &[u8],
-    numbers: &mut Vec<usize>,
-    meter: &mut Meter,
-) -> Result<(), AllocError>
-    requires { M.whole matcher.old ≡ search.now.options.line_regexp }
-    ensures ok { IfOk result
-        (λ _.
-        AddsMatching line.now search.now.options.line_regexp number (M.expression matcher.old ∷ [])
-        numbers.old.items numbers.new.items) }
-    ensures same_expression { M.expression matcher.new ≡ M.expression matcher.old }
-    ensures same_whole { M.whole matcher.new ≡ M.whole matcher.old }
-    ensures same_room { M.room matcher.new ≡ M.room matcher.old }
-    ensures steps { AddsAtMost (length line.now + 1) meter.old meter.new }
-{
-    if !matcher.matches(line, meter) {
-        return Ok(());
-    }
-    numbers.push(number)?;
-    Ok(())
-}
-
-/// Adds the numbers of the matchers that match the line, the first of which has the number
-/// `first`.
-pub fn add_matching<M: Bounded>(
-    matchers: &mut [M],
-    first: usize,
-    search: &Search,
-    line: &[u8],
-    numbers: &mut Vec<usize>,
-    meter: &mut Meter,
-) -> Result<(), AllocError>
-    requires whole { AllAnswer search.now.options.line_regexp (map M.whole matchers.old) }
-    requires few { first + length matchers.old ≤ most_patterns }
-    ensures ok { IfOk result
-        (λ _.
-        AddsMatching line.now search.now.options.line_regexp first (map M.expression matchers.old)
-        numbers.old.items numbers.new.items) }
-    ensures same_matchers { SameBounded M.expression M.whole M.room matchers.old matchers.new }
-    ensures steps { AddsAtMost (search_cost (length matchers.old) line.now) meter.old meter.new }
-{
-    let mut number = first;
-    for matcher in matchers.iter_mut() {
-        note_matching(matcher, number, search, line, numbers, meter)?;
-        number += 1;
-    }
-    Ok(())
 }
 
 /// Adds the parts of the line.
@@ -112,7 +58,7 @@ fn add_parts<M: Bounded>(
 }
 
 /// The parts of the line under `-o`, otherwise none.
-fn parts_of<M: Bounded>(
+pub fn parts_of<M: Bounded>(
     search: &Search,
     matchers: &mut [M],
     line: &[u8],
@@ -133,94 +79,38 @@ fn parts_of<M: Bounded>(
     Ok(spans)
 }
 
-/// What is found in the line that the matchers of these numbers match. Under `-o` its parts are
-/// searched if there is a number.
-pub fn find_with_parts<M: Bounded>(
-    search: &Search,
-    matchers: &mut [M],
-    line: &[u8],
-    numbers: Vec<usize>,
+/// Searches lines with all matchers of a session. If memory runs out, the lines stay as they are.
+/// If there is no line none is asked for.
+pub fn search_lines(
+    alloc: Global,
+    matchers: &mut Vec<Matcher>,
+    options: &Options,
+    lines: &mut KeptLines,
     meter: &mut Meter,
-) -> Result<Findings, AllocError>
-    requires whole { AllAnswer search.now.options.line_regexp (map M.whole matchers.old) }
+) -> Result<(), AllocError>
+    requires whole { AllAnswer options.now.line_regexp (map wants_whole matchers.old.items) }
+    requires few { length matchers.old.items ≤ most_patterns }
     ensures ok { IfOk result
-        (λ found.
-        AreMatching line.now search.now.options.line_regexp 0 (map M.expression matchers.old) numbers.items
-        → IsRight (map M.expression matchers.old) search.now.options line.now found) }
-    ensures same_matchers { SameBounded M.expression M.whole M.room matchers.old matchers.new }
-    ensures steps { (own : ℕ) ×
-        PartsCostOf (map M.expression matchers.old) search.now.options line.now own ×
-        AddsAtMost own meter.old meter.new }
+        (λ _.
+        All (IsKept (map matched_expression matchers.old.items) options.now) (all_of lines.new)) }
+    ensures texts { map line_text (all_of lines.new) ≡ map line_text (all_of lines.old) }
+    ensures same_matchers { SameBounded matched_expression wants_whole room_of matchers.old.items
+        matchers.new.items }
+    ensures memory { all_of lines.old ≡ [] → IfErr result (λ _. ⊥) }
+    ensures steps { SearchesEach (CostAnew (map matched_expression matchers.old.items) options.now)
+        (map line_text (all_of lines.old)) meter.old meter.new }
 {
-    if numbers.is_empty() {
-        return Ok(Findings::none());
+    if lines.len() == 0 {
+        return Ok(());
     }
-    let spans = parts_of(search, matchers, line, meter)?;
-    Findings::new(search.alloc, numbers, spans)
-}
-
-/// All that the matchers find in the line.
-pub fn find_anew<M: Bounded>(
-    search: &Search,
-    matchers: &mut [M],
-    line: &[u8],
-    meter: &mut Meter,
-) -> Result<Findings, AllocError>
-    requires whole { AllAnswer search.now.options.line_regexp (map M.whole matchers.old) }
-    requires few { length matchers.old ≤ most_patterns }
-    ensures ok { IfOk result (IsRight (map M.expression matchers.old) search.now.options line.now) }
-    ensures same_matchers { SameBounded M.expression M.whole M.room matchers.old matchers.new }
-    ensures steps { SearchesOne (CostAnew (map M.expression matchers.old) search.now.options)
-        line.now meter.old meter.new }
-{
-    let mut numbers = Vec::new(search.alloc);
-    add_matching(matchers, 0, search, line, &mut numbers, meter)?;
-    find_with_parts(search, matchers, line, numbers, meter)
-}
-
-/// The line with all that the matchers find in it.
-fn search_line<M: Bounded>(
-    search: &Search,
-    matchers: &mut [M],
-    text: Vec<u8>,
-    meter: &mut Meter,
-) -> Result<KeptLine, AllocError>
-    requires whole { AllAnswer search.now.options.line_regexp (map M.whole matchers.old) }
-    requires few { length matchers.old ≤ most_patterns }
-    ensures ok { IfOk result (IsKept (map M.expression matchers.old) search.now.options) }
-    ensures text { IfOk result (λ line. line.text.items ≡ text.items) }
-    ensures same_matchers { SameBounded M.expression M.whole M.room matchers.old matchers.new }
-    ensures steps { SearchesOne (CostAnew (map M.expression matchers.old) search.now.options)
-        text.items meter.old meter.new }
-{
-    let found = find_anew(search, matchers, &text, meter)?;
-    Ok(KeptLine { text, found })
-}
-
-/// The lines with all that the matchers find in them.
-fn search_lines<M: Bounded>(
-    search: &Search,
-    matchers: &mut [M],
-    texts: Vec<Vec<u8>>,
-    meter: &mut Meter,
-) -> Result<Vec<KeptLine>, AllocError>
-    requires whole { AllAnswer search.now.options.line_regexp (map M.whole matchers.old) }
-    requires few { length matchers.old ≤ most_patterns }
-    ensures ok { IfOk result
-        (λ lines. All (IsKept (map M.expression matchers.old) search.now.options) lines.items) }
-    ensures texts { IfOk result
-        (λ lines. map line_text lines.items ≡ map (λ text. text.items) texts.items) }
-    ensures same_matchers { SameBounded M.expression M.whole M.room matchers.old matchers.new }
-    ensures memory { texts.items ≡ [] → IfErr result (λ _. ⊥) }
-    ensures steps { SearchesEach (CostAnew (map M.expression matchers.old) search.now.options)
-        (map (λ text. text.items) texts.items) meter.old meter.new }
-{
-    let mut lines = Vec::with_capacity(search.alloc, texts.len())?;
-    for text in texts {
-        let line = search_line(search, matchers, text, meter)?;
-        push(&mut lines, line)?;
-    }
-    Ok(lines)
+    let search = Search {
+        alloc,
+        options: *options,
+    };
+    let mut found = Vec::new(alloc);
+    find_in_lines(&search, matchers, Change::Anew, lines, &mut found, meter)?;
+    lines.put_columns(&mut found.into_iter());
+    Ok(())
 }
 
 /// The lines with all that the matchers of a session find in them.
@@ -228,25 +118,23 @@ pub fn search_new(
     alloc: Global,
     matchers: &mut Vec<Matcher>,
     options: &Options,
-    texts: Vec<Vec<u8>>,
+    given: NewLines,
     meter: &mut Meter,
-) -> Result<Vec<KeptLine>, AllocError>
+) -> Result<KeptLines, AllocError>
     requires whole { AllAnswer options.now.line_regexp (map wants_whole matchers.old.items) }
     requires few { length matchers.old.items ≤ most_patterns }
     ensures ok { IfOk result
         (λ lines.
-        All (IsKept (map matched_expression matchers.old.items) options.now) lines.items) }
-    ensures texts { IfOk result
-        (λ lines. map line_text lines.items ≡ map (λ text. text.items) texts.items) }
+        All (IsKept (map matched_expression matchers.old.items) options.now) (all_of lines)) }
+    ensures texts { IfOk result (λ lines. map line_text (all_of lines) ≡ given) }
+    ensures free { All HasNoNewline given }
     ensures same_matchers { SameBounded matched_expression wants_whole room_of matchers.old.items
         matchers.new.items }
-    ensures memory { texts.items ≡ [] → IfErr result (λ _. ⊥) }
+    ensures memory { given ≡ [] → IfErr result (λ _. ⊥) }
     ensures steps { SearchesEach (CostAnew (map matched_expression matchers.old.items) options.now)
-        (map (λ text. text.items) texts.items) meter.old meter.new }
+        given meter.old meter.new }
 {
-    let search = Search {
-        alloc,
-        options: *options,
-    };
-    search_lines(&search, matchers, texts, meter)
+    let mut lines = kept_of(given);
+    search_lines(alloc, matchers, options, &mut lines, meter)?;
+    Ok(lines)
 }

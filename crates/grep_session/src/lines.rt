@@ -1,53 +1,60 @@
 //! What is written for the lines of one file.
-ghost use Rattle.std.specs.Prelude.{◌≡◌, IfOk, All, if◌then◌else◌};
+ghost use Rattle.std.specs.Prelude.{◌≡◌, ◌+◌, ◌^◌, ◌<◌, IfOk, All, length, get_or, if◌then◌else◌};
 ghost use Rattle.grep_core.specs.Output.{form, parts, written};
 ghost use Rattle.grep_core.specs.Written.{Writes};
-ghost use Rattle.grep_session.specs.Working.Report.{line_rows, part_rows, rows_from};
-ghost use Rattle.grep_session.specs.Working.Report.{selected_count, is_selected, OnLine, PartsFit};
+ghost use Rattle.line_chunks.specs.Working.Chunks.{all_of, no_line};
+ghost use Rattle.grep_session.specs.Working.Report.{part_rows, rows_from};
+ghost use Rattle.grep_session.specs.Working.Report.{selected_count, OnLine, PartsFit};
 ghost use Rattle.grep_session.specs.Working.Report.{selected_rows, text_rows};
 
 use crate::around::write_lines_around;
-use crate::kept::KeptLine;
+use crate::counts::{count_all, find_selected};
 use crate::layout::Layout;
-use grep_core::{CountedWrite, Form, WriteFault, count_found};
+use grep_core::{CountedWrite, Form, WriteFault};
+use line_chunks::KeptLines;
+use re_search::Span;
 
 /// Writes the parts of a line.
 fn write_parts<W: CountedWrite>(
     layout: &Layout,
     number: u64,
-    line: &KeptLine,
+    text: &[u8],
+    spans: &[Span],
     out: &mut W,
 ) -> Result<(), WriteFault>
-    requires { All (OnLine line.now.text.items) line.now.found.spans }
+    requires { All (OnLine text.now) spans.now }
     ensures { Writes W.contents W.failures out.old out.new (written layout.now.margin.now
-        (part_rows layout.now.request.options layout.now.request.many layout.now.request.name.now number line.now.text.items
-        line.now.found.spans)) result }
+        (part_rows layout.now.request.options layout.now.request.many layout.now.request.name.now number text.now
+        spans.now)) result }
 {
-    for part in line.found.spans() {
+    for part in spans {
         layout
             .request
-            .write_part(number, &line.text, *part, out, layout.margin)?;
+            .write_part(number, text, *part, out, layout.margin)?;
     }
     Ok(())
 }
 
-/// Writes the rows of a selected line in the form that the options ask for.
+/// Writes the rows of line `k`, which is selected, in the form that the options ask for.
 fn write_selected<W: CountedWrite>(
     layout: &Layout,
-    number: u64,
-    line: &KeptLine,
+    lines: &KeptLines,
+    k: usize,
     out: &mut W,
 ) -> Result<(), WriteFault>
-    requires { PartsFit layout.now.request.options line.now }
+    requires inside { k < length (all_of lines.now) }
+    requires few { k + 1 < 2 ^ 64 }
+    requires fit { PartsFit layout.now.request.options (get_or (all_of lines.now) k no_line) }
     ensures { Writes W.contents W.failures out.old out.new (written layout.now.margin.now
         (selected_rows layout.now.request.options layout.now.request.many layout.now.request.name.now
-        (form layout.now.request.options) number line.now)) result }
+        (form layout.now.request.options) (k + 1) (get_or (all_of lines.now) k no_line))) result }
 {
+    let number = k as u64 + 1;
     match layout.request.options.form() {
         Form::Lines => layout
             .request
-            .write_text(number, &line.text, out, layout.margin),
-        Form::Parts => write_parts(layout, number, line, out),
+            .write_text(number, lines.line(k), out, layout.margin),
+        Form::Parts => write_parts(layout, number, lines.line(k), lines.spans(k), out),
         Form::Nothing => Ok(()),
         Form::Names => Ok(()),
         Form::Counts => Ok(()),
@@ -55,45 +62,45 @@ fn write_selected<W: CountedWrite>(
     }
 }
 
-/// Writes the rows of a line, if it has any, and returns whether it is selected.
-fn write_line<W: CountedWrite>(
-    layout: &Layout,
-    number: u64,
-    line: &KeptLine,
-    out: &mut W,
-) -> Result<bool, WriteFault>
-    requires { PartsFit layout.now.request.options line.now }
-    ensures rows { Writes W.contents W.failures out.old out.new (written layout.now.margin.now
-        (line_rows layout.now.request.options layout.now.request.many layout.now.request.name.now number line.now)) result }
-    ensures reported { IfOk result (λ found. found ≡ is_selected layout.now.request.options line.now) }
-{
-    if !line.is_selected(&layout.request.options) {
-        return Ok(false);
-    }
-    write_selected(layout, number, line, out)?;
-    Ok(true)
-}
-
-/// Writes the rows of a file's selected lines, and returns how many lines are selected.
+/// Writes the rows of a file's selected lines, one line after the other.
 fn write_found<W: CountedWrite>(
     layout: &Layout,
-    lines: &[KeptLine],
+    lines: &KeptLines,
     out: &mut W,
-) -> Result<u64, WriteFault>
-    requires { All (PartsFit layout.now.request.options) lines.now }
-    ensures rows { Writes W.contents W.failures out.old out.new (written layout.now.margin.now
-        (rows_from layout.now.request.options layout.now.request.many layout.now.request.name.now 1 lines.now)) result }
-    ensures reported { IfOk result
-        (λ selected. selected ≡ selected_count layout.now.request.options lines.now) }
+) -> Result<(), WriteFault>
+    requires { All (PartsFit layout.now.request.options) (all_of lines.now) }
+    ensures { Writes W.contents W.failures out.old out.new (written layout.now.margin.now
+        (rows_from layout.now.request.options layout.now.request.many layout.now.request.name.now 1 (all_of lines.now))) result }
 {
-    let mut number: u64 = 0;
-    let mut selected: u64 = 0;
-    for line in lines {
-        number += 1;
-        let found = write_line(layout, number, line, out)?;
-        selected = count_found(selected, found);
+    let end = lines.len();
+    let mut k = find_selected(lines, &layout.request.options, 0);
+    while k < end {
+        write_selected(layout, lines, k, out)?;
+        k = find_selected(lines, &layout.request.options, k + 1);
     }
-    Ok(selected)
+    Ok(())
+}
+
+/// Writes the rows of a file's lines, if the form of the output has any.
+fn write_rows<W: CountedWrite>(
+    layout: &Layout,
+    some: bool,
+    lines: &KeptLines,
+    out: &mut W,
+) -> Result<(), WriteFault>
+    requires { All (PartsFit layout.now.request.options) (all_of lines.now) }
+    ensures { Writes W.contents W.failures out.old out.new (written layout.now.margin.now
+        (text_rows layout.now.request.options layout.now.request.many layout.now.request.name.now
+        (form layout.now.request.options) some (all_of lines.now))) result }
+{
+    match layout.request.options.form() {
+        Form::Lines => write_found(layout, lines, out),
+        Form::Parts => write_found(layout, lines, out),
+        Form::Around(context) => write_lines_around(layout, context, some, lines, out),
+        Form::Nothing => Ok(()),
+        Form::Names => Ok(()),
+        Form::Counts => Ok(()),
+    }
 }
 
 /// Writes the rows of a file's lines, and returns how many of its lines are selected. `some` says
@@ -101,18 +108,16 @@ fn write_found<W: CountedWrite>(
 pub fn write_lines<W: CountedWrite>(
     layout: &Layout,
     some: bool,
-    lines: &[KeptLine],
+    lines: &KeptLines,
     out: &mut W,
 ) -> Result<u64, WriteFault>
-    requires { All (PartsFit layout.now.request.options) lines.now }
+    requires { All (PartsFit layout.now.request.options) (all_of lines.now) }
     ensures rows { Writes W.contents W.failures out.old out.new (written layout.now.margin.now
         (text_rows layout.now.request.options layout.now.request.many layout.now.request.name.now
-        (form layout.now.request.options) some lines.now)) result }
+        (form layout.now.request.options) some (all_of lines.now))) result }
     ensures reported { IfOk result
-        (λ selected. selected ≡ selected_count layout.now.request.options lines.now) }
+        (λ selected. selected ≡ selected_count layout.now.request.options (all_of lines.now)) }
 {
-    match layout.request.options.form() {
-        Form::Around(context) => write_lines_around(layout, context, some, lines, out),
-        _ => write_found(layout, lines, out),
-    }
+    write_rows(layout, some, lines, out)?;
+    Ok(count_all(lines, &layout.request.options))
 }

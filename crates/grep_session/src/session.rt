@@ -12,6 +12,7 @@ ghost use Rattle.grep_session.specs.Touched.{TakesSteps, NeedsNoMemory, Touches,
 ghost use Rattle.grep_session.specs.Touched.{parts_alone, all_lines};
 ghost use Rattle.grep_session.specs.Working.Again.{ReadsAgain, AreReadable, read_as};
 
+mod giving;
 mod looking;
 mod reporting;
 
@@ -20,12 +21,12 @@ use crate::choosing::{Effect, effect_of, is_same, option_of, with_option};
 use crate::columns::find_columns;
 use crate::dropping::{drop_column, put_back};
 use crate::fault::EditFault;
-use crate::finding::search_new;
 use crate::kept::KeptFile;
+use crate::new_lines::copies_of;
 use crate::patterns::{add_matchers, add_texts, reserve_texts, texts_of, too_many};
 use crate::pushing::push;
 use crate::reading::read_matchers;
-use crate::splicing::{any_newline, find_place, put_in};
+use crate::splicing::{any_newline, find_place};
 use grep_core::{Context, Flag, Options};
 use re_search::{Matcher, Meter, Syntax};
 use std::alloc::{AllocError, Global};
@@ -131,19 +132,11 @@ impl Session {
         if any_newline(&lines) {
             return Err(EditFault::LineHasNewline);
         }
-        let kept = match search_new(self.alloc, &mut self.matchers, &self.options, lines, meter) {
-            Ok(kept) => kept,
+        let given = match copies_of(self.alloc, &lines) {
+            Ok(given) => given,
             Err(_) => return Err(EditFault::Memory),
         };
-        let file = KeptFile {
-            name,
-            lines: Some(kept),
-        };
-        match push(&mut self.files, file) {
-            Ok(()) => {}
-            Err(_) => return Err(EditFault::Memory),
-        }
-        Ok(())
+        self.add_lines(name, given, meter)
     }
 
     /// Replaces `count` lines of file `k` from line `start` on with other lines. Only the new lines
@@ -175,15 +168,11 @@ impl Session {
         if any_newline(&lines) {
             return Err(EditFault::LineHasNewline);
         }
-        let kept = match search_new(self.alloc, &mut self.matchers, &self.options, lines, meter) {
-            Ok(kept) => kept,
+        let given = match copies_of(self.alloc, &lines) {
+            Ok(given) => given,
             Err(_) => return Err(EditFault::Memory),
         };
-        match put_in(&mut self.files[k], start, count, kept) {
-            Ok(()) => {}
-            Err(_) => return Err(EditFault::Memory),
-        }
-        Ok(())
+        self.put_lines(k, start, count, given, meter)
     }
 
     /// Reads all patterns again, with another syntax or other options, and searches all lines anew.

@@ -7,10 +7,12 @@ ghost use Rattle.re_syntax.specs.Lines.{HasNoNewline};
 ghost use Rattle.grep_session.specs.declared.fault.EditFault.TheVariants.{Memory};
 ghost use Rattle.grep_session.specs.Working.Kept.{kept_lines, kept_file};
 ghost use Rattle.grep_session.specs.Working.Splicing.{PlaceGives};
+ghost use Rattle.line_chunks.specs.Working.Chunks.{all_of};
 
 use crate::fault::EditFault;
-use crate::kept::{KeptFile, KeptLine};
-use std::alloc::AllocError;
+use crate::kept::KeptFile;
+use line_chunks::KeptLines;
+use std::alloc::{AllocError, Global};
 
 /// Whether a byte of the line is a newline.
 fn has_newline(line: &[u8]) -> bool
@@ -52,44 +54,24 @@ pub fn find_place(files: &[KeptFile], k: usize, start: usize, count: usize) -> R
     Ok(())
 }
 
-/// Replaces lines with others. Without new lines no memory is asked for.
-fn put_lines(
-    lines: &mut Vec<KeptLine>,
-    start: usize,
-    count: usize,
-    new: Vec<KeptLine>,
-) -> Result<(), AllocError>
-    requires { start + count ≤ length lines.old.items }
-    ensures ok { IfOk result
-        (λ _. lines.new.items ≡ splice lines.old.items start (start + count) new.items) }
-    ensures err { OnErr result (lines.new.items ≡ lines.old.items) }
-    ensures memory { new.items ≡ [] → IfErr result (λ _. ⊥) }
-{
-    if new.is_empty() {
-        lines.drain(start..start + count);
-        return Ok(());
-    }
-    lines.splice(start..start + count, new)?;
-    Ok(())
-}
-
-/// Replaces lines of a file with others.
+/// Replaces lines of a file with others. Without new lines no memory is asked for.
 pub fn put_in(
+    alloc: Global,
     file: &mut KeptFile,
     start: usize,
     count: usize,
-    new: Vec<KeptLine>,
+    new: &KeptLines,
 ) -> Result<(), AllocError>
     requires { IfSome (kept_lines file.old) (λ lines. start + count ≤ length lines) }
     ensures name { file.new.name ≡ file.old.name }
     ensures ok { IfOk result
         (λ _. kept_lines file.new ≡
-        option_map (λ lines. splice lines start (start + count) new.items) (kept_lines file.old)) }
+        option_map (λ lines. splice lines start (start + count) (all_of new.now)) (kept_lines file.old)) }
     ensures err { OnErr result (kept_lines file.new ≡ kept_lines file.old) }
-    ensures memory { new.items ≡ [] → IfErr result (λ _. ⊥) }
+    ensures memory { all_of new.now ≡ [] → IfErr result (λ _. ⊥) }
 {
     match &mut file.lines {
         None => Ok(()),
-        Some(lines) => put_lines(lines, start, count, new),
+        Some(lines) => lines.splice(alloc, start, count, new),
     }
 }

@@ -1,26 +1,30 @@
 //! What is known of files and lines without a search, from what is kept of them.
-ghost use Rattle.std.specs.Prelude.{◌≡◌, length};
+ghost use Rattle.std.specs.Prelude.{◌≡◌, ◌<◌, length, get_or};
+ghost use Rattle.line_chunks.specs.Working.Chunks.{all_of, no_line};
 ghost use Rattle.grep_session.specs.Working.Kept.{kept_file};
 ghost use Rattle.grep_session.specs.Working.Report.{end_of, is_selected, some_selected};
 ghost use Rattle.grep_session.specs.Working.Report.{has_selected};
 
-use crate::kept::{KeptFile, KeptLine};
+use crate::kept::KeptFile;
 use grep_core::{FileEnd, Options};
+use line_chunks::KeptLines;
 
-impl KeptLine {
-    /// Whether grep selects the line: some pattern matches it, and under `-v` none does.
-    pub fn is_selected(&self, options: &Options) -> bool
-        ensures { result ≡ is_selected options.now self.now }
-    {
-        options.selects(!self.found.numbers().is_empty())
-    }
+/// Whether grep selects line `k`: some pattern matches it, and under `-v` none does.
+pub fn is_selected(lines: &KeptLines, k: usize, options: &Options) -> bool
+    requires { k < length (all_of lines.now) }
+    ensures { result ≡ is_selected options.now (get_or (all_of lines.now) k no_line) }
+{
+    options.selects(lines.is_matched(k))
 }
 
 /// Whether some line is selected.
-fn some_selected(lines: &[KeptLine], options: &Options) -> bool
-    ensures { result ≡ some_selected options.now lines.now }
+fn some_selected(lines: &KeptLines, options: &Options) -> bool
+    ensures { result ≡ some_selected options.now (all_of lines.now) }
 {
-    lines.iter().any(|line| line.is_selected(options))
+    if options.invert_match {
+        return lines.hits() < lines.len();
+    }
+    lines.hits() > 0
 }
 
 impl KeptFile {

@@ -107,6 +107,28 @@ fn assert_pattern(
     Ok(())
 }
 
+/// Compares the first line of a text with one.
+fn assert_begins(rt: &impl Abort, text: &[u8], line: &[u8]) {
+    let longer = line.len() < text.len();
+    assert!(rt; longer, "a line has its newline");
+    assert_eq!(rt; &text[..line.len()], line);
+    assert_eq!(rt; text[line.len()], b'\n');
+}
+
+/// Compares where the lines of a chunk begin in its text, and their numbers at these places.
+fn assert_starts(rt: &impl Abort, chunk: &Chunk) {
+    for k in 0..chunk.len() {
+        let start = chunk.start(k);
+        assert_begins(rt, chunk.text_from(k), chunk.line(k));
+        assert_eq!(rt;
+            chunk.text_from(k).len(),
+            chunk.size().saturating_sub(start)
+        );
+        assert_eq!(rt; chunk.number_at(0, start), k);
+    }
+    assert_eq!(rt; chunk.start(chunk.len()), chunk.size());
+}
+
 /// Compares a chunk with the lines of the list from `at` on. The result is where the next chunk's
 /// begin.
 fn assert_chunk(
@@ -123,6 +145,7 @@ fn assert_chunk(
         chunk.size() <= limit as usize + 31,
         "a chunk takes no line beyond its limit"
     );
+    assert_starts(rt, chunk);
     for p in 0..letters.len() {
         assert_pattern(rt, alloc, chunk, p, letters[p], texts, at)?;
     }

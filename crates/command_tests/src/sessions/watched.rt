@@ -30,7 +30,13 @@ fn changes_of(
 }
 
 /// Compares what the session reports, and that it then reports nothing.
-fn assert_changes(rt: &impl Abort, alloc: Global, live: &mut Live, wanted: &[u8], status: Status) {
+pub fn assert_changes(
+    rt: &impl Abort,
+    alloc: Global,
+    live: &mut Live,
+    wanted: &[u8],
+    status: Status,
+) {
     for reply in [wanted, b""] {
         let (answer, written) = changes_of(alloc, live, usize::MAX);
         assert_eq!(rt; written.as_slice(), reply);
@@ -57,7 +63,7 @@ fn assert_added(rt: &impl Abort, alloc: Global, live: &mut Live, edit: Edit) -> 
 }
 
 /// A session with a pattern, and no file.
-fn searching(rt: &impl Abort, alloc: Global) -> Live {
+pub fn searching(rt: &impl Abort, alloc: Global) -> Live {
     let mut live = Live::new(alloc, STATES);
     assert_eq!(rt; live.add_patterns(b"a", &mut fresh_meter()), DONE);
     live

@@ -6,6 +6,8 @@ use Rattle.grep_session.specs.Edits.{Edit, AddFile, AddMissing, DropFile, Splice
 use Rattle.grep_session.specs.Edits.{DropPattern, SetFlag, SetSyntax, SetContext}
 use Rattle.grep_cmd.specs.declared.script.command.LineEdit.{LineEdit}
 use Rattle.grep_cmd.specs.declared.script.command.LineEdit.TheVariants as line_edit
+use Rattle.grep_cmd.specs.declared.script.command.FileEdit.{FileEdit}
+use Rattle.grep_cmd.specs.declared.script.command.FileEdit.TheVariants as file_edit
 use Rattle.grep_cmd.specs.declared.script.command.CountedEdit.{CountedEdit}
 use Rattle.grep_cmd.specs.declared.script.command.CountedEdit.TheVariants as counted
 use Rattle.grep_cmd.specs.declared.script.command.Command as declared
@@ -20,9 +22,12 @@ line_meant (line_edit.SetFlag flag on) = SetFlag flag on
 line_meant (line_edit.SetSyntax syntax) = SetSyntax syntax
 line_meant (line_edit.SetContext context) = SetContext context
 
+abbrev pub file_meant : FileEdit → List Text → Edit
+file_meant (file_edit.Add name) lines = AddFile name.items lines
+file_meant (file_edit.Splice file start removed) lines = Splice file start removed lines
+
 abbrev pub counted_meant : CountedEdit → List Text → Edit
-counted_meant (counted.AddFile name) lines = AddFile name.items lines
-counted_meant (counted.Splice file start removed) lines = Splice file start removed lines
+counted_meant (counted.PutLines edit) lines = file_meant edit lines
 counted_meant counted.AddPatterns lines = AddPatterns (joined lines)
 
 abbrev pub meant : declared.Command → Command

@@ -1,12 +1,14 @@
 //! How a command is done and answered.
 ghost use Rattle.std.specs.Prelude.{◌≡◌, ◌≢◌, List, [], ◌∷◌, Some, IfOk, IfErr, map};
 ghost use Rattle.re_syntax.specs.Bytes.{Text};
+ghost use Rattle.re_syntax.specs.Lines.{joined};
 ghost use Rattle.grep_core.specs.Reading.{IsOneLineAndFew};
 ghost use Rattle.grep_core.specs.Working.Numbered.{HasHanded};
 ghost use Rattle.grep_session.specs.declared.fault.EditFault.TheVariants.{Memory};
-ghost use Rattle.grep_session.specs.Edits.{EditGives};
+ghost use Rattle.grep_session.specs.Edits.{EditGives, AddPatterns};
 ghost use Rattle.grep_session.specs.Touched.{NeedsNoMemory, TakesSteps};
 ghost use Rattle.grep_cmd.specs.Script.{line_command, counts};
+ghost use Rattle.grep_cmd.specs.declared.script.command.CountedEdit.{CountedEdit};
 ghost use Rattle.grep_cmd.specs.declared.script.reply.Answer.{Answer};
 ghost use Rattle.grep_cmd.specs.Show.{AreShown};
 ghost use Rattle.grep_cmd.specs.Lists.{ReportsChanges, ReportsPage};
@@ -14,16 +16,19 @@ ghost use Rattle.grep_live.specs.Marks.{Watched};
 ghost use Rattle.grep_live.specs.Following.{Carries};
 ghost use Rattle.grep_cmd.specs.Replies.{reply_to};
 ghost use Rattle.grep_cmd.specs.Working.Answered.{AnswersLine, Replied, answer_for};
-ghost use Rattle.grep_cmd.specs.Working.Commands.{line_meant, counted_meant};
+ghost use Rattle.grep_cmd.specs.Working.Commands.{line_meant, file_meant, counted_meant};
 
 use crate::script::ScriptFault;
-use crate::script::command::{Command, CountedCommand, CountedEdit, LineEdit, read_command};
-use crate::script::counted::{join_lines, take_lines};
+use crate::script::command::{
+    Command, CountedCommand, CountedEdit, FileEdit, LineEdit, read_command,
+};
+use crate::script::counted::take_lines;
+use crate::script::pattern_lines::{join_lines, take_texts};
 use crate::script::reply::{Answer, write_reply};
 use crate::showing::{show, show_changes, show_page};
 use grep_core::{CountedRead, CountedWrite, Lines, WriteFault, write_line};
 use grep_live::Live;
-use grep_session::{EditFault, Meter};
+use grep_session::{EditFault, Meter, NewLines};
 use std::alloc::{AllocError, Global};
 
 /// Makes an edit for which the command line is enough.
@@ -47,43 +52,54 @@ fn make_edit(session: &mut Live, edit: LineEdit, meter: &mut Meter) -> Result<()
     }
 }
 
-/// Makes an edit with the lines that it counts. The lines of a pattern list are joined first, for
-/// which a growth may be refused.
-fn make_counted_edit(
+/// Puts the lines that an edit counts into a file.
+fn make_file_edit(
+    session: &mut Live,
+    edit: FileEdit,
+    lines: NewLines,
+    meter: &mut Meter,
+) -> Result<(), EditFault>
+    ensures gives { EditGives (file_meant edit lines) session.old.inputs session.new.inputs result }
+    ensures carries { Carries (file_meant edit lines) session.old session.new result }
+    ensures steps { TakesSteps (file_meant edit lines) session.old.inputs meter.old meter.new }
+    ensures memory { NeedsNoMemory (file_meant edit lines) session.old.inputs →
+        IfErr result (λ fault. fault ≢ Memory) }
+{
+    match edit {
+        FileEdit::Add(name) => session.add_lines(name, lines, meter),
+        FileEdit::Splice {
+            file,
+            start,
+            removed,
+        } => session.splice_lines(file, start, removed, lines, meter),
+    }
+}
+
+/// Adds the patterns that the lines are. They are joined first, for which a growth may be refused.
+fn add_patterns(
     alloc: Global,
     session: &mut Live,
-    edit: CountedEdit,
     lines: Vec<Vec<u8>>,
     meter: &mut Meter,
 ) -> Result<Result<(), EditFault>, AllocError>
     ensures gives { IfOk result
         (λ answer.
-        EditGives (counted_meant edit (map (λ l. l.items) lines.items)) session.old.inputs
+        EditGives (AddPatterns (joined (map (λ l. l.items) lines.items))) session.old.inputs
         session.new.inputs answer) }
     ensures carries { IfOk result
         (λ answer.
-        Carries (counted_meant edit (map (λ l. l.items) lines.items)) session.old session.new
+        Carries (AddPatterns (joined (map (λ l. l.items) lines.items))) session.old session.new
         answer) }
     ensures steps { IfOk result
-        (λ _. TakesSteps (counted_meant edit (map (λ l. l.items) lines.items)) session.old.inputs
+        (λ _. TakesSteps (AddPatterns (joined (map (λ l. l.items) lines.items))) session.old.inputs
         meter.old meter.new) }
     ensures idle { IfErr result (λ _. meter.new ≡ meter.old) }
     ensures memory { IfOk result
-        (λ answer. NeedsNoMemory (counted_meant edit (map (λ l. l.items) lines.items)) session.old.inputs →
+        (λ answer. NeedsNoMemory (AddPatterns (joined (map (λ l. l.items) lines.items))) session.old.inputs →
         IfErr answer (λ fault. fault ≢ Memory)) }
 {
-    match edit {
-        CountedEdit::AddFile(name) => Ok(session.add_file(name, lines, meter)),
-        CountedEdit::Splice {
-            file,
-            start,
-            removed,
-        } => Ok(session.splice(file, start, removed, lines, meter)),
-        CountedEdit::AddPatterns => {
-            let list = join_lines(alloc, &lines)?;
-            Ok(session.add_patterns(&list, meter))
-        }
-    }
+    let list = join_lines(alloc, &lines)?;
+    Ok(session.add_patterns(&list, meter))
 }
 
 /// Writes the reply to an edit that was answered so.
@@ -153,6 +169,62 @@ fn reply_to_page<W: CountedWrite>(
     }
 }
 
+/// Takes the lines that a command counts, puts them into a file, and writes the reply.
+fn answer_lines<R: CountedRead, W: CountedWrite>(
+    alloc: Global,
+    lines: &mut Lines<R>,
+    count: usize,
+    edit: FileEdit,
+    session: &mut Live,
+    meter: &mut Meter,
+    out: &mut W,
+) -> Result<Answer, ScriptFault>
+    requires { (reader : R) × (handed : List Text) ×
+        HasHanded R.remaining R.failures reader lines.old handed }
+    ensures answers { (reader : R) (handed : List Text) (line : Text) →
+        HasHanded R.remaining R.failures reader lines.old handed
+        → line_command line ≡ Some (counts count (file_meant edit))
+        → AnswersLine R.remaining R.failures reader handed line lines.new meter.old meter.new session.old session.new
+        W.contents W.failures out.old out.new result }
+    ensures held { IsOneLineAndFew lines.old.lines.ahead → IsOneLineAndFew lines.new.lines.ahead }
+    ensures same_loan { R.loan lines.new.lines.reader ≡ R.loan lines.old.lines.reader }
+{
+    let taken = match take_lines(alloc, lines, count, out) {
+        Ok(Some(taken)) => taken,
+        Ok(None) => return reply_with(b"refused Truncated", Answer::Truncated, out),
+        Err(fault) => return Err(fault),
+    };
+    reply_to_edit(make_file_edit(session, edit, taken, meter), out)
+}
+
+/// Takes the lines that a command counts, adds the patterns that they are, and writes the reply.
+fn answer_patterns<R: CountedRead, W: CountedWrite>(
+    alloc: Global,
+    lines: &mut Lines<R>,
+    count: usize,
+    session: &mut Live,
+    meter: &mut Meter,
+    out: &mut W,
+) -> Result<Answer, ScriptFault>
+    ensures answers { (reader : R) (handed : List Text) (line : Text) →
+        HasHanded R.remaining R.failures reader lines.old handed
+        → line_command line ≡ Some (counts count (counted_meant CountedEdit.AddPatterns))
+        → AnswersLine R.remaining R.failures reader handed line lines.new meter.old meter.new session.old session.new
+        W.contents W.failures out.old out.new result }
+    ensures held { IsOneLineAndFew lines.old.lines.ahead → IsOneLineAndFew lines.new.lines.ahead }
+    ensures same_loan { R.loan lines.new.lines.reader ≡ R.loan lines.old.lines.reader }
+{
+    let taken = match take_texts(alloc, lines, count, out) {
+        Ok(Some(taken)) => taken,
+        Ok(None) => return reply_with(b"refused Truncated", Answer::Truncated, out),
+        Err(fault) => return Err(fault),
+    };
+    match add_patterns(alloc, session, taken, meter) {
+        Ok(answer) => reply_to_edit(answer, out),
+        Err(_) => Err(ScriptFault::Memory),
+    }
+}
+
 /// Takes the lines that a command counts, makes its edit, and writes the reply.
 fn answer_counted<R: CountedRead, W: CountedWrite>(
     alloc: Global,
@@ -162,6 +234,8 @@ fn answer_counted<R: CountedRead, W: CountedWrite>(
     meter: &mut Meter,
     out: &mut W,
 ) -> Result<Answer, ScriptFault>
+    requires { (reader : R) × (handed : List Text) ×
+        HasHanded R.remaining R.failures reader lines.old handed }
     ensures answers { (reader : R) (handed : List Text) (line : Text) →
         HasHanded R.remaining R.failures reader lines.old handed
         → line_command line ≡ Some (counts counted.count (counted_meant counted.edit))
@@ -171,14 +245,11 @@ fn answer_counted<R: CountedRead, W: CountedWrite>(
     ensures same_loan { R.loan lines.new.lines.reader ≡ R.loan lines.old.lines.reader }
 {
     let CountedCommand { count, edit } = counted;
-    let taken = match take_lines(alloc, lines, count, out) {
-        Ok(Some(taken)) => taken,
-        Ok(None) => return reply_with(b"refused Truncated", Answer::Truncated, out),
-        Err(fault) => return Err(fault),
-    };
-    match make_counted_edit(alloc, session, edit, taken, meter) {
-        Ok(answer) => reply_to_edit(answer, out),
-        Err(_) => Err(ScriptFault::Memory),
+    match edit {
+        CountedEdit::PutLines(edit) => {
+            answer_lines(alloc, lines, count, edit, session, meter, out)
+        }
+        CountedEdit::AddPatterns => answer_patterns(alloc, lines, count, session, meter, out),
     }
 }
 
@@ -190,6 +261,8 @@ pub fn answer_command<R: CountedRead, W: CountedWrite>(
     meter: &mut Meter,
     out: &mut W,
 ) -> Result<Answer, ScriptFault>
+    requires { (reader : R) × (handed : List Text) ×
+        HasHanded R.remaining R.failures reader lines.old handed }
     ensures answers { (reader : R) (handed : List Text) →
         HasHanded R.remaining R.failures reader lines.old handed
         → AnswersLine R.remaining R.failures reader handed lines.old.lines.line lines.new meter.old meter.new

@@ -30,11 +30,11 @@ pub enum LineEdit {
     SetContext(Option<Context>),
 }
 
-/// An edit that takes lines of the script.
+/// An edit that puts lines of the script into a file.
 #[derive(Drop)]
-pub enum CountedEdit {
+pub enum FileEdit {
     /// The lines are those of a file of this name.
-    AddFile(Vec<u8>),
+    Add(Vec<u8>),
     /// The lines are added to a file, in the place of others.
     Splice {
         /// The number of the file.
@@ -44,6 +44,13 @@ pub enum CountedEdit {
         /// How many lines are removed.
         removed: usize,
     },
+}
+
+/// An edit that takes lines of the script.
+#[derive(Drop)]
+pub enum CountedEdit {
+    /// The lines are put into a file.
+    PutLines(FileEdit),
     /// The lines are patterns.
     AddPatterns,
 }
@@ -137,7 +144,7 @@ fn read_file(alloc: Global, words: LineWords<'_>) -> Result<Option<Command>, All
     let Some(name) = read_name(alloc, name)? else {
         return Ok(None);
     };
-    let edit = CountedEdit::AddFile(name);
+    let edit = CountedEdit::PutLines(FileEdit::Add(name));
     Ok(Some(Command::Counted(CountedCommand { count, edit })))
 }
 
@@ -169,11 +176,12 @@ fn read_splice(words: LineWords<'_>) -> Option<Command>
     ensures { option_map meant result ≡ splice_command words.entry }
 {
     let ((file, start), (removed, count)) = words.four()?;
-    let edit = CountedEdit::Splice {
+    let edit = FileEdit::Splice {
         file: read_number(file)?,
         start: read_number(start)?,
         removed: read_number(removed)?,
     };
+    let edit = CountedEdit::PutLines(edit);
     let count = read_number(count)?;
     Some(Command::Counted(CountedCommand { count, edit }))
 }

@@ -1,15 +1,14 @@
 //! The lines of a script that a command counts.
-ghost use Rattle.std.specs.Prelude.{◌≡◌, [], ◌∷◌, ◌++◌, List, IfOk, map, option_map, if◌then◌else◌};
-ghost use Rattle.std.specs.Result.{result_map_both};
+ghost use Rattle.std.specs.Prelude.{◌≡◌, List};
 ghost use Rattle.re_syntax.specs.Bytes.{Text};
-ghost use Rattle.re_syntax.specs.Lines.{joined, newline};
 ghost use Rattle.grep_core.specs.Reading.{IsOneLineAndFew};
 ghost use Rattle.grep_core.specs.Working.Numbered.{HasHanded};
 ghost use Rattle.grep_cmd.specs.Working.Answered.{ReadsNext, TakesLines, Flushes};
 
 use crate::script::ScriptFault;
 use grep_core::{CountedRead, CountedWrite, Lines, ReadFault, WriteFault, send_before_read};
-use std::alloc::{AllocError, Global};
+use grep_session::NewLines;
+use std::alloc::Global;
 
 /// Hands out the next line of a script, and returns whether there was one. Where it has to be read,
 /// all replies are sent before.
@@ -35,18 +34,6 @@ pub fn next_line<R: CountedRead, W: CountedWrite>(
     }
 }
 
-/// Puts a copy of the line after the others.
-fn push_line(alloc: Global, lines: &mut Vec<Vec<u8>>, line: &[u8]) -> Result<(), AllocError>
-    ensures { IfOk result
-        (λ _. map (λ l. l.items) lines.new.items ≡ map (λ l. l.items) lines.old.items ++ line.now ∷
-        []) }
-{
-    let mut copy = Vec::new(alloc);
-    copy.extend_from_slice(line)?;
-    lines.push(copy)?;
-    Ok(())
-}
-
 /// The counted number of next lines; none where fewer follow. Memory is requested for the lines
 /// that were read, and not by the count.
 pub fn take_lines<R: CountedRead, W: CountedWrite>(
@@ -54,52 +41,27 @@ pub fn take_lines<R: CountedRead, W: CountedWrite>(
     lines: &mut Lines<R>,
     count: usize,
     out: &mut W,
-) -> Result<Option<Vec<Vec<u8>>>, ScriptFault>
+) -> Result<Option<NewLines>, ScriptFault>
+    requires { (reader : R) × (handed : List Text) ×
+        HasHanded R.remaining R.failures reader lines.old handed }
     ensures takes { (reader : R) (handed : List Text) →
         HasHanded R.remaining R.failures reader lines.old handed
-        → TakesLines R.remaining R.failures reader handed count lines.new
-        (result_map_both (λ taken. option_map (λ ls. map (λ l. l.items) ls.items) taken)
-        (λ e. e) result) }
+        → TakesLines R.remaining R.failures reader handed count lines.new result }
     ensures sent { Flushes W.contents W.failures out.old out.new result }
     ensures held { IsOneLineAndFew lines.old.lines.ahead → IsOneLineAndFew lines.new.lines.ahead }
     ensures same_loan { R.loan lines.new.lines.reader ≡ R.loan lines.old.lines.reader }
 {
-    let mut taken = Vec::new(alloc);
+    let mut taken = NewLines::new(alloc);
     while taken.len() < count {
         match next_line(lines, out) {
             Ok(true) => {}
             Ok(false) => return Ok(None),
             Err(fault) => return Err(fault),
         }
-        match push_line(alloc, &mut taken, lines.line()) {
+        match taken.push(lines.line()) {
             Ok(()) => {}
             Err(_) => return Err(ScriptFault::Memory),
         }
     }
     Ok(Some(taken))
-}
-
-/// Adds a line, after a newline where it is not the first.
-fn add_line(text: &mut Vec<u8>, first: bool, line: &[u8]) -> Result<(), AllocError>
-    ensures { IfOk result
-        (λ _. text.new.items ≡ text.old.items ++ (if first then line.now else newline ∷ line.now)) }
-{
-    if first {
-        text.extend_from_slice(line)?;
-        return Ok(());
-    }
-    text.push(b'\n')?;
-    text.extend_from_slice(line)?;
-    Ok(())
-}
-
-/// The lines with a newline between each two.
-pub fn join_lines(alloc: Global, lines: &[Vec<u8>]) -> Result<Vec<u8>, AllocError>
-    ensures { IfOk result (λ text. text.items ≡ joined (map (λ l. l.items) lines.now)) }
-{
-    let mut text = Vec::new(alloc);
-    for (at, line) in lines.iter().enumerate() {
-        add_line(&mut text, at == 0, line)?;
-    }
-    Ok(text)
 }

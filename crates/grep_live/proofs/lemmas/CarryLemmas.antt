@@ -6,6 +6,7 @@ use Rattle.std.proofs.lemmas.List.Edits.{remove-append_right}
 use Rattle.std.proofs.lemmas.Bool.{cases_lt}
 use Rattle.std.specs.Prelude.{Option, slice_set}
 use Rattle.std.specs.List.{remove, splice}
+use Rattle.std.specs.Result.{IfOk, IfErr}
 use Rattle.re_syntax.specs.declared.syntax.Syntax.{Syntax}
 use Rattle.re_syntax.specs.Bytes.{Text}
 use Rattle.re_syntax.specs.Lines.{list_of}
@@ -19,7 +20,7 @@ use Rattle.grep_core.specs.Files.{File, Inputs, AreMeant, Selected}
 use Rattle.grep_core.specs.Run.{file_at}
 use Rattle.grep_session.specs.declared.fault.EditFault.{EditFault}
 use Rattle.grep_session.specs.declared.fault.EditFault.TheVariants.{NoSuchFile, FileIsMissing, OutOfRange, LineHasNewline, NoSuchPattern, Pattern, TooManyPatterns, Memory}
-use Rattle.grep_session.specs.Edits.{Edit, AddFile, AddMissing, DropFile, Splice, AddPatterns, DropPattern, SetFlag, SetSyntax, SetContext, Applies, EditGives, Reads, option_of, with_option, with_files, with_patterns, with_context, whole_file, missing_file, spliced}
+use Rattle.grep_session.specs.Edits.{Edit, AddFile, AddMissing, DropFile, Splice, AddPatterns, DropPattern, SetFlag, SetSyntax, SetContext, Applies, EditGives, Reads, with_option, with_files, with_patterns, with_context, whole_file, missing_file, spliced}
 use Rattle.grep_session.specs.Listed.{ListedParts}
 use Rattle.grep_session.proofs.lemmas.AllPatternsRead.{with_same}
 use Rattle.grep_live.specs.declared.mark.Mark.{Mark}
@@ -29,7 +30,7 @@ use Rattle.grep_live.specs.Changes.{hits_before, hits_from}
 use Rattle.grep_live.specs.Marks.{Watched, new_mark, mark_at, touched, lost, marks_by_flag, MarksAfter, MarksGiven}
 use Rattle.grep_live.specs.Following.{FollowsFile, Follows, view_after, Carries}
 use Rattle.grep_live.specs.Working.Fits.{Fits, AreFit}
-use Rattle.grep_live.proofs.lemmas.ListLemmas.{zip-append, zip-remove, zip-set, zip-map, zip-at, three-append, three-remove, three-set, three-map, three-weaker}
+use Rattle.grep_live.proofs.lemmas.ListLemmas.{zip-append, zip-remove, zip-set, zip-map, zip-at, zip-length, three-append, three-remove, three-set, three-map, three-weaker}
 use Rattle.grep_live.proofs.lemmas.HitLemmas.{before_none, hits_from_none}
 use Rattle.grep_live.proofs.lemmas.MarkLemmas.{fits_touched, length-splice, spliced_front, spliced_back}
 
@@ -295,5 +296,17 @@ taken_back file old between after b a =
     let gone : remove (old.files ++ file ∷ []) n ≡ old.files = remove-append_right old.files (file ∷ []) n n refl (omega arith) ∙ ap (λ i. old.files ++ remove (file ∷ []) i) zeroed ∙ append-nil old.files in
     a ∙ (λ i. with_files (remove (b i).files (length (b i).files - 1)) (b i)) ∙ ap (λ i. with_files (remove (old.files ++ file ∷ []) i) old) last ∙ ap (λ files. with_files files old) gone
 
-pub same_option : (flag : Flag) (on : Bool) (options : Options) → option_of flag options ≡ on → with_option flag on options ≡ options
-same_option flag on options e = ap (λ b. with_option flag b options) (sym e) ∙ with_same flag options
+-- there is a mark for each file
+pub as_many : (files : List File) (marks : List Mark) → AreFit files marks → length marks ≡ length files
+as_many files marks fit = sym (zip-length Fit files marks fit)
+
+-- a file was added with its mark, or it was removed again
+pub marked_last : (edit : Edit) (file : File) (old : Watched) (between after : Inputs) (now : List Mark) (result : Result (Unit {0}) EditFault) → AreFit old.inputs.files old.marks →
+    ((m : List Mark) → m ≡ old.marks ++ new_mark ∷ [] → MarksAfter edit old m) → Applies edit old.inputs (Ok between) → between ≡ with_files (old.inputs.files ++ file ∷ []) old.inputs → IfOk result (λ _. (after ≡ between) × (now ≡ old.marks ++ new_mark ∷ [])) →
+    IfErr result (λ fault. (fault ≡ Memory) × (after ≡ with_files (remove between.files (length between.files - 1)) between) × (now ≡ old.marks)) → AreFit after.files now × Carries edit old (record { inputs = after; marks = now }) result
+marked_last edit file old between after now (Ok done) fit marked applies is ok err =
+    carried (Unit {0}) edit old (record { inputs = after; marks = now }) (Ok done) fit (subst (λ (i : Inputs). Applies edit old.inputs (Ok i)) (sym ok.0) applies) (marked now ok.1)
+marked_last edit file old between after now (Err fault) fit marked applies is ok err =
+    let same : after ≡ old.inputs = taken_back file old.inputs between after is err.1 in
+    let gives : EditGives {T = Unit {0}} edit old.inputs after (Err fault) = subst (λ (f : EditFault). EditGives {T = Unit {0}} edit old.inputs after (Err f)) (sym err.0) same in
+    carried (Unit {0}) edit old (record { inputs = after; marks = now }) (Err fault) fit gives err.2

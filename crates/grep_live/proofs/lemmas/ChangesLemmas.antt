@@ -9,76 +9,44 @@ use Rattle.grep_core.specs.Run.{file_at}
 use Rattle.grep_core.specs.Output.{written}
 use Rattle.grep_core.specs.Row.{output_line}
 use Rattle.grep_core.specs.Written.{GoesOut, StopsWithin}
-use Rattle.grep_session.proofs.lemmas.Writing.{drop-next, WrittenUpTo, written_on, all_written, broken_off, one_went, one_stopped}
+use Rattle.grep_session.proofs.lemmas.Writing.{drop-next, WrittenUpTo, none_written, written_on, all_written, broken_off, one_went, one_stopped}
 use Rattle.grep_live.specs.declared.mark.Mark.{Mark}
 use Rattle.grep_live.specs.Lists.{AllThree}
 use Rattle.grep_live.specs.Hits.{Hit, HitsFrom}
 use Rattle.grep_live.specs.Changes.{Change, IsChange}
 use Rattle.grep_live.specs.Rows.{hit_row, change_row, change_rows, changes_rows}
-use Rattle.grep_live.specs.Working.Listing.{Mean, HitsBetween}
-use Rattle.grep_live.proofs.lemmas.ListingLemmas.{Next, no_more}
+use Rattle.grep_live.specs.Working.Listing.{Mean, HitsBetween, IsFirst}
 
-module _ (inputs : Inputs) (k from to : ℕ) where
-  -- this number was counted, and these are left
-  pub record CountedUpTo (es : List Expression) (place count : ℕ) (all : List Hit) : Type 0 where
+module _ (inputs : Inputs) (k from to : ℕ) {W : Type 0} (contents : W → Option Text) (failures : W → ℕ) (margin : Text) where
+  -- some were written, and these are left
+  pub record ListedUpTo (old now : W) (es : List Expression) (place : ℕ) (all : List Hit) : Type 0 where
     pub left : List Hit
     pub are_left : HitsBetween es inputs k place to left
-    pub counted : length all ≡ count + length left
+    pub wrote : WrittenUpTo contents failures margin old now (map hit_row all) (map hit_row left)
 
-  abbrev pub Counts : ℕ → ℕ → Type 0
-  Counts place count = (es : List Expression) → Mean inputs es → (all : List Hit) → HitsBetween es inputs k from to all → CountedUpTo es place count all
+  abbrev pub Lists : W → W → ℕ → Type 0
+  Lists old now place = (es : List Expression) → Mean inputs es → (all : List Hit) → HitsBetween es inputs k from to all → ListedUpTo old now es place all
 
-  module _ {W : Type 0} (contents : W → Option Text) (failures : W → ℕ) (margin : Text) where
-    -- some were written, and these are left
-    pub record ListedUpTo (old now : W) (es : List Expression) (place : ℕ) (all : List Hit) : Type 0 where
-      pub left : List Hit
-      pub are_left : HitsBetween es inputs k place to left
-      pub wrote : WrittenUpTo contents failures margin old now (map hit_row all) (map hit_row left)
+  pub listed_none : (a : W) → Lists a a from
+  listed_none a = λ es meant all hits. record { left = all; are_left = hits; wrote = none_written contents failures margin a (map hit_row all) }
 
-    abbrev pub Lists : W → W → ℕ → Type 0
-    Lists old now place = (es : List Expression) → Mean inputs es → (all : List Hit) → HitsBetween es inputs k from to all → ListedUpTo old now es place all
+  module _ (es : List Expression) (all : List Hit) (old now : W) (place : ℕ) (s : ListedUpTo old now es place all) where
+    module _ (at : ℕ) (text : Text) (parts : List (ℕ × ℕ)) (f : IsFirst es inputs k to at text parts s.left) (new : W) where
+      pub listed_one : GoesOut contents failures now new (output_line margin (hit_row (record { place = at; text = text; parts = parts }))) → ListedUpTo old new es (at + 1) all
+      listed_one went = record {
+        left = f.rest;
+        are_left = f.are_rest;
+        wrote = written_on contents failures margin old now new (map hit_row all) (map hit_row s.left) (hit_row (record { place = at; text = text; parts = parts }) ∷ []) (map hit_row f.rest) (ap (map hit_row) f.joined) s.wrote
+            (one_went contents failures margin now new (hit_row (record { place = at; text = text; parts = parts })) went);
+      }
 
-module _ (inputs : Inputs) (k from to : ℕ) (es : List Expression) (all : List Hit) where
-  -- the next line has no hit, or one
-  pub counted_past : (place count : ℕ) (s : CountedUpTo inputs k from to es place count all) (n : Next es inputs k place to s.left) → n.here ≡ [] → CountedUpTo inputs k from to es (place + 1) count all
-  counted_past place count s n e = record {
-    left = n.rest;
-    are_left = n.is_rest;
-    counted = s.counted ∙ ap (λ l. count + length l) (n.joined ∙ ap (λ l. l ++ n.rest) e);
-  }
+      pub listed_stops : StopsWithin contents failures now new (output_line margin (hit_row (record { place = at; text = text; parts = parts }))) → StopsWithin contents failures old new (written margin (map hit_row all))
+      listed_stops stops =
+          broken_off contents failures margin old now new (map hit_row all) (map hit_row s.left) (hit_row (record { place = at; text = text; parts = parts }) ∷ []) (map hit_row f.rest) (ap (map hit_row) f.joined) s.wrote
+          (one_stopped contents failures margin now new (hit_row (record { place = at; text = text; parts = parts })) stops)
 
-  pub counted_one : (place count : ℕ) (s : CountedUpTo inputs k from to es place count all) (n : Next es inputs k place to s.left) (hit : Hit) → n.here ≡ hit ∷ [] → CountedUpTo inputs k from to es (place + 1) (count + 1) all
-  counted_one place count s n hit e =
-      let left : s.left ≡ hit ∷ n.rest = n.joined ∙ ap (λ l. l ++ n.rest) e in
-      record { left = n.rest; are_left = n.is_rest; counted = omega (arith, s.counted, ap length left) }
-
-  module _ {W : Type 0} (contents : W → Option Text) (failures : W → ℕ) (margin : Text) (old now : W) where
-    pub listed_past : (place : ℕ) (s : ListedUpTo inputs k from to contents failures margin old now es place all) (n : Next es inputs k place to s.left) → n.here ≡ [] → ListedUpTo inputs k from to contents failures margin old now es (place + 1) all
-    listed_past place s n e =
-        let left : s.left ≡ n.rest = n.joined ∙ ap (λ l. l ++ n.rest) e in
-        record { left = n.rest; are_left = n.is_rest; wrote = subst (λ l. WrittenUpTo contents failures margin old now (map hit_row all) (map hit_row l)) left s.wrote }
-
-    pub listed_one : (new : W) (place : ℕ) (s : ListedUpTo inputs k from to contents failures margin old now es place all) (n : Next es inputs k place to s.left) (hit : Hit) → n.here ≡ hit ∷ [] → GoesOut contents failures now new (output_line margin (hit_row hit)) →
-        ListedUpTo inputs k from to contents failures margin old new es (place + 1) all
-    listed_one new place s n hit e went =
-        let left : s.left ≡ hit ∷ n.rest = n.joined ∙ ap (λ l. l ++ n.rest) e in
-        record {
-          left = n.rest;
-          are_left = n.is_rest;
-          wrote = written_on contents failures margin old now new (map hit_row all) (map hit_row s.left) (hit_row hit ∷ []) (map hit_row n.rest) (ap (map hit_row) left) s.wrote (one_went contents failures margin now new (hit_row hit) went);
-        }
-
-    pub listed_stops : (new : W) (place : ℕ) (s : ListedUpTo inputs k from to contents failures margin old now es place all) (n : Next es inputs k place to s.left) (hit : Hit) → n.here ≡ hit ∷ [] → StopsWithin contents failures now new (output_line margin (hit_row hit)) →
-        StopsWithin contents failures old new (written margin (map hit_row all))
-    listed_stops new place s n hit e stops =
-        let left : s.left ≡ hit ∷ n.rest = n.joined ∙ ap (λ l. l ++ n.rest) e in
-        broken_off contents failures margin old now new (map hit_row all) (map hit_row s.left) (hit_row hit ∷ []) (map hit_row n.rest) (ap (map hit_row) left) s.wrote (one_stopped contents failures margin now new (hit_row hit) stops)
-
-    pub listed_all : (place : ℕ) → to ≤ place → ListedUpTo inputs k from to contents failures margin old now es place all → GoesOut contents failures old now (written margin (map hit_row all))
-    listed_all place h s = all_written contents failures margin old now (map hit_row all) (map hit_row s.left) (ap (map hit_row) (no_more es inputs k place to s.left h s.are_left)) s.wrote
-
-  pub counted_all : (place count : ℕ) → to ≤ place → CountedUpTo inputs k from to es place count all → count ≡ length all
-  counted_all place count h s = omega (arith, s.counted, ap length (no_more es inputs k place to s.left h s.are_left))
+    pub listed_all : s.left ≡ [] → GoesOut contents failures old now (written margin (map hit_row all))
+    listed_all none = all_written contents failures margin old now (map hit_row all) (map hit_row s.left) (ap (map hit_row) none) s.wrote
 
 -- ---- one change
 

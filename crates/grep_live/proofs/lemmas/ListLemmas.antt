@@ -44,19 +44,6 @@ module _ {A B : Type 0} (R : A → B → Type 0) where
   zip-length (a ∷ xs) [] h = absurd h
   zip-length (a ∷ xs) (b ∷ ys) h = ap suc (zip-length xs ys h.1)
 
-  -- from place to place
-  pub zip-from : (xs : List A) (ys : List B) (x : A) (y : B) → length xs ≡ length ys → ((k : ℕ) → k < length xs → R (get_or xs k x) (get_or ys k y)) → AllZip R xs ys
-  zip-from [] [] x y e h = tt
-  zip-from [] (b ∷ ys) x y e h = absurd (omega (arith, e))
-  zip-from (a ∷ xs) [] x y e h = absurd (omega (arith, e))
-  zip-from (a ∷ xs) (b ∷ ys) x y e h = (h 0 (omega arith), zip-from xs ys x y (omega (arith, e)) (λ k l. h (suc k) (omega (arith, l))))
-
-pub map-remove : {A B : Type 0} (f : A → B) (xs : List A) (k : ℕ) → map f (remove xs k) ≡ remove (map f xs) k
-map-remove f [] zero = refl
-map-remove f [] (suc k) = refl
-map-remove f (x ∷ xs) zero = refl
-map-remove f (x ∷ xs) (suc k) = ap (λ l. f x ∷ l) (map-remove f xs k)
-
 module _ {A B C : Type 0} (R : A → B → C → Type 0) where
   pub three-append : (xs : List A) (ys : List B) (zs : List C) (x : A) (y : B) (z : C) → AllThree R xs ys zs → R x y z → AllThree R (xs ++ x ∷ []) (ys ++ y ∷ []) (zs ++ z ∷ [])
   three-append [] [] [] x y z h r = (r, tt)

@@ -1,8 +1,9 @@
 -- The hits of lines, one line after the other: there are some, and no others.
-use Rattle.std.proofs.Common.{◌≡◌, ℕ, suc, ◌+◌, ◌-◌, ◌<◌, ◌≤◌, Bool, true, false, List, [], ◌∷◌, ◌++◌, length, map, take, drop, get_or, Option, None, Some, MatchBool, MatchOption, refl, sym, ap, subst, ◌∙◌, inl, inr, arith, append_assoc}
+use Rattle.std.proofs.Common.{◌≡◌, ℕ, zero, suc, ◌+◌, ◌-◌, ◌<◌, ◌≤◌, Bool, true, false, List, [], ◌∷◌, ◌++◌, length, map, take, drop, get_or, Option, Some, MatchBool, MatchOption, refl, sym, ap, subst, ◌∙◌, ◌⊎◌, inl, inr, arith, append_assoc}
 use Rattle.std.specs.Prelude.{slice_range}
 use Rattle.std.specs.List.{enumerate_from}
 use Rattle.std.proofs.Math.Seq.{drop-cons, take-add}
+use Rattle.std.proofs.lemmas.Bool.{cases_lt}
 use Rattle.std.proofs.lemmas.List.{drop-drop, length-take-le, length-drop}
 use Rattle.re_syntax.specs.Bytes.{Text}
 use Rattle.re_syntax.specs.Expression.{Expression}
@@ -18,7 +19,7 @@ use Rattle.grep_core.proofs.lemmas.Decided.{dec_selected}
 use Rattle.grep_session.specs.Listed.{ListedParts}
 use Rattle.grep_session.specs.Working.Kept.{span_places}
 use Rattle.grep_live.specs.Hits.{Hit, HitOf, HitsFrom}
-use Rattle.grep_live.specs.Working.Listing.{HitsBetween}
+use Rattle.grep_live.specs.Working.Listing.{HitsBetween, IsFirst}
 
 -- lines from a place on are the one there and those after it
 slice_next : (lines : List Text) (place to : ℕ) → place < to → to ≤ length lines → slice_range lines place to ≡ get_or lines place [] ∷ slice_range lines (place + 1) to
@@ -58,16 +59,6 @@ module _ (es : List Expression) (options : Options) where
 
   module _ {H : Type 0} (text : H → Text) (parts : H → List Span) (place : ℕ) (line : Text) (found : Option H) (hits : List Hit)
       (answers : MatchOption found (Selected es options line → ⊥) (λ hit. Selected es options line × (text hit ≡ line) × ListedParts es options line (map span_places (parts hit)))) (is_hit : HitOf es options (place, line) hits) where
-    pub none_here : found ≡ None → hits ≡ []
-    none_here e = by_case is_hit
-      where
-        none : Selected es options line → ⊥
-        none = subst (λ (f : Option H). MatchOption f (Selected es options line → ⊥) (λ hit. Selected es options line × (text hit ≡ line) × ListedParts es options line (map span_places (parts hit)))) e answers
-
-        by_case : HitOf es options (place, line) hits → hits ≡ []
-        by_case (inl (selected, known)) = absurd (none selected)
-        by_case (inr (passed, is)) = is
-
     pub one_here : (hit : H) → found ≡ Some hit → hits ≡ record { place = place; text = text hit; parts = map span_places (parts hit) } ∷ []
     one_here hit e = by_case is_hit
       where
@@ -101,6 +92,54 @@ pub no_more : (es : List Expression) (inputs : Inputs) (k place to : ℕ) (left 
 no_more es inputs k place to left h hits =
     let none : to - place ≡ 0 = omega arith in
     subst (λ n. HitsFrom es inputs.options place (take n (drop place (file_at inputs.files k).lines)) left) none hits
+
+-- where none begins before the end there are none
+none_after : (es : List Expression) (inputs : Inputs) (k place to : ℕ) → to ≤ place → HitsBetween es inputs k place to []
+none_after es inputs k place to h =
+    let none : 0 ≡ to - place = omega arith in
+    subst (λ n. HitsFrom es inputs.options place (take n (drop place (file_at inputs.files k).lines)) []) none refl
+
+-- ---- from hit to hit
+
+-- none of the lines from a place on and before the next is selected
+abbrev pub NoneBetween : List Expression → Inputs → ℕ → ℕ → ℕ → Type 0
+NoneBetween es inputs k from next = (i : ℕ) → from ≤ i → i < next → Selected es inputs.options (get_or (file_at inputs.files k).lines i []) → ⊥
+
+-- the hits from there on are those from the next place on
+pub passed_to : (es : List Expression) (inputs : Inputs) (k to next n from : ℕ) → next ≡ from + n → to ≤ length (file_at inputs.files k).lines → NoneBetween es inputs k from next → (hits : List Hit) → HitsBetween es inputs k from to hits → HitsBetween es inputs k next to hits
+passed_to es inputs k to next zero from e within none hits h =
+    let same : from ≡ next = omega (arith, e) in
+    subst (λ (p : ℕ). HitsBetween es inputs k p to hits) same h
+passed_to es inputs k to next (suc n) from e within none hits h = by_place (cases_lt from to) (passed_to es inputs k to next n (from + 1) (omega (arith, e)) within (λ i low high. none i (omega (arith, low)) high))
+  where
+    no_hit : (here : List Hit) → HitOf es inputs.options (from, get_or (file_at inputs.files k).lines from []) here → here ≡ []
+    no_hit here (inl (selected, known)) = absurd (none from (omega arith) (omega (arith, e)) selected)
+    no_hit here (inr (passed, is)) = is
+
+    by_place : (from < to) ⊎ (to ≤ from) → ((rest : List Hit) → HitsBetween es inputs k (from + 1) to rest → HitsBetween es inputs k next to rest) → HitsBetween es inputs k next to hits
+    by_place (inl inside) further =
+        let line = next_hits es inputs k from to hits inside within h in
+        let same : hits ≡ line.rest = line.joined ∙ ap (λ l. l ++ line.rest) (no_hit line.here line.is_here) in
+        subst (λ (l : List Hit). HitsBetween es inputs k next to l) (sym same) (further line.rest line.is_rest)
+    by_place (inr past) further = subst (λ (l : List Hit). HitsBetween es inputs k next to l) (sym (no_more es inputs k from to hits past h)) (none_after es inputs k next to (omega (arith, e, past)))
+
+module _ (es : List Expression) (inputs : Inputs) (k from to next : ℕ) (low : from ≤ next) (within : to ≤ length (file_at inputs.files k).lines) (none : NoneBetween es inputs k from next) (hits : List Hit) (are : HitsBetween es inputs k from to hits) where
+  from_next : HitsBetween es inputs k next to hits
+  from_next = passed_to es inputs k to next (next - from) from (omega (arith, low)) within none hits are
+
+  -- there is none
+  pub none_first : to ≤ next → hits ≡ []
+  none_first past = no_more es inputs k next to hits past from_next
+
+  -- there is one, as a session returns it
+  pub one_first : {H : Type 0} (text : H → Text) (parts : H → List Span) (found : Option H) (hit : H) → next < to
+      → MatchOption found (Selected es inputs.options (get_or (file_at inputs.files k).lines next []) → ⊥)
+      (λ h. Selected es inputs.options (get_or (file_at inputs.files k).lines next []) × (text h ≡ get_or (file_at inputs.files k).lines next []) × ListedParts es inputs.options (get_or (file_at inputs.files k).lines next []) (map span_places (parts h)))
+      → found ≡ Some hit → IsFirst es inputs k to next (text hit) (map span_places (parts hit)) hits
+  one_first text parts found hit inside answers e =
+      let line = next_hits es inputs k next to hits inside within from_next in
+      let here = one_here es inputs.options text parts next (get_or (file_at inputs.files k).lines next []) found line.here answers line.is_here hit e in
+      record { rest = line.rest; are_rest = line.is_rest; joined = line.joined ∙ ap (λ l. l ++ line.rest) here }
 
 -- ---- lines cut at a place
 

@@ -1,17 +1,17 @@
--- The number of hits of lines.
-use Rattle.std.proofs.Common.{◌≡◌, ℕ, ◌+◌, ◌-◌, ◌≤◌, List, [], ◌∷◌, ◌++◌, length, take, drop, refl, sym, ap, ◌∙◌, inl, inr, arith}
+-- The number of selected lines, which is the number of hits.
+use Rattle.std.proofs.Common.{◌≡◌, ℕ, zero, suc, ◌+◌, ◌-◌, ◌<◌, ◌≤◌, List, [], ◌∷◌, ◌++◌, length, take, drop, refl, sym, ap, subst, ◌∙◌, ◌⊎◌, inl, inr, arith}
 use Rattle.std.specs.Prelude.{slice_range}
 use Rattle.std.proofs.Math.Seq.{take-add}
-use Rattle.std.proofs.lemmas.List.{length-append, length-take-le, take_all}
+use Rattle.std.proofs.lemmas.List.{length-append}
 use Rattle.re_syntax.specs.Bytes.{Text}
 use Rattle.re_syntax.specs.Expression.{Expression}
+use Rattle.re_search.specs.Working.Blocks.{HoldsOfMany}
 use Rattle.grep_core.specs.declared.options.Options.{Options}
 use Rattle.grep_core.specs.Files.{Inputs, Selected}
 use Rattle.grep_core.specs.Run.{file_at}
 use Rattle.grep_core.proofs.lemmas.Decided.{dec_selected}
 use Rattle.grep_live.specs.Hits.{Hit, HitOf, HitsFrom}
-use Rattle.grep_live.specs.Working.Listing.{Mean, HitsBetween}
-use Rattle.grep_live.specs.Working.Ranks.{HaveHits}
+use Rattle.grep_live.specs.Working.Listing.{Mean, HitsBetween, SelectedBefore, IsPlaceAfter}
 use Rattle.grep_live.proofs.lemmas.ListingLemmas.{HitsFrom-exist}
 
 module _ (es : List Expression) (options : Options) where
@@ -24,20 +24,11 @@ module _ (es : List Expression) (options : Options) where
   number [] = 0
   number (line ∷ lines) = one line (dec_selected es options line) + number lines
 
-  pub number_none : number [] ≡ 0
+  number_none : number [] ≡ 0
   unfolding number
   number_none = refl
 
-  -- a line more
-  pub number_next : (line : Text) (lines : List Text) → (Selected es options line → number (line ∷ lines) ≡ 1 + number lines) × (number lines ≤ number (line ∷ lines)) × ((Selected es options line → ⊥) → number (line ∷ lines) ≡ number lines)
-  unfolding number one
-  number_next line lines = by_verdict (dec_selected es options line)
-    where
-      by_verdict : (d : Dec (Selected es options line)) → (Selected es options line → one line d + number lines ≡ 1 + number lines) × (number lines ≤ one line d + number lines) × ((Selected es options line → ⊥) → one line d + number lines ≡ number lines)
-      by_verdict (yes selected) = ((λ s. refl), omega arith, (λ p. absurd (p selected)))
-      by_verdict (no passed) = ((λ s. absurd (passed s)), omega arith, (λ p. omega arith))
-
-  pub number-append : (xs ys : List Text) → number (xs ++ ys) ≡ number xs + number ys
+  number-append : (xs ys : List Text) → number (xs ++ ys) ≡ number xs + number ys
   unfolding number
   number-append [] ys = omega arith
   number-append (x ∷ xs) ys = omega (arith, number-append xs ys)
@@ -47,10 +38,36 @@ module _ (es : List Expression) (options : Options) where
   one-few line (yes selected) = omega arith
   one-few line (no passed) = omega arith
 
-  pub number-few : (xs : List Text) → number xs ≤ length xs
+  first-few : (xs : List Text) → number (take 1 xs) ≤ 1
   unfolding number
-  number-few [] = omega arith
-  number-few (x ∷ xs) = omega (arith, one-few x (dec_selected es options x), number-few xs)
+  first-few [] = omega arith
+  first-few (x ∷ xs) = omega (arith, one-few x (dec_selected es options x))
+
+  -- ---- by a count of the session
+
+  one_counted : (line : Text) (d : Dec (Selected es options line)) (others count : ℕ) → (Selected es options line × (count ≡ others + 1)) ⊎ ((Selected es options line → ⊥) × (count ≡ others)) → count ≡ one line d + others
+  unfolding one
+  one_counted line (yes selected) others count (inl (s, is)) = omega (arith, is)
+  one_counted line (yes selected) others count (inr (passed, is)) = absurd (passed selected)
+  one_counted line (no passed) others count (inl (s, is)) = absurd (passed s)
+  one_counted line (no passed) others count (inr (p, is)) = omega (arith, is)
+
+  many_is : (lines : List Text) (count : ℕ) → HoldsOfMany (Selected es options) lines count → count ≡ number lines
+  unfolding number
+  many_is [] count h = h
+  many_is (line ∷ lines) count (others, h, here) = omega (arith, one_counted line (dec_selected es options line) others count here, many_is lines others h)
+
+  one_there : (line : Text) (d : Dec (Selected es options line)) (others : ℕ) → (Selected es options line × (one line d + others ≡ others + 1)) ⊎ ((Selected es options line → ⊥) × (one line d + others ≡ others))
+  unfolding one
+  one_there line (yes selected) others = inl (selected, omega arith)
+  one_there line (no passed) others = inr (passed, omega arith)
+
+  many_there : (lines : List Text) → HoldsOfMany (Selected es options) lines (number lines)
+  unfolding number
+  many_there [] = refl
+  many_there (line ∷ lines) = (number lines, many_there lines, one_there line (dec_selected es options line) (number lines))
+
+  -- ---- by hits
 
   one_hit : (place : ℕ) (line : Text) (hits : List Hit) (d : Dec (Selected es options line)) → HitOf es options (place, line) hits → length hits ≡ one line d
   unfolding one
@@ -60,50 +77,102 @@ module _ (es : List Expression) (options : Options) where
   one_hit place line hits (no passed) (inr (p, is)) = ap length is
 
   -- there are as many hits as selected lines
-  pub number_is : (first : ℕ) (lines : List Text) (hits : List Hit) → HitsFrom es options first lines hits → length hits ≡ number lines
+  number_is : (first : ℕ) (lines : List Text) (hits : List Hit) → HitsFrom es options first lines hits → length hits ≡ number lines
   unfolding number
   number_is first [] hits h = ap length h
   number_is first (line ∷ lines) hits (front, rest, here, more, joined) =
       omega (arith, ap length joined, length-append front rest, one_hit first line front (dec_selected es options line) here, number_is (first + 1) lines rest more)
 
+  -- ---- up to a place
+
   -- lines up to a place, by those up to an earlier one and those between
-  pub number_cut : (from to : ℕ) (lines : List Text) → from ≤ to → number (take to lines) ≡ number (take from lines) + number (slice_range lines from to)
+  number_cut : (from to : ℕ) (lines : List Text) → from ≤ to → number (take to lines) ≡ number (take from lines) + number (slice_range lines from to)
   number_cut from to lines h =
       let far : to ≡ from + (to - from) = omega arith in
       ap (λ n. number (take n lines)) far ∙ ap number (take-add from (to - from) lines) ∙ number-append (take from lines) (take (to - from) (drop from lines))
 
-  pub number_up_to : (place : ℕ) (lines : List Text) → place ≤ length lines → number (take place lines) ≤ place
-  number_up_to place lines h = omega (arith, number-few (take place lines), length-take-le place lines h)
+  number_grows : (from to : ℕ) (lines : List Text) → from ≤ to → number (take from lines) ≤ number (take to lines)
+  number_grows from to lines h = omega (arith, number_cut from to lines h)
 
-module _ (inputs : Inputs) where
-  -- the number that lines have, for all expressions that the patterns mean
-  pub number_of : (lines : List Text) (n : ℕ) → HaveHits inputs lines n → (es : List Expression) → Mean inputs es → n ≡ number es inputs.options lines
-  number_of lines n h es meant =
-      let some = HitsFrom-exist es inputs.options 0 lines in
-      h es meant some.0 some.1 ∙ number_is es inputs.options 0 lines some.0 some.1
+  number_next : (place : ℕ) (lines : List Text) → number (take (place + 1) lines) ≤ number (take place lines) + 1
+  number_next place lines =
+      let single : (place + 1) - place ≡ 1 = omega arith in
+      let few : number (take ((place + 1) - place) (drop place lines)) ≤ 1 = subst (λ n. number (take n (drop place lines)) ≤ 1) (sym single) (first-few (drop place lines)) in
+      omega (arith, number_cut place (place + 1) lines (omega arith), few)
 
-  pub have_hits : (lines : List Text) (n : ℕ) → ((es : List Expression) → Mean inputs es → n ≡ number es inputs.options lines) → HaveHits inputs lines n
-  have_hits lines n h = λ es meant hits are. h es meant ∙ sym (number_is es inputs.options 0 lines hits are)
+-- ---- the hits among some lines of a file
 
-  -- the same of the lines between two places of a file
-  abbrev pub Between : ℕ → ℕ → ℕ → ℕ → Type 0
-  Between k from to n = (es : List Expression) → Mean inputs es → (hits : List Hit) → HitsBetween es inputs k from to hits → n ≡ length hits
-
-  pub number_between : (k from to n : ℕ) → Between k from to n → (es : List Expression) → Mean inputs es → n ≡ number es inputs.options (slice_range (file_at inputs.files k).lines from to)
-  number_between k from to n h es meant =
-      let lines = slice_range (file_at inputs.files k).lines from to in
-      let some = HitsFrom-exist es inputs.options from lines in
-      h es meant some.0 some.1 ∙ number_is es inputs.options from lines some.0 some.1
-
-  pub between_number : (k from to n : ℕ) → ((es : List Expression) → Mean inputs es → n ≡ number es inputs.options (slice_range (file_at inputs.files k).lines from to)) → Between k from to n
-  between_number k from to n h = λ es meant hits are. h es meant ∙ sym (number_is es inputs.options from (slice_range (file_at inputs.files k).lines from to) hits are)
-
-  -- all lines of a file
-  pub whole_number : (k n : ℕ) → HaveHits inputs (file_at inputs.files k).lines n → Between k 0 (length (file_at inputs.files k).lines) n
-  whole_number k n h =
+module _ (es : List Expression) (inputs : Inputs) (k : ℕ) where
+  -- they are counted by the numbers before both ends
+  pub counted_between : (from to before upto count : ℕ) → from ≤ to → SelectedBefore es inputs k from before → SelectedBefore es inputs k to upto → count ≡ upto - before → (hits : List Hit) → HitsBetween es inputs k from to hits → count ≡ length hits
+  counted_between from to before upto count h b u e hits are =
       let lines = (file_at inputs.files k).lines in
-      between_number k 0 (length lines) n (λ es meant. number_of lines n h es meant ∙ sym (ap (number es inputs.options) (take_all (length lines - 0) lines (omega arith))))
+      omega (
+        arith,
+        e,
+        many_is es inputs.options (take from lines) before b,
+        many_is es inputs.options (take to lines) upto u,
+        number_cut es inputs.options from to lines h,
+        number_is es inputs.options from (slice_range lines from to) hits are,
+      )
 
-  -- the hits between two places of a file
-  pub between_hits : (k from to n : ℕ) → Between k from to n → HaveHits inputs (slice_range (file_at inputs.files k).lines from to) n
-  between_hits k from to n h = have_hits (slice_range (file_at inputs.files k).lines from to) n (number_between k from to n h)
+  -- those before a place
+  pub counted_before : (place count : ℕ) → SelectedBefore es inputs k place count → (hits : List Hit) → HitsBetween es inputs k 0 place hits → count ≡ length hits
+  counted_before place count c hits are = counted_between 0 place 0 count count (omega arith) refl c (omega arith) hits are
+
+  -- those of all lines
+  pub counted_all : (end count : ℕ) → end ≡ length (file_at inputs.files k).lines → SelectedBefore es inputs k end count → (hits : List Hit) → HitsBetween es inputs k 0 (length (file_at inputs.files k).lines) hits → count ≡ length hits
+  counted_all end count e c hits are = counted_before (length (file_at inputs.files k).lines) count (subst (λ n. SelectedBefore es inputs k n count) e c) hits are
+
+-- ---- the place after a number of hits
+
+module _ (inputs : Inputs) (k wanted : ℕ) where
+  -- so many hits are before a place
+  abbrev pub Suffices : ℕ → Type 0
+  Suffices place = (es : List Expression) → Mean inputs es → wanted ≤ number es inputs.options (take place (file_at inputs.files k).lines)
+
+  -- fewer are before each smaller place
+  abbrev pub FewerBelow : ℕ → Type 0
+  FewerBelow place = (es : List Expression) → Mean inputs es → (other : ℕ) → other < place → number es inputs.options (take other (file_at inputs.files k).lines) < wanted
+
+  pub none_below : FewerBelow 0
+  none_below = λ es meant other h. absurd (omega (arith, h))
+
+  pub all_suffice : (end : ℕ) → end ≡ length (file_at inputs.files k).lines → ((es : List Expression) → Mean inputs es → (hits : List Hit) → HitsBetween es inputs k 0 (length (file_at inputs.files k).lines) hits → wanted ≤ length hits) → Suffices end
+  all_suffice end e enough = λ es meant.
+      let lines = (file_at inputs.files k).lines in
+      let some = HitsFrom-exist es inputs.options 0 (slice_range lines 0 (length lines)) in
+      let whole : number es inputs.options (take end lines) ≡ number es inputs.options (take (length lines) lines) = ap (λ n. number es inputs.options (take n lines)) e in
+      omega (
+        arith,
+        enough es meant some.0 some.1,
+        number_is es inputs.options 0 (slice_range lines 0 (length lines)) some.0 some.1,
+        number_cut es inputs.options 0 (length lines) lines (omega arith),
+        whole,
+      )
+
+  -- one place more was looked at
+  pub fewer_here : (place count : ℕ) → ((es : List Expression) → Mean inputs es → SelectedBefore es inputs k place count) → count < wanted → FewerBelow (place + 1)
+  fewer_here place count c h = λ es meant other l.
+      let lines = (file_at inputs.files k).lines in
+      omega (arith, h, many_is es inputs.options (take place lines) count (c es meant), number_grows es inputs.options other place lines (omega (arith, l)))
+
+  pub suffices_here : (place count : ℕ) → ((es : List Expression) → Mean inputs es → SelectedBefore es inputs k place count) → wanted ≤ count → Suffices place
+  suffices_here place count c h = λ es meant. omega (arith, h, many_is es inputs.options (take place (file_at inputs.files k).lines) count (c es meant))
+
+  no_more_than : (es : List Expression) → Mean inputs es → (place : ℕ) → FewerBelow place → number es inputs.options (take place (file_at inputs.files k).lines) ≤ wanted
+  no_more_than es meant zero fewer = omega (arith, number_none es inputs.options)
+  no_more_than es meant (suc place) fewer =
+      let lines = (file_at inputs.files k).lines in
+      let next : place + 1 ≡ suc place = omega arith in
+      omega (arith, fewer es meant place (omega arith), number_next es inputs.options place lines, ap (λ n. number es inputs.options (take n lines)) next)
+
+  pub place_found : (low high : ℕ) → high ≤ low → FewerBelow low → Suffices high → (es : List Expression) → Mean inputs es → IsPlaceAfter es inputs k wanted high
+  place_found low high past fewer enough es meant =
+      let lines = (file_at inputs.files k).lines in
+      let below : FewerBelow high = λ fs m other l. fewer fs m other (omega (arith, l, past)) in
+      let exact : number es inputs.options (take high lines) ≡ wanted = omega (arith, no_more_than es meant high below, enough es meant) in
+      record {
+        counted = subst (λ n. HoldsOfMany (Selected es inputs.options) (take high lines) n) exact (many_there es inputs.options (take high lines));
+        least = (λ other some l c. let is : some ≡ number es inputs.options (take other lines) = many_is es inputs.options (take other lines) some c in omega (arith, is, below es meant other l));
+      }

@@ -7,15 +7,17 @@ use Rattle.grep_core.specs.Files.{File, Inputs}
 use Rattle.grep_core.specs.declared.status.Status.{Status}
 use Rattle.grep_core.specs.Messages.{StatusOf}
 use Rattle.grep_core.specs.Output.{written}
+use Rattle.grep_core.specs.Row.{output_line}
 use Rattle.grep_core.specs.Run.{file_at}
 use Rattle.grep_core.specs.Written.{GoesOut, StopsWithin, Writes}
 use Rattle.grep_session.specs.Headline.{IsStatusOfInputs}
-use Rattle.grep_session.proofs.lemmas.Writing.{drop-next, WrittenUpTo, none_written, written_on, all_written, broken_off}
+use Rattle.grep_session.proofs.lemmas.Writing.{drop-next, WrittenUpTo, none_written, written_on, all_written, broken_off, one_went, one_stopped}
 use Rattle.grep_live.specs.Hits.{Hit, View, HitsFrom, AreHits}
 use Rattle.grep_live.specs.Rows.{total_row, page_row, page_rows, all_hits}
 use Rattle.grep_live.specs.Writing.{WritesPage}
-use Rattle.grep_live.specs.Working.Listing.{Mean, HitsBetween}
-use Rattle.grep_live.proofs.lemmas.ListingLemmas.{HitsFrom-exist, Next, no_more, WithParts}
+use Rattle.grep_live.specs.Working.Listing.{Mean, HitsBetween, IsFirst, IsPlaceAfter}
+use Rattle.grep_live.proofs.lemmas.ListingLemmas.{HitsFrom-exist, with_parts}
+use Rattle.grep_live.proofs.lemmas.NumberLemmas.{counted_before}
 use Rattle.grep_live.proofs.lemmas.ListLemmas.{zip-at, zip-length}
 
 -- ---- a part of a list
@@ -55,21 +57,6 @@ page_append s l n xs ys e =
     ap (map page_row) (part_append (ℕ × Hit) s l xs ys) ∙ map-append page_row (take l (drop s xs)) (take (l - (length xs - s)) (drop (s - length xs) ys))
     ∙ ap (λ m. page_rows s l xs ++ page_rows (s - m) (l - (m - s)) ys) e
 
--- ---- one hit
-
-pub one_passed : (s l : ℕ) (x : ℕ × Hit) → 0 < s → page_rows s l (x ∷ []) ≡ []
-one_passed zero l x h = absurd (omega arith)
-one_passed (suc s) l x h = page_none s l
-
-pub one_too_many : (s l : ℕ) (x : ℕ × Hit) → s ≤ 0 → l ≡ 0 → page_rows s l (x ∷ []) ≡ []
-one_too_many zero l x h e = ap (λ n. map page_row (take n (x ∷ []))) e
-one_too_many (suc s) l x h e = absurd (omega arith)
-
-pub one_shown : (s l : ℕ) (x : ℕ × Hit) → s ≤ 0 → 0 < l → page_rows s l (x ∷ []) ≡ page_row x ∷ []
-one_shown zero zero x h k = absurd (omega arith)
-one_shown zero (suc l) x h k = ap (λ t. page_row x ∷ map page_row t) (take-none (ℕ × Hit) l)
-one_shown (suc s) l x h k = absurd (omega arith)
-
 -- ---- hits that are not looked for
 
 -- all are skipped
@@ -80,120 +67,105 @@ all_passed s l xs h = ap (λ t. map page_row (take l t)) (drop_all s xs h) ∙ a
 pub page_full : (s : ℕ) (l : ℕ) (xs : List (ℕ × Hit)) → l ≡ 0 → page_rows s l xs ≡ []
 page_full s l xs e = ap (λ n. map page_row (take n (drop s xs))) e
 
+-- as many as are skipped come first
+pub page_after : (s l : ℕ) (front back : List (ℕ × Hit)) → s ≡ length front → page_rows s l (front ++ back) ≡ page_rows 0 l back
+page_after s l front back e =
+    let skip : s - s ≡ 0 = omega arith in
+    let left : l - (s - s) ≡ l = omega arith in
+    page_append s l s front back (sym e) ∙ ap (λ rows. rows ++ page_rows (s - s) (l - (s - s)) back) (all_passed s l front (omega (arith, e))) ∙ (λ i. page_rows (skip i) (left i) back)
+
+-- one of those that are left
+page_next : (l : ℕ) (x : ℕ × Hit) (xs : List (ℕ × Hit)) → 0 < l → page_rows 0 l (x ∷ xs) ≡ page_row x ∷ page_rows 0 (l - 1) xs
+page_next zero x xs h = absurd (omega (arith, h))
+page_next (suc l) x xs h =
+    let same : l ≡ suc l - 1 = omega arith in
+    ap (λ n. page_row x ∷ page_rows 0 n xs) same
+
 -- ---- the hits of some lines of one file
 
-module _ (inputs : Inputs) (k from to first count : ℕ) {W : Type 0} (contents : W → Option Text) (failures : W → ℕ) (margin : Text) where
-  -- this number of hits was skipped or shown, and these are left
-  pub record ShownUpTo (old now : W) (es : List Expression) (place skip left : ℕ) (all : List Hit) : Type 0 where
+module _ (inputs : Inputs) (k from to count : ℕ) {W : Type 0} (contents : W → Option Text) (failures : W → ℕ) (margin : Text) where
+  abbrev rows : ℕ → List Hit → List Text
+  rows left hits = page_rows 0 left (map (λ hit. (k, hit)) hits)
+
+  -- this number of hits was shown, and these are left
+  pub record ShownUpTo (old now : W) (es : List Expression) (place shown : ℕ) (all : List Hit) : Type 0 where
     pub rest : List Hit
     pub are_rest : HitsBetween es inputs k place to rest
-    pub passed : ℕ
-    pub counted : passed + length rest ≡ length all
-    pub is_skip : skip ≡ first - passed
-    pub is_left : left ≡ count - (passed - first)
-    pub wrote : WrittenUpTo contents failures margin old now (page_rows first count (map (λ hit. (k, hit)) all)) (page_rows skip left (map (λ hit. (k, hit)) rest))
+    pub counted : length all ≡ shown + length rest
+    pub wrote : WrittenUpTo contents failures margin old now (page_rows 0 count (map (λ hit. (k, hit)) all)) (page_rows 0 (count - shown) (map (λ hit. (k, hit)) rest))
 
-  abbrev pub Shows : W → W → ℕ → ℕ → ℕ → Type 0
-  Shows old now place skip left = (es : List Expression) → Mean inputs es → (all : List Hit) → HitsBetween es inputs k from to all → ShownUpTo old now es place skip left all
+  abbrev pub Shows : W → W → ℕ → ℕ → Type 0
+  Shows old now place shown = (es : List Expression) → Mean inputs es → (all : List Hit) → HitsBetween es inputs k from to all → ShownUpTo old now es place shown all
 
-  pub shown_none : (a : W) → Shows a a from first count
-  shown_none a = λ es meant all hits. record {
-    rest = all;
-    are_rest = hits;
-    passed = 0;
-    counted = omega arith;
-    is_skip = omega arith;
-    is_left = omega arith;
-    wrote = none_written contents failures margin a (page_rows first count (map (λ hit. (k, hit)) all));
-  }
+  pub shown_none : (a : W) → Shows a a from 0
+  shown_none a = λ es meant all hits.
+      let whole : count ≡ count - 0 = omega arith in
+      record {
+        rest = all;
+        are_rest = hits;
+        counted = omega arith;
+        wrote = subst (λ n. WrittenUpTo contents failures margin a a (rows count all) (rows n all)) whole (none_written contents failures margin a (rows count all));
+      }
 
-  module _ (es : List Expression) (all : List Hit) (a b : W) (place skip left : ℕ) (s : ShownUpTo a b es place skip left all) (n : Next es inputs k place to s.rest) where
-    pub shown_past : n.here ≡ [] → ShownUpTo a b es (place + 1) skip left all
-    shown_past e =
-        let same : s.rest ≡ n.rest = n.joined ∙ ap (λ l. l ++ n.rest) e in
-        record {
-          rest = n.rest;
-          are_rest = n.is_rest;
-          passed = s.passed;
-          counted = subst (λ l. s.passed + length l ≡ length all) same s.counted;
-          is_skip = s.is_skip;
-          is_left = s.is_left;
-          wrote = subst (λ l. WrittenUpTo contents failures margin a b (page_rows first count (map (λ hit. (k, hit)) all)) (page_rows skip left (map (λ hit. (k, hit)) l))) same s.wrote;
-        }
+  module _ (es : List Expression) (all : List Hit) (a b : W) (place shown : ℕ) (s : ShownUpTo a b es place shown all) where
+    module _ (at : ℕ) (text : Text) (parts : List (ℕ × ℕ)) (f : IsFirst es inputs k to at text parts s.rest) (more : shown < count) (c : W) where
+      abbrev row : Text
+      row = page_row (k, record { place = at; text = text; parts = parts })
 
-    module _ (hit : Hit) (e : n.here ≡ hit ∷ []) (c : W) where
-      next_shown : page_rows skip left (map (λ hit. (k, hit)) s.rest) ≡ page_rows skip left ((k, hit) ∷ []) ++ page_rows (skip - 1) (left - (1 - skip)) (map (λ hit. (k, hit)) n.rest)
-      next_shown =
-          let same : s.rest ≡ hit ∷ n.rest = n.joined ∙ ap (λ l. l ++ n.rest) e in
-          ap (λ l. page_rows skip left (map (λ hit. (k, hit)) l)) same ∙ page_append skip left 1 ((k, hit) ∷ []) (map (λ hit. (k, hit)) n.rest) refl
+      next_row : rows (count - shown) s.rest ≡ row ∷ rows (count - (shown + 1)) f.rest
+      next_row =
+          let one_less : (count - shown) - 1 ≡ count - (shown + 1) = omega arith in
+          ap (rows (count - shown)) f.joined ∙ page_next (count - shown) (k, record { place = at; text = text; parts = parts }) (map (λ hit. (k, hit)) f.rest) (omega (arith, more)) ∙ ap (λ n. row ∷ rows n f.rest) one_less
 
-      pub shown_one : (skip_now left_now : ℕ) → skip_now ≡ skip - 1 → left_now ≡ left - (1 - skip) → GoesOut contents failures b c (written margin (page_rows skip left ((k, hit) ∷ []))) → ShownUpTo a c es (place + 1) skip_now left_now all
-      shown_one skip_now left_now is_skip is_left went =
-          let same : s.rest ≡ hit ∷ n.rest = n.joined ∙ ap (λ l. l ++ n.rest) e in
-          let counted : s.passed + (1 + length n.rest) ≡ length all = omega (arith, s.counted, ap length same) in
-          record {
-            rest = n.rest;
-            are_rest = n.is_rest;
-            passed = s.passed + 1;
-            counted = omega (arith, counted);
-            is_skip = omega (arith, s.is_skip, is_skip);
-            is_left = omega (arith, s.is_skip, s.is_left, is_left);
-            wrote =
-                subst (λ (p : ℕ × ℕ). WrittenUpTo contents failures margin a c (page_rows first count (map (λ hit. (k, hit)) all)) (page_rows p.0 p.1 (map (λ hit. (k, hit)) n.rest))) (λ i. (sym is_skip i, sym is_left i))
-                (written_on contents failures margin a b c (page_rows first count (map (λ hit. (k, hit)) all)) (page_rows skip left (map (λ hit. (k, hit)) s.rest)) (page_rows skip left ((k, hit) ∷ [])) (page_rows (skip - 1) (left - (1 - skip)) (map (λ hit. (k, hit)) n.rest)) next_shown s.wrote went);
-          }
+      pub shown_one : GoesOut contents failures b c (output_line margin (page_row (k, record { place = at; text = text; parts = parts }))) → ShownUpTo a c es (at + 1) (shown + 1) all
+      shown_one went = record {
+        rest = f.rest;
+        are_rest = f.are_rest;
+        counted = omega (arith, s.counted, ap length f.joined);
+        wrote = written_on contents failures margin a b c (rows count all) (rows (count - shown) s.rest) (row ∷ []) (rows (count - (shown + 1)) f.rest) next_row s.wrote (one_went contents failures margin b c row went);
+      }
 
-      pub shown_stops : StopsWithin contents failures b c (written margin (page_rows skip left ((k, hit) ∷ []))) → StopsWithin contents failures a c (written margin (page_rows first count (map (λ hit. (k, hit)) all)))
-      shown_stops stopped =
-          broken_off contents failures margin a b c (page_rows first count (map (λ hit. (k, hit)) all)) (page_rows skip left (map (λ hit. (k, hit)) s.rest)) (page_rows skip left ((k, hit) ∷ [])) (page_rows (skip - 1) (left - (1 - skip)) (map (λ hit. (k, hit)) n.rest)) next_shown s.wrote stopped
+      pub shown_stops : StopsWithin contents failures b c (output_line margin (page_row (k, record { place = at; text = text; parts = parts }))) → StopsWithin contents failures a c (written margin (page_rows 0 count (map (λ hit. (k, hit)) all)))
+      shown_stops stops = broken_off contents failures margin a b c (rows count all) (rows (count - shown) s.rest) (row ∷ []) (rows (count - (shown + 1)) f.rest) next_row s.wrote (one_stopped contents failures margin b c row stops)
 
-  -- the hits up to a later place are skipped or shown
-  module _ (es : List Expression) (all : List Hit) (a b c : W) (place mid skip left : ℕ) (s : ShownUpTo a b es place skip left all) (p : WithParts es inputs k place mid to s.rest) where
-    part_shown : page_rows skip left (map (λ hit. (k, hit)) s.rest) ≡ page_rows skip left (map (λ hit. (k, hit)) p.front) ++ page_rows (skip - length p.front) (left - (length p.front - skip)) (map (λ hit. (k, hit)) p.back)
-    part_shown =
-        ap (λ l. page_rows skip left (map (λ hit. (k, hit)) l)) p.joined ∙ ap (page_rows skip left) (map-append (λ hit. (k, hit)) p.front p.back)
-        ∙ page_append skip left (length p.front) (map (λ hit. (k, hit)) p.front) (map (λ hit. (k, hit)) p.back) (length-map p.front (λ hit. (k, hit)))
+    -- no hit is left
+    module _ (none : s.rest ≡ []) where
+      pub shown_all : GoesOut contents failures a b (written margin (page_rows 0 count (map (λ hit. (k, hit)) all)))
+      shown_all = all_written contents failures margin a b (rows count all) (rows (count - shown) s.rest) (ap (rows (count - shown)) none ∙ page_none 0 (count - shown)) s.wrote
 
-    pub shown_part : (skip_now left_now : ℕ) → skip_now ≡ skip - length p.front → left_now ≡ left - (length p.front - skip) → GoesOut contents failures b c (written margin (page_rows skip left (map (λ hit. (k, hit)) p.front))) → ShownUpTo a c es mid skip_now left_now all
-    shown_part skip_now left_now is_skip is_left went =
-        let long : length s.rest ≡ length p.front + length p.back = ap length p.joined ∙ length-append p.front p.back in
-        record {
-          rest = p.back;
-          are_rest = p.is_back;
-          passed = s.passed + length p.front;
-          counted = omega (arith, s.counted, long);
-          is_skip = omega (arith, s.is_skip, is_skip);
-          is_left = omega (arith, s.is_skip, s.is_left, is_left);
-          wrote =
-              subst (λ (q : ℕ × ℕ). WrittenUpTo contents failures margin a c (page_rows first count (map (λ hit. (k, hit)) all)) (page_rows q.0 q.1 (map (λ hit. (k, hit)) p.back))) (λ i. (sym is_skip i, sym is_left i))
-              (written_on contents failures margin a b c (page_rows first count (map (λ hit. (k, hit)) all)) (page_rows skip left (map (λ hit. (k, hit)) s.rest)) (page_rows skip left (map (λ hit. (k, hit)) p.front)) (page_rows (skip - length p.front) (left - (length p.front - skip)) (map (λ hit. (k, hit)) p.back)) part_shown s.wrote went);
-        }
+      pub shown_rest : count - shown ≡ count - length all
+      shown_rest = omega (arith, s.counted, ap length none)
 
-    pub part_stops : StopsWithin contents failures b c (written margin (page_rows skip left (map (λ hit. (k, hit)) p.front))) → StopsWithin contents failures a c (written margin (page_rows first count (map (λ hit. (k, hit)) all)))
-    part_stops stopped =
-        broken_off contents failures margin a b c (page_rows first count (map (λ hit. (k, hit)) all)) (page_rows skip left (map (λ hit. (k, hit)) s.rest)) (page_rows skip left (map (λ hit. (k, hit)) p.front)) (page_rows (skip - length p.front) (left - (length p.front - skip)) (map (λ hit. (k, hit)) p.back)) part_shown s.wrote stopped
+    -- the page is full
+    module _ (full : count ≤ shown) where
+      pub full_all : GoesOut contents failures a b (written margin (page_rows 0 count (map (λ hit. (k, hit)) all)))
+      full_all =
+          let none : count - shown ≡ 0 = omega (arith, full) in
+          all_written contents failures margin a b (rows count all) (rows (count - shown) s.rest) (page_full 0 (count - shown) (map (λ hit. (k, hit)) s.rest) none) s.wrote
 
-  -- the page is full
-  module _ (es : List Expression) (all : List Hit) (a b : W) (place skip left : ℕ) (full : left ≡ 0) (s : ShownUpTo a b es place skip left all) where
-    pub full_all : GoesOut contents failures a b (written margin (page_rows first count (map (λ hit. (k, hit)) all)))
-    full_all =
-        all_written contents failures margin a b (page_rows first count (map (λ hit. (k, hit)) all)) (page_rows skip left (map (λ hit. (k, hit)) s.rest)) (page_full skip left (map (λ hit. (k, hit)) s.rest) full) s.wrote
+      pub full_rest : 0 ≡ count - length all
+      full_rest = omega (arith, full, s.counted)
 
-    pub full_rest : 0 < count → (skip ≡ first - length all) × (left ≡ count - (length all - first))
-    full_rest some = (omega (arith, some, full, s.counted, s.is_skip, s.is_left), omega (arith, some, full, s.counted, s.is_skip, s.is_left))
+-- ---- the hits of one file
 
-  module _ (es : List Expression) (all : List Hit) (a b : W) (place skip left : ℕ) (past : to ≤ place) (s : ShownUpTo a b es place skip left all) where
-    none_rest : s.rest ≡ []
-    none_rest = no_more es inputs k place to s.rest past s.are_rest
+-- those after a place before which as many are as the page skips
+pub record IsShownFrom (es : List Expression) (inputs : Inputs) (k place skip left : ℕ) (hits : List Hit) : Type 0 where
+  pub shown : List Hit
+  pub are_shown : HitsBetween es inputs k place (length (file_at inputs.files k).lines) shown
+  pub counted : length hits ≡ skip + length shown
+  pub rows : page_rows skip left (map (λ hit. (k, hit)) hits) ≡ page_rows 0 left (map (λ hit. (k, hit)) shown)
 
-    pub shown_all : GoesOut contents failures a b (written margin (page_rows first count (map (λ hit. (k, hit)) all)))
-    shown_all =
-        all_written contents failures margin a b (page_rows first count (map (λ hit. (k, hit)) all)) (page_rows skip left (map (λ hit. (k, hit)) s.rest)) (ap (λ l. page_rows skip left (map (λ hit. (k, hit)) l)) none_rest ∙ page_none skip left) s.wrote
-
-    pub shown_rest : (skip ≡ first - length all) × (left ≡ count - (length all - first))
-    shown_rest =
-        let passed : s.passed ≡ length all = omega (arith, s.counted, ap length none_rest) in
-        (s.is_skip ∙ ap (λ n. first - n) passed, s.is_left ∙ ap (λ n. count - (n - first)) passed)
+pub shown_from : (es : List Expression) (inputs : Inputs) (k place skip left : ℕ) (hits : List Hit) → place ≤ length (file_at inputs.files k).lines → IsPlaceAfter es inputs k skip place → HitsBetween es inputs k 0 (length (file_at inputs.files k).lines) hits → IsShownFrom es inputs k place skip left hits
+shown_from es inputs k place skip left hits within is are =
+    let p = with_parts es inputs k 0 place (length (file_at inputs.files k).lines) hits (omega arith) within within are in
+    let skipped : skip ≡ length p.front = counted_before es inputs k place skip is.counted p.front p.is_front in
+    record {
+      shown = p.back;
+      are_shown = p.is_back;
+      counted = omega (arith, ap length p.joined, length-append p.front p.back, skipped);
+      rows = ap (λ l. page_rows skip left (map (λ hit. (k, hit)) l)) p.joined ∙ ap (page_rows skip left) (map-append (λ hit. (k, hit)) p.front p.back)
+          ∙ page_after skip left (map (λ hit. (k, hit)) p.front) (map (λ hit. (k, hit)) p.back) (skipped ∙ sym (length-map p.front (λ hit. (k, hit))));
+    }
 
 -- ---- the hits of all files
 

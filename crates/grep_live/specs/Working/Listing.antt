@@ -1,7 +1,9 @@
 -- The hits of some lines of a file of a session.
-use Rattle.std.specs.Prelude.{ℕ, List, slice_range}
+use Rattle.std.specs.Prelude.{◌≡◌, ℕ, ◌+◌, ◌<◌, List, ◌∷◌, slice_range, take}
+use Rattle.re_syntax.specs.Bytes.{Text}
 use Rattle.re_syntax.specs.Expression.{Expression}
-use Rattle.grep_core.specs.Files.{Inputs, AreMeant}
+use Rattle.re_search.specs.Working.Blocks.{HoldsOfMany}
+use Rattle.grep_core.specs.Files.{Inputs, AreMeant, Selected}
 use Rattle.grep_core.specs.Run.{file_at}
 use Rattle.grep_live.specs.Hits.{Hit, HitsFrom}
 
@@ -9,7 +11,25 @@ use Rattle.grep_live.specs.Hits.{Hit, HitsFrom}
 abbrev pub Mean : Inputs → List Expression → Type 0
 Mean inputs es = AreMeant inputs.syntax inputs.options inputs.patterns es
 
--- the hits among the lines of file k from place `from` to place `to`
-abbrev pub HitsBetween : List Expression → Inputs → ℕ → ℕ → ℕ → List Hit → Type 0
-HitsBetween es inputs k from to hits =
-    HitsFrom es inputs.options from (slice_range (file_at inputs.files k).lines from to) hits
+module _ (es : List Expression) (inputs : Inputs) (k : ℕ) where
+  -- the hits among the lines of file k from place `from` to place `to`
+  abbrev pub HitsBetween : ℕ → ℕ → List Hit → Type 0
+  HitsBetween from to hits =
+      HitsFrom es inputs.options from (slice_range (file_at inputs.files k).lines from to) hits
+
+  -- the first of some hits, and those after it, among the lines up to place `to`
+  pub record IsFirst (to place : ℕ) (text : Text) (parts : List (ℕ × ℕ))
+      (hits : List Hit) : Type 0 where
+    pub rest : List Hit
+    pub are_rest : HitsBetween (place + 1) to rest
+    pub joined : hits ≡ record { place = place; text = text; parts = parts } ∷ rest
+
+  -- so many lines before a place are selected
+  abbrev pub SelectedBefore : ℕ → ℕ → Type 0
+  SelectedBefore place number =
+      HoldsOfMany (Selected es inputs.options) (take place (file_at inputs.files k).lines) number
+
+  -- the least place before which there is this number of hits
+  pub record IsPlaceAfter (number place : ℕ) : Type 0 where
+    pub counted : SelectedBefore place number
+    pub least : (other fewer : ℕ) → other < place → SelectedBefore other fewer → fewer < number

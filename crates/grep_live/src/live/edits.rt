@@ -1,10 +1,8 @@
 //! The edits of a session that an editor watches. Each does what the same edit of a session does,
-//! with its answers, steps and need of memory, marks what it touches, and keeps the numbers of hits
-//! right.
+//! with its answers, steps and need of memory, and marks what it touches.
 ghost use Rattle.std.specs.Prelude.{◌≡◌, ◌≢◌, ◌<◌, ◌-◌, ◌++◌, ◌∷◌, List, [], map, length, Ok};
 ghost use Rattle.std.specs.Prelude.{IfErr, IfOk};
 ghost use Rattle.std.specs.List.{remove};
-ghost use Rattle.grep_core.specs.Run.{file_at};
 ghost use Rattle.grep_session.specs.declared.fault.EditFault.TheVariants.{Memory};
 ghost use Rattle.grep_session.specs.Edits.{AddFile, AddMissing, DropFile, Splice};
 ghost use Rattle.grep_session.specs.Edits.{AddPatterns, DropPattern, SetFlag, SetSyntax};
@@ -12,16 +10,13 @@ ghost use Rattle.grep_session.specs.Edits.{SetContext, EditGives, with_files};
 ghost use Rattle.grep_session.specs.Touched.{TakesSteps, NeedsNoMemory};
 ghost use Rattle.grep_live.specs.Marks.{new_mark, marks_by_flag};
 ghost use Rattle.grep_live.specs.Following.{Carries};
-ghost use Rattle.grep_live.specs.Working.Ranks.{AreRanks, RanksByFlag, marks_of, ranks_of};
 
-use crate::cut::cut_at;
 use crate::live::Live;
-use crate::ranks::Rank;
-use crate::watch::{Watch, lose_all, push_watch, replace};
+use crate::mark::Mark;
+use crate::marks::{lose_all, push_mark, touch};
 use grep_core::{Context, Flag};
 use grep_session::{EditFault, Meter, Session};
 use re_search::Syntax;
-use std::alloc::Global;
 
 impl Live {
     /// Adds a file after the others.
@@ -48,7 +43,7 @@ impl Live {
             Ok(()) => {}
             Err(fault) => return Err(fault),
         }
-        watch_last(self.alloc, &mut self.session, &mut self.watches)
+        mark_last(&mut self.session, &mut self.marks)
     }
 
     /// Adds a file that cannot be opened after the others.
@@ -66,7 +61,7 @@ impl Live {
             Ok(()) => {}
             Err(fault) => return Err(fault),
         }
-        watch_last(self.alloc, &mut self.session, &mut self.watches)
+        mark_last(&mut self.session, &mut self.marks)
     }
 
     /// Removes file `k`; later files move up.
@@ -84,7 +79,7 @@ impl Live {
             Ok(()) => {}
             Err(fault) => return Err(fault),
         }
-        self.watches.remove(k);
+        self.marks.remove(k);
         Ok(())
     }
 
@@ -112,12 +107,13 @@ impl Live {
         ensures memory { NeedsNoMemory (Splice k start count (map (λ line. line.items) lines.items))
             self.old.inputs → IfErr result (λ fault. fault ≢ Memory) }
     {
-        let cut = cut_at(&self.session, k, start, count);
+        let after = self.session.line_count(k).saturating_sub(start);
+        let back = after.saturating_sub(count);
         match self.session.splice(k, start, count, lines, meter) {
             Ok(()) => {}
             Err(fault) => return Err(fault),
         }
-        replace(&self.session, k, cut, &mut self.watches);
+        touch(&mut self.marks, k, start, back);
         Ok(())
     }
 
@@ -139,7 +135,7 @@ impl Live {
             Ok(()) => {}
             Err(fault) => return Err(fault),
         }
-        lose_all(&self.session, &mut self.watches);
+        lose_all(&mut self.marks);
         Ok(())
     }
 
@@ -160,7 +156,7 @@ impl Live {
             Ok(()) => {}
             Err(fault) => return Err(fault),
         }
-        lose_all(&self.session, &mut self.watches);
+        lose_all(&mut self.marks);
         Ok(())
     }
 
@@ -186,7 +182,7 @@ impl Live {
         if same {
             return Ok(());
         }
-        lose_by_flag(flag, &self.session, &mut self.watches);
+        lose_by_flag(flag, &mut self.marks);
         Ok(())
     }
 
@@ -211,7 +207,7 @@ impl Live {
         if same {
             return Ok(());
         }
-        lose_all(&self.session, &mut self.watches);
+        lose_all(&mut self.marks);
         Ok(())
     }
 
@@ -226,23 +222,17 @@ impl Live {
     }
 }
 
-/// Adds what is kept of the last file. Without memory for it that file is removed.
-fn watch_last(
-    alloc: Global,
-    session: &mut Session,
-    watches: &mut Vec<Watch>,
-) -> Result<(), EditFault>
+/// Adds the mark of the last file. Without memory for it that file is removed.
+pub fn mark_last(session: &mut Session, marks: &mut Vec<Mark>) -> Result<(), EditFault>
     requires { 0 < length session.old.files }
-    ensures ok { IfOk result (λ _. (session.new ≡ session.old) × (marks_of watches.new.items ≡
-        marks_of watches.old.items ++ new_mark ∷ []) × (ranks : List Rank) ×
-        AreRanks session.old (file_at session.old.files (length session.old.files - 1)) ranks ×
-        (ranks_of watches.new.items ≡ ranks_of watches.old.items ++ ranks ∷ [])) }
+    ensures ok { IfOk result (λ _. (session.new ≡ session.old) ×
+        (marks.new.items ≡ marks.old.items ++ new_mark ∷ [])) }
     ensures err { IfErr result (λ fault. (fault ≡ Memory) ×
         (session.new ≡
         with_files (remove session.old.files (length session.old.files - 1)) session.old) ×
-        (watches.new.items ≡ watches.old.items)) }
+        (marks.new.items ≡ marks.old.items)) }
 {
-    match push_watch(session, alloc, watches) {
+    match push_mark(marks) {
         Ok(()) => return Ok(()),
         Err(_) => {}
     }
@@ -254,17 +244,14 @@ fn watch_last(
 }
 
 /// Leaves no line untouched where other lines may be selected, or other parts listed.
-fn lose_by_flag(flag: Flag, session: &Session, watches: &mut Vec<Watch>)
-    requires { length watches.old.items ≡ length session.now.files }
-    ensures marks { marks_of watches.new.items ≡ marks_by_flag flag (marks_of watches.old.items) }
-    ensures ranks { RanksByFlag flag session.now (ranks_of watches.old.items)
-        (ranks_of watches.new.items) }
+fn lose_by_flag(flag: Flag, marks: &mut Vec<Mark>)
+    ensures { marks.new.items ≡ marks_by_flag flag marks.old.items }
 {
     match flag {
-        Flag::IgnoreCase => lose_all(session, watches),
-        Flag::OnlyMatching => lose_all(session, watches),
-        Flag::InvertMatch => lose_all(session, watches),
-        Flag::LineRegexp => lose_all(session, watches),
+        Flag::IgnoreCase => lose_all(marks),
+        Flag::OnlyMatching => lose_all(marks),
+        Flag::InvertMatch => lose_all(marks),
+        Flag::LineRegexp => lose_all(marks),
         Flag::Count => {}
         Flag::FilesWithMatches => {}
         Flag::LineNumber => {}

@@ -3,9 +3,9 @@ ghost use Rattle.grep_live.specs.Writing.{WritesChanges, WritesPage};
 
 use crate::changing::write_changes;
 use crate::live::Live;
+use crate::marks::know_all;
 use crate::paging::write_hits_page;
 use crate::status::status;
-use crate::watch::know_all;
 use grep_core::{CountedWrite, Status, WriteFault};
 
 impl Live {
@@ -25,12 +25,12 @@ impl Live {
         ensures { WritesChanges W.contents W.failures margin.now out.old out.new self.old self.new
             result }
     {
-        let status = status(&self.session, &self.watches);
-        match write_changes(&self.session, &self.watches, margin, out) {
+        let status = status(&self.session);
+        match write_changes(&self.session, &self.marks, margin, out) {
             Ok(()) => {}
             Err(fault) => return Err(fault),
         }
-        know_all(&self.session, &mut self.watches);
+        know_all(&self.session, &mut self.marks);
         Ok(status)
     }
 
@@ -53,8 +53,8 @@ impl Live {
         ensures { WritesPage W.contents W.failures margin.now out.old out.new self.now.inputs first
             count result }
     {
-        let status = status(&self.session, &self.watches);
-        match write_hits_page(&self.session, &self.watches, first, count, margin, out) {
+        let status = status(&self.session);
+        match write_hits_page(&self.session, first, count, margin, out) {
             Ok(()) => {}
             Err(fault) => return Err(fault),
         }

@@ -38,6 +38,6 @@ impl Live {
     pub fn status(&self) -> Status
         ensures { IsStatusOfInputs self.now.inputs result }
     {
-        status(&self.session, &self.watches)
+        status(&self.session)
     }
 }

@@ -10,7 +10,7 @@ use Rattle.re_syntax.specs.Spelled.{IsMeant}
 use Rattle.re_search.specs.Matcher.{Matcher}
 use Rattle.re_search.specs.Searching.{AllAnswer}
 use Rattle.grep_session.specs.declared.kept.KeptFile.{KeptFile}
-use Rattle.grep_session.specs.declared.kept.KeptLine.{KeptLine}
+use Rattle.line_chunks.specs.Working.Chunks.{KeptLine}
 use Rattle.grep_session.specs.declared.change.Change.TheVariants.{PartsAlone}
 use Rattle.grep_session.specs.Working.Changed.{WasKept, WasFileKept}
 use Rattle.re_syntax.specs.declared.syntax.Syntax.{Syntax}
@@ -53,7 +53,7 @@ sets_syntax syntax old new (Err Memory) h = h
 module _ (es : List Expression) (old new : Options) (same : new.line_regexp ≡ old.line_regexp) where
   -- what is kept of a line says which expressions match it
   ready_line : (line : KeptLine) → IsKept es old line → WasKept PartsAlone es new line
-  ready_line line k = subst (λ w. AreMatching line.text.items w 0 es line.found.numbers) (sym same) k.matching
+  ready_line line k = subst (λ w. AreMatching line.text w 0 es line.found.numbers) (sym same) k.matching
 
   pub ready_files : (files : List KeptFile) → All (IsFileKept es old) files → All (WasFileKept PartsAlone es new) files
   ready_files files all = All-weaker (IsFileKept es old) (WasFileKept PartsAlone es new) (λ file. one (kept_lines file)) files all
@@ -68,7 +68,7 @@ module _ (es : List Expression) (old new : Options) (same : new.line_regexp ≡ 
     kept_line line k = record { matching = ready_line line k; parts = by_flags new.only_matching old.only_matching less k.parts }
       where
         Kept : Bool → Bool → Type 0
-        Kept asked whole = MatchBool asked (AreParts es line.text.items whole (map span_places line.found.spans)) ⊤
+        Kept asked whole = MatchBool asked (AreParts es line.text whole (map span_places line.found.spans)) ⊤
 
         by_flags : (n o : Bool) → (IsTrue n → IsTrue o) → Kept o old.line_regexp → Kept n new.line_regexp
         by_flags true true f h = subst (Kept true) (sym same) h

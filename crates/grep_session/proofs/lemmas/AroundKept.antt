@@ -13,8 +13,8 @@ use Rattle.grep_core.specs.Working.Groups.{rows_after}
 use Rattle.grep_core.specs.Working.Progress.{progress_from, next_shown, with_waiting, after_line, last_of, rows_at}
 use Rattle.grep_core.specs.Working.Requests.{name_shown}
 use Rattle.grep_core.proofs.lemmas.AroundLemmas.{Tracks, tracks_none, tracks_line, tracked_groups}
-use Rattle.grep_session.specs.declared.kept.KeptLine.{KeptLine}
-use Rattle.grep_session.specs.Working.Kept.{line_text, IsKept}
+use Rattle.line_chunks.specs.Working.Chunks.{KeptLine, line_text}
+use Rattle.grep_session.specs.Working.Kept.{IsKept}
 use Rattle.grep_session.specs.Working.Report.{is_selected, shown_rows, around_rows}
 use Rattle.grep_session.proofs.lemmas.KeptLaws.{selected_reported}
 

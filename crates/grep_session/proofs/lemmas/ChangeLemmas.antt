@@ -1,8 +1,9 @@
 -- What is found in a line after a change of the patterns.
-use Rattle.std.proofs.Common.{◌≡◌, ℕ, zero, suc, ◌+◌, ◌<◌, ◌≤◌, Bool, true, false, ◌||◌, List, [], ◌∷◌, ◌++◌, inl, inr, length, map, take, drop, length-take, nat_eq, nat_lt, get_or, MatchBool, Decides, Any, refl, sym, ap, subst, ◌∙◌, All, Option, None, Some, IfSome, Result, Ok, Err, IfOk, arith}
+use Rattle.std.proofs.Common.{◌≡◌, ℕ, zero, suc, ◌+◌, ◌<◌, ◌≤◌, Bool, true, false, ◌||◌, List, [], ◌∷◌, ◌++◌, inl, inr, length, map, take, drop, length-take, nat_eq, nat_lt, get_or, MatchBool, Decides, Any, refl, sym, ap, subst, ◌∙◌, All, Option, None, Some, IfSome, arith}
 use Rattle.std.specs.Bool.{⊤}
 use Rattle.std.specs.List.{remove, list_any}
-use Rattle.std.proofs.lemmas.List.{length-append}
+use Rattle.std.proofs.Math.Seq.{drop-length}
+use Rattle.std.proofs.lemmas.List.{append-nil, length-append}
 use Rattle.std.proofs.lemmas.Bool.{false≢true}
 use Rattle.re_syntax.specs.Bytes.{Text}
 use Rattle.re_syntax.specs.Expression.{Expression}
@@ -14,17 +15,18 @@ use Rattle.grep_core.specs.Files.{Matched}
 use Rattle.re_syntax.proofs.lemmas.SomeOfJoined.{Any-single}
 use Rattle.grep_core.proofs.lemmas.Verdicts.{decided_yes, decided_no}
 use Rattle.grep_session.specs.declared.change.Change.TheVariants.{Anew, PartsAlone, Added, Dropped}
-use Rattle.grep_session.specs.Working.Finds.{Finds}
 use Rattle.grep_session.specs.declared.kept.KeptFile.{KeptFile}
-use Rattle.grep_session.specs.declared.kept.KeptLine.{KeptLine}
-use Rattle.grep_session.specs.Working.Dropping.{without}
-use Rattle.grep_session.specs.Working.Found.{IsRight, IsFoundAgain}
+use Rattle.line_chunks.specs.Working.Chunks.{KeptLine}
+use Rattle.line_chunks.specs.Working.Finds.{without}
+use Rattle.grep_session.specs.declared.change.Change.{Change}
+use Rattle.re_syntax.specs.declared.span.Span.{Span}
+use Rattle.grep_session.specs.Working.Columns.{ArePartsAgain, first_sought, has_new_parts, left_numbers}
 use Rattle.grep_session.proofs.lemmas.DroppingLemmas.{AreMatching-drop, eq_same, eq_other, lt_yes, lt_no}
 use Rattle.grep_session.proofs.lemmas.ColumnLemmas.{front_and_rest}
-use Rattle.grep_session.specs.Working.Changed.{HasChanged, WasKept, WasFileKept}
+use Rattle.grep_session.specs.Working.Changed.{HasChanged, HasNewParts, IsWithin, WasKept, WasFileKept}
 use Rattle.grep_session.specs.Working.Kept.{kept_lines, AreMatching, AddsMatching, ArePartsKept, IsKept, span_places}
 use Rattle.grep_session.proofs.lemmas.FindingLemmas.{AreMatching-append}
-use Rattle.grep_session.proofs.lemmas.FindsLemmas.{finds_right_as}
+use Rattle.grep_session.proofs.lemmas.FindsLemmas.{no_parts}
 use Rattle.grep_session.proofs.lemmas.SurvivingLemmas.{same_parts, found_matches, none_match, parts_survive}
 
 -- ---- the numbers of those that match
@@ -89,19 +91,30 @@ module _ (line : Text) (entire : Bool) (es : List Expression) (k : ℕ) (d : Exp
   pub parts_without : (from : ℕ) (ps : List (ℕ × ℕ)) → ArePartsFrom es line entire from ps → ArePartsFrom (remove es k) line entire from ps
   parts_without from ps p = same_parts es (remove es k) line entire still_found was_found from ps p
 
--- ---- parts that are searched anew, or stay
+-- ---- the parts of a line, kept or searched anew
 
-module _ (options : Options) where
-  -- what is found is right, whether the parts were searched anew or stay the same
-  pub right_again : (es fs : List Expression) (line : KeptLine) (numbers : List ℕ) (found : Finds) (anew : Bool)
-      → (anew ≡ false → (ps : List (ℕ × ℕ)) → AreParts es line.text.items options.line_regexp ps → AreParts fs line.text.items options.line_regexp ps)
-      → ArePartsKept es options line.text.items line.found.spans → AreMatching line.text.items options.line_regexp 0 fs numbers → IsFoundAgain anew fs options line numbers found → IsRight fs options line.text.items found
-  right_again es fs line numbers found true stay kept matching h = h matching
-  right_again es fs line numbers found false stay kept matching h = finds_right_as fs options line.text.items numbers line.found.spans found h (by_flag options.only_matching kept) matching
+module _ (es before : List Expression) (options : Options) (line : KeptLine) (numbers : List ℕ) (spans : List Span) where
+  -- they are right, where those that are kept stay the parts
+  parts_again : (matched anew : Bool) → (matched ≡ false → numbers ≡ []) → (anew ≡ false → (ps : List (ℕ × ℕ)) → AreParts before line.text options.line_regexp ps → AreParts es line.text options.line_regexp ps)
+      → (anew ≡ false → ArePartsKept before options line.text line.found.spans) → AreMatching line.text options.line_regexp 0 es numbers → (options.only_matching ≡ true → ArePartsAgain matched anew es options line spans)
+      → ArePartsKept es options line.text spans
+  parts_again matched anew none stay kept matching are = by_flag options.only_matching refl
     where
-      by_flag : (asked : Bool) → MatchBool asked (AreParts es line.text.items options.line_regexp (map span_places line.found.spans)) ⊤ → MatchBool asked (AreParts fs line.text.items options.line_regexp (map span_places line.found.spans)) ⊤
-      by_flag true p = stay refl (map span_places line.found.spans) p
-      by_flag false p = tt
+      Kept : Bool → List Expression → List Span → Type 0
+      Kept asked fs ss = MatchBool asked (AreParts fs line.text options.line_regexp (map span_places ss)) ⊤
+
+      by_marks : (m a : Bool) → (m ≡ false → numbers ≡ []) → (a ≡ false → (ps : List (ℕ × ℕ)) → AreParts before line.text options.line_regexp ps → AreParts es line.text options.line_regexp ps)
+          → (a ≡ false → Kept true before line.found.spans) → options.only_matching ≡ true → ArePartsAgain m a es options line spans → Kept options.only_matching es spans
+      by_marks false a none stay kept e are =
+          let nothing : AreParts es line.text options.line_regexp [] = no_parts line.text options.line_regexp es (subst (AreMatching line.text options.line_regexp 0 es) (none refl) matching) in
+          subst (λ ss. Kept options.only_matching es ss) (sym are) (subst (λ b. Kept b es []) (sym e) nothing)
+      by_marks true true none stay kept e are = are
+      by_marks true false none stay kept e are =
+          subst (λ ss. Kept options.only_matching es ss) (sym are) (subst (λ b. Kept b es line.found.spans) (sym e) (stay refl (map span_places line.found.spans) (kept refl)))
+
+      by_flag : (asked : Bool) → options.only_matching ≡ asked → Kept options.only_matching es spans
+      by_flag true e = by_marks matched anew none stay (λ off. subst (λ b. Kept b before line.found.spans) e (kept off)) e (are e)
+      by_flag false e = subst (λ b. Kept b es spans) (sym e) tt
 
 -- ---- a line without an expression
 
@@ -109,28 +122,29 @@ decided_single : {A : Type 0} (P : A → Type 0) (x : A) (verdict : Bool) → De
 decided_single P x verdict d = ((λ t. Any-first P x [] (d.0 t)), (λ a. d.1 (Any-single P x a)))
 
 module _ (p : ℕ) (es before changed : List Expression) (options : Options) (line : KeptLine) (h : HasChanged (Dropped p) es before changed) (k : IsKept before options line) where
-  -- whether the removed expression matched it
-  pub went_verdict : Decides (list_any (λ n. nat_eq n p) line.found.numbers) (Matched changed options line.text.items)
-  went_verdict =
-      let text = line.text.items in
+  removed_decides : Decides (list_any (λ n. nat_eq n p) line.found.numbers) (Matches (get_or before p h.0) line.text options.line_regexp)
+  removed_decides =
       let place : 0 + p ≡ p = omega arith in
-      let reported = number_decides text options.line_regexp 0 p before line.found.numbers h.0 h.1 k.matching in
-      let here = subst (λ q. Decides (list_any (λ n. nat_eq n q) line.found.numbers) (Matches (get_or before p h.0) text options.line_regexp)) place reported in
-      let one = subst (λ e. Decides (list_any (λ n. nat_eq n p) line.found.numbers) (Matches e text options.line_regexp)) (sym h.2) here in
+      subst (λ q. Decides (list_any (λ n. nat_eq n q) line.found.numbers) (Matches (get_or before p h.0) line.text options.line_regexp)) place (number_decides line.text options.line_regexp 0 p before line.found.numbers h.0 h.1 k.matching)
+
+  -- whether the removed expression matched it
+  went_verdict : Decides (list_any (λ n. nat_eq n p) line.found.numbers) (Matched changed options line.text)
+  went_verdict =
+      let text = line.text in
+      let one = subst (λ e. Decides (list_any (λ n. nat_eq n p) line.found.numbers) (Matches e text options.line_regexp)) (sym h.2) removed_decides in
       subst (λ c. Decides (list_any (λ n. nat_eq n p) line.found.numbers) (Matched c options text)) (sym h.4) (decided_single (λ e. Matches e text options.line_regexp) h.0 _ one)
 
-  -- what is found in it after the change is right
-  pub went_right : (found : Finds) → IsFoundAgain (list_any (λ n. nat_eq n p) line.found.numbers) es options line (without p line.found.numbers) found → IsRight es options line.text.items found
-  went_right found again =
-      let text = line.text.items in
+  -- the numbers that are left are right
+  went_numbers : AreMatching line.text options.line_regexp 0 es (without p line.found.numbers)
+  went_numbers =
       let place : 0 + p ≡ p = omega arith in
-      let fewer = AreMatching-drop text options.line_regexp 0 p before line.found.numbers h.1 k.matching in
-      let numbers = subst (λ q. AreMatching text options.line_regexp 0 (remove before p) (without q line.found.numbers)) place fewer in
-      let reported = number_decides text options.line_regexp 0 p before line.found.numbers h.0 h.1 k.matching in
-      let here = subst (λ q. Decides (list_any (λ n. nat_eq n q) line.found.numbers) (Matches (get_or before p h.0) text options.line_regexp)) place reported in
-      let stay : list_any (λ n. nat_eq n p) line.found.numbers ≡ false → (ps : List (ℕ × ℕ)) → AreParts before text options.line_regexp ps → AreParts es text options.line_regexp ps =
-      λ off ps are. subst (λ l. AreParts l text options.line_regexp ps) (sym h.3) (parts_without text options.line_regexp before p h.0 h.1 (λ m. false≢true (sym off ∙ here.1 m)) 0 ps are) in
-      right_again options before es line (without p line.found.numbers) found _ stay k.parts (subst (λ l. AreMatching text options.line_regexp 0 l (without p line.found.numbers)) (sym h.3) numbers) again
+      let fewer = AreMatching-drop line.text options.line_regexp 0 p before line.found.numbers h.1 k.matching in
+      let numbers = subst (λ q. AreMatching line.text options.line_regexp 0 (remove before p) (without q line.found.numbers)) place fewer in
+      subst (λ l. AreMatching line.text options.line_regexp 0 l (without p line.found.numbers)) (sym h.3) numbers
+
+  -- the parts stay where it did not match
+  went_stay : list_any (λ n. nat_eq n p) line.found.numbers ≡ false → (ps : List (ℕ × ℕ)) → AreParts before line.text options.line_regexp ps → AreParts es line.text options.line_regexp ps
+  went_stay off ps are = subst (λ l. AreParts l line.text options.line_regexp ps) (sym h.3) (parts_without line.text options.line_regexp before p h.0 h.1 (λ m. false≢true (sym off ∙ removed_decides.1 m)) 0 ps are)
 
 -- ---- a line with more expressions
 
@@ -154,55 +168,85 @@ module _ (line : Text) (entire : Bool) where
       subst (λ b. Decides b (Any (λ e. Matches e line entire) es)) (sym (lt_yes (length old) (length (old ++ (n ∷ ns))) (omega (arith, many)))) (decided_yes (some_at first es n ns a))
 
 module _ (first : ℕ) (es before changed : List Expression) (options : Options) (line : KeptLine) (h : HasChanged (Added first) es before changed) (k : IsKept before options line) (new : List ℕ)
-    (a : AddsMatching line.text.items options.line_regexp first (drop first es) line.found.numbers new) where
-  -- whether an added expression matches it
-  pub came_verdict : Decides (nat_lt (length line.found.numbers) (length new)) (Matched changed options line.text.items)
-  came_verdict =
-      let reported = grown_decides line.text.items options.line_regexp first (drop first es) line.found.numbers a.found a.are_found in
-      subst (λ c. Decides (nat_lt (length line.found.numbers) (length new)) (Matched c options line.text.items)) (sym h.1)
-      (subst (λ ns. Decides (nat_lt (length line.found.numbers) (length ns)) (Matched (drop first es) options line.text.items)) (sym a.added) reported)
+    (a : AddsMatching line.text options.line_regexp first (drop first es) line.found.numbers new) where
+  added_decides : Decides (nat_lt (length line.found.numbers) (length new)) (Matched (drop first es) options line.text)
+  added_decides = subst (λ ns. Decides (nat_lt (length line.found.numbers) (length ns)) (Matched (drop first es) options line.text)) (sym a.added) (grown_decides line.text options.line_regexp first (drop first es) line.found.numbers a.found a.are_found)
 
-  -- what is found in it after the change is right
-  pub came_right : first ≤ length es → (found : Finds) → IsFoundAgain (nat_lt (length line.found.numbers) (length new)) es options line new found → IsRight es options line.text.items found
-  came_right within found again =
-      let text = line.text.items in
-      let both : before ++ drop first es ≡ es = ap (λ l. l ++ drop first es) h.0 ∙ front_and_rest first es in
+  -- whether an added expression matches it
+  came_verdict : Decides (nat_lt (length line.found.numbers) (length new)) (Matched changed options line.text)
+  came_verdict = subst (λ c. Decides (nat_lt (length line.found.numbers) (length new)) (Matched c options line.text)) (sym h.1) added_decides
+
+  all_again : before ++ drop first es ≡ es
+  all_again = ap (λ l. l ++ drop first es) h.0 ∙ front_and_rest first es
+
+  -- the numbers are right
+  came_numbers : first ≤ length es → AreMatching line.text options.line_regexp 0 es new
+  came_numbers within =
       let many : length before ≡ length (take first es) = ap length h.0 in
       let place : first ≡ 0 + length before = omega (arith, many, within, length-take first es) in
-      let numbers = AreMatching-append text options.line_regexp 0 before (drop first es) line.found.numbers a.found k.matching (subst (λ n. AreMatching text options.line_regexp n (drop first es) a.found) place a.are_found) in
-      let reported = grown_decides text options.line_regexp first (drop first es) line.found.numbers a.found a.are_found in
-      let here = subst (λ ns. Decides (nat_lt (length line.found.numbers) (length ns)) (Matched (drop first es) options text)) (sym a.added) reported in
-      let stay : nat_lt (length line.found.numbers) (length new) ≡ false → (ps : List (ℕ × ℕ)) → AreParts before text options.line_regexp ps → AreParts es text options.line_regexp ps =
-      λ off ps are. subst (λ l. AreParts l text options.line_regexp ps) both (parts_survive text options.line_regexp before (drop first es) (λ m. false≢true (sym off ∙ here.1 m)) 0 ps are) in
-      right_again options before es line new found _ stay k.parts
-      (subst (λ ns. AreMatching text options.line_regexp 0 es ns) (sym a.added) (subst (λ l. AreMatching text options.line_regexp 0 l (line.found.numbers ++ a.found)) both numbers)) again
+      let numbers = AreMatching-append line.text options.line_regexp 0 before (drop first es) line.found.numbers a.found k.matching (subst (λ n. AreMatching line.text options.line_regexp n (drop first es) a.found) place a.are_found) in
+      subst (AreMatching line.text options.line_regexp 0 es) (sym a.added) (subst (λ l. AreMatching line.text options.line_regexp 0 l (line.found.numbers ++ a.found)) all_again numbers)
 
--- ---- what a search returns
+  -- the parts stay where none matches
+  came_stay : nat_lt (length line.found.numbers) (length new) ≡ false → (ps : List (ℕ × ℕ)) → AreParts before line.text options.line_regexp ps → AreParts es line.text options.line_regexp ps
+  came_stay off ps are = subst (λ l. AreParts l line.text options.line_regexp ps) all_again (parts_survive line.text options.line_regexp before (drop first es) (λ m. false≢true (sym off ∙ added_decides.1 m)) 0 ps are)
 
--- a line without an expression
-pub goes_right : {E : Type 0} (p : ℕ) (es : List Expression) (options : Options) (line : KeptLine) (r : Result Finds E) → IfOk r (IsFoundAgain (list_any (λ n. nat_eq n p) line.found.numbers) es options line (without p line.found.numbers))
-    → IfOk r (λ found. (before changed : List Expression) → HasChanged (Dropped p) es before changed → IsKept before options line → IsRight es options line.text.items found)
-goes_right p es options line (Ok found) again = λ before changed h k. went_right p es before changed options line h k found again
-goes_right p es options line (Err fault) again = tt
+-- ---- a line after any change
 
--- a line with more expressions
-pub comes_right : {E : Type 0} (first : ℕ) (es : List Expression) (options : Options) (line : KeptLine) (new : List ℕ) (r : Result Finds E) → first ≤ length es
-    → AddsMatching line.text.items options.line_regexp first (drop first es) line.found.numbers new → IfOk r (IsFoundAgain (nat_lt (length line.found.numbers) (length new)) es options line new)
-    → IfOk r (λ found. (before changed : List Expression) → HasChanged (Added first) es before changed → IsKept before options line → IsRight es options line.text.items found)
-comes_right first es options line new (Ok found) within a again = λ before changed h k. came_right first es before changed options line h k new a within found again
-comes_right first es options line new (Err fault) within a again = tt
+-- no expression is left after all of them
+none_after : (es : List Expression) → drop (length es) es ≡ []
+none_after es = drop-length es
 
--- a line whose parts were searched anew
-pub parts_right : {E : Type 0} (es : List Expression) (options : Options) (line : KeptLine) (r : Result Finds E) → IfOk r (λ found. AreMatching line.text.items options.line_regexp 0 es line.found.numbers → IsRight es options line.text.items found)
-    → IfOk r (λ found. (before changed : List Expression) → HasChanged PartsAlone es before changed → WasKept PartsAlone before options line → IsRight es options line.text.items found)
-parts_right es options line (Ok found) right = λ before changed h k. right (subst (λ fs. AreMatching line.text.items options.line_regexp 0 fs line.found.numbers) h k)
-parts_right es options line (Err fault) right = tt
+-- no number is added where no expression is searched for
+adds_nothing : (line : Text) (entire : Bool) (first : ℕ) (fs : List Expression) (old new : List ℕ) → fs ≡ [] → AddsMatching line entire first fs old new → new ≡ old
+adds_nothing line entire first fs old new none a =
+    let nothing : a.found ≡ [] = subst (λ gs. AreMatching line entire first gs a.found) none a.are_found in
+    a.added ∙ ap (λ l. old ++ l) nothing ∙ append-nil old
 
--- a line that was searched anew
-pub anew_right : {E : Type 0} (es : List Expression) (options : Options) (line : KeptLine) (r : Result Finds E) → IfOk r (IsRight es options line.text.items)
-    → IfOk r (λ found. (before changed : List Expression) → HasChanged Anew es before changed → WasKept Anew before options line → IsRight es options line.text.items found)
-anew_right es options line (Ok found) right = λ before changed h k. right
-anew_right es options line (Err fault) right = tt
+module _ (es before changed : List Expression) (options : Options) (line : KeptLine) (new : List ℕ) where
+  -- the numbers of a line, and whether its parts are searched, are right; kept parts stay the parts
+  -- where they are not
+  pub record LineChanges (change : Change) : Type 0 where
+    pub matching : AreMatching line.text options.line_regexp 0 es new
+    pub decided : Decides (has_new_parts change line.found.numbers new) (HasNewParts change changed options line.text)
+    pub stay : has_new_parts change line.found.numbers new ≡ false → (ps : List (ℕ × ℕ)) → AreParts before line.text options.line_regexp ps → AreParts es line.text options.line_regexp ps
+    pub kept : has_new_parts change line.found.numbers new ≡ false → ArePartsKept before options line.text line.found.spans
+
+  pub line_changes : (change : Change) → IsWithin change (length es) → HasChanged change es before changed → WasKept change before options line
+      → AddsMatching line.text options.line_regexp (first_sought change (length es)) (drop (first_sought change (length es)) es) (left_numbers change line.found.numbers) new → LineChanges change
+  line_changes Anew within h k a = record {
+    matching = subst (AreMatching line.text options.line_regexp 0 es) (sym a.added) a.are_found;
+    decided = decided_yes tt;
+    stay = λ off. absurd (false≢true (sym off));
+    kept = λ off. absurd (false≢true (sym off));
+  }
+  line_changes PartsAlone within h k a = record {
+    matching = subst (AreMatching line.text options.line_regexp 0 es) (sym (adds_nothing line.text options.line_regexp (length es) (drop (length es) es) line.found.numbers new (none_after es) a))
+        (subst (λ fs. AreMatching line.text options.line_regexp 0 fs line.found.numbers) h k);
+    decided = decided_yes tt;
+    stay = λ off. absurd (false≢true (sym off));
+    kept = λ off. absurd (false≢true (sym off));
+  }
+  line_changes (Added first) within h k a = record {
+    matching = came_numbers first es before changed options line h k new a within;
+    decided = came_verdict first es before changed options line h k new a;
+    stay = came_stay first es before changed options line h k new a;
+    kept = λ off. k.parts;
+  }
+  line_changes (Dropped p) within h k a = record {
+    matching = subst (AreMatching line.text options.line_regexp 0 es) (sym (adds_nothing line.text options.line_regexp (length es) (drop (length es) es) (without p line.found.numbers) new (none_after es) a)) (went_numbers p es before changed options line h k);
+    decided = went_verdict p es before changed options line h k;
+    stay = went_stay p es before changed options line h k;
+    kept = λ off. k.parts;
+  }
+
+  -- what is found in it is right
+  pub line_right : (change : Change) (matched anew : Bool) (spans : List Span) → LineChanges change → (matched ≡ false → new ≡ []) → (anew ≡ false → has_new_parts change line.found.numbers new ≡ false)
+      → (options.only_matching ≡ true → ArePartsAgain matched anew es options line spans) → IsKept es options (record { text = line.text; found = record { numbers = new; spans = spans } })
+  line_right change matched anew spans c none same are = record {
+    matching = c.matching;
+    parts = parts_again es before options line new spans matched anew none (λ off. c.stay (same off)) (λ off. c.kept (same off)) c.matching are;
+  }
 
 -- ---- files before a change
 

@@ -3,14 +3,8 @@ use Rattle.std.proofs.Common.{All, ◌≡◌, ℕ, suc, ◌+◌, ◌<◌, List, 
 use Rattle.std.proofs.Math.Seq.{take-suc}
 use Rattle.std.proofs.lemmas.List.{map-append}
 use Rattle.std.proofs.lemmas.List.Concat.{flat_map-append}
-use Rattle.std.specs.List.{AllZip}
-use Rattle.re_syntax.specs.Bytes.{Text}
-use Rattle.re_syntax.specs.Expression.{Expression}
-use Rattle.grep_core.specs.declared.options.Options.{Options}
 use Rattle.grep_core.specs.Files.{File}
-use Rattle.grep_core.proofs.lemmas.MatcherLemmas.{AllZip-append}
-use Rattle.grep_session.specs.Working.Finds.{Finds}
-use Rattle.grep_session.specs.Working.Found.{IsRight, AddsRight, lines_of_files}
+use Rattle.grep_session.specs.Working.Found.{lines_of_files}
 
 -- ---- lists by their first elements and the rest
 
@@ -33,25 +27,6 @@ module _ {X Y : Type 0} (f : X → Y) (xs : List X) (i : ℕ) (x : X) (h : i < l
 -- what holds of all holds of the next
 pub kept_at : {X : Type 0} (P : X → Type 0) (xs : List X) (i : ℕ) (x : X) → i < length xs → x ≡ get_or xs i x → All P xs → P x
 kept_at P xs i x within is all = subst P (sym is) (all i x within)
-
-module _ (es : List Expression) (options : Options) where
-  -- nothing was added
-  pub adds_right_none : (old : List Finds) → AddsRight es options [] old old
-  adds_right_none old = record { found = []; are_right = tt; added = sym (append-nil old) }
-
-  -- one more line
-  pub adds_right_next : (lines : List Text) (line : Text) (all : List Text) (old mid new : List Finds) (one : Finds) → all ≡ lines ++ line ∷ [] → new ≡ mid ++ one ∷ [] → AddsRight es options lines old mid → IsRight es options line one
-      → AddsRight es options all old new
-  adds_right_next lines line all old mid new one both pushed s r = record {
-    found = s.found ++ one ∷ [];
-    are_right = subst (λ l. AllZip (IsRight es options) l (s.found ++ one ∷ [])) (sym both) (AllZip-append (IsRight es options) lines (line ∷ []) s.found (one ∷ []) s.are_right (r, tt));
-    added = pushed ∙ ap (λ l. l ++ one ∷ []) s.added ∙ append_assoc old s.found (one ∷ []);
-  }
-
-  -- the lines of one more file
-  pub right_more : (lines more all : List Text) (old new : List Finds) → all ≡ lines ++ more → AllZip (IsRight es options) lines old → AddsRight es options more old new → AllZip (IsRight es options) all new
-  right_more lines more all old new both s r =
-      subst (λ l. AllZip (IsRight es options) l new) (sym both) (subst (AllZip (IsRight es options) (lines ++ more)) (sym r.added) (AllZip-append (IsRight es options) lines more old r.found s r.are_right))
 
 -- ---- files
 

@@ -1,28 +1,29 @@
 -- A pattern is removed, and the numbers of those that match a line stay right.
-use Rattle.std.proofs.Common.{◌≡◌, ℕ, zero, suc, ◌+◌, ◌-◌, ◌<◌, ◌≤◌, Bool, MatchBool, All, true, false, not, List, [], ◌∷◌, ◌++◌, inl, inr, length, map, take, drop, nat_eq, nat_lt, get_or, cond, if◌then◌else◌, refl, sym, ap, subst, ◌∙◌, arith}
+use Rattle.std.proofs.Common.{Option, Some, IfSome, ◌≡◌, ℕ, zero, suc, ◌+◌, ◌-◌, ◌<◌, ◌≤◌, Bool, MatchBool, All, true, false, not, List, [], ◌∷◌, ◌++◌, inl, inr, length, map, take, drop, nat_eq, nat_lt, cond, if◌then◌else◌, refl, sym, ap, subst, ◌∙◌, arith}
 use Rattle.std.proofs.Math.ListN.{set}
+use Rattle.std.specs.Option.{option_map}
 use Rattle.std.specs.List.{AllWithin, AllZip, remove, filter}
-use Rattle.std.proofs.lemmas.List.Elements.{All-append, All-take, All-drop}
+use Rattle.std.proofs.lemmas.List.Elements.{All-append, All-take, All-drop, All-map, All-weaker}
 use Rattle.re_syntax.specs.declared.syntax.Syntax.{Syntax}
 use Rattle.re_syntax.specs.Spelled.{IsMeant}
 use Rattle.re_search.specs.Matcher.{Matcher}
 use Rattle.re_search.specs.Reading.{IsReadable}
 use Rattle.re_search.specs.Working.Matchers.{matched_expression, wants_whole}
 use Rattle.re_search.specs.Searching.{AllAnswer}
-use Rattle.grep_core.specs.Files.{AreMeant}
+use Rattle.grep_core.specs.Files.{AreMeant, whole}
 use Rattle.grep_session.proofs.lemmas.SessionLemmas.{map-remove}
 use Rattle.std.specs.Bool.{⊤}
-use Rattle.std.proofs.lemmas.List.{get_or-set_other}
+use Rattle.std.proofs.lemmas.List.{get_or-set_other, map-append}
 use Rattle.re_syntax.specs.Parts.{AreParts}
 use Rattle.grep_core.specs.declared.options.Options.{Options}
-use Rattle.grep_session.specs.declared.kept.KeptLine.{KeptLine}
+use Rattle.line_chunks.specs.Working.Chunks.{KeptLine, all_of, line_text, line_without}
 use Rattle.std.proofs.lemmas.Bool.Decides.{nat_tests}
 use Rattle.re_syntax.specs.Bytes.{Text}
 use Rattle.re_syntax.specs.Expression.{Expression}
 use Rattle.re_syntax.specs.Holds.{Matches}
 use Rattle.grep_core.specs.Choose.{IfHolds}
-use Rattle.grep_session.specs.Working.Dropping.{lowered, without}
-use Rattle.grep_session.specs.Working.Kept.{AreMatching, IsKept, span_places}
+use Rattle.line_chunks.specs.Working.Finds.{lowered, without}
+use Rattle.grep_session.specs.Working.Kept.{AreMatching, IsKept, span_places, file_with}
 use Rattle.grep_core.specs.Working.MatcherLists.{AreMatchers}
 
 pub eq_same : (n : ℕ) → nat_eq n n ≡ true
@@ -79,32 +80,40 @@ module _ (line : Text) (entire : Bool) where
       elim a.1 [ inl c ↦ inl (c.0, ap (without p) c.1 ∙ without_less p first a.0 (omega arith)) | inr c ↦ inr (c.0, ap (without p) c.1) ] in
       (without p a.0, choice, subst (λ q. AreMatching line entire (suc first) (remove es k) (without q a.0)) place (AreMatching-drop (suc first) k es a.0 (let less : k < length es = omega (arith, h) in less) a.2))
 
--- one more element is replaced by f of it
-pub map_so_far : (f : ℕ → ℕ) (xs : List ℕ) (i : ℕ) (d : ℕ) → i < length xs → set (map f (take i xs) ++ drop i xs) i (f (get_or (map f (take i xs) ++ drop i xs) i d)) ≡ map f (take (suc i) xs) ++ drop (suc i) xs
-map_so_far f [] i d h = absurd (let false : ⊥ = omega (arith, h) in false)
-map_so_far f (x ∷ xs) zero d h = refl
-map_so_far f (x ∷ xs) (suc i) d h = ap (λ l. f x ∷ l) (map_so_far f xs i d (let less : i < length xs = omega (arith, h) in less))
-
--- all elements are replaced by f of them
-pub map_done : (f : ℕ → ℕ) (xs : List ℕ) (n : ℕ) → length xs ≤ n → map f (take n xs) ++ drop n xs ≡ map f xs
-map_done f [] zero h = refl
-map_done f [] (suc n) h = refl
-map_done f (x ∷ xs) zero h = absurd (let false : ⊥ = omega (arith, h) in false)
-map_done f (x ∷ xs) (suc n) h = ap (λ l. f x ∷ l) (map_done f xs n (let less : length xs ≤ n = omega (arith, h) in less))
-
 -- ---- lines and files without an expression
 
+-- the lines of chunks, each of which is changed alone
+all_of-map : (f : KeptLine → KeptLine) (chunks : List (List KeptLine)) → all_of (map (map f) chunks) ≡ map f (all_of chunks)
+all_of-map f [] = refl
+all_of-map f (lines ∷ chunks) = ap (λ l. map f lines ++ l) (all_of-map f chunks) ∙ sym (map-append f lines (all_of chunks))
+
+texts_stay : (p : ℕ) (lines : List KeptLine) → map line_text (map (line_without p) lines) ≡ map line_text lines
+texts_stay p [] = refl
+texts_stay p (line ∷ lines) = ap (λ l. line.text ∷ l) (texts_stay p lines)
+
+-- the file has the same lines
+pub file_dropped : (p : ℕ) (name : Text) (lines : Option (List (List KeptLine))) (old new : List (List KeptLine)) → lines ≡ Some old → new ≡ map (map (line_without p)) old → file_with name (Some (all_of new)) ≡ file_with name (option_map all_of lines)
+file_dropped p name lines old new is drops =
+    let same = ap all_of drops ∙ all_of-map (line_without p) old in
+    ap (λ texts. record { name = name; lines = texts; ending = whole }) (ap (map line_text) same ∙ texts_stay p (all_of old)) ∙ ap (λ l. file_with name (option_map all_of l)) (sym is)
+
 module _ (es : List Expression) (options : Options) (p : ℕ) (h : p < length es) (no_parts : options.only_matching ≡ false) where
-  pub dropped_line : (old new : KeptLine) → new.text ≡ old.text → new.found.numbers ≡ without p old.found.numbers → IsKept es options old → IsKept (remove es p) options new
-  dropped_line old new text matched k =
-      let fewer = AreMatching-drop old.text.items options.line_regexp 0 p es old.found.numbers h k.matching in
+  -- what is kept of a line
+  dropped_line : (line : KeptLine) → IsKept es options line → IsKept (remove es p) options (line_without p line)
+  dropped_line line k =
+      let fewer = AreMatching-drop line.text options.line_regexp 0 p es line.found.numbers h k.matching in
       let place : 0 + p ≡ p = omega arith in
       record {
-        matching =
-            subst (AreMatching new.text.items options.line_regexp 0 (remove es p)) (sym matched)
-            (subst (λ t. AreMatching t.items options.line_regexp 0 (remove es p) (without p old.found.numbers)) (sym text) (subst (λ q. AreMatching old.text.items options.line_regexp 0 (remove es p) (without q old.found.numbers)) place fewer));
-        parts = subst (λ b. MatchBool b (AreParts (remove es p) new.text.items options.line_regexp (map span_places new.found.spans)) ⊤) (sym no_parts) tt;
+        matching = subst (λ q. AreMatching line.text options.line_regexp 0 (remove es p) (without q line.found.numbers)) place fewer;
+        parts = subst (λ b. MatchBool b (AreParts (remove es p) line.text options.line_regexp (map span_places line.found.spans)) ⊤) (sym no_parts) tt;
       }
+
+  -- what is kept of the lines of chunks
+  pub kept_dropped : (lines : Option (List (List KeptLine))) (old new : List (List KeptLine)) → lines ≡ Some old → new ≡ map (map (line_without p)) old → IfSome (option_map all_of lines) (All (IsKept es options)) → All (IsKept (remove es p) options) (all_of new)
+  kept_dropped lines old new is drops kept =
+      let before : All (IsKept es options) (all_of old) = subst (λ l. IfSome (option_map all_of l) (All (IsKept es options))) is kept in
+      let each = All-weaker (IsKept es options) (λ line. IsKept (remove es p) options (line_without p line)) dropped_line (all_of old) before in
+      subst (All (IsKept (remove es p) options)) (sym (ap all_of drops ∙ all_of-map (line_without p) old)) (All-map (IsKept (remove es p) options) (line_without p) (all_of old) each)
 
 -- one element was replaced by another: what holds of those after it still does
 pub after_set : {X : Type 0} (P : X → Type 0) (xs : List X) (i n : ℕ) (x : X) → AllWithin P xs i n → AllWithin P (set xs i x) (suc i) n

@@ -27,9 +27,9 @@ use Rattle.grep_session.specs.Working.Changed.{CostAnew, SearchesEach}
 use Rattle.grep_session.specs.Working.Sessions.{IsSession, inputs_of}
 use Rattle.grep_session.proofs.lemmas.RoomLemmas.{keep_same}
 use Rattle.grep_session.proofs.lemmas.StepLemmas.{takes_lines}
-use Rattle.grep_session.specs.declared.kept.KeptLine.{KeptLine}
+use Rattle.line_chunks.specs.Working.Chunks.{KeptLine, line_text}
 use Rattle.grep_session.specs.Edits.{AddFile, Splice, Applies, spliced, whole_file, with_files}
-use Rattle.grep_session.specs.Working.Kept.{IsKept, IsFileKept, kept_file, kept_lines, file_with, line_text}
+use Rattle.grep_session.specs.Working.Kept.{IsKept, IsFileKept, kept_file, kept_lines, file_with}
 use Rattle.grep_core.specs.Working.MatcherLists.{AreMatchers}
 use Rattle.grep_session.specs.Edits.{HasPlace}
 use Rattle.grep_session.specs.declared.fault.EditFault.{EditFault}

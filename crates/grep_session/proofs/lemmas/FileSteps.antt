@@ -7,7 +7,7 @@ use Rattle.grep_core.specs.declared.status.FileEnd.TheVariants.{Missing, Whole}
 use Rattle.grep_core.specs.Output.{form, written}
 use Rattle.grep_core.specs.Working.Searched.{summary_as, reported_of}
 use Rattle.grep_core.specs.Written.{GoesOut, StopsWithin, Writes}
-use Rattle.grep_session.specs.declared.kept.KeptLine.{KeptLine}
+use Rattle.line_chunks.specs.Working.Chunks.{KeptLine}
 use Rattle.grep_session.specs.declared.kept.KeptFile.{KeptFile}
 use Rattle.grep_session.specs.Working.Report.{is_selected, some_selected, selected_count, text_rows, rows_with, file_rows, rows_after_laws, reported_from, end_of, has_selected}
 use Rattle.grep_session.proofs.lemmas.Writing.{WrittenUpTo, drop-item, writes_after, stops_before, written_on, broken_off, all_written}

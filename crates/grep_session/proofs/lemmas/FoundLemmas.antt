@@ -1,88 +1,187 @@
--- What was found replaces what is kept, one line at a time.
-use Rattle.std.proofs.Common.{◌≡◌, ℕ, zero, suc, ◌<◌, ◌≤◌, List, [], ◌∷◌, ◌++◌, length, map, take, drop, get_or, Option, None, Some, IfSome, All, drop-cons, refl, sym, ap, subst, ◌∙◌, arith}
-use Rattle.std.proofs.Math.ListN.{set}
-use Rattle.grep_session.specs.declared.kept.KeptLine.{KeptLine}
-use Rattle.grep_session.specs.Working.Finds.{Finds}
-use Rattle.std.proofs.lemmas.List.Elements.{All-nil, All-cons}
+-- What was found replaces what is kept, one chunk and one file at a time.
+use Rattle.std.proofs.Common.{◌≡◌, ℕ, zero, suc, ◌<◌, List, [], ◌∷◌, ◌++◌, length, map, take, drop, get_or, ◌+◌, add-one, Option, None, Some, IfSome, All, drop-cons, refl, sym, ap, subst, ◌∙◌, arith, append_assoc}
 use Rattle.std.specs.List.{AllZip}
+use Rattle.std.proofs.Math.ListN.{set}
+use Rattle.std.proofs.Math.Seq.{take-append_seam, drop-append_seam, take-suc}
 use Rattle.std.specs.Option.{option_map, unwrap_or}
+use Rattle.std.proofs.lemmas.List.{map-append, append-nil, get_or-drop, drop-set-lt}
+use Rattle.std.proofs.lemmas.List.Concat.{flat_map-append}
+use Rattle.std.proofs.lemmas.List.Elements.{All-nil, All-cons, All-append, All-take, All-drop, All-head, All-tail}
 use Rattle.re_syntax.specs.Bytes.{Text}
 use Rattle.re_syntax.specs.Expression.{Expression}
 use Rattle.grep_core.specs.declared.options.Options.{Options}
-use Rattle.grep_core.specs.Files.{File, whole}
+use Rattle.grep_core.specs.Files.{whole}
+use Rattle.grep_core.proofs.lemmas.MatcherLemmas.{AllZip-append}
+use Rattle.line_chunks.specs.Working.Chunks.{KeptLine, all_of, line_text, new_line, FitColumns, FitsColumn, with_column, with_columns}
+use Rattle.line_chunks.specs.Working.Finds.{FoundIn}
+use Rattle.line_chunks.proofs.lemmas.Joins.{joined_parts, joined_push}
+use Rattle.line_chunks.proofs.lemmas.SeenLaws.{texts-seen}
+use Rattle.grep_session.specs.declared.change.Change.{Change}
+use Rattle.grep_session.specs.declared.change.Change.TheVariants.{Anew}
 use Rattle.grep_session.specs.declared.kept.KeptFile.{KeptFile}
-use Rattle.grep_session.specs.Working.Kept.{IsKept, IsFileKept, kept_file, kept_lines, file_with, line_text}
-use Rattle.grep_session.specs.Working.Found.{IsRight, lines_of_files, line_with, next_line, with_found}
+use Rattle.grep_session.specs.Working.Changed.{HasChanged, WasKept, WasFileKept}
+use Rattle.grep_session.specs.Working.Columns.{AddsColumns}
+use Rattle.grep_session.specs.Working.Found.{IsColumn, chunks_of, chunks_of_files}
+use Rattle.grep_session.specs.Working.Kept.{IsKept, IsFileKept, kept_file, file_with}
 
--- nothing was found
-pub with_found-none : (lines : List KeptLine) → with_found lines [] ≡ lines
-with_found-none [] = refl
-with_found-none (line ∷ lines) = refl
+-- ---- what holds of all elements
 
--- setting an element to itself changes nothing
-set_itself : (lines : List KeptLine) (i : ℕ) (d : KeptLine) → set lines i (get_or lines i d) ≡ lines
-set_itself [] i d = refl
-set_itself (line ∷ lines) zero d = refl
-set_itself (line ∷ lines) (suc i) d = ap (λ l. line ∷ l) (set_itself lines i d)
+all_first : {X : Type 0} (P : X → Type 0) (xs ys : List X) → All P (xs ++ ys) → All P xs
+all_first P xs ys all = subst (All P) (take-append_seam xs ys) (All-take P (length xs) (xs ++ ys) all)
 
--- one more line has what was found in it
-pub with_found-more : (lines : List KeptLine) (found : List Finds) (i : ℕ) (d : KeptLine) → i < length lines
-    → set (with_found lines (take i found)) i (next_line (get_or (with_found lines (take i found)) i d) (drop i found)) ≡ with_found lines (take (suc i) found)
-with_found-more [] found i d h = absurd (let false : ⊥ = omega (arith, h) in false)
-with_found-more (line ∷ lines) [] zero d h = refl
-with_found-more (line ∷ lines) [] (suc i) d h = set_itself (line ∷ lines) (suc i) d
-with_found-more (line ∷ lines) (one ∷ found) zero d h = ap (λ l. line_with line one ∷ l) (sym (with_found-none lines))
-with_found-more (line ∷ lines) (one ∷ found) (suc i) d h = ap (λ l. line_with line one ∷ l) (with_found-more lines found i d (let less : i < length lines = omega (arith, h) in less))
+all_rest : {X : Type 0} (P : X → Type 0) (xs ys : List X) → All P (xs ++ ys) → All P ys
+all_rest P xs ys all = subst (All P) (drop-append_seam xs ys) (All-drop P (length xs) (xs ++ ys) all)
 
--- no more was found than there are lines
-pub with_found-all : (lines : List KeptLine) (found : List Finds) (n : ℕ) → length lines ≤ n → with_found lines (take n found) ≡ with_found lines found
-with_found-all [] found n h = refl
-with_found-all (line ∷ lines) [] zero h = refl
-with_found-all (line ∷ lines) [] (suc n) h = refl
-with_found-all (line ∷ lines) (one ∷ found) zero h = absurd (let false : ⊥ = omega (arith, h) in false)
-with_found-all (line ∷ lines) (one ∷ found) (suc n) h = ap (λ l. line_with line one ∷ l) (with_found-all lines found n (let less : length lines ≤ n = omega (arith, h) in less))
+-- what holds of all lines holds of those of each chunk
+pub all_by_chunk : (P : KeptLine → Type 0) (chunks : List (List KeptLine)) → All P (all_of chunks) → All (All P) chunks
+all_by_chunk P [] all = All-nil (All P)
+all_by_chunk P (chunk ∷ chunks) all = All-cons (All P) chunk chunks (all_first P chunk (all_of chunks) all) (all_by_chunk P chunks (all_rest P chunk (all_of chunks) all))
 
--- dropping one more element
-pub drop_drop : {X : Type 0} (i : ℕ) (xs : List X) → drop 1 (drop i xs) ≡ drop (suc i) xs
-drop_drop zero [] = refl
-drop_drop (suc i) [] = refl
-drop_drop zero (x ∷ xs) = refl
-drop_drop (suc i) (x ∷ xs) = drop_drop i xs
+-- ---- chunks by the first ones, the next, and the rest
 
--- ---- files
+module _ (chunks : List (List KeptLine)) (i : ℕ) (h : i < length chunks) where
+  pub chunks_next : take (i + 1) chunks ≡ take i chunks ++ get_or chunks i [] ∷ []
+  chunks_next = ap (λ n. take n chunks) (add-one i) ∙ take-suc chunks i [] h
 
--- the lines are as they were
-texts_with_found : (lines : List KeptLine) (found : List Finds) → map line_text (with_found lines found) ≡ map line_text lines
-texts_with_found [] found = refl
-texts_with_found (line ∷ lines) [] = refl
-texts_with_found (line ∷ lines) (one ∷ found) = ap (λ l. line_text line ∷ l) (texts_with_found lines found)
+  pub texts_next : map line_text (all_of (take (i + 1) chunks)) ≡ map line_text (all_of (take i chunks)) ++ map line_text (get_or chunks i [])
+  texts_next = ap (λ cs. map line_text (all_of cs)) chunks_next ∙ ap (map line_text) (joined_push (take i chunks) (get_or chunks i [])) ∙ map-append line_text (all_of (take i chunks)) (get_or chunks i [])
 
-file_with_found : (name : Text) (lines : Option (List KeptLine)) (found : List Finds) → file_with name (option_map (λ l. with_found l found) lines) ≡ file_with name lines
-file_with_found name None found = refl
-file_with_found name (Some lines) found = ap (λ t. record { name = name; lines = t; ending = whole }) (texts_with_found lines found)
+  pub texts_rest : map line_text (all_of (take (i + 1) chunks)) ++ map line_text (all_of (drop (i + 1) chunks)) ≡ map line_text (all_of chunks)
+  texts_rest = sym (map-append line_text (all_of (take (i + 1) chunks)) (all_of (drop (i + 1) chunks))) ∙ ap (map line_text) (sym (joined_parts chunks (i + 1)))
 
--- the file that contracts see is as it was
-pub same_file : (old new : KeptFile) (found : List Finds) → new.name ≡ old.name → kept_lines new ≡ option_map (λ l. with_found l found) (kept_lines old) → kept_file new ≡ kept_file old
-same_file old new found name lines = (λ i. file_with (name i).items (lines i)) ∙ file_with_found old.name.items (kept_lines old) found
+-- ---- columns that are added
+
+module _ (change : Change) (es : List Expression) (options : Options) where
+  -- nothing was found in no chunk
+  pub adds_no_column : (old : List (Option FoundIn)) → AddsColumns change es options [] old old
+  adds_no_column old = record { found = []; added = sym (append-nil old); fit = tt; are_right = λ before changed h k. tt }
+
+  -- what was found in more chunks
+  pub adds_columns : (chunks more all : List (List KeptLine)) (old mid new : List (Option FoundIn)) → all ≡ chunks ++ more → AddsColumns change es options chunks old mid → AddsColumns change es options more mid new → AddsColumns change es options all old new
+  adds_columns chunks more all old mid new both a b = record {
+    found = a.found ++ b.found;
+    added = b.added ∙ ap (λ l. l ++ b.found) a.added ∙ append_assoc old a.found b.found;
+    fit = subst (λ cs. AllZip FitsColumn cs (a.found ++ b.found)) (sym both) (AllZip-append FitsColumn chunks more a.found b.found a.fit b.fit);
+    are_right = λ before changed h k.
+        let kept = subst (All (All (WasKept change before options))) both k in
+        subst (λ cs. AllZip (IsColumn es options) cs (a.found ++ b.found)) (sym both)
+        (AllZip-append (IsColumn es options) chunks more a.found b.found (a.are_right before changed h (all_first (All (WasKept change before options)) chunks more kept)) (b.are_right before changed h (all_rest (All (WasKept change before options)) chunks more kept)));
+  }
+
+  -- what was found in one chunk
+  pub adds_column : (chunk : List KeptLine) (one : Option FoundIn) (old new : List (Option FoundIn)) → new ≡ old ++ one ∷ [] → FitsColumn chunk one
+      → ((before changed : List Expression) → HasChanged change es before changed → All (WasKept change before options) chunk → IsColumn es options chunk one) → AddsColumns change es options (chunk ∷ []) old new
+  adds_column chunk one old new pushed fits right = record { found = one ∷ []; added = pushed; fit = (fits, tt); are_right = λ before changed h k. (right before changed h (k 0 chunk (omega arith)), tt) }
+
+-- ---- columns that are put
+
+-- the first of what was found fits the first chunks
+pub fit_first : (chunks more : List (List KeptLine)) (found : List (Option FoundIn)) → AllZip FitsColumn (chunks ++ more) found → FitColumns chunks found
+fit_first [] more found h = tt
+fit_first (chunk ∷ chunks) more [] h = h
+fit_first (chunk ∷ chunks) more (one ∷ found) h = (h.0, fit_first chunks more found h.1)
+
+-- the rest is that of the other chunks
+pub rest_of : (P : List KeptLine → Option FoundIn → Type 0) (chunks more : List (List KeptLine)) (found : List (Option FoundIn)) → AllZip P (chunks ++ more) found → AllZip P more (drop (length chunks) found)
+rest_of P [] more found h = h
+rest_of P (chunk ∷ chunks) more [] h = absurd h
+rest_of P (chunk ∷ chunks) more (one ∷ found) h = rest_of P chunks more found h.1
 
 module _ (es : List Expression) (options : Options) where
-  -- what is right for the first lines, and what is left for the others
-  right_lines : (lines : List KeptLine) (more : List Text) (found : List Finds) → AllZip (IsRight es options) (map line_text lines ++ more) found → All (IsKept es options) (with_found lines found) × AllZip (IsRight es options) more (drop (length lines) found)
-  right_lines [] more found h = (All-nil (IsKept es options), h)
-  right_lines (line ∷ lines) more [] h = absurd h
-  right_lines (line ∷ lines) more (one ∷ found) h =
-      let rest = right_lines lines more found h.1 in
-      (All-cons (IsKept es options) (line_with line one) (with_found lines found) (record { matching = h.0.matching; parts = h.0.parts }) rest.0, rest.1)
+  -- the lines of chunks have what was found in them
+  right_chunks : (chunks more : List (List KeptLine)) (found : List (Option FoundIn)) → AllZip (IsColumn es options) (chunks ++ more) found → All (IsKept es options) (all_of (with_columns chunks found))
+  right_chunks [] more found h = All-nil (IsKept es options)
+  right_chunks (chunk ∷ chunks) more [] h = absurd h
+  right_chunks (chunk ∷ chunks) more (one ∷ found) h = All-append (IsKept es options) (with_column chunk one) (all_of (with_columns chunks found)) h.0.1 (right_chunks chunks more found h.1)
 
-  right_file : (name : Text) (lines : Option (List KeptLine)) (more : List Text) (found : List Finds) → AllZip (IsRight es options) ((file_with name lines).lines ++ more) found
-      → IfSome (option_map (λ l. with_found l found) lines) (All (IsKept es options)) × AllZip (IsRight es options) more (drop (length (unwrap_or lines [])) found)
-  right_file name None more found h = (tt, h)
-  right_file name (Some lines) more found h = right_lines lines more found h
+  -- so have those of a file
+  pub right_file : (old new : KeptFile) (more : List (List KeptLine)) (found : List (Option FoundIn)) → new.lines ≡ option_map (λ cs. with_columns cs found) old.lines → AllZip (IsColumn es options) (chunks_of old ++ more) found → IsFileKept es options new
+  right_file old new more found put h = subst (λ ls. IfSome (option_map all_of ls) (All (IsKept es options))) (sym put) (by_lines old.lines h)
+    where
+      by_lines : (ls : Option (List (List KeptLine))) → AllZip (IsColumn es options) (unwrap_or ls [] ++ more) found → IfSome (option_map all_of (option_map (λ cs. with_columns cs found) ls)) (All (IsKept es options))
+      by_lines None h = tt
+      by_lines (Some chunks) h = right_chunks chunks more found h
 
-  -- one more file has what was found in its lines
-  pub right_next : (files : List File) (i : ℕ) (old new : KeptFile) (found rest : List Finds) → i < length files → get_or files i (kept_file old) ≡ kept_file old → kept_lines new ≡ option_map (λ l. with_found l found) (kept_lines old)
-      → rest ≡ drop (length (unwrap_or (kept_lines old) [])) found → AllZip (IsRight es options) (lines_of_files (drop i files)) found → IsFileKept es options new × AllZip (IsRight es options) (lines_of_files (drop (suc i) files)) rest
-  right_next files i old new found rest h at lines left all =
-      let next : drop i files ≡ kept_file old ∷ drop (suc i) files = drop-cons files i (kept_file old) h ∙ ap (λ f. f ∷ drop (suc i) files) at in
-      let both = right_file old.name.items (kept_lines old) (lines_of_files (drop (suc i) files)) found (subst (λ fs. AllZip (IsRight es options) (lines_of_files fs) found) next all) in
-      (subst (λ l. IfSome l (All (IsKept es options))) (sym lines) both.0, subst (AllZip (IsRight es options) (lines_of_files (drop (suc i) files))) (sym left) both.1)
+-- ---- what does not change
+
+texts_with_column : (chunk : List KeptLine) (one : Option FoundIn) → map line_text (with_column chunk one) ≡ map line_text chunk
+texts_with_column chunk None = refl
+texts_with_column chunk (Some found) = texts-seen 0 (map line_text chunk) found
+
+pub texts_with_columns : (chunks : List (List KeptLine)) (found : List (Option FoundIn)) → map line_text (all_of (with_columns chunks found)) ≡ map line_text (all_of chunks)
+texts_with_columns [] found = refl
+texts_with_columns (chunk ∷ chunks) [] = refl
+texts_with_columns (chunk ∷ chunks) (one ∷ found) =
+    let first = texts_with_column chunk one in
+    let rest = texts_with_columns chunks found in
+    map-append line_text (with_column chunk one) (all_of (with_columns chunks found)) ∙ (λ i. first i ++ rest i) ∙ sym (map-append line_text chunk (all_of chunks))
+
+file_with_columns : (name : Text) (ls : Option (List (List KeptLine))) (found : List (Option FoundIn)) → file_with name (option_map all_of (option_map (λ cs. with_columns cs found) ls)) ≡ file_with name (option_map all_of ls)
+file_with_columns name None found = refl
+file_with_columns name (Some chunks) found = ap (λ t. record { name = name; lines = t; ending = whole }) (texts_with_columns chunks found)
+
+-- the file that contracts see is as it was
+pub same_file : (old new : KeptFile) (found : List (Option FoundIn)) → new.name ≡ old.name → new.lines ≡ option_map (λ cs. with_columns cs found) old.lines → kept_file new ≡ kept_file old
+same_file old new found name put = (λ i. file_with (name i).items (option_map all_of (put i))) ∙ file_with_columns old.name.items old.lines found
+
+-- the chunks of the file at a place, and of those after it
+pub chunks_from : (files : List KeptFile) (i : ℕ) (d : KeptFile) → i < length files → chunks_of_files (drop i files) ≡ chunks_of (get_or files i d) ++ chunks_of_files (drop (suc i) files)
+chunks_from files i d h = ap chunks_of_files (drop-cons files i d h)
+
+-- the chunks of the first files and of one more
+pub chunks_on : (files : List KeptFile) (i : ℕ) (file : KeptFile) → i < length files → file ≡ get_or files i file → chunks_of_files (take (i + 1) files) ≡ chunks_of_files (take i files) ++ chunks_of file
+chunks_on files i file h is =
+    ap (λ n. chunks_of_files (take n files)) (add-one i) ∙ ap chunks_of_files (take-suc files i file h ∙ ap (λ f. take i files ++ f ∷ []) (sym is))
+    ∙ flat_map-append chunks_of (take i files) (file ∷ []) ∙ ap (λ cs. chunks_of_files (take i files) ++ cs) (append-nil (chunks_of file))
+
+-- what is known of the lines of all files is known of those of each chunk
+pub files_by_chunk : (change : Change) (before : List Expression) (options : Options) (files : List KeptFile) → All (WasFileKept change before options) files → All (All (WasKept change before options)) (chunks_of_files files)
+files_by_chunk change before options [] all = All-nil (All (WasKept change before options))
+files_by_chunk change before options (file ∷ files) all =
+    All-append (All (WasKept change before options)) (chunks_of file) (chunks_of_files files) (by_lines file.lines (All-head (WasFileKept change before options) file files all))
+    (files_by_chunk change before options files (All-tail (WasFileKept change before options) file files all))
+  where
+    by_lines : (ls : Option (List (List KeptLine))) → IfSome (option_map all_of ls) (All (WasKept change before options)) → All (All (WasKept change before options)) (unwrap_or ls [])
+    by_lines None h = All-nil (All (WasKept change before options))
+    by_lines (Some chunks) h = all_by_chunk (WasKept change before options) chunks h
+
+-- ---- files whose lines are put one after the other
+
+-- one more element is left out
+left_out : {X : Type 0} (i : ℕ) (xs : List X) → drop 1 (drop i xs) ≡ drop (suc i) xs
+left_out zero [] = refl
+left_out (suc i) [] = refl
+left_out zero (x ∷ xs) = refl
+left_out (suc i) (x ∷ xs) = left_out i xs
+
+-- the files after a place, after the one there was replaced
+pub later_on : (files now : List KeptFile) (i : ℕ) (new : KeptFile) → drop i now ≡ drop i files → drop (i + 1) (set now i new) ≡ drop (i + 1) files
+later_on files now i new same =
+    ap (λ n. drop n (set now i new)) (add-one i) ∙ drop-set-lt (suc i) now i new (omega arith) ∙ sym (left_out i now) ∙ ap (drop 1) same ∙ left_out i files ∙ ap (λ n. drop n files) (sym (add-one i))
+
+-- the file at a place is the one that was there, if those from there on are
+pub there_still : (files now : List KeptFile) (i : ℕ) (d : KeptFile) → drop i now ≡ drop i files → get_or now i d ≡ get_or files i d
+there_still files now i d same =
+    let place : i ≡ i + 0 = omega arith in
+    ap (λ n. get_or now n d) place ∙ sym (get_or-drop i now 0 d) ∙ ap (λ fs. get_or fs 0 d) same ∙ get_or-drop i files 0 d ∙ ap (λ n. get_or files n d) (sym place)
+
+-- ---- all chunks of one list of lines
+
+-- what was found fits them
+pub fit_all : (chunks : List (List KeptLine)) (found : List (Option FoundIn)) → AllZip FitsColumn chunks found → FitColumns chunks found
+fit_all chunks found fit = fit_first chunks [] found (subst (λ cs. AllZip FitsColumn cs found) (sym (append-nil chunks)) fit)
+
+-- and is right for their lines
+pub right_all : (es : List Expression) (options : Options) (chunks : List (List KeptLine)) (found : List (Option FoundIn)) → AllZip (IsColumn es options) chunks found → All (IsKept es options) (all_of (with_columns chunks found))
+right_all es options chunks found right = right_chunks es options chunks [] found (subst (λ cs. AllZip (IsColumn es options) cs found) (sym (append-nil chunks)) right)
+
+-- one more new line
+pub texts_pushed : (old : List (List KeptLine)) (new : List (List KeptLine)) (text : Text) → all_of new ≡ all_of old ++ new_line text ∷ [] → map line_text (all_of new) ≡ map line_text (all_of old) ++ text ∷ []
+texts_pushed old new text pushed = ap (map line_text) pushed ∙ map-append line_text (all_of old) (new_line text ∷ [])
+
+-- nothing has to be known of lines that are searched anew
+pub all_anew : (before : List Expression) (options : Options) (lines : List KeptLine) → All (WasKept Anew before options) lines
+all_anew before options lines = λ k d h. tt
+
+pub all_anew_chunks : (before : List Expression) (options : Options) (chunks : List (List KeptLine)) → All (All (WasKept Anew before options)) chunks
+all_anew_chunks before options chunks = λ k d h. all_anew before options (get_or chunks k d)

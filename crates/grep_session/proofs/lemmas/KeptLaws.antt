@@ -21,9 +21,9 @@ use Rattle.grep_core.specs.Working.Searched.{is_fault, ending_of, status_by}
 use Rattle.grep_core.proofs.lemmas.PassLemmas.{or_decides}
 use Rattle.grep_core.proofs.lemmas.StatusLaws.{StatusOf-quiet, StatusOf-error, StatusOf-selected, StatusOf-none}
 use Rattle.grep_core.proofs.lemmas.Verdicts.{decided_yes, decided_no}
-use Rattle.grep_session.specs.declared.kept.KeptLine.{KeptLine}
+use Rattle.line_chunks.specs.Working.Chunks.{KeptLine, line_text}
 use Rattle.grep_session.specs.declared.kept.KeptFile.{KeptFile}
-use Rattle.grep_session.specs.Working.Kept.{line_text, span_places, kept_lines, file_with, kept_file, AreMatching, IsKept, IsFileKept}
+use Rattle.grep_session.specs.Working.Kept.{span_places, kept_lines, file_with, kept_file, AreMatching, IsKept, IsFileKept}
 use Rattle.grep_session.specs.Working.Report.{matches_none, is_selected, has_selected_in, has_selected, end_with, end_of, OnLine, PartsFit, LinesFit, FileFits, reported_like, reported_from, is_faulty, any_selected, any_missing, status_by_files, status_given}
 
 -- the status of a run that did not stop

@@ -22,9 +22,9 @@ use Rattle.grep_core.proofs.lemmas.FileOutput.{rows_none, output_all}
 use Rattle.grep_core.proofs.lemmas.GroupLaws.{after_nothing}
 use Rattle.grep_core.proofs.lemmas.MoreFiles.{GroupedAs-append, grouped_out}
 use Rattle.grep_core.proofs.lemmas.Verdicts.{picked, IfHolds-by}
-use Rattle.grep_session.specs.declared.kept.KeptLine.{KeptLine}
+use Rattle.line_chunks.specs.Working.Chunks.{KeptLine, line_text}
 use Rattle.grep_session.specs.declared.kept.KeptFile.{KeptFile}
-use Rattle.grep_session.specs.Working.Kept.{line_text, span_places, kept_lines, file_with, kept_file, IsKept, IsFileKept}
+use Rattle.grep_session.specs.Working.Kept.{span_places, kept_lines, file_with, kept_file, IsKept, IsFileKept}
 use Rattle.grep_session.specs.Working.Report.{is_selected, has_selected, selected_count, row, selected_rows, rows_as, text_rows, rows_with, rows_after_laws, report_rows}
 use Rattle.grep_session.proofs.lemmas.AroundKept.{around_groups}
 use Rattle.grep_session.proofs.lemmas.KeptLaws.{parts_asked, selected_reported, has_reported}

@@ -11,10 +11,10 @@ use Rattle.re_syntax.specs.declared.span.Span.{Span}
 use Rattle.grep_core.specs.declared.options.Options.{Options}
 use Rattle.grep_core.specs.Files.{File, Selected}
 use Rattle.grep_core.specs.Run.{file_at}
-use Rattle.grep_session.specs.declared.kept.KeptLine.{KeptLine}
+use Rattle.line_chunks.specs.Working.Chunks.{KeptLine, line_text, no_line}
 use Rattle.grep_session.specs.declared.kept.KeptFile.{KeptFile}
 use Rattle.grep_session.specs.Listed.{ListedParts}
-use Rattle.grep_session.specs.Working.Kept.{line_text, span_places, kept_lines, kept_file, file_with, IsKept, IsFileKept}
+use Rattle.grep_session.specs.Working.Kept.{span_places, kept_lines, kept_file, file_with, IsKept, IsFileKept}
 use Rattle.grep_session.specs.Working.Looking.{listed_spans}
 use Rattle.grep_session.specs.Working.Report.{is_selected}
 use Rattle.grep_session.proofs.lemmas.KeptLaws.{selected_reported}
@@ -59,24 +59,29 @@ file_is files k place file kept h at is =
     get_or-map kept_file files k file (file_at [] k) (there files k place h) ∙ ap kept_file (sym at) ∙ ap (file_with file.name.items) is
 
 -- a file without lines has no line
-pub no_line : (files : List KeptFile) (k place : ℕ) (file : KeptFile) → place < length (file_at (map kept_file files) k).lines → file ≡ get_or files k file → kept_lines file ≡ None → ⊥
-no_line files k place file h at is =
+pub has_no_line : (files : List KeptFile) (k place : ℕ) (file : KeptFile) → place < length (file_at (map kept_file files) k).lines → file ≡ get_or files k file → kept_lines file ≡ None → ⊥
+has_no_line files k place file h at is =
     let bad : place < 0 = subst (λ (f : File). place < length f.lines) (file_is files k place file None h at is) h in
     omega (arith, bad)
 
+-- the place is among the lines that are kept
+pub line_inside : (files : List KeptFile) (k place : ℕ) (file : KeptFile) (lines : List KeptLine) → place < length (file_at (map kept_file files) k).lines → file ≡ get_or files k file → kept_lines file ≡ Some lines → place < length lines
+line_inside files k place file lines h at is = omega (arith, subst (λ (f : File). place < length f.lines) (file_is files k place file (Some lines) h at is) h, length-map lines line_text)
+
 -- the hit of a line of a file
-pub hit_listed : (es : List Expression) (options : Options) (files : List KeptFile) (k place : ℕ) (file : KeptFile) (lines : List KeptLine) (line : KeptLine) {H : Type 0} (text : H → Text) (parts : H → List Span) (result : Option H) →
-    All (IsFileKept es options) files → place < length (file_at (map kept_file files) k).lines → file ≡ get_or files k file → kept_lines file ≡ Some lines → line ≡ get_or lines place line
-    → MatchOption result (is_selected options line ≡ false) (λ hit. (is_selected options line ≡ true) × (text hit ≡ line_text line) × (parts hit ≡ listed_spans options line))
+pub hit_listed : (es : List Expression) (options : Options) (files : List KeptFile) (k place : ℕ) (file : KeptFile) (lines : List KeptLine) {H : Type 0} (text : H → Text) (parts : H → List Span) (result : Option H) →
+    All (IsFileKept es options) files → place < length (file_at (map kept_file files) k).lines → file ≡ get_or files k file → kept_lines file ≡ Some lines
+    → let line = get_or lines place no_line in
+    MatchOption result (is_selected options line ≡ false) (λ hit. (is_selected options line ≡ true) × (text hit ≡ line_text line) × (parts hit ≡ listed_spans options line))
     → let there = get_or (file_at (map kept_file files) k).lines place [] in
     MatchOption result (Selected es options there → ⊥) (λ hit. Selected es options there × (text hit ≡ there) × ListedParts es options there (map span_places (parts hit)))
-hit_listed es options files k place file lines line text parts result kept h at is here reported =
-    let file_there = file_is files k place file (Some lines) h at is in
-    let inside : place < length lines = omega (arith, subst (λ (f : File). place < length f.lines) file_there h, length-map lines line_text) in
+hit_listed es options files k place file lines text parts result kept h at is reported =
+    let line = get_or lines place no_line in
+    let inside = line_inside files k place file lines h at is in
     let kept_there : IfSome (kept_lines file) (All (IsKept es options)) = subst (λ (f : KeptFile). IsFileKept es options f) (sym at) (All-get_or (IsFileKept es options) files k file (there files k place h) kept) in
     let all : All (IsKept es options) lines = subst (λ l. IfSome l (All (IsKept es options))) is kept_there in
-    let line_kept : IsKept es options line = subst (IsKept es options) (sym here) (All-get_or (IsKept es options) lines place line inside all) in
+    let line_kept : IsKept es options line = All-get_or (IsKept es options) lines place no_line inside all in
     let same : get_or (file_at (map kept_file files) k).lines place [] ≡ line_text line =
-    ap (λ (f : File). get_or f.lines place []) file_there ∙ get_or-map line_text lines place line [] inside ∙ ap line_text (sym here) in
+    ap (λ (f : File). get_or f.lines place []) (file_is files k place file (Some lines) h at is) ∙ get_or-map line_text lines place no_line [] inside in
     subst (λ t. MatchOption result (Selected es options t → ⊥) (λ hit. Selected es options t × (text hit ≡ t) × ListedParts es options t (map span_places (parts hit)))) (sym same)
     (line_listed es options text parts line result line_kept reported)

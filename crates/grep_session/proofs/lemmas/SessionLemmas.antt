@@ -1,13 +1,8 @@
 -- How lists of a session's inputs change.
-use Rattle.std.proofs.Common.{◌≡◌, ℕ, suc, ◌+◌, ◌<◌, List, [], ◌∷◌, ◌++◌, length, map, take, drop, refl, sym, ap, subst, ◌∙◌, All, get_or, add-one, arith}
+use Rattle.std.proofs.Common.{◌≡◌, ℕ, suc, ◌+◌, ◌<◌, List, [], ◌∷◌, ◌++◌, length, map, take, drop, sym, ap, subst, ◌∙◌, All, get_or, add-one, arith}
 use Rattle.std.proofs.Math.Seq.{take-suc}
 use Rattle.std.proofs.lemmas.List.Elements.{All-push}
 use Rattle.std.proofs.lemmas.List.{map-append, get_or-map, length-map}
-use Rattle.std.specs.Iterator.{Drains}
-use Rattle.std.specs.declared.vec.IntoIter.{IntoIter}
-use Rattle.std.specs.Vec.Iter.{into_iter_items, into_iter_len, into_iter_steps}
-use Rattle.std.proofs.lemmas.Iterator.{items_from_drains}
-use Rattle.std.proofs.lemmas.Iterator.Adapters.{YieldsList-from_vec}
 use Rattle.std.specs.List.{remove, splice, take-map, drop-map}
 
 -- f of a list after an element was removed
@@ -20,17 +15,9 @@ map-splice f xs new ys i j e =
     ap (map f) e ∙ map-append f (take i xs) (ys ++ drop j xs) ∙ (λ n. sym (take-map f i xs) n ++ map-append f ys (drop j xs) n)
     ∙ ap (λ l. take i (map f xs) ++ (map f ys ++ l)) (sym (drop-map f j xs))
 
-pub map-same : {X : Type 0} (xs : List X) → map (λ x. x) xs ≡ xs
-map-same [] = refl
-map-same (x ∷ xs) = ap (λ l. x ∷ l) (map-same xs)
-
 -- if P fails at one element, it does not hold of all
 pub fails_at : {X Y : Type 0} (P : Y → Type 0) (f : X → Y) (xs : List X) (i : ℕ) (x : X) → i < length xs → x ≡ get_or xs i x → (P (f x) → ⊥) → All P (map f xs) → ⊥
 fails_at P f xs i x within is fails all = fails (subst P (get_or-map f xs i x (f x) within ∙ ap f (sym is)) (all i (f x) (omega (arith, length-map xs f))))
-
--- the elements that a vector gave one after the other are its elements
-pub drained : {X Z : Type 0} (s : IntoIter X Z) (xs all : List X) → Drains (into_iter_steps {X = X} {Z = Z}) s xs → into_iter_items s ≡ all → into_iter_len s ≡ length all → xs ≡ all
-drained s xs all d items many = sym (map-same xs) ∙ items_from_drains xs (d.1.0, d.1.1, λ _. (d.0, d.1.2)) (YieldsList-from_vec {s = s} all items many)
 
 -- P holds of the first elements, and of one more
 pub All-next : {X : Type 0} (P : X → Type 0) (xs : List X) (i : ℕ) (x : X) → i < length xs → x ≡ get_or xs i x → All P (take i xs) → P x → All P (take (i + 1) xs)

@@ -1,5 +1,5 @@
 -- The cost of lines, and the steps that a search of them takes.
-use Rattle.std.proofs.Common.{◌≡◌, ℕ, ◌+◌, ◌-◌, Bool, true, false, List, [], ◌∷◌, ◌++◌, inl, inr, length, map, drop, length-drop, MatchBool, Decides, Ok, refl, sym, ap, subst, ◌∙◌, append_assoc, arith}
+use Rattle.std.proofs.Common.{◌≡◌, ℕ, ◌+◌, Bool, true, false, List, [], ◌∷◌, ◌++◌, inl, inr, length, map, MatchBool, Decides, Ok, refl, sym, ap, subst, ◌∙◌, append_assoc, arith}
 use Rattle.std.proofs.lemmas.List.{length-map}
 use Rattle.std.proofs.lemmas.Bool.{false≢true}
 use Rattle.re_syntax.specs.Bytes.{Text}
@@ -18,8 +18,8 @@ use Rattle.grep_core.proofs.lemmas.Decided.{dec_matched}
 use Rattle.grep_session.specs.declared.change.Change.{Change}
 use Rattle.grep_session.specs.declared.change.Change.TheVariants.{Anew, PartsAlone, Added, Dropped}
 use Rattle.grep_session.specs.Edits.{Edit, Applies}
-use Rattle.grep_session.specs.Touched.{PartsCostOf, PartsCost, TakesSteps, Touched, Touches, pairs_cost, parts_alone, searched_by}
-use Rattle.grep_session.specs.Working.Changed.{ChangeCost, CostAnew, CostOfEach, HasNewParts, SearchesEach, SearchesOne, searched_for}
+use Rattle.grep_session.specs.Touched.{PartsCost, TakesSteps, Touched, Touches, pairs_cost, parts_alone, searched_by}
+use Rattle.grep_session.specs.Working.Changed.{ChangeCost, CostAnew, CostOfEach, HasNewParts, NewPartsCost, SearchesEach, SearchesOne, searched_for}
 use Rattle.grep_session.proofs.lemmas.FindingLemmas.{parts_cost_exists}
 
 -- a decided question
@@ -36,45 +36,17 @@ dec_new_parts PartsAlone changed options line = yes tt
 dec_new_parts (Added first) changed options line = dec_matched changed options line
 dec_new_parts (Dropped p) changed options line = dec_matched changed options line
 
+-- the search for a line's parts has a cost
+pub NewPartsCost-exists : (change : Change) (changed es : List Expression) (options : Options) (line : Text) → (cost : ℕ) × NewPartsCost change changed es options line cost
+NewPartsCost-exists change changed es options line = by_verdict (dec_new_parts change changed options line)
+  where
+    by_verdict : Dec (HasNewParts change changed options line) → (cost : ℕ) × NewPartsCost change changed es options line cost
+    by_verdict (yes m) = let own = parts_cost_exists es options line in (own.0, inl (m, own.1))
+    by_verdict (no m) = (0, inr (m, refl))
+
 -- a line has a cost
 pub ChangeCost-exists : (change : Change) (changed es : List Expression) (options : Options) (line : Text) → (cost : ℕ) × ChangeCost change changed es options line cost
-ChangeCost-exists change changed es options line = by_verdict (dec_new_parts change changed options line)
-  where
-    by_verdict : Dec (HasNewParts change changed options line) → (cost : ℕ) × ChangeCost change changed es options line cost
-    by_verdict (yes m) = let own = parts_cost_exists es options line in (search_cost (searched_for change changed) line + own.0, (own.0, inl (m, own.1), refl))
-    by_verdict (no m) = (search_cost (searched_for change changed) line + 0, (0, inr (m, refl), refl))
-
-module _ (change : Change) (changed es : List Expression) (options : Options) (line : Text) where
-  -- a line that was not searched for its parts
-  pub changed_before_parts : (begun ended : Steps) → AddsAtMost (search_cost (searched_for change changed) line) begun ended → SearchesOne (ChangeCost change changed es options) line begun ended
-  changed_before_parts begun ended few =
-      let cost = ChangeCost-exists change changed es options line in
-      let own = cost.1 in
-      record { own = cost.0; is_own = cost.1; few = adds_within (search_cost (searched_for change changed) line) cost.0 begun ended (omega (arith, own.2)) few }
-
-  -- a line that was searched for its parts, if that is needed
-  pub changed_with_parts : (verdict : Bool) (begun mid ended : Steps) → Decides verdict (HasNewParts change changed options line) → AddsAtMost (search_cost (searched_for change changed) line) begun mid
-      → (own : ℕ) × MatchBool verdict (PartsCostOf es options line own) (own ≡ 0) × AddsAtMost own mid ended → SearchesOne (ChangeCost change changed es options) line begun ended
-  changed_with_parts verdict begun mid ended d few parts = record {
-    own = search_cost (searched_for change changed) line + parts.0;
-    is_own = (parts.0, IfHolds-decided verdict d parts.1, refl);
-    few = adds_both (search_cost (searched_for change changed) line) parts.0 begun mid ended few parts.2;
-  }
-
--- one search by each of the added matchers
-pub came_steps : {M : Type 0} (expression : M → Expression) (matchers : List M) (first : ℕ) (changed : List Expression) (line : Text) (begun ended : Steps) → changed ≡ drop first (map expression matchers)
-    → AddsAtMost (search_cost (length matchers - first) line) begun ended → AddsAtMost (search_cost (length changed) line) begun ended
-came_steps expression matchers first changed line begun ended is few =
-    let many : length matchers - first ≡ length changed = sym (ap length is ∙ length-drop first (map expression matchers) ∙ ap (λ n. n - first) (length-map matchers expression)) in
-    subst (λ n. AddsAtMost (search_cost n line) begun ended) many few
-
--- the same where the new expressions equal all of them
-pub anew_as : (es changed : List Expression) (options : Options) (line : Text) (begun ended : Steps) → changed ≡ es → SearchesOne (CostAnew es options) line begun ended → SearchesOne (ChangeCost Anew changed es options) line begun ended
-anew_as es changed options line begun ended same s = subst (λ fs. SearchesOne (ChangeCost Anew fs es options) line begun ended) (sym same) s
-
--- one search by each of all matchers
-pub anew_steps : {M : Type 0} (expression : M → Expression) (matchers : List M) (line : Text) (begun ended : Steps) → AddsAtMost (search_cost (length matchers) line) begun ended → AddsAtMost (search_cost (length (map expression matchers)) line) begun ended
-anew_steps expression matchers line begun ended few = subst (λ n. AddsAtMost (search_cost n line) begun ended) (sym (length-map matchers expression)) few
+ChangeCost-exists change changed es options line = let own = NewPartsCost-exists change changed es options line in (search_cost (searched_for change changed) line + own.0, (own.0, own.1, refl))
 
 -- ---- lines
 

@@ -13,7 +13,7 @@ use Rattle.grep_core.specs.Files.{Matched}
 use Rattle.grep_session.specs.declared.change.Change.{Change}
 use Rattle.grep_session.specs.declared.change.Change.TheVariants.{Anew, PartsAlone, Added, Dropped}
 use Rattle.grep_session.specs.declared.kept.KeptFile.{KeptFile}
-use Rattle.grep_session.specs.declared.kept.KeptLine.{KeptLine}
+use Rattle.line_chunks.specs.Working.Chunks.{KeptLine}
 use Rattle.grep_session.specs.Touched.{PartsCostOf}
 use Rattle.grep_session.specs.Working.Kept.{AreMatching, IsKept, kept_lines}
 
@@ -31,7 +31,7 @@ HasChanged (Dropped p) es before changed =
 abbrev pub WasKept : Change → List Expression → Options → KeptLine → Type 0
 WasKept Anew before options line = ⊤
 WasKept PartsAlone before options line =
-    AreMatching line.text.items options.line_regexp 0 before line.found.numbers
+    AreMatching line.text options.line_regexp 0 before line.found.numbers
 WasKept _ before options line = IsKept before options line
 
 abbrev pub WasFileKept : Change → List Expression → Options → KeptFile → Type 0
@@ -56,11 +56,15 @@ HasNewParts (Added first) changed options line = Matched changed options line
 HasNewParts (Dropped p) changed options line = Matched changed options line
 HasNewParts _ changed options line = ⊤
 
+-- the cost of the search for a line's parts
+abbrev pub NewPartsCost : Change → List Expression → List Expression → Options → Text → ℕ → Type 0
+NewPartsCost change changed es options line cost =
+    IfHolds (HasNewParts change changed options line) (PartsCostOf es options line cost) (cost ≡ 0)
+
 -- the cost of a line: its search by the new expressions, and that for its parts
 abbrev pub ChangeCost : Change → List Expression → List Expression → Options → Text → ℕ → Type 0
 ChangeCost change changed es options line cost =
-    (own : ℕ) ×
-    IfHolds (HasNewParts change changed options line) (PartsCostOf es options line own) (own ≡ 0)
+    (own : ℕ) × NewPartsCost change changed es options line own
     × (cost ≡ search_cost (searched_for change changed) line + own)
 
 -- the cost of a line that is searched anew

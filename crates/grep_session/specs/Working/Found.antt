@@ -1,28 +1,21 @@
 -- What was found replaces what is kept.
-use Rattle.std.specs.Prelude.{◌≡◌, ℕ, Bool, true, false, List, [], ◌∷◌, ◌++◌}
-use Rattle.std.specs.List.{AllZip, flat_map}
+use Rattle.std.specs.Prelude.{◌≡◌, ℕ, Bool, true, false, List, [], ◌∷◌, All, Option}
+use Rattle.std.specs.List.{flat_map}
+use Rattle.std.specs.Option.{unwrap_or}
 use Rattle.re_syntax.specs.Bytes.{Text}
 use Rattle.re_syntax.specs.Expression.{Expression}
+use Rattle.re_syntax.specs.declared.span.Span.{Span}
+use Rattle.line_chunks.specs.Working.Finds.{Finds, no_finds, FoundIn}
+use Rattle.line_chunks.specs.Working.Chunks.{KeptLine, FitsColumn, with_column}
 use Rattle.grep_core.specs.declared.options.Options.{Options}
 use Rattle.grep_core.specs.Files.{File}
-use Rattle.grep_session.specs.Working.Finds.{Finds, finds_with}
-use Rattle.grep_session.specs.Working.Kept.{AreMatching, ArePartsKept}
-use Rattle.grep_session.specs.declared.kept.KeptLine.{KeptLine}
+use Rattle.grep_session.specs.declared.kept.KeptFile.{KeptFile}
+use Rattle.grep_session.specs.Working.Kept.{AreMatching, ArePartsKept, IsKept}
 
--- a line with what was found in it
-abbrev pub line_with : KeptLine → Finds → KeptLine
-line_with line found = record { text = line.text; found = found }
-
--- a line with the first of what was found
-abbrev pub next_line : KeptLine → List Finds → KeptLine
-next_line line [] = line
-next_line line (one ∷ found) = line_with line one
-
--- the lines with what was found in each of them
-abbrev pub with_found : List KeptLine → List Finds → List KeptLine
-with_found [] found = []
-with_found (line ∷ lines) [] = line ∷ lines
-with_found (line ∷ lines) (one ∷ found) = line_with line one ∷ with_found lines found
+-- the patterns of these numbers match the line; if there are none, no part is kept
+abbrev pub finds_with : List ℕ → List Span → Finds
+finds_with [] spans = no_finds
+finds_with (n ∷ numbers) spans = record { numbers = n ∷ numbers; spans = spans }
 
 -- what was found is what these expressions find in the line
 pub record IsRight (es : List Expression) (options : Options) (line : Text)
@@ -34,16 +27,22 @@ pub record IsRight (es : List Expression) (options : Options) (line : Text)
 -- or the kept ones stay
 abbrev pub IsFoundAgain : Bool → List Expression → Options → KeptLine → List ℕ → Finds → Type 0
 IsFoundAgain true es options line numbers found =
-    AreMatching line.text.items options.line_regexp 0 es numbers →
-    IsRight es options line.text.items found
+    AreMatching line.text options.line_regexp 0 es numbers →
+    IsRight es options line.text found
 IsFoundAgain false es options line numbers found = found ≡ finds_with numbers line.found.spans
 
--- right findings for these lines were added
-pub record AddsRight (es : List Expression) (options : Options) (lines : List Text)
-    (old new : List Finds) : Type 0 where
-  pub found : List Finds
-  pub are_right : AllZip (IsRight es options) lines found
-  pub added : new ≡ old ++ found
+-- what was found in a chunk is of as many lines, and once it replaces what is kept of these, that is
+-- what the expressions find in them
+abbrev pub IsColumn : List Expression → Options → List KeptLine → Option FoundIn → Type 0
+IsColumn es options lines found =
+    FitsColumn lines found × All (IsKept es options) (with_column lines found)
+
+-- the chunks of a file, and of all files
+abbrev pub chunks_of : KeptFile → List (List KeptLine)
+chunks_of file = unwrap_or file.lines []
+
+abbrev pub chunks_of_files : List KeptFile → List (List KeptLine)
+chunks_of_files files = flat_map chunks_of files
 
 -- the lines of all files
 abbrev pub lines_of_files : List File → List Text

@@ -10,7 +10,7 @@ use Rattle.re_syntax.specs.declared.span.Span.{Span}
 use Rattle.grep_core.specs.declared.options.Options.{Options}
 use Rattle.grep_core.specs.Choose.{IfHolds}
 use Rattle.grep_core.specs.Files.{File, whole, missing}
-use Rattle.grep_session.specs.declared.kept.KeptLine.{KeptLine}
+use Rattle.line_chunks.specs.Working.Chunks.{KeptLine, line_text, all_of}
 use Rattle.grep_session.specs.declared.kept.KeptFile.{KeptFile}
 
 -- ---- what is found in a line
@@ -33,12 +33,9 @@ pub record AddsMatching (line : Text) (entire : Bool) (first : ℕ) (es : List E
 abbrev pub span_places : Span → ℕ × ℕ
 span_places span = (span.start, span.end)
 
-abbrev pub line_text : KeptLine → Text
-line_text line = line.text.items
-
 -- the lines of a file that can be opened
 abbrev pub kept_lines : KeptFile → Option (List KeptLine)
-kept_lines file = option_map (λ lines. lines.items) file.lines
+kept_lines file = option_map all_of file.lines
 
 module _ (es : List Expression) (options : Options) where
   -- under `-o` the parts of a line are kept
@@ -49,8 +46,8 @@ module _ (es : List Expression) (options : Options) where
 
   -- what is kept of a line is what these expressions find in it
   pub record IsKept (line : KeptLine) : Type 0 where
-    pub matching : AreMatching line.text.items options.line_regexp 0 es line.found.numbers
-    pub parts : ArePartsKept line.text.items line.found.spans
+    pub matching : AreMatching line.text options.line_regexp 0 es line.found.numbers
+    pub parts : ArePartsKept line.text line.found.spans
 
   abbrev pub IsFileKept : KeptFile → Type 0
   IsFileKept file = IfSome (kept_lines file) (All IsKept)

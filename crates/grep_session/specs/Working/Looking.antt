@@ -2,7 +2,7 @@
 use Rattle.std.specs.Prelude.{List, [], if◌then◌else◌}
 use Rattle.re_syntax.specs.declared.span.Span.{Span}
 use Rattle.grep_core.specs.declared.options.Options.{Options}
-use Rattle.grep_session.specs.declared.kept.KeptLine.{KeptLine}
+use Rattle.line_chunks.specs.Working.Chunks.{KeptLine}
 
 -- under `-o` the parts that are kept of a line are listed, and otherwise none
 abbrev pub listed_spans : Options → KeptLine → List Span

@@ -22,9 +22,9 @@ use Rattle.grep_core.specs.Working.Progress.{rows_at}
 use Rattle.grep_core.specs.Working.Searched.{is_fault, summary_as, reported_of, status_by}
 use Rattle.grep_core.specs.Working.Requests.{name_shown, selects}
 use Rattle.grep_core.specs.Written.{Writes}
-use Rattle.grep_session.specs.declared.kept.KeptLine.{KeptLine}
+use Rattle.line_chunks.specs.Working.Chunks.{KeptLine, line_text}
 use Rattle.grep_session.specs.declared.kept.KeptFile.{KeptFile}
-use Rattle.grep_session.specs.Working.Kept.{line_text, kept_lines}
+use Rattle.grep_session.specs.Working.Kept.{kept_lines}
 
 -- ---- verdicts
 

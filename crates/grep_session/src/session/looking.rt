@@ -1,10 +1,11 @@
 //! What a session holds: its files and their lines, which lines an editor lists, and how many
 //! states are kept. No line is
 //! searched and no memory is asked for.
-ghost use Rattle.std.specs.Prelude.{◌≡◌, ◌<◌, ◌≤◌, ◌*◌, List, [], length, map, get_or, MatchBool};
-ghost use Rattle.std.specs.Prelude.{MatchOption};
+ghost use Rattle.std.specs.Prelude.{◌≡◌, ◌<◌, ◌≤◌, ◌*◌, ℕ, List, [], length, map, get_or, take};
+ghost use Rattle.std.specs.Prelude.{MatchBool, MatchOption};
 ghost use Rattle.re_syntax.specs.Expression.{Expression};
 ghost use Rattle.re_syntax.specs.Profile.{most_states};
+ghost use Rattle.re_search.specs.Working.Blocks.{HoldsOfMany};
 ghost use Rattle.grep_core.specs.Files.{AreMeant, Selected};
 ghost use Rattle.grep_core.specs.Run.{file_at};
 ghost use Rattle.grep_session.specs.Edits.{option_of};
@@ -13,7 +14,7 @@ ghost use Rattle.grep_session.specs.Listed.{ListedParts};
 
 use crate::caches::{Caches, kept_by};
 use crate::choosing::{is_same, option_of};
-use crate::hit::Hit;
+use crate::hit::{Hit, hit_at};
 use crate::session::Session;
 use grep_core::Flag;
 use re_search::Syntax;
@@ -50,7 +51,42 @@ impl Session {
         let Some(lines) = &self.files[k].lines else {
             return None;
         };
-        lines[place].hit(&self.options)
+        hit_at(lines, place, &self.options)
+    }
+
+    /// The number of lines of file `k` before line `place` that grep selects.
+    pub fn hits_before(&self, k: usize, place: usize) -> usize
+        requires { place ≤ length (file_at self.now.files k).lines }
+        ensures { (es : List Expression) →
+            AreMeant self.now.syntax self.now.options self.now.patterns es →
+            HoldsOfMany (Selected es self.now.options)
+            (take place (file_at self.now.files k).lines) result }
+    {
+        let Some(file) = self.files.get(k) else {
+            return 0;
+        };
+        file.selected_before(&self.options, place)
+    }
+
+    /// The first line of file `k`, from line `place` on, that grep selects; the number of its lines
+    /// if there is none.
+    pub fn next_hit(&self, k: usize, place: usize) -> usize
+        requires { place ≤ length (file_at self.now.files k).lines }
+        ensures after { place ≤ result }
+        ensures within { result ≤ length (file_at self.now.files k).lines }
+        ensures passed { (es : List Expression) →
+            AreMeant self.now.syntax self.now.options self.now.patterns es →
+            (i : ℕ) → place ≤ i → i < result →
+            Selected es self.now.options (get_or (file_at self.now.files k).lines i []) → ⊥ }
+        ensures hit { (es : List Expression) →
+            AreMeant self.now.syntax self.now.options self.now.patterns es →
+            result < length (file_at self.now.files k).lines →
+            Selected es self.now.options (get_or (file_at self.now.files k).lines result []) }
+    {
+        let Some(file) = self.files.get(k) else {
+            return 0;
+        };
+        file.next_selected(&self.options, place)
     }
 
     /// Whether an option has this value.

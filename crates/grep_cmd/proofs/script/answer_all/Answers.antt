@@ -77,3 +77,9 @@ returns-in-Err-answer_command-clause-gives g c =
     let next = rw c.in-Ok-true.field-0-test at c.in-Ok-true.ensures.next in
     let handed = next c.args.lines.now.lines.reader s.handed s.has_handed in
     answer_fails g.R.CountedRead.remaining g.R.CountedRead.failures g.W.CountedWrite.contents g.W.CountedWrite.failures c.args.lines.now.lines.reader c.args.meter.now c.args.out.now c.loop-fault.lines c.loop-fault.session c.loop-fault.meter c.loop-fault.out c.loop-fault.end c.loop-fault.invariant.0 c.next_line.new.lines.lines.line c.next_line.new.out c.in-Ok-true.ensures.sent c.answer_command.new.lines c.answer_command.new.session c.answer_command.new.meter c.answer_command.new.out c.in-Err-answer_command.fault (c.in-Err-answer_command.ensures.held (c.next_line.ensures.held c.loop-fault.invariant.2)) (c.in-Err-answer_command.ensures.answers c.args.lines.now.lines.reader (s.handed ++ c.next_line.new.lines.lines.line ∷ []) handed)
+
+pub answer_command-requires : goal.answer_command-requires
+answer_command-requires g c =
+    let s = c.loop-fault.invariant.0 in
+    let next = rw c.in-Ok-true.field-0-test at c.in-Ok-true.ensures.next in
+    (c.args.lines.now.lines.reader, s.handed ++ c.next_line.new.lines.lines.line ∷ [], next c.args.lines.now.lines.reader s.handed s.has_handed)

@@ -8,7 +8,7 @@ use Rattle.grep_live.proofs.changing.write_change.Goals as goal
 
 pub returns-then-is_idle : goal.returns-then-is_idle
 returns-then-is_idle g c =
-    let mark = c.args.watch.now.mark in
+    let mark = c.args.mark.now in
     let added = c.added-added.result in
     let far : added ≡ (mark.front + added) - mark.front = omega arith in
     let added_is = subst (λ (n : ℕ). added ≡ n - mark.front - mark.back) c.line_count.ensures c.added-added.ensures in
@@ -20,7 +20,7 @@ returns-then-is_idle g c =
 
 pub returns : goal.returns
 returns g c =
-    let mark = c.args.watch.now.mark in
+    let mark = c.args.mark.now in
     let added = c.added-added.result in
     let far : added ≡ (mark.front + added) - mark.front = omega arith in
     let added_is = subst (λ (n : ℕ). added ≡ n - mark.front - mark.back) c.line_count.ensures c.added-added.ensures in

@@ -1,60 +1,50 @@
-use Rattle.std.proofs.Common.{◌<◌, ◌≤◌, [], length, get_or, subst, arith}
-use Rattle.std.proofs.lemmas.List.{length-map}
+use Rattle.std.proofs.Common.{◌<◌, [], length, arith}
 use Rattle.grep_core.specs.Run.{file_at}
 use Rattle.grep_session.proofs.lemmas.Writing.{none_written, writes_err}
-use Rattle.grep_live.specs.declared.mark.Mark.{Mark}
-use Rattle.grep_live.specs.declared.watch.Watch.{Watch}
 use Rattle.grep_live.specs.Changes.{IsChange}
 use Rattle.grep_live.specs.Marks.{new_mark}
 use Rattle.grep_live.specs.Rows.{changes_rows}
-use Rattle.grep_live.specs.Working.Ranks.{marks_of}
 use Rattle.grep_live.proofs.lemmas.ListLemmas.{three-length, three-at}
 use Rattle.grep_live.proofs.lemmas.ChangesLemmas.{no_change, reported_on, reported_stops, reported_all}
 use Rattle.grep_live.proofs.lemmas.CatchLemmas.{marked_front}
-use Rattle.grep_live.proofs.lemmas.WatchLemmas.{mark_seen, ranks_seen}
 use Rattle.grep_live.proofs.changing.write_changes.Goals as goal
 
 pub loop-k-init : goal.loop-k-init
 loop-k-init g c = λ es meant changes are. none_written g.W.CountedWrite.contents g.W.CountedWrite.failures c.args.margin.now c.args.out.now (changes_rows 0 changes)
 
-pub write_change-requires-clause-are_ranks : goal.write_change-requires-clause-are_ranks
-write_change-requires-clause-are_ranks g c =
-    ranks_seen c.args.session.now c.args.watches.now c.loop-k.k c.index-watches-k.result c.requires.ranked c.loop-k-test.true c.index-watches-k.is
-
-pub write_change-requires-clause-within : goal.write_change-requires-clause-within
-write_change-requires-clause-within g c =
-    let watches = c.args.watches.now in
+pub write_change-requires : goal.write_change-requires
+write_change-requires g c =
     let k = c.loop-k.k in
-    let front = marked_front c.args.session.now.files (marks_of watches) k c.requires.fit (omega (arith, c.loop-k-test.true, length-map watches (λ (w : Watch). w.mark))) in
-    subst (λ (mark : Mark). mark.front ≤ length (file_at c.args.session.now.files k).lines) (mark_seen watches k c.index-watches-k.result c.loop-k-test.true c.index-watches-k.is) front
+    let front = marked_front c.args.session.now.files c.args.marks.now k c.requires c.loop-k-test.true in
+    front
 
 pub returns-in_err-write_change : goal.returns-in_err-write_change
 returns-in_err-write_change g c =
     let inputs = c.args.session.now in
-    let marks = marks_of c.args.watches.now in
+    let marks = c.args.marks.now in
     let k = c.loop-k.k in
     λ es meant changes are.
     let long = three-length (IsChange es inputs.options) inputs.files marks changes are in
-    let inside : k < length changes = omega (arith, long.1, length-map c.args.watches.now (λ (w : Watch). w.mark), c.loop-k-test.true) in
-    let change = subst (λ (mark : Mark). IsChange es inputs.options (file_at inputs.files k) mark (get_or changes k no_change)) (mark_seen c.args.watches.now k c.index-watches-k.result c.loop-k-test.true c.index-watches-k.is) (three-at (IsChange es inputs.options) inputs.files marks changes k (file_at [] k) new_mark no_change (omega (arith, long.0, length-map c.args.watches.now (λ (w : Watch). w.mark), c.loop-k-test.true)) are) in
+    let inside : k < length changes = omega (arith, long.1, c.loop-k-test.true) in
+    let change = three-at (IsChange es inputs.options) inputs.files marks changes k (file_at [] k) new_mark no_change (omega (arith, long.0, c.loop-k-test.true)) are in
     writes_err g.W.CountedWrite.contents g.W.CountedWrite.failures c.args.margin.now _ _ _ c.from_residual.result c.from_residual.ensures.0
     (reported_stops inputs marks g.W.CountedWrite.contents g.W.CountedWrite.failures c.args.margin.now es changes c.args.out.now c.loop-k.out c.write_change.new.out k inside (c.loop-k.invariant es meant changes are) (c.in_err-write_change.ensures es meant _ change))
 
 pub loop-k-preserved : goal.loop-k-preserved
 loop-k-preserved g c =
     let inputs = c.args.session.now in
-    let marks = marks_of c.args.watches.now in
+    let marks = c.args.marks.now in
     let k = c.loop-k.k in
     λ es meant changes are.
     let long = three-length (IsChange es inputs.options) inputs.files marks changes are in
-    let inside : k < length changes = omega (arith, long.1, length-map c.args.watches.now (λ (w : Watch). w.mark), c.loop-k-test.true) in
-    let change = subst (λ (mark : Mark). IsChange es inputs.options (file_at inputs.files k) mark (get_or changes k no_change)) (mark_seen c.args.watches.now k c.index-watches-k.result c.loop-k-test.true c.index-watches-k.is) (three-at (IsChange es inputs.options) inputs.files marks changes k (file_at [] k) new_mark no_change (omega (arith, long.0, length-map c.args.watches.now (λ (w : Watch). w.mark), c.loop-k-test.true)) are) in
+    let inside : k < length changes = omega (arith, long.1, c.loop-k-test.true) in
+    let change = three-at (IsChange es inputs.options) inputs.files marks changes k (file_at [] k) new_mark no_change (omega (arith, long.0, c.loop-k-test.true)) are in
     reported_on inputs marks g.W.CountedWrite.contents g.W.CountedWrite.failures c.args.margin.now es changes c.args.out.now c.loop-k.out c.write_change.new.out k inside (c.loop-k.invariant es meant changes are) (c.in_ok-write_change.ensures es meant _ change)
 
 pub returns : goal.returns
 returns g c =
     let inputs = c.args.session.now in
-    let marks = marks_of c.args.watches.now in
+    let marks = c.args.marks.now in
     λ es meant changes are.
     let long = three-length (IsChange es inputs.options) inputs.files marks changes are in
-    reported_all inputs marks g.W.CountedWrite.contents g.W.CountedWrite.failures c.args.margin.now es changes c.args.out.now c.loop-k.out c.loop-k.k (omega (arith, long.1, length-map c.args.watches.now (λ (w : Watch). w.mark), c.loop-k-test.false)) (c.loop-k.invariant es meant changes are)
+    reported_all inputs marks g.W.CountedWrite.contents g.W.CountedWrite.failures c.args.margin.now es changes c.args.out.now c.loop-k.out c.loop-k.k (omega (arith, long.1, c.loop-k-test.false)) (c.loop-k.invariant es meant changes are)

@@ -1,5 +1,13 @@
+use Rattle.std.proofs.Common.{◌-◌, ◌≤◌}
 use Rattle.grep_live.proofs.lemmas.ChangesLemmas.{Lists}
 use Rattle.grep_live.proofs.changing.write_hits.Given as goal
 
-abbrev pub invariant-loop-place : goal.invariant-loop-place
-invariant-loop-place g l = Lists l.session l.stretch.k l.stretch.from l.stretch.to g.W.CountedWrite.contents g.W.CountedWrite.failures l.margin l.fn.out l.out l.place
+-- the hits before this place were written
+abbrev pub invariant-loop-found : goal.invariant-loop-found
+invariant-loop-found g l = record {
+  in_order : l.from ≤ l.stretch.to;
+  lists : Lists l.session l.stretch.k l.stretch.from l.stretch.to g.W.CountedWrite.contents g.W.CountedWrite.failures l.margin l.fn.out l.out l.from;
+}
+
+abbrev pub decreases-loop-found : goal.decreases-loop-found
+decreases-loop-found g l = l.stretch.to - l.from

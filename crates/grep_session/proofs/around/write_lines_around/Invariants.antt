@@ -1,6 +1,6 @@
 use Rattle.std.proofs.Common.{◌≡◌, ◌+◌, ◌≤◌, [], map, take, drop}
 use Rattle.grep_core.specs.Working.Progress.{progress_from}
-use Rattle.grep_session.specs.Working.Kept.{line_text}
+use Rattle.line_chunks.specs.Working.Chunks.{all_of, line_text}
 use Rattle.grep_session.specs.Working.Report.{around_rows, selected_count}
 use Rattle.grep_session.proofs.lemmas.Writing.{WrittenUpTo}
 use Rattle.grep_session.proofs.around.write_lines_around.Given as goal
@@ -9,10 +9,9 @@ use Rattle.grep_session.proofs.around.write_lines_around.Given as goal
 abbrev pub invariant-loop-k : goal.invariant-loop-k
 invariant-loop-k g l =
     let rows = around_rows l.layout.request.options l.layout.request.many l.layout.request.name.now in
+    let lines = all_of l.lines in
     record {
-      wrote : WrittenUpTo g.W.CountedWrite.contents g.W.CountedWrite.failures l.layout.margin.now l.fn.out l.out (rows (progress_from l.fn.context l.fn.some) [] l.lines) (rows l.progress (map line_text (take l.k l.lines)) (drop l.k l.lines));
+      wrote : WrittenUpTo g.W.CountedWrite.contents g.W.CountedWrite.failures l.layout.margin.now l.fn.out l.out (rows (progress_from l.fn.context l.fn.some) [] lines) (rows l.progress (map line_text (take l.k lines)) (drop l.k lines));
       few : l.progress.waiting ≤ l.progress.context.before;
       within : l.progress.waiting ≤ l.k;
-      counted : selected_count l.layout.request.options l.lines ≡ l.selected + selected_count l.layout.request.options (drop l.k l.lines);
-      at_most : l.selected ≤ l.k;
     }

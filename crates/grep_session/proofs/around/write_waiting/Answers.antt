@@ -1,4 +1,7 @@
-use Rattle.std.proofs.Common.{arith}
+use Rattle.std.proofs.Common.{◌+◌, ◌-◌, map, take, arith}
+use Rattle.grep_core.specs.Output.{written}
+use Rattle.grep_core.specs.Working.Progress.{last_of, rows_around}
+use Rattle.line_chunks.specs.Working.Chunks.{all_of, line_text}
 use Rattle.grep_session.proofs.lemmas.AroundSteps.{waiting_none, waiting_on, waiting_stops, waiting_all}
 use Rattle.grep_session.proofs.lemmas.Writing.{writes_err}
 use Rattle.grep_session.proofs.around.write_waiting.Goals as goal
@@ -6,28 +9,34 @@ use Rattle.grep_session.proofs.around.write_waiting.Goals as goal
 pub loop-k-init : goal.loop-k-init
 loop-k-init g c =
     let w = c.args.layout.now.request in
-    record { wrote = waiting_none w.options w.many w.name.now g.W.CountedWrite.contents g.W.CountedWrite.failures c.args.layout.now.margin.now c.args.lines.now c.args.out.now c.args.count; within = omega arith }
+    record { wrote = waiting_none w.options w.many w.name.now g.W.CountedWrite.contents g.W.CountedWrite.failures c.args.layout.now.margin.now (all_of c.args.lines.now) c.args.end c.requires.inside c.args.out.now c.args.count; within = omega arith }
 
 pub returns-in_err-write_around : goal.returns-in_err-write_around
 returns-in_err-write_around g c =
     let w = c.args.layout.now.request in
-    let stops = rw (c.deref.ensures.value, ← c.index-lines-k.is) at c.in_err-write_around.ensures in
-    writes_err g.W.CountedWrite.contents g.W.CountedWrite.failures c.args.layout.now.margin.now _ _ _ c.from_residual.result c.from_residual.ensures.0
-    (waiting_stops w.options w.many w.name.now g.W.CountedWrite.contents g.W.CountedWrite.failures c.args.layout.now.margin.now c.args.lines.now c.loop-k.k c.index-lines-k.result c.loop-k-test.true c.index-lines-k.is
-    c.args.out.now c.loop-k.out c.write_around.new.out _ c.loop-k.invariant.wrote stops)
+    let margin = c.args.layout.now.margin.now in
+    let all = rows_around w.options w.many w.name.now (c.args.end - c.args.count + 1) (last_of c.args.count (map line_text (take c.args.end (all_of c.args.lines.now)))) in
+    let stops = rw c.line.ensures.line at c.in_err-write_around.ensures in
+    writes_err g.W.CountedWrite.contents g.W.CountedWrite.failures margin c.args.out.now c.write_around.new.out (written margin all) c.from_residual.result c.from_residual.ensures.0
+    (waiting_stops w.options w.many w.name.now g.W.CountedWrite.contents g.W.CountedWrite.failures margin (all_of c.args.lines.now) c.args.end c.requires.inside c.loop-k.k c.loop-k-test.true
+    c.args.out.now c.loop-k.out c.write_around.new.out all c.loop-k.invariant.wrote stops)
 
 pub loop-k-preserved : goal.loop-k-preserved
 loop-k-preserved g c =
     let w = c.args.layout.now.request in
-    let went = rw (c.deref.ensures.value, ← c.index-lines-k.is) at c.in_ok-write_around.ensures in
+    let margin = c.args.layout.now.margin.now in
+    let all = rows_around w.options w.many w.name.now (c.args.end - c.args.count + 1) (last_of c.args.count (map line_text (take c.args.end (all_of c.args.lines.now)))) in
+    let went = rw c.line.ensures.line at c.in_ok-write_around.ensures in
     record {
       wrote =
-          waiting_on w.options w.many w.name.now g.W.CountedWrite.contents g.W.CountedWrite.failures c.args.layout.now.margin.now c.args.lines.now c.loop-k.k c.index-lines-k.result c.loop-k-test.true c.index-lines-k.is
-          c.args.out.now c.loop-k.out c.write_around.new.out _ c.loop-k.invariant.wrote went;
+          waiting_on w.options w.many w.name.now g.W.CountedWrite.contents g.W.CountedWrite.failures margin (all_of c.args.lines.now) c.args.end c.requires.inside c.loop-k.k c.loop-k-test.true
+          c.args.out.now c.loop-k.out c.write_around.new.out all c.loop-k.invariant.wrote went;
       within = omega (arith, c.loop-k-test.true);
     }
 
 pub returns : goal.returns
 returns g c =
     let w = c.args.layout.now.request in
-    waiting_all w.options w.many w.name.now g.W.CountedWrite.contents g.W.CountedWrite.failures c.args.layout.now.margin.now c.args.lines.now c.args.out.now c.loop-k.out _ c.loop-k.k (omega (arith, c.loop-k-test.false)) c.loop-k.invariant.wrote
+    let margin = c.args.layout.now.margin.now in
+    let all = rows_around w.options w.many w.name.now (c.args.end - c.args.count + 1) (last_of c.args.count (map line_text (take c.args.end (all_of c.args.lines.now)))) in
+    waiting_all w.options w.many w.name.now g.W.CountedWrite.contents g.W.CountedWrite.failures margin (all_of c.args.lines.now) c.args.end c.requires.inside c.args.out.now c.loop-k.out all c.loop-k.k (omega (arith, c.loop-k-test.false)) c.loop-k.invariant.wrote

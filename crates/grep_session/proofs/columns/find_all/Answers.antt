@@ -1,19 +1,20 @@
 use Rattle.std.proofs.Common.{◌≡◌, ◌≤◌, map, take, take_all, sym, refl, subst, arith, []}
-use Rattle.std.specs.List.{AllZip}
 use Rattle.grep_session.proofs.lemmas.RoomLemmas.{none_asked, same_over}
 use Rattle.grep_core.proofs.lemmas.CostLaws.{same_length}
 use Rattle.re_search.specs.Searching.{AllAnswer}
 use Rattle.re_syntax.specs.Profile.{most_patterns}
 use Rattle.grep_session.specs.Working.Changed.{ChangeCost, IsWithin, SearchesEach, WasFileKept}
-use Rattle.grep_session.specs.Working.Found.{IsRight, lines_of_files}
+use Rattle.grep_session.specs.Working.Found.{chunks_of, chunks_of_files, lines_of_files}
+use Rattle.grep_session.specs.Working.Columns.{AddsColumns}
+use Rattle.grep_session.proofs.lemmas.FoundLemmas.{adds_columns, adds_no_column, chunks_on}
 use Rattle.grep_session.specs.Working.Kept.{kept_file}
-use Rattle.grep_session.proofs.lemmas.ColumnLemmas.{files_next, files_with_parts, right_more, kept_at}
+use Rattle.grep_session.proofs.lemmas.ColumnLemmas.{files_next, files_with_parts, kept_at}
 use Rattle.grep_session.proofs.lemmas.StepLemmas.{ChangeCost-exists, each_none, each_both, each_front}
 use Rattle.grep_session.proofs.columns.find_all.Goals as goal
 
 pub loop-file-init : goal.loop-file-init
 loop-file-init g c = record {
-  found = λ before changed h k. subst (AllZip (IsRight (map g.M.LineMatch.expression c.args.matchers.now) c.args.search.now.options) []) (sym c.new-found.ensures.items) tt;
+  found = subst (AddsColumns c.args.change (map g.M.LineMatch.expression c.args.matchers.now) c.args.search.now.options [] []) (sym c.new-found.ensures.items) (adds_no_column _ _ _ []);
   same_matchers = none_asked;
   steps = λ before changed h k. each_none _ _;
 }
@@ -35,21 +36,24 @@ pub loop-file-preserved : goal.loop-file-preserved
 loop-file-preserved g c =
     let s = c.loop-file.invariant in
     let x = c.file-item.result in
-    let next = files_next kept_file c.args.files.now c.loop-file.file-index x c.loop-file-test.true c.file-item.is in
+    let files = c.args.files.now in
+    let i = c.loop-file.file-index in
+    let es = map g.M.LineMatch.expression c.args.matchers.now in
+    let options = c.args.search.now.options in
+    let next = files_next kept_file files i x c.loop-file-test.true c.file-item.is in
     let spent = rw s.same_matchers.same_expressions at c.find_in_file.ensures.steps in
-    let right = rw s.same_matchers.same_expressions at c.in_ok-find_in_file.ensures.ok in
+    let more = subst (λ fs. AddsColumns c.args.change fs options (chunks_of x) c.loop-file.found.items c.find_in_file.new.found.items) s.same_matchers.same_expressions c.in_ok-find_in_file.ensures.ok in
     record {
-      found = λ before changed h k. right_more _ c.args.search.now.options _ _ _ _ _ next (s.found before changed h k)
-          (right before changed h (kept_at (WasFileKept c.args.change before c.args.search.now.options) c.args.files.now c.loop-file.file-index x c.loop-file-test.true c.file-item.is k));
+      found = adds_columns c.args.change es options (chunks_of_files (take i files)) (chunks_of x) _ _ _ _ (chunks_on files i x c.loop-file-test.true c.file-item.is) s.found more;
       same_matchers = same_over c.find_in_file.ensures.same_matchers s.same_matchers;
-      steps = λ before changed h k. each_both (ChangeCost c.args.change changed (map g.M.LineMatch.expression c.args.matchers.now) c.args.search.now.options) _ _ _ _ _ _ next (s.steps before changed h k)
-          (spent before changed h (kept_at (WasFileKept c.args.change before c.args.search.now.options) c.args.files.now c.loop-file.file-index x c.loop-file-test.true c.file-item.is k));
+      steps = λ before changed h k. each_both (ChangeCost c.args.change changed es options) _ _ _ _ _ _ next (s.steps before changed h k)
+          (spent before changed h (kept_at (WasFileKept c.args.change before options) files i x c.loop-file-test.true c.file-item.is k));
     }
 
 pub returns-clause-ok : goal.returns-clause-ok
-returns-clause-ok g c = λ before changed h k.
+returns-clause-ok g c =
     let all : take c.loop-file.file-index c.args.files.now ≡ c.args.files.now = take_all _ _ (omega arith) in
-    subst (λ files. AllZip (IsRight (map g.M.LineMatch.expression c.args.matchers.now) c.args.search.now.options) (lines_of_files (map kept_file files)) c.loop-file.found.items) all (c.loop-file.invariant.found before changed h k)
+    subst (λ files. AddsColumns c.args.change (map g.M.LineMatch.expression c.args.matchers.now) c.args.search.now.options (chunks_of_files files) [] c.loop-file.found.items) all c.loop-file.invariant.found
 
 pub returns-clause-steps : goal.returns-clause-steps
 returns-clause-steps g c = λ before changed h k.

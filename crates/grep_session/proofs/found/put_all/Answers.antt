@@ -1,31 +1,54 @@
-use Rattle.std.proofs.Common.{◌≡◌, ◌<◌, map, drop, length, get_or, arith, sym, subst, ◌∙◌, add-one}
+use Rattle.std.proofs.Common.{◌≡◌, ◌<◌, drop, length, get_or, arith, sym, ap, subst, ◌∙◌, add-one, ◌++◌, suc}
 use Rattle.std.proofs.Math.Seq.{map-set_same}
-use Rattle.std.proofs.lemmas.List.{length-map}
 use Rattle.std.proofs.lemmas.List.Elements.{AllWithin-more_set, All-from_all_within}
 use Rattle.std.specs.List.{AllZip, AllWithin}
 use Rattle.std.specs.Vec.Iter.{into_iter_items}
-use Rattle.re_search.proofs.lemmas.OneMatcherMore.{value_at}
+use Rattle.line_chunks.specs.Working.Chunks.{FitsColumn, FitColumns}
 use Rattle.grep_session.specs.Working.Kept.{IsFileKept, kept_file}
-use Rattle.grep_session.specs.Working.Found.{IsRight, lines_of_files}
-use Rattle.grep_session.proofs.lemmas.FoundLemmas.{same_file, right_next}
+use Rattle.grep_session.specs.Working.Found.{IsColumn, chunks_of, chunks_of_files}
+use Rattle.grep_session.proofs.lemmas.FoundLemmas.{same_file, chunks_from, later_on, there_still, fit_first, rest_of, right_file}
 use Rattle.grep_session.proofs.found.put_all.Goals as goal
+
+pub put_found_in-requires : goal.put_found_in-requires
+put_found_in-requires c =
+    let s = c.loop-file.invariant in
+    let i = c.loop-file.file-index in
+    let now = c.loop-file.files in
+    let files = c.args.files.now in
+    let d = c.file-item.result in
+    let rest = into_iter_items c.loop-file.rest in
+    let here = chunks_from files i d c.loop-file-test.true in
+    let first = fit_first (chunks_of (get_or files i d)) (chunks_of_files (drop (suc i) files)) rest (subst (λ cs. AllZip FitsColumn cs rest) here s.fit) in
+    subst (λ f. FitColumns (chunks_of f) rest) (sym (there_still files now i d s.later)) first
 
 pub loop-file-preserved : goal.loop-file-preserved
 loop-file-preserved c =
+    let s = c.loop-file.invariant in
     let i = c.loop-file.file-index in
-    let files = c.loop-file.files in
-    let old = get_or files i c.file-item.result in
+    let now = c.loop-file.files in
+    let files = c.args.files.now in
+    let old = get_or now i c.file-item.result in
     let new = c.put_found_in.new.file in
-    let listed = map kept_file c.args.files.now in
-    let within : i < length listed = omega (arith, c.loop-file-test.true, length-map c.args.files.now kept_file) in
-    let here : i < length files = omega (arith, c.loop-file-test.true, c.loop-file.auto.files) in
-    let at = value_at kept_file c.args.files.now files c.loop-file.invariant.same i c.file-item.result c.loop-file-test.true (kept_file old) in
+    let rest = into_iter_items c.loop-file.rest in
+    let d = c.file-item.result in
+    let still : old ≡ get_or files i d = there_still files now i d s.later in
+    let chunks = chunks_of (get_or files i d) in
+    let others = chunks_of_files (drop (suc i) files) in
+    let here = chunks_from files i d c.loop-file-test.true in
+    let left = into_iter_items c.put_found_in.new.found in
+    let left_is : left ≡ drop (length chunks) rest = c.put_found_in.ensures.rest ∙ ap (λ f. drop (length (chunks_of f)) rest) still in
+    let inside : i < length now = omega (arith, c.loop-file-test.true, c.loop-file.auto.files) in
+    let same = same_file old new rest c.put_found_in.ensures.name c.put_found_in.ensures.lines in
     record {
-      same = map-set_same kept_file files i new c.file-item.result (same_file old new (into_iter_items c.loop-file.rest) c.put_found_in.ensures.name c.put_found_in.ensures.lines) ∙ c.loop-file.invariant.same;
+      same = map-set_same kept_file now i new c.file-item.result same ∙ s.same;
+      later = later_on files now i new s.later;
+      fit = subst (λ n. AllZip FitsColumn (chunks_of_files (drop n files)) left) (sym (add-one i)) (subst (AllZip FitsColumn (chunks_of_files (drop (suc i) files))) (sym left_is) (rest_of FitsColumn chunks others rest (subst (λ cs. AllZip FitsColumn cs rest) here s.fit)));
       right = λ es options all.
-          let before = c.loop-file.invariant.right es options all in
-          let next = right_next es options listed i old new (into_iter_items c.loop-file.rest) (into_iter_items c.put_found_in.new.found) within at c.put_found_in.ensures.lines c.put_found_in.ensures.rest before.1 in
-          (AllWithin-more_set files i new here (IsFileKept es options) before.0 next.0, subst (λ n. AllZip (IsRight es options) (lines_of_files (drop n listed)) (into_iter_items c.put_found_in.new.found)) (sym (add-one i)) next.1);
+          let before = s.right es options all in
+          let there = subst (λ cs. AllZip (IsColumn es options) cs rest) here before.1 in
+          let one = right_file es options old new others rest c.put_found_in.ensures.lines (subst (λ f. AllZip (IsColumn es options) (chunks_of f ++ others) rest) (sym still) there) in
+          let more = rest_of (IsColumn es options) chunks others rest there in
+          (AllWithin-more_set now i new inside (IsFileKept es options) before.0 one, subst (λ n. AllZip (IsColumn es options) (chunks_of_files (drop n files)) left) (sym (add-one i)) (subst (AllZip (IsColumn es options) others) (sym left_is) more));
     }
 
 pub returns-clause-right : goal.returns-clause-right

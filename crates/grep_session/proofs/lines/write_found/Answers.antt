@@ -1,28 +1,45 @@
-use Rattle.std.proofs.Common.{◌+◌, arith}
+use Rattle.std.proofs.Common.{◌≡◌, ◌+◌, ◌<◌, ◌≤◌, length, drop, refl, subst, ◌∙◌, arith}
+use Rattle.line_chunks.specs.Working.Chunks.{all_of, no_line}
 use Rattle.grep_session.specs.Working.Report.{rows_from}
-use Rattle.grep_session.proofs.lemmas.Writing.{writes_err}
-use Rattle.grep_session.proofs.lemmas.LineSteps.{count_on, count_few, line_on, line_stops}
+use Rattle.grep_session.proofs.lemmas.Writing.{WrittenUpTo, writes_err, none_written}
+use Rattle.grep_session.proofs.lemmas.LineSteps.{line_on, line_stops, rows_next}
 use Rattle.grep_session.proofs.lines.write_found.Goals as goal
 
-pub returns-in_err-found-clause-rows : goal.returns-in_err-found-clause-rows
-returns-in_err-found-clause-rows g c =
+pub loop-k-init : goal.loop-k-init
+loop-k-init g c =
     let w = c.args.layout.now.request in
-    let all = rows_from w.options w.many w.name.now 1 c.args.lines.now in
-    writes_err g.W.CountedWrite.contents g.W.CountedWrite.failures c.args.layout.now.margin.now _ _ _ c.from_residual.result c.from_residual.ensures.0
-    (line_stops w.options c.args.lines.now c.loop-line.line-index c.line-item.result c.loop-line-test.true c.line-item.is w.many w.name.now g.W.CountedWrite.contents g.W.CountedWrite.failures c.args.layout.now.margin.now
-    (c.loop-line.number + 1) c.args.out.now c.loop-line.out c.write_line.new.out all c.loop-line.invariant.wrote c.in_err-found.ensures.rows)
-
-pub loop-line-preserved : goal.loop-line-preserved
-loop-line-preserved g c =
-    let w = c.args.layout.now.request in
-    let all = rows_from w.options w.many w.name.now 1 c.args.lines.now in
-    let i = c.loop-line.invariant in
-    let found = c.in_ok-found.found in
+    let lines = all_of c.args.lines.now in
+    let all = rows_from w.options w.many w.name.now 1 lines in
+    let s = c.find_selected-k.ensures in
     record {
-      wrote =
-          line_on w.options c.args.lines.now c.loop-line.line-index c.line-item.result c.loop-line-test.true c.line-item.is w.many w.name.now g.W.CountedWrite.contents g.W.CountedWrite.failures c.args.layout.now.margin.now
-          (c.loop-line.number + 1) c.args.out.now c.loop-line.out c.write_line.new.out all i.wrote c.in_ok-found.ensures.rows;
-      counted = count_on w.options c.args.lines.now c.loop-line.line-index c.line-item.result c.loop-line-test.true c.line-item.is _ c.loop-line.selected c.count_found-selected.result found c.in_ok-found.ensures.reported c.count_found-selected.ensures i.counted;
-      few = count_few c.loop-line.selected c.count_found-selected.result c.loop-line.number found c.count_found-selected.ensures i.few;
-      numbered = omega (arith, i.numbered);
+      wrote = subst (WrittenUpTo g.W.CountedWrite.contents g.W.CountedWrite.failures c.args.layout.now.margin.now c.args.out.now c.args.out.now all) (rows_next w.options w.many w.name.now lines 0 c.find_selected-k.result s) (none_written g.W.CountedWrite.contents g.W.CountedWrite.failures c.args.layout.now.margin.now c.args.out.now all);
+      within = s.within;
+      found = s.hit no_line;
+    }
+
+pub returns-in_err-write_selected : goal.returns-in_err-write_selected
+returns-in_err-write_selected g c =
+    let w = c.args.layout.now.request in
+    let lines = all_of c.args.lines.now in
+    let k = c.loop-k.k in
+    let inside : k < length lines = omega (arith, c.loop-k-test.true, c.len-end.ensures) in
+    writes_err g.W.CountedWrite.contents g.W.CountedWrite.failures c.args.layout.now.margin.now _ _ _ c.from_residual.result c.from_residual.ensures.0
+    (line_stops w.options lines k inside (c.loop-k.invariant.found inside) w.many w.name.now g.W.CountedWrite.contents g.W.CountedWrite.failures c.args.layout.now.margin.now
+    c.args.out.now c.loop-k.out c.write_selected.new.out (rows_from w.options w.many w.name.now 1 lines) c.loop-k.invariant.wrote c.in_err-write_selected.ensures)
+
+pub loop-k-preserved : goal.loop-k-preserved
+loop-k-preserved g c =
+    let w = c.args.layout.now.request in
+    let lines = all_of c.args.lines.now in
+    let k = c.loop-k.k in
+    let inside : k < length lines = omega (arith, c.loop-k-test.true, c.len-end.ensures) in
+    let all = rows_from w.options w.many w.name.now 1 lines in
+    let s = c.find_selected-k-in-loop-k.ensures in
+    let next = c.find_selected-k-in-loop-k.result in
+    let wrote = line_on w.options lines k inside (c.loop-k.invariant.found inside) w.many w.name.now g.W.CountedWrite.contents g.W.CountedWrite.failures c.args.layout.now.margin.now
+    c.args.out.now c.loop-k.out c.write_selected.new.out all c.loop-k.invariant.wrote c.in_ok-write_selected.ensures in
+    record {
+      wrote = subst (WrittenUpTo g.W.CountedWrite.contents g.W.CountedWrite.failures c.args.layout.now.margin.now c.args.out.now c.write_selected.new.out all) (rows_next w.options w.many w.name.now lines (k + 1) next s) wrote;
+      within = s.within;
+      found = s.hit no_line;
     }

@@ -7,16 +7,14 @@ use Rattle.grep_session.proofs.lines.write_parts.Goals as goal
 pub returns-in_err-write_part : goal.returns-in_err-write_part
 returns-in_err-write_part g c =
     let w = c.args.layout.now.request in
-    let f = λ (span : Span). row w.options w.many w.name.now c.args.number (slice_range c.args.line.now.text.items span.start span.end) in
-    let stops = rw c.deref.ensures.value at c.in_err-write_part.ensures in
+    let f = λ (span : Span). row w.options w.many w.name.now c.args.number (slice_range c.args.text.now span.start span.end) in
     writes_err g.W.CountedWrite.contents g.W.CountedWrite.failures c.args.layout.now.margin.now _ _ _ c.from_residual.result c.from_residual.ensures.0
-    (row_stops g.W.CountedWrite.contents g.W.CountedWrite.failures c.args.layout.now.margin.now f c.args.line.now.found.spans c.spans-part-items.result.now c.loop-part.part-index (record { start = 0; end = 0 }) c.loop-part-test.true
-    c.args.out.now c.loop-part.out c.write_part.new.out c.loop-part.invariant stops)
+    (row_stops g.W.CountedWrite.contents g.W.CountedWrite.failures c.args.layout.now.margin.now f c.args.spans.now c.args.spans.now c.loop-part.part-index (record { start = 0; end = 0 }) c.loop-part-test.true
+    c.args.out.now c.loop-part.out c.write_part.new.out c.loop-part.invariant c.in_err-write_part.ensures)
 
 pub loop-part-preserved : goal.loop-part-preserved
 loop-part-preserved g c =
     let w = c.args.layout.now.request in
-    let f = λ (span : Span). row w.options w.many w.name.now c.args.number (slice_range c.args.line.now.text.items span.start span.end) in
-    let went = rw c.deref.ensures.value at c.in_ok-write_part.ensures in
-    row_on g.W.CountedWrite.contents g.W.CountedWrite.failures c.args.layout.now.margin.now f c.args.line.now.found.spans c.spans-part-items.result.now c.loop-part.part-index (record { start = 0; end = 0 }) c.loop-part-test.true
-    c.args.out.now c.loop-part.out c.write_part.new.out c.loop-part.invariant went
+    let f = λ (span : Span). row w.options w.many w.name.now c.args.number (slice_range c.args.text.now span.start span.end) in
+    row_on g.W.CountedWrite.contents g.W.CountedWrite.failures c.args.layout.now.margin.now f c.args.spans.now c.args.spans.now c.loop-part.part-index (record { start = 0; end = 0 }) c.loop-part-test.true
+    c.args.out.now c.loop-part.out c.write_part.new.out c.loop-part.invariant c.in_ok-write_part.ensures

@@ -1,4 +1,4 @@
-use Rattle.std.proofs.Common.{◌≡◌, ◌≤◌, ◌-◌, length, List, [], ◌++◌, map}
+use Rattle.std.proofs.Common.{◌≡◌, ◌≤◌, ◌-◌, length, List, [], ◌++◌}
 use Rattle.re_syntax.specs.Bytes.{Text}
 use Rattle.grep_core.specs.Written.{GoesOut}
 use Rattle.grep_core.specs.Reading.{IsOneLineAndFew}
@@ -6,14 +6,14 @@ use Rattle.grep_core.specs.Working.Numbered.{HasHanded}
 use Rattle.grep_cmd.proofs.script.counted.take_lines.Given as goal
 
 -- these lines were taken, at most the counted number
-abbrev pub invariant-loop-alloc : goal.invariant-loop-alloc
-invariant-loop-alloc g l =
+abbrev pub invariant-loop-lines : goal.invariant-loop-lines
+invariant-loop-lines g l =
     ((reader : _) (handed : List Text) → HasHanded g.R.CountedRead.remaining g.R.CountedRead.failures reader l.fn.lines handed
-    → HasHanded g.R.CountedRead.remaining g.R.CountedRead.failures reader l.lines (handed ++ map (λ t. t.items) l.taken.items))
+    → HasHanded g.R.CountedRead.remaining g.R.CountedRead.failures reader l.lines (handed ++ l.taken))
     × GoesOut g.W.CountedWrite.contents g.W.CountedWrite.failures l.fn.out l.out []
-    × (length (map (λ t. t.items) l.taken.items) ≤ l.count)
+    × (length l.taken ≤ l.count)
     × (g.R.CountedRead.loan l.lines.lines.reader ≡ g.R.CountedRead.loan l.fn.lines.lines.reader)
     × (IsOneLineAndFew l.fn.lines.lines.ahead → IsOneLineAndFew l.lines.lines.ahead)
 
-abbrev pub decreases-loop-alloc : goal.decreases-loop-alloc
-decreases-loop-alloc g l = l.count - l.taken.len
+abbrev pub decreases-loop-lines : goal.decreases-loop-lines
+decreases-loop-lines g l = l.count - length l.taken

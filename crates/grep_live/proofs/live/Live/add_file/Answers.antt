@@ -1,11 +1,9 @@
-use Rattle.std.proofs.Common.{map, refl, subst}
+use Rattle.std.proofs.Common.{map, subst}
 use Rattle.grep_session.specs.Edits.{AddFile, whole_file}
 use Rattle.grep_live.specs.Marks.{Watched}
 use Rattle.grep_live.specs.Following.{Carries}
 use Rattle.grep_live.specs.Working.Live.{watched_of}
-use Rattle.grep_live.specs.Working.Ranks.{marks_of}
-use Rattle.grep_live.proofs.lemmas.CarryLemmas.{added_file}
-use Rattle.grep_live.proofs.lemmas.WatchLemmas.{watched_last}
+use Rattle.grep_live.proofs.lemmas.CarryLemmas.{added_file, marked_last}
 use Rattle.grep_live.proofs.live.Live.add_file.Goals as goal
 
 pub invariant_of-self-2 : goal.invariant_of-self-2
@@ -13,16 +11,14 @@ invariant_of-self-2 c =
     let s = c.self.inside in
     let name = c.args.name.items in
     let lines = map (λ line. line.items) c.args.lines.items in
-    let left = watched_last (AddFile name lines) (whole_file name lines) (watched_of s) c.add_file.new.self c.watch_last.new.session s.watches.items c.watch_last.new.watches.items c.watch_last.result c.self.invariant.0 refl c.self.invariant.1 (λ m e. e) c.in-Ok.ensures.gives
-    (added_file name lines s.session c.add_file.new.self c.in-Ok.ensures.gives) c.watch_last.ensures.ok c.watch_last.ensures.err in
-    (left.0, left.1)
+    let left = marked_last (AddFile name lines) (whole_file name lines) (watched_of s) c.add_file.new.self c.mark_last.new.session c.mark_last.new.marks.items c.mark_last.result c.self.invariant (λ m e. e) c.in-Ok.ensures.gives (added_file name lines s.session c.add_file.new.self c.in-Ok.ensures.gives) c.mark_last.ensures.ok c.mark_last.ensures.err in
+    left.0
 
 pub returns-clause-carries : goal.returns-clause-carries
 returns-clause-carries c =
     let s = c.self.inside in
     let name = c.args.name.items in
     let lines = map (λ line. line.items) c.args.lines.items in
-    let left = watched_last (AddFile name lines) (whole_file name lines) (watched_of s) c.add_file.new.self c.watch_last.new.session s.watches.items c.watch_last.new.watches.items c.watch_last.result c.self.invariant.0 refl c.self.invariant.1 (λ m e. e) c.in-Ok.ensures.gives
-    (added_file name lines s.session c.add_file.new.self c.in-Ok.ensures.gives) c.watch_last.ensures.ok c.watch_last.ensures.err in
-    let new : Watched = record { inputs = c.watch_last.new.session; marks = marks_of c.watch_last.new.watches.items } in
-    subst (λ (old : Watched). Carries (AddFile name lines) old new c.watch_last.result) c.self.view_is left.2
+    let left = marked_last (AddFile name lines) (whole_file name lines) (watched_of s) c.add_file.new.self c.mark_last.new.session c.mark_last.new.marks.items c.mark_last.result c.self.invariant (λ m e. e) c.in-Ok.ensures.gives (added_file name lines s.session c.add_file.new.self c.in-Ok.ensures.gives) c.mark_last.ensures.ok c.mark_last.ensures.err in
+    let new : Watched = record { inputs = c.mark_last.new.session; marks = c.mark_last.new.marks.items } in
+    subst (λ (old : Watched). Carries (AddFile name lines) old new c.mark_last.result) c.self.view_is left.1

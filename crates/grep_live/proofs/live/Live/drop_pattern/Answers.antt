@@ -1,27 +1,17 @@
-use Rattle.std.proofs.Common.{Ok, ap, length, subst, sym, ◌∙◌}
-use Rattle.grep_core.specs.Files.{Inputs}
+use Rattle.std.proofs.Common.{Ok, subst}
 use Rattle.grep_session.specs.Edits.{DropPattern}
 use Rattle.grep_live.specs.Marks.{Watched}
 use Rattle.grep_live.specs.Following.{Carries}
 use Rattle.grep_live.specs.Working.Live.{watched_of}
-use Rattle.grep_live.specs.Working.Ranks.{marks_of}
-use Rattle.grep_live.proofs.lemmas.CarryLemmas.{carried, dropped_pattern}
-use Rattle.grep_live.proofs.lemmas.WatchLemmas.{as_many}
+use Rattle.grep_live.proofs.lemmas.CarryLemmas.{carried}
 use Rattle.grep_live.proofs.live.Live.drop_pattern.Goals as goal
 
-pub lose_all-requires : goal.lose_all-requires
-lose_all-requires c =
-    let s = c.self.inside in
-    as_many s.session s.session.files s.watches.items c.self.invariant.1 ∙ sym (ap (λ (i : Inputs). length i.files) (dropped_pattern c.args.p s.session c.drop_pattern.new.self c.in-Ok.ensures.gives))
-
 pub invariant_of-self-2 : goal.invariant_of-self-2
-invariant_of-self-2 c = (
-  (carried (Unit {0}) (DropPattern c.args.p) (watched_of c.self.inside) (record { inputs = c.drop_pattern.new.self; marks = marks_of c.lose_all.new.watches.items }) (Ok tt) c.self.invariant.0 c.in-Ok.ensures.gives c.lose_all.ensures.marks).0,
-  c.lose_all.ensures.ranks,
-)
+invariant_of-self-2 c =
+    (carried (Unit {0}) (DropPattern c.args.p) (watched_of c.self.inside) (record { inputs = c.drop_pattern.new.self; marks = c.lose_all.new.marks.items }) (Ok tt) c.self.invariant c.in-Ok.ensures.gives c.lose_all.ensures).0
 
 pub returns-clause-carries : goal.returns-clause-carries
 returns-clause-carries c =
-    let new : Watched = record { inputs = c.drop_pattern.new.self; marks = marks_of c.lose_all.new.watches.items } in
+    let new : Watched = record { inputs = c.drop_pattern.new.self; marks = c.lose_all.new.marks.items } in
     subst (λ (old : Watched). Carries {T = Unit {0}} (DropPattern c.args.p) old new (Ok tt)) c.self.view_is
-    (carried (Unit {0}) (DropPattern c.args.p) (watched_of c.self.inside) new (Ok tt) c.self.invariant.0 c.in-Ok.ensures.gives c.lose_all.ensures.marks).1
+    (carried (Unit {0}) (DropPattern c.args.p) (watched_of c.self.inside) new (Ok tt) c.self.invariant c.in-Ok.ensures.gives c.lose_all.ensures).1

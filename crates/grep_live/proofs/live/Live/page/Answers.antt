@@ -1,16 +1,9 @@
-use Rattle.std.proofs.Common.{List, Ok, Err, refl, sym, subst}
+use Rattle.std.proofs.Common.{Ok, Err, refl, subst}
 use Rattle.grep_io.specs.declared.devices.counted.WriteFault.{WriteFault}
-use Rattle.grep_live.specs.declared.watch.Watch.{Watch}
 use Rattle.grep_live.specs.Marks.{Watched}
 use Rattle.grep_live.specs.Writing.{WritesPage}
-use Rattle.grep_live.specs.Working.Ranks.{AreRanked, ranks_of}
 use Rattle.grep_live.proofs.lemmas.PageLemmas.{shows_page}
 use Rattle.grep_live.proofs.live.Live.page.Goals as goal
-
-pub write_hits_page-requires : goal.write_hits_page-requires
-write_hits_page-requires g c =
-    let s = c.self.inside in
-    subst (λ (watches : List Watch). AreRanked s.session s.session.files (ranks_of watches)) (sym c.deref-2.ensures.value) c.self.invariant.1
 
 pub returns-in-Err : goal.returns-in-Err
 returns-in-Err g c =

@@ -3,20 +3,16 @@ use Rattle.grep_session.specs.Edits.{SetContext}
 use Rattle.grep_live.specs.Marks.{Watched}
 use Rattle.grep_live.specs.Following.{Carries}
 use Rattle.grep_live.specs.Working.Live.{watched_of}
-use Rattle.grep_live.specs.Working.Ranks.{marks_of, ranks_of}
 use Rattle.grep_live.proofs.lemmas.CarryLemmas.{carried}
-use Rattle.grep_live.proofs.lemmas.WatchLemmas.{ranked_context}
 use Rattle.grep_live.proofs.live.Live.set_context.Goals as goal
 
 pub invariant_of-self : goal.invariant_of-self
 invariant_of-self c =
-    let s = c.self.inside in (
-      (carried (Unit {0}) (SetContext c.args.context) (watched_of s) (record { inputs = c.set_context.new.self; marks = marks_of s.watches.items }) (Ok tt) c.self.invariant.0 c.set_context.ensures refl).0,
-      ranked_context c.args.context s.session c.set_context.new.self (ranks_of s.watches.items) c.set_context.ensures c.self.invariant.1,
-    )
+    let s = c.self.inside in
+    (carried (Unit {0}) (SetContext c.args.context) (watched_of s) (record { inputs = c.set_context.new.self; marks = s.marks.items }) (Ok tt) c.self.invariant c.set_context.ensures refl).0
 
 pub returns-clause-carries : goal.returns-clause-carries
 returns-clause-carries c =
-    let new : Watched = record { inputs = c.set_context.new.self; marks = marks_of c.self.inside.watches.items } in
+    let new : Watched = record { inputs = c.set_context.new.self; marks = c.self.inside.marks.items } in
     subst (λ (old : Watched). Carries {T = Unit {0}} (SetContext c.args.context) old new (Ok tt)) c.self.view_is
-    (carried (Unit {0}) (SetContext c.args.context) (watched_of c.self.inside) new (Ok tt) c.self.invariant.0 c.set_context.ensures refl).1
+    (carried (Unit {0}) (SetContext c.args.context) (watched_of c.self.inside) new (Ok tt) c.self.invariant c.set_context.ensures refl).1

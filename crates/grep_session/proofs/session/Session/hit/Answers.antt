@@ -5,18 +5,25 @@ use Rattle.re_search.specs.Working.Matchers.{matched_expression}
 use Rattle.grep_core.specs.Files.{Inputs, AreMeant, Selected}
 use Rattle.grep_core.specs.Run.{file_at}
 use Rattle.grep_core.proofs.lemmas.LawsHold.{means_one}
+use Rattle.line_chunks.specs.Working.Chunks.{all_of}
 use Rattle.grep_session.specs.declared.hit.Hit.{Hit}
 use Rattle.grep_session.specs.Listed.{ListedParts}
 use Rattle.grep_session.specs.Working.Kept.{span_places, IsFileKept}
 use Rattle.grep_session.specs.Working.Sessions.{inputs_of}
-use Rattle.grep_session.proofs.lemmas.LookingLemmas.{no_line, hit_listed}
+use Rattle.grep_session.proofs.lemmas.LookingLemmas.{has_no_line, line_inside, hit_listed}
 use Rattle.grep_session.proofs.session.Session.hit.Goals as goal
 
 pub returns-in_default : goal.returns-in_default
 returns-in_default c =
     let s = c.self.inside in
     let there = subst (λ (i : Inputs). c.args.place < length (file_at i.files c.args.k).lines) (sym c.self.view_is) c.requires in
-    λ es meant selected. no_line s.files.items c.args.k c.args.place c.index.result.now there c.index.ensures (ap (option_map (λ lines. lines.items)) c.in_default.is)
+    λ es meant selected. has_no_line s.files.items c.args.k c.args.place c.index.result.now there c.index.ensures (ap (option_map all_of) c.in_default.is)
+
+pub hit_at-requires : goal.hit_at-requires
+hit_at-requires c =
+    let s = c.self.inside in
+    let there = subst (λ (i : Inputs). c.args.place < length (file_at i.files c.args.k).lines) (sym c.self.view_is) c.requires in
+    line_inside s.files.items c.args.k c.args.place c.index.result.now (all_of c.in-Some.lines) there c.index.ensures (ap (option_map all_of) c.in-Some.is)
 
 pub returns : goal.returns
 returns c =
@@ -25,12 +32,12 @@ returns c =
     let there = subst (λ (i : Inputs). c.args.place < length (file_at i.files c.args.k).lines) (sym c.self.view_is) c.requires in
     subst
     (λ (i : Inputs). (es : List Expression) → AreMeant i.syntax i.options i.patterns es →
-    MatchOption c.hit.result (Selected es i.options (get_or (file_at i.files c.args.k).lines c.args.place []) → ⊥)
+    MatchOption c.hit_at.result (Selected es i.options (get_or (file_at i.files c.args.k).lines c.args.place []) → ⊥)
     (λ (hit : Hit). Selected es i.options (get_or (file_at i.files c.args.k).lines c.args.place []) × (hit.text.now ≡ get_or (file_at i.files c.args.k).lines c.args.place []) ×
     ListedParts es i.options (get_or (file_at i.files c.args.k).lines c.args.place []) (map span_places hit.parts.now)))
     c.self.view_is
     (λ es meant.
     let same : found ≡ es = means_one s.syntax s.options (inputs_of s).patterns found es c.self.invariant.matchers.meant meant in
     let kept : All (IsFileKept es s.options) s.files.items = subst (λ es. All (IsFileKept es s.options) s.files.items) same c.self.invariant.kept in
-    hit_listed es s.options s.files.items c.args.k c.args.place c.index.result.now c.in-Some.lines.items c.index-2.result.now (λ (hit : Hit). hit.text.now) (λ (hit : Hit). hit.parts.now) c.hit.result kept there c.index.ensures
-    (ap (option_map (λ lines. lines.items)) c.in-Some.is) c.index-2.ensures c.hit.ensures)
+    hit_listed es s.options s.files.items c.args.k c.args.place c.index.result.now (all_of c.in-Some.lines) (λ (hit : Hit). hit.text.now) (λ (hit : Hit). hit.parts.now) c.hit_at.result kept there c.index.ensures
+    (ap (option_map all_of) c.in-Some.is) c.hit_at.ensures)

@@ -1,0 +1,75 @@
+//! Lines that are given in chunks.
+use super::harness::{DONE, STATES, observed};
+use super::watched::{assert_changes, searching};
+use grep_core::Status;
+use grep_live::Live;
+use grep_session::{NewLines, Session};
+use re_auto::fresh_meter;
+use re_syntax::split_file;
+use std::alloc::Global;
+use std::process::Abort;
+use std::test::Fail;
+
+/// Adds a line.
+fn push_line(lines: &mut NewLines, line: &[u8]) -> Result<(), Fail> {
+    if line.contains(&b'\n') {
+        return Err(Fail::from("a line has a newline"));
+    }
+    lines.push(line)?;
+    Ok(())
+}
+
+/// The lines of a text.
+fn given(alloc: Global, text: &[u8]) -> Result<NewLines, Fail> {
+    let mut lines = NewLines::new(alloc);
+    for line in split_file(text) {
+        push_line(&mut lines, line)?;
+    }
+    Ok(lines)
+}
+
+/// A session with three lines that are given, one of which is replaced by two others.
+fn spliced(rt: &impl Abort, alloc: Global) -> Result<Session, Fail> {
+    let mut session = Session::new(alloc, STATES);
+    let mut meter = fresh_meter();
+    assert_eq!(rt; session.add_patterns(b"a", &mut meter), DONE);
+    let lines = given(alloc, b"ab\nc\nca\n")?;
+    assert_eq!(rt; lines.len(), 3);
+    assert_eq!(rt; session.add_lines(Vec::new(alloc), lines, &mut meter), DONE);
+    let lines = given(alloc, b"d\naa\n")?;
+    assert_eq!(rt; session.splice_lines(0, 1, 1, lines, &mut meter), DONE);
+    Ok(session)
+}
+
+#[test]
+fn given_lines_are_searched(rt: HostRuntime) -> Result<(), Fail> {
+    let session = spliced(&rt, rt.alloc())?;
+    let now = observed(&rt, rt.alloc(), &session)?;
+    assert_eq!(rt; now.output.as_slice(), b"ab\naa\nca\n".as_slice());
+    Ok(())
+}
+
+/// Gives a watched session lines, and compares what is reported.
+fn assert_given(rt: &impl Abort, alloc: Global, live: &mut Live) -> Result<(), Fail> {
+    let mut meter = fresh_meter();
+    let lines = given(alloc, b"ab\nc\nca\n")?;
+    assert_eq!(rt; live.add_lines(Vec::new(alloc), lines, &mut meter), DONE);
+    let reply = b"h 0 0 0 3 2\nr 0 - ab\nr 2 - ca\n";
+    assert_changes(rt, alloc, live, reply, Status::Selected);
+    let lines = given(alloc, b"d\naa\n")?;
+    assert_eq!(rt; live.splice_lines(0, 1, 1, lines, &mut meter), DONE);
+    assert_changes(
+        rt,
+        alloc,
+        live,
+        b"h 0 1 1 2 1\nr 2 - aa\n",
+        Status::Selected,
+    );
+    Ok(())
+}
+
+#[test]
+fn given_lines_are_reported(rt: HostRuntime) -> Result<(), Fail> {
+    let mut live = searching(&rt, rt.alloc());
+    assert_given(&rt, rt.alloc(), &mut live)
+}

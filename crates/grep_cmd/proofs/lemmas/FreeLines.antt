@@ -1,0 +1,23 @@
+-- No line that was handed out has a newline.
+use Rattle.std.proofs.Common.{ℕ, List, [], ◌∷◌, ◌++◌, All, Option, subst}
+use Rattle.std.proofs.lemmas.List.Elements.{All-head, All-tail}
+use Rattle.re_syntax.specs.Bytes.{Text}
+use Rattle.re_syntax.specs.Lines.{HasNoNewline}
+use Rattle.re_syntax.proofs.lemmas.LinesLaws.{AreLines-lines_of}
+use Rattle.grep_io.specs.declared.input.lines.Stage.{Stage}
+use Rattle.grep_io.specs.declared.input.lines.Stage.TheVariants.{Open, Ended, Failed}
+use Rattle.grep_core.specs.Working.Handed.{AreHanded}
+use Rattle.grep_core.specs.Working.Numbered.{Numbered, HasHanded}
+
+free_lines : (stage : Stage) (given : Text) (handed : List Text) → AreHanded stage given handed → All HasNoNewline handed
+free_lines Open given handed h = h.1
+free_lines Ended given handed h = subst (All HasNoNewline) h (AreLines-lines_of given).0
+free_lines Failed given handed h = absurd h
+
+last_is_free : (before : List Text) (line : Text) → All HasNoNewline (before ++ line ∷ []) → HasNoNewline line
+last_is_free [] line all = All-head HasNoNewline line [] all
+last_is_free (t ∷ before) line all = last_is_free before line (All-tail HasNoNewline t (before ++ line ∷ []) all)
+
+-- the line that was handed out last
+pub free_line : {R : Type 0} (remaining : R → Option Text) (failures : R → ℕ) (reader : R) (before : List Text) (line : Text) (now : Numbered R) → HasHanded remaining failures reader now (before ++ line ∷ []) → HasNoNewline line
+free_line remaining failures reader before line now h = last_is_free before line (free_lines now.lines.stage h.hands.given (before ++ line ∷ []) h.hands.are_handed)

@@ -1,0 +1,81 @@
+//! The lines of a script that are patterns.
+ghost use Rattle.std.specs.Prelude.{◌≡◌, [], ◌∷◌, ◌++◌, List, IfOk, map, option_map, if◌then◌else◌};
+ghost use Rattle.std.specs.Result.{result_map_both};
+ghost use Rattle.re_syntax.specs.Bytes.{Text};
+ghost use Rattle.re_syntax.specs.Lines.{joined, newline};
+ghost use Rattle.grep_core.specs.Reading.{IsOneLineAndFew};
+ghost use Rattle.grep_core.specs.Working.Numbered.{HasHanded};
+ghost use Rattle.grep_cmd.specs.Working.Answered.{TakesLines, Flushes};
+
+use crate::script::ScriptFault;
+use crate::script::counted::next_line;
+use grep_core::{CountedRead, CountedWrite, Lines};
+use std::alloc::{AllocError, Global};
+
+/// Puts a copy of the line after the others.
+fn push_line(alloc: Global, lines: &mut Vec<Vec<u8>>, line: &[u8]) -> Result<(), AllocError>
+    ensures { IfOk result
+        (λ _. map (λ l. l.items) lines.new.items ≡ map (λ l. l.items) lines.old.items ++ line.now ∷
+        []) }
+{
+    let mut copy = Vec::new(alloc);
+    copy.extend_from_slice(line)?;
+    lines.push(copy)?;
+    Ok(())
+}
+
+/// The counted number of next lines, each as a vector of its own; none where fewer follow.
+pub fn take_texts<R: CountedRead, W: CountedWrite>(
+    alloc: Global,
+    lines: &mut Lines<R>,
+    count: usize,
+    out: &mut W,
+) -> Result<Option<Vec<Vec<u8>>>, ScriptFault>
+    ensures takes { (reader : R) (handed : List Text) →
+        HasHanded R.remaining R.failures reader lines.old handed
+        → TakesLines R.remaining R.failures reader handed count lines.new
+        (result_map_both (λ taken. option_map (λ ls. map (λ l. l.items) ls.items) taken)
+        (λ e. e) result) }
+    ensures sent { Flushes W.contents W.failures out.old out.new result }
+    ensures held { IsOneLineAndFew lines.old.lines.ahead → IsOneLineAndFew lines.new.lines.ahead }
+    ensures same_loan { R.loan lines.new.lines.reader ≡ R.loan lines.old.lines.reader }
+{
+    let mut taken = Vec::new(alloc);
+    while taken.len() < count {
+        match next_line(lines, out) {
+            Ok(true) => {}
+            Ok(false) => return Ok(None),
+            Err(fault) => return Err(fault),
+        }
+        match push_line(alloc, &mut taken, lines.line()) {
+            Ok(()) => {}
+            Err(_) => return Err(ScriptFault::Memory),
+        }
+    }
+    Ok(Some(taken))
+}
+
+/// Adds a line, after a newline where it is not the first.
+fn add_line(text: &mut Vec<u8>, first: bool, line: &[u8]) -> Result<(), AllocError>
+    ensures { IfOk result
+        (λ _. text.new.items ≡ text.old.items ++ (if first then line.now else newline ∷ line.now)) }
+{
+    if first {
+        text.extend_from_slice(line)?;
+        return Ok(());
+    }
+    text.push(b'\n')?;
+    text.extend_from_slice(line)?;
+    Ok(())
+}
+
+/// The lines with a newline between each two.
+pub fn join_lines(alloc: Global, lines: &[Vec<u8>]) -> Result<Vec<u8>, AllocError>
+    ensures { IfOk result (λ text. text.items ≡ joined (map (λ l. l.items) lines.now)) }
+{
+    let mut text = Vec::new(alloc);
+    for (at, line) in lines.iter().enumerate() {
+        add_line(&mut text, at == 0, line)?;
+    }
+    Ok(text)
+}

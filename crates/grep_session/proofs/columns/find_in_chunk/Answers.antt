@@ -1,0 +1,85 @@
+use Rattle.std.proofs.Common.{◌≡◌, ◌*◌, All, length, map, sym, ap, subst, ◌∙◌}
+use Rattle.std.proofs.lemmas.List.{length-map}
+use Rattle.re_syntax.specs.Lines.{terminated}
+use Rattle.re_search.specs.Searching.{AddsAtMost}
+use Rattle.line_chunks.specs.Working.Finds.{AreBelow, FoundIn}
+use Rattle.line_chunks.specs.Working.Chunks.{line_text, seen}
+use Rattle.grep_session.specs.Working.Changed.{IsWithin}
+use Rattle.grep_session.specs.Working.Kept.{IsKept}
+use Rattle.grep_session.proofs.lemmas.ColumnLaws.{column_decides, column_right, column_same, chunk_steps, chunk_begun, sought_count, matches_below, matches_grow}
+use Rattle.grep_session.proofs.columns.find_in_chunk.Goals as goal
+
+pub returns-in_err-new-clause-steps : goal.returns-in_err-new-clause-steps
+returns-in_err-new-clause-steps g c = λ before changed h k.
+    let es = map g.M.LineMatch.expression c.args.matchers.now in
+    let texts = map line_text c.args.chunk.now in
+    let many = sym (length-map c.args.matchers.now g.M.LineMatch.expression) in
+    chunk_begun c.args.change changed es c.args.search.now.options texts _ _ (subst (λ n. AddsAtMost (n * length (terminated texts)) c.args.meter.now c.find_matches.new.meter) (sought_count c.args.change es before changed _ many h) c.find_matches.ensures.steps)
+
+pub returns-then-is_same-clause-steps : goal.returns-then-is_same-clause-steps
+returns-then-is_same-clause-steps g c = λ before changed h k.
+    let es = map g.M.LineMatch.expression c.args.matchers.now in
+    let texts = map line_text c.args.chunk.now in
+    let many = sym (length-map c.args.matchers.now g.M.LineMatch.expression) in
+    chunk_begun c.args.change changed es c.args.search.now.options texts _ _ (subst (λ n. AddsAtMost (n * length (terminated texts)) c.args.meter.now c.find_matches.new.meter) (sought_count c.args.change es before changed _ many h) c.find_matches.ensures.steps)
+
+pub returns-then-is_same-clause-ok : goal.returns-then-is_same-clause-ok
+returns-then-is_same-clause-ok g c = λ before changed h k.
+    let es = map g.M.LineMatch.expression c.args.matchers.now in
+    let within = subst (IsWithin c.args.change) (sym (length-map c.args.matchers.now g.M.LineMatch.expression)) c.requires.within in
+    let added = c.is_same.ensures c.if-is_same.true in
+    (tt, column_same c.args.change es before changed c.args.search.now.options c.args.chunk.now c.matches-old.result.now c.in_ok-new.new within h k c.in_ok-new.ensures.ok c.matches-old.ensures.at added.0 added.1)
+
+pub find_parts-requires-clause-new : goal.find_parts-requires-clause-new
+find_parts-requires-clause-new g c =
+    subst (λ n. AreBelow n c.in_ok-new.new) (length-map c.args.chunk.now line_text)
+    (matches_below c.args.change (map line_text c.args.chunk.now) c.args.search.now.options.line_regexp (map g.M.LineMatch.expression c.args.matchers.now) c.matches-old.result.now c.in_ok-new.new c.in_ok-new.ensures.ok)
+
+pub find_parts-requires-clause-grows : goal.find_parts-requires-clause-grows
+find_parts-requires-clause-grows g c =
+    matches_grow c.args.change (map line_text c.args.chunk.now) c.args.search.now.options.line_regexp (map g.M.LineMatch.expression c.args.matchers.now) c.matches-old.result.now c.in_ok-new.new c.in_ok-new.ensures.ok
+
+pub returns-in_err-parts-clause-steps : goal.returns-in_err-parts-clause-steps
+returns-in_err-parts-clause-steps g c = λ before changed h k.
+    let es = map g.M.LineMatch.expression c.args.matchers.now in
+    let texts = map line_text c.args.chunk.now in
+    let options = c.args.search.now.options in
+    let many = sym (length-map c.args.matchers.now g.M.LineMatch.expression) in
+    let within = subst (IsWithin c.args.change) many c.requires.within in
+    let decided = column_decides c.args.change es before changed options c.args.chunk.now c.matches-old.result.now c.in_ok-new.new within h k c.in_ok-new.ensures.ok c.matches-old.ensures.at in
+    let parts = rw c.find_matches.ensures.same_matchers.same_expressions at c.find_parts.ensures.steps in
+    chunk_steps c.args.change changed es options texts _ _ _ (subst (λ n. AddsAtMost (n * length (terminated texts)) c.args.meter.now c.find_matches.new.meter) (sought_count c.args.change es before changed _ many h) c.find_matches.ensures.steps) (parts changed decided)
+
+pub returns-in_err-found-clause-steps : goal.returns-in_err-found-clause-steps
+returns-in_err-found-clause-steps g c = λ before changed h k.
+    let es = map g.M.LineMatch.expression c.args.matchers.now in
+    let texts = map line_text c.args.chunk.now in
+    let options = c.args.search.now.options in
+    let many = sym (length-map c.args.matchers.now g.M.LineMatch.expression) in
+    let within = subst (IsWithin c.args.change) many c.requires.within in
+    let decided = column_decides c.args.change es before changed options c.args.chunk.now c.matches-old.result.now c.in_ok-new.new within h k c.in_ok-new.ensures.ok c.matches-old.ensures.at in
+    let parts = rw c.find_matches.ensures.same_matchers.same_expressions at c.find_parts.ensures.steps in
+    chunk_steps c.args.change changed es options texts _ _ _ (subst (λ n. AddsAtMost (n * length (terminated texts)) c.args.meter.now c.find_matches.new.meter) (sought_count c.args.change es before changed _ many h) c.find_matches.ensures.steps) (parts changed decided)
+
+pub returns-clause-steps : goal.returns-clause-steps
+returns-clause-steps g c = λ before changed h k.
+    let es = map g.M.LineMatch.expression c.args.matchers.now in
+    let texts = map line_text c.args.chunk.now in
+    let options = c.args.search.now.options in
+    let many = sym (length-map c.args.matchers.now g.M.LineMatch.expression) in
+    let within = subst (IsWithin c.args.change) many c.requires.within in
+    let decided = column_decides c.args.change es before changed options c.args.chunk.now c.matches-old.result.now c.in_ok-new.new within h k c.in_ok-new.ensures.ok c.matches-old.ensures.at in
+    let parts = rw c.find_matches.ensures.same_matchers.same_expressions at c.find_parts.ensures.steps in
+    chunk_steps c.args.change changed es options texts _ _ _ (subst (λ n. AddsAtMost (n * length (terminated texts)) c.args.meter.now c.find_matches.new.meter) (sought_count c.args.change es before changed _ many h) c.find_matches.ensures.steps) (parts changed decided)
+
+pub returns-clause-ok : goal.returns-clause-ok
+returns-clause-ok g c = λ before changed h k.
+    let es = map g.M.LineMatch.expression c.args.matchers.now in
+    let options = c.args.search.now.options in
+    let texts = map line_text c.args.chunk.now in
+    let within = subst (IsWithin c.args.change) (sym (length-map c.args.matchers.now g.M.LineMatch.expression)) c.requires.within in
+    let parts = rw c.find_matches.ensures.same_matchers.same_expressions at c.in_ok-parts.ensures.ok in
+    let right = column_right c.args.change es before changed options c.args.chunk.now c.matches-old.result.now c.in_ok-new.new within h k c.in_ok-new.ensures.ok c.matches-old.ensures.at c.in_ok-parts.parts parts in
+    let size : c.in_ok-found.found.size ≡ length c.args.chunk.now = ap (λ (f : FoundIn). f.size) c.in_ok-found.ensures ∙ c.len.ensures in
+    let same : c.in_ok-found.found ≡ record { size = length c.args.chunk.now; pairs = c.in_ok-new.new; parts = c.in_ok-parts.parts } = c.in_ok-found.ensures ∙ ap (λ n. record { size = n; pairs = c.in_ok-new.new; parts = c.in_ok-parts.parts }) c.len.ensures in
+    (size, subst (λ f. All (IsKept es options) (seen texts f)) (sym same) right)

@@ -1,0 +1,85 @@
+use Rattle.std.proofs.Common.{◌≡◌, ◌<◌, ◌≤◌, [], ◌∷◌, ◌++◌, All, length, map, take, get_or, sym, ap, subst, ◌∙◌, arith, take_all}
+use Rattle.re_search.specs.Searching.{AllAnswer}
+use Rattle.re_syntax.specs.Profile.{most_patterns}
+use Rattle.line_chunks.specs.Working.Chunks.{all_of, line_text}
+use Rattle.grep_core.proofs.lemmas.CostLaws.{same_length}
+use Rattle.grep_session.specs.Working.Changed.{ChangeCost, IsWithin, SearchesEach, WasKept}
+use Rattle.grep_session.specs.Working.Columns.{AddsColumns}
+use Rattle.grep_session.proofs.lemmas.FoundLemmas.{adds_no_column, adds_columns, adds_column, all_by_chunk, chunks_next, texts_next, texts_rest}
+use Rattle.grep_session.proofs.lemmas.RoomLemmas.{none_asked, same_over}
+use Rattle.grep_session.proofs.lemmas.StepLemmas.{ChangeCost-exists, each_none, each_both, each_front}
+use Rattle.grep_session.proofs.columns.find_in_lines.Goals as goal
+
+pub loop-i-init : goal.loop-i-init
+loop-i-init g c = record {
+  found = adds_no_column _ _ _ _;
+  same_matchers = none_asked;
+  steps = λ before changed h k. each_none _ _;
+}
+
+pub find_in_chunk-requires-clause-whole : goal.find_in_chunk-requires-clause-whole
+find_in_chunk-requires-clause-whole g c = subst (AllAnswer c.args.search.now.options.line_regexp) (sym c.loop-i.invariant.same_matchers.same_wholes) c.requires.whole
+
+pub find_in_chunk-requires-clause-few : goal.find_in_chunk-requires-clause-few
+find_in_chunk-requires-clause-few g c = subst (λ n. n ≤ most_patterns) (sym (same_length g.M.LineMatch.expression _ _ c.loop-i.invariant.same_matchers.same_expressions)) c.requires.few
+
+pub find_in_chunk-requires-clause-within : goal.find_in_chunk-requires-clause-within
+find_in_chunk-requires-clause-within g c = subst (IsWithin c.args.change) (sym (same_length g.M.LineMatch.expression _ _ c.loop-i.invariant.same_matchers.same_expressions)) c.requires.within
+
+pub returns-in_err-one-clause-steps : goal.returns-in_err-one-clause-steps
+returns-in_err-one-clause-steps g c = λ before changed h k.
+    let s = c.loop-i.invariant in
+    let i = c.loop-i.i in
+    let chunks = c.args.lines.now in
+    let inside : i < length chunks = omega (arith, c.loop-i-test.true, c.chunk_count-i-end.ensures) in
+    let chunk : c.chunk.result.now ≡ get_or chunks i [] = c.chunk.ensures in
+    let C = ChangeCost c.args.change changed (map g.M.LineMatch.expression c.args.matchers.now) c.args.search.now.options in
+    let spent = rw s.same_matchers.same_expressions at c.find_in_chunk.ensures.steps in
+    let kept : All (WasKept c.args.change before c.args.search.now.options) c.chunk.result.now = subst (All (WasKept c.args.change before c.args.search.now.options)) (sym chunk) (all_by_chunk (WasKept c.args.change before c.args.search.now.options) chunks k i [] inside) in
+    let both = texts_next chunks i inside ∙ ap (λ ls. map line_text (all_of (take i chunks)) ++ map line_text ls) (sym chunk) in
+    each_front C (ChangeCost-exists c.args.change changed _ c.args.search.now.options) _ _ _ _ _ (texts_rest chunks i inside) (each_both C _ _ _ _ _ _ both (s.steps before changed h k) (spent before changed h kept))
+
+pub returns-in_err-push-clause-steps : goal.returns-in_err-push-clause-steps
+returns-in_err-push-clause-steps g c = λ before changed h k.
+    let s = c.loop-i.invariant in
+    let i = c.loop-i.i in
+    let chunks = c.args.lines.now in
+    let inside : i < length chunks = omega (arith, c.loop-i-test.true, c.chunk_count-i-end.ensures) in
+    let chunk : c.chunk.result.now ≡ get_or chunks i [] = c.chunk.ensures in
+    let C = ChangeCost c.args.change changed (map g.M.LineMatch.expression c.args.matchers.now) c.args.search.now.options in
+    let spent = rw s.same_matchers.same_expressions at c.find_in_chunk.ensures.steps in
+    let kept : All (WasKept c.args.change before c.args.search.now.options) c.chunk.result.now = subst (All (WasKept c.args.change before c.args.search.now.options)) (sym chunk) (all_by_chunk (WasKept c.args.change before c.args.search.now.options) chunks k i [] inside) in
+    let both = texts_next chunks i inside ∙ ap (λ ls. map line_text (all_of (take i chunks)) ++ map line_text ls) (sym chunk) in
+    each_front C (ChangeCost-exists c.args.change changed _ c.args.search.now.options) _ _ _ _ _ (texts_rest chunks i inside) (each_both C _ _ _ _ _ _ both (s.steps before changed h k) (spent before changed h kept))
+
+pub loop-i-preserved : goal.loop-i-preserved
+loop-i-preserved g c =
+    let s = c.loop-i.invariant in
+    let i = c.loop-i.i in
+    let chunks = c.args.lines.now in
+    let es = map g.M.LineMatch.expression c.args.matchers.now in
+    let options = c.args.search.now.options in
+    let inside : i < length chunks = omega (arith, c.loop-i-test.true, c.chunk_count-i-end.ensures) in
+    let chunk : c.chunk.result.now ≡ get_or chunks i [] = c.chunk.ensures in
+    let spent = rw s.same_matchers.same_expressions at c.find_in_chunk.ensures.steps in
+    let right = rw s.same_matchers.same_expressions at c.in_ok-one.ensures.ok in
+    let one = adds_column c.args.change es options c.chunk.result.now c.in_ok-one.one c.loop-i.found.items c.push.new.all.items c.in_ok-push.ensures.ok c.in_ok-one.ensures.fits right in
+    let all = chunks_next chunks i inside ∙ ap (λ ls. take i chunks ++ ls ∷ []) (sym chunk) in
+    record {
+      found = adds_columns c.args.change es options (take i chunks) (c.chunk.result.now ∷ []) _ _ _ _ all s.found one;
+      same_matchers = same_over c.find_in_chunk.ensures.same_matchers s.same_matchers;
+      steps = λ before changed h k.
+          let kept : All (WasKept c.args.change before options) c.chunk.result.now = subst (All (WasKept c.args.change before options)) (sym chunk) (all_by_chunk (WasKept c.args.change before options) chunks k i [] inside) in
+          let both = texts_next chunks i inside ∙ ap (λ ls. map line_text (all_of (take i chunks)) ++ map line_text ls) (sym chunk) in
+          each_both (ChangeCost c.args.change changed es options) _ _ _ _ _ _ both (s.steps before changed h k) (spent before changed h kept);
+    }
+
+pub returns-clause-ok : goal.returns-clause-ok
+returns-clause-ok g c =
+    let all : take c.loop-i.i c.args.lines.now ≡ c.args.lines.now = take_all _ _ (omega (arith, c.loop-i-test.false, c.chunk_count-i-end.ensures)) in
+    subst (λ cs. AddsColumns c.args.change (map g.M.LineMatch.expression c.args.matchers.now) c.args.search.now.options cs c.args.found.now.items c.loop-i.found.items) all c.loop-i.invariant.found
+
+pub returns-clause-steps : goal.returns-clause-steps
+returns-clause-steps g c = λ before changed h k.
+    let all : take c.loop-i.i c.args.lines.now ≡ c.args.lines.now = take_all _ _ (omega (arith, c.loop-i-test.false, c.chunk_count-i-end.ensures)) in
+    subst (λ cs. SearchesEach (ChangeCost c.args.change changed (map g.M.LineMatch.expression c.args.matchers.now) c.args.search.now.options) (map line_text (all_of cs)) c.args.meter.now c.loop-i.meter) all (c.loop-i.invariant.steps before changed h k)

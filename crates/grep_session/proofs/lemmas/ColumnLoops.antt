@@ -1,0 +1,93 @@
+-- The lines of a chunk that an expression matches, noted one after the other.
+use Rattle.std.proofs.Common.{◌≡◌, ℕ, ◌+◌, ◌<◌, ◌≤◌, Bool, List, [], ◌∷◌, ◌++◌, inl, inr, length, get_or, refl, sym, ap, subst, ◌∙◌, arith, append-nil, append_assoc, if◌then◌else◌, Some}
+use Rattle.std.specs.Prelude.{◌⊎◌}
+use Rattle.std.proofs.lemmas.Bool.{cases_lt}
+use Rattle.std.proofs.lemmas.List.Elements.{All-push, All-nil, All-append}
+use Rattle.re_syntax.specs.Bytes.{Text}
+use Rattle.re_syntax.specs.Expression.{Expression}
+use Rattle.re_syntax.specs.Holds.{Matches}
+use Rattle.line_chunks.specs.Working.Finds.{numbers_at, AreBelow}
+use Rattle.line_chunks.proofs.lemmas.PairLaws.{eq_yes, eq_no, numbers_at-append}
+use Rattle.grep_session.specs.Working.Columns.{AddsColumn, IsNextLine}
+use Rattle.grep_session.specs.Working.Kept.{AddsMatching}
+use Rattle.grep_session.proofs.lemmas.FindingLemmas.{adds_one_matching, passes_one_matching, adds_none_matching, adds_more_matching}
+
+-- one pair more at its line, and at another
+pub one_here : (k n : ℕ) (xs : List (ℕ × ℕ)) → numbers_at k (xs ++ (k, n) ∷ []) ≡ numbers_at k xs ++ n ∷ []
+one_here k n xs = numbers_at-append k xs ((k, n) ∷ []) ∙ ap (λ b. numbers_at k xs ++ (if b then n ∷ [] else [])) (eq_yes k k refl)
+
+pub one_elsewhere : (k other n : ℕ) (xs : List (ℕ × ℕ)) → (other ≡ k → ⊥) → numbers_at k (xs ++ (other, n) ∷ []) ≡ numbers_at k xs
+one_elsewhere k other n xs apart = numbers_at-append k xs ((other, n) ∷ []) ∙ ap (λ b. numbers_at k xs ++ (if b then n ∷ [] else [])) (eq_no other k apart) ∙ append-nil (numbers_at k xs)
+
+module _ (e : Expression) (entire : Bool) (number : ℕ) (texts : List Text) where
+  -- the lines before `from` that the expression matches are noted, and no others
+  pub record ColumnSoFar (from : ℕ) (old new : List (ℕ × ℕ)) : Type 0 where
+    pub more : List (ℕ × ℕ)
+    pub added : new ≡ old ++ more
+    pub within : AreBelow (length texts) more
+    pub done : (k : ℕ) → k < from → k < length texts → AddsMatching (get_or texts k []) entire number (e ∷ []) (numbers_at k old) (numbers_at k new)
+    pub left : (k : ℕ) → from ≤ k → numbers_at k new ≡ numbers_at k old
+
+  pub column_none : (old : List (ℕ × ℕ)) → ColumnSoFar 0 old old
+  column_none old = record {
+    more = [];
+    added = sym (append-nil old);
+    within = All-nil (λ (pair : ℕ × ℕ). pair.0 < length texts);
+    done = λ k low high. absurd (let no : ⊥ = omega (arith, low) in no);
+    left = λ k low. refl;
+  }
+
+  -- one more line is noted, and none before it is matched
+  pub column_next : (from next : ℕ) (old mid new : List (ℕ × ℕ)) → IsNextLine e entire texts from (Some next) → new ≡ mid ++ (next, number) ∷ [] → ColumnSoFar from old mid → ColumnSoFar (next + 1) old new
+  column_next from next old mid new found pushed s = record {
+    more = s.more ++ (next, number) ∷ [];
+    added = pushed ∙ ap (λ l. l ++ (next, number) ∷ []) s.added ∙ append_assoc old s.more ((next, number) ∷ []);
+    within = All-push (λ (pair : ℕ × ℕ). pair.0 < length texts) s.more (next, number) s.within found.1;
+    done = by_place;
+    left = λ k low. ap (numbers_at k) pushed ∙ one_elsewhere k next number mid (λ same. let no : ⊥ = omega (arith, same, low) in no) ∙ s.left k (omega (arith, low, found.0));
+  }
+    where
+      same_before : (k : ℕ) → (next ≡ k → ⊥) → numbers_at k new ≡ numbers_at k mid
+      same_before k apart = ap (numbers_at k) pushed ∙ one_elsewhere k next number mid apart
+
+      by_place : (k : ℕ) → k < next + 1 → k < length texts → AddsMatching (get_or texts k []) entire number (e ∷ []) (numbers_at k old) (numbers_at k new)
+      by_place k low high = by_cases (cases_lt k from) (cases_lt k next)
+        where
+          by_cases : (k < from) ⊎ (from ≤ k) → (k < next) ⊎ (next ≤ k) → AddsMatching (get_or texts k []) entire number (e ∷ []) (numbers_at k old) (numbers_at k new)
+          by_cases (inl early) c = subst (AddsMatching (get_or texts k []) entire number (e ∷ []) (numbers_at k old)) (sym (same_before k (λ same. let no : ⊥ = omega (arith, same, early, found.0) in no))) (s.done k early high)
+          by_cases (inr late) (inl before) =
+              subst (AddsMatching (get_or texts k []) entire number (e ∷ []) (numbers_at k old)) (sym (same_before k (λ same. let no : ⊥ = omega (arith, same, before) in no) ∙ s.left k late))
+              (passes_one_matching (get_or texts k []) entire number e (numbers_at k old) (found.3 k late before))
+          by_cases (inr late) (inr after) =
+              let here : next ≡ k = omega (arith, low, after) in
+              adds_one_matching (get_or texts k []) entire number e (numbers_at k old) (numbers_at k new) (subst (λ n. Matches e (get_or texts n []) entire) here found.2)
+              (ap (numbers_at k) pushed ∙ ap (λ n. numbers_at k (mid ++ (n, number) ∷ [])) here ∙ one_here k number mid ∙ ap (λ l. l ++ number ∷ []) (s.left k late))
+
+  -- no line is left that the expression matches
+  pub column_done : (from : ℕ) (old new : List (ℕ × ℕ)) → ((k : ℕ) → from ≤ k → k < length texts → ¬ Matches e (get_or texts k []) entire) → ColumnSoFar from old new → AddsColumn texts entire number (e ∷ []) old new
+  column_done from old new none s = record { more = s.more; added = s.added; within = s.within; numbers = λ k high. by_cases k high (cases_lt k from) }
+    where
+      by_cases : (k : ℕ) → k < length texts → (k < from) ⊎ (from ≤ k) → AddsMatching (get_or texts k []) entire number (e ∷ []) (numbers_at k old) (numbers_at k new)
+      by_cases k high (inl early) = s.done k early high
+      by_cases k high (inr late) = subst (AddsMatching (get_or texts k []) entire number (e ∷ []) (numbers_at k old)) (sym (s.left k late)) (passes_one_matching (get_or texts k []) entire number e (numbers_at k old) (none k late high))
+
+-- ---- several expressions
+
+module _ (texts : List Text) (entire : Bool) where
+  -- no expression
+  pub columns_none : (first : ℕ) (old : List (ℕ × ℕ)) → AddsColumn texts entire first [] old old
+  columns_none first old = record {
+    more = [];
+    added = sym (append-nil old);
+    within = All-nil (λ (pair : ℕ × ℕ). pair.0 < length texts);
+    numbers = λ k high. adds_none_matching (get_or texts k []) entire first (numbers_at k old);
+  }
+
+  -- more expressions
+  pub columns_more : (first next : ℕ) (es fs all : List Expression) (old mid new : List (ℕ × ℕ)) → next ≡ first + length es → all ≡ es ++ fs → AddsColumn texts entire first es old mid → AddsColumn texts entire next fs mid new → AddsColumn texts entire first all old new
+  columns_more first next es fs all old mid new place both a b = record {
+    more = a.more ++ b.more;
+    added = b.added ∙ ap (λ l. l ++ b.more) a.added ∙ append_assoc old a.more b.more;
+    within = All-append (λ (pair : ℕ × ℕ). pair.0 < length texts) a.more b.more a.within b.within;
+    numbers = λ k high. adds_more_matching (get_or texts k []) entire first next es fs all (numbers_at k old) (numbers_at k mid) (numbers_at k new) place both (a.numbers k high) (b.numbers k high);
+  }

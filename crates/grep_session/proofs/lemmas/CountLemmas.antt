@@ -1,0 +1,78 @@
+-- Which kept lines grep selects, and how many, where what is kept of them is right.
+use Rattle.std.proofs.Common.{◌≡◌, ℕ, ◌+◌, ◌<◌, ◌≤◌, Bool, true, false, List, [], ◌∷◌, length, map, take, get_or, All, IfSome, Some, ◌⊎◌, inl, inr, refl, sym, ap, subst, ◌∙◌, arith, if◌then◌else◌}
+use Rattle.std.specs.Bool.{Decides}
+use Rattle.std.proofs.lemmas.Bool.{false≢true}
+use Rattle.std.proofs.lemmas.List.{get_or-map, take-map, length-map}
+use Rattle.std.proofs.lemmas.List.Elements.{All-head, All-tail, All-take, All-get_or}
+use Rattle.re_syntax.specs.Bytes.{Text}
+use Rattle.re_syntax.specs.Expression.{Expression}
+use Rattle.re_search.specs.Working.Blocks.{HoldsOfMany}
+use Rattle.grep_core.specs.declared.options.Options.{Options}
+use Rattle.grep_core.specs.Files.{Selected}
+use Rattle.grep_core.specs.Run.{file_at}
+use Rattle.grep_session.specs.declared.kept.KeptFile.{KeptFile}
+use Rattle.line_chunks.specs.Working.Chunks.{KeptLine}
+use Rattle.grep_session.specs.Working.Counts.{SelectedFrom}
+use Rattle.line_chunks.specs.Working.Chunks.{line_text}
+use Rattle.grep_session.specs.Working.Kept.{IsKept, IsFileKept, kept_lines, kept_file, file_with}
+use Rattle.grep_session.specs.Working.Report.{is_selected, selected_count}
+use Rattle.grep_session.proofs.lemmas.KeptLaws.{selected_reported}
+
+module _ (es : List Expression) (options : Options) where
+  many_selected : (lines : List KeptLine) → All (IsKept es options) lines → HoldsOfMany (Selected es options) (map line_text lines) (selected_count options lines)
+  many_selected [] kept = refl
+  many_selected (line ∷ lines) kept = (
+    selected_count options lines,
+    many_selected lines (All-tail (IsKept es options) line lines kept),
+    by_verdict (is_selected options line) (selected_reported es options line (All-head (IsKept es options) line lines kept)),
+  )
+    where
+      by_verdict : (b : Bool) → Decides b (Selected es options (line_text line)) →
+          (Selected es options (line_text line) × ((if b then 1 else 0) + selected_count options lines ≡ selected_count options lines + 1)) ⊎ ((Selected es options (line_text line) → ⊥) × ((if b then 1 else 0) + selected_count options lines ≡ selected_count options lines))
+      by_verdict true d = inl (d.0 refl, omega arith)
+      by_verdict false d = inr ((λ s. false≢true (d.1 s)), omega arith)
+
+  -- the number of selected lines before a place
+  pub counted_before : (lines : List KeptLine) (place count : ℕ) → All (IsKept es options) lines → count ≡ selected_count options (take place lines) → HoldsOfMany (Selected es options) (take place (map line_text lines)) count
+  counted_before lines place count kept is =
+      subst (λ n. HoldsOfMany (Selected es options) (take place (map line_text lines)) n) (sym is)
+      (subst (λ ts. HoldsOfMany (Selected es options) ts (selected_count options (take place lines))) (sym (take-map line_text place lines)) (many_selected (take place lines) (All-take (IsKept es options) place lines kept)))
+
+  -- the lines before the next selected one are not selected, and it is
+  pub none_passed : (lines : List KeptLine) (place next : ℕ) → All (IsKept es options) lines → SelectedFrom options lines place next → (i : ℕ) → place ≤ i → i < next → Selected es options (get_or (map line_text lines) i []) → ⊥
+  none_passed [] place next kept s i low high selected = absurd (omega (arith, high, s.within))
+  none_passed (d ∷ more) place next kept s i low high selected =
+      let inside : i < length (d ∷ more) = omega (arith, high, s.within) in
+      let line = get_or (d ∷ more) i d in
+      let there = subst (Selected es options) (get_or-map line_text (d ∷ more) i d [] inside) selected in
+      false≢true (sym (s.passed i d low high) ∙ (selected_reported es options line (All-get_or (IsKept es options) (d ∷ more) i d inside kept)).1 there)
+
+  pub one_found : (lines : List KeptLine) (place next : ℕ) → All (IsKept es options) lines → SelectedFrom options lines place next → next < length lines → Selected es options (get_or (map line_text lines) next [])
+  one_found [] place next kept s h = absurd (omega (arith, h))
+  one_found (d ∷ more) place next kept s h =
+      let line = get_or (d ∷ more) next d in
+      subst (Selected es options) (sym (get_or-map line_text (d ∷ more) next d [] h)) ((selected_reported es options line (All-get_or (IsKept es options) (d ∷ more) next d h kept)).0 (s.hit d h))
+
+  -- the same of a file
+  module _ (file : KeptFile) (lines : List KeptLine) (is : kept_lines file ≡ Some lines) (kept : IsFileKept es options file) where
+    lines_kept : All (IsKept es options) lines
+    lines_kept = subst (λ l. IfSome l (All (IsKept es options))) is kept
+
+    lines_are : map line_text lines ≡ (kept_file file).lines
+    lines_are = ap (λ l. (file_with file.name.items l).lines) (sym is)
+
+    pub file_counted : (place count : ℕ) → count ≡ selected_count options (take place lines) → HoldsOfMany (Selected es options) (take place (kept_file file).lines) count
+    file_counted place count e = subst (λ ts. HoldsOfMany (Selected es options) (take place ts) count) lines_are (counted_before lines place count lines_kept e)
+
+    pub file_passed : (place next : ℕ) → SelectedFrom options lines place next → (i : ℕ) → place ≤ i → i < next → Selected es options (get_or (kept_file file).lines i []) → ⊥
+    file_passed place next s = subst (λ ts. (i : ℕ) → place ≤ i → i < next → Selected es options (get_or ts i []) → ⊥) lines_are (none_passed lines place next lines_kept s)
+
+    pub file_found : (place next : ℕ) → SelectedFrom options lines place next → next < length (kept_file file).lines → Selected es options (get_or (kept_file file).lines next [])
+    file_found place next s = subst (λ (ts : List Text). next < length ts → Selected es options (get_or ts next [])) lines_are (λ h. one_found lines place next lines_kept s (omega (arith, h, length-map lines line_text)))
+
+-- a file of a session, as a contract sees it, and what is kept of it
+pub file_there : (files : List KeptFile) (k : ℕ) (file : KeptFile) → k < length files → file ≡ get_or files k file → kept_file file ≡ file_at (map kept_file files) k
+file_there files k file inside at = ap kept_file at ∙ sym (get_or-map kept_file files k file (file_at [] k) inside)
+
+pub kept_there : (es : List Expression) (options : Options) (files : List KeptFile) (k : ℕ) (file : KeptFile) → k < length files → file ≡ get_or files k file → All (IsFileKept es options) files → IsFileKept es options file
+kept_there es options files k file inside at kept = subst (λ (f : KeptFile). IsFileKept es options f) (sym at) (All-get_or (IsFileKept es options) files k file inside kept)

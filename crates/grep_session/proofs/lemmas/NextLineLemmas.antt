@@ -1,0 +1,100 @@
+-- The next line of a chunk that an expression matches, by its number.
+use Rattle.std.proofs.Common.{◌≡◌, ℕ, ◌+◌, ◌-◌, ◌^◌, ◌<◌, ◌≤◌, List, [], ◌∷◌, ◌++◌, All, length, take, drop, get_or, slice_range, sym, ap, subst, ◌∙◌, arith, length-append, length-drop, append_assoc}
+use Rattle.std.proofs.Math.Seq.{take-append_seam, get_or-append_seam}
+use Rattle.std.proofs.lemmas.List.{get_or-drop, get_or_append_left, take-append-drop, drop-take, take-take}
+use Rattle.re_syntax.specs.Bytes.{Text}
+use Rattle.re_syntax.specs.Lines.{terminated}
+use Rattle.re_syntax.specs.declared.span.Span.{Span}
+use Rattle.re_syntax.proofs.lemmas.LinesLaws.{terminated-append}
+use Rattle.re_search.specs.Working.Blocks.{IsNext}
+
+-- the first elements, and the next
+first_of_rest : (xs : List Text) (y : Text) (ys : List Text) → take (length xs + 1) (xs ++ y ∷ ys) ≡ xs ++ y ∷ []
+first_of_rest xs y ys =
+    let counted : length xs + 1 ≡ length (xs ++ y ∷ []) = sym (length-append xs (y ∷ [])) in
+    ap (λ n. take n (xs ++ y ∷ ys)) counted ∙ ap (take (length (xs ++ y ∷ []))) (sym (append_assoc xs (y ∷ []) ys)) ∙ take-append_seam (xs ++ y ∷ []) ys
+
+module _ (P : Text → Type 0) (texts : List Text) (from : ℕ) where
+  -- an element of the rest by its number in the whole
+  in_rest : (k : ℕ) → from ≤ k → get_or (drop from texts) (k - from) [] ≡ get_or texts k []
+  in_rest k h = let place : from + (k - from) ≡ k = omega (arith, h) in get_or-drop from texts (k - from) [] ∙ ap (λ n. get_or texts n []) place
+
+  -- no line from there on has the property
+  pub none_from : (lines : List Text) → lines ≡ drop from texts → All (λ line. ¬ P line) lines → (k : ℕ) → from ≤ k → k < length texts → ¬ P (get_or texts k [])
+  none_from lines rest none k low high =
+      let inside : k - from < length (drop from texts) = omega (arith, low, high, length-drop from texts) in
+      subst (λ line. ¬ P line) (in_rest k low) (subst (All (λ line. ¬ P line)) rest none (k - from) [] inside)
+
+  module _ (lines : List Text) (at : Span) (rest : lines ≡ drop from texts) (next : IsNext P lines at) (within : from ≤ length texts) where
+    -- the number of the next line that has it
+    abbrev pub number : ℕ
+    number = from + length next.before
+
+    divided : drop from texts ≡ next.before ++ next.line ∷ next.after
+    divided = sym rest ∙ next.divided
+
+    pub inside : number < length texts
+    inside = omega (arith, within, length-drop from texts, ap length divided, length-append next.before (next.line ∷ next.after))
+
+    front : take number texts ≡ take from texts ++ next.before
+    front =
+        let whole : drop from (take (from + length next.before) texts) ≡ next.before = drop-take from (length next.before) texts ∙ ap (take (length next.before)) divided ∙ take-append_seam next.before (next.line ∷ next.after) in
+        let first : take from (take (from + length next.before) texts) ≡ take from texts = take_take_front in
+        sym (take-append-drop from (take number texts)) ∙ (λ i. first i ++ whole i)
+      where
+        take_take_front : take from (take (from + length next.before) texts) ≡ take from texts
+        take_take_front = take-take from (from + length next.before) texts (omega arith)
+
+    -- where it begins in the text of all lines
+    pub place : (start : ℕ) → start ≡ length (terminated (take from texts)) → start + at.start ≡ length (terminated (take number texts))
+    place start is =
+        let all : length (terminated (take number texts)) ≡ length (terminated (take from texts)) + length (terminated next.before) = ap (λ l. length (terminated l)) front ∙ ap length (terminated-append (take from texts) next.before) ∙ length-append (terminated (take from texts)) (terminated next.before) in
+        omega (arith, is, next.starts, all)
+
+    pub place_fits : (start : ℕ) → start ≡ length (terminated (take from texts)) → length (terminated texts) < 2 ^ 64 → start + at.start < 2 ^ 64
+    place_fits start is fits =
+        let both : length (terminated texts) ≡ length (terminated (take number texts)) + length (terminated (drop number texts)) =
+        ap (λ l. length (terminated l)) (sym (take-append-drop number texts)) ∙ ap length (terminated-append (take number texts) (drop number texts)) ∙ length-append (terminated (take number texts)) (terminated (drop number texts)) in
+        omega (arith, place start is, both, fits)
+
+    pub holds_there : P (get_or texts number [])
+    holds_there =
+        let here : get_or texts number [] ≡ next.line = sym (get_or-drop from texts (length next.before) []) ∙ ap (λ l. get_or l (length next.before) []) divided ∙ get_or-append_seam next.before next.line next.after [] in
+        subst P (sym here) next.holds
+
+    pub none_before : (k : ℕ) → from ≤ k → k < number → ¬ P (get_or texts k [])
+    none_before k low high =
+        let inside_front : k - from < length next.before = omega (arith, low, high) in
+        let here : get_or next.before (k - from) [] ≡ get_or texts k [] = sym (get_or_append_left next.before (next.line ∷ next.after) [] (k - from) inside_front) ∙ ap (λ l. get_or l (k - from) []) (sym divided) ∙ in_rest k low in
+        subst (λ line. ¬ P line) here (next.passed (k - from) [] inside_front)
+
+    -- the bytes up to its newline, and that
+    pub cost : at.end + 1 ≡ length (terminated (slice_range texts from (number + 1)))
+    cost =
+        let some : number + 1 - from ≡ length next.before + 1 = omega arith in
+        let lines : slice_range texts from (number + 1) ≡ next.before ++ next.line ∷ [] =
+        (λ i. take (some i) (divided i)) ∙ first_of_rest next.before next.line next.after in
+        let bytes : length (terminated (slice_range texts from (number + 1))) ≡ length (terminated next.before) + length (terminated (next.line ∷ [])) =
+        ap (λ l. length (terminated l)) lines ∙ ap length (terminated-append next.before (next.line ∷ [])) ∙ length-append (terminated next.before) (terminated (next.line ∷ [])) in
+        omega (arith, bytes, next.ends, next.starts, length-append next.line (10 ∷ []))
+
+-- ---- the bytes of the first lines, with their newlines
+
+-- two lists of lines, one after the other
+bytes_of_both : (xs ys : List Text) → length (terminated (xs ++ ys)) ≡ length (terminated xs) + length (terminated ys)
+bytes_of_both xs ys = ap length (terminated-append xs ys) ∙ length-append (terminated xs) (terminated ys)
+
+-- the first lines and all the others
+pub bytes_rest : (texts : List Text) (from : ℕ) → length (terminated (take from texts)) + length (terminated (drop from texts)) ≡ length (terminated texts)
+bytes_rest texts from = sym (bytes_of_both (take from texts) (drop from texts)) ∙ ap (λ l. length (terminated l)) (take-append-drop from texts)
+
+pub bytes_within : (texts : List Text) (from : ℕ) → length (terminated (take from texts)) ≤ length (terminated texts)
+bytes_within texts from = omega (arith, bytes_rest texts from)
+
+-- the first lines and those from there up to another place
+pub bytes_up_to : (texts : List Text) (from to : ℕ) → from ≤ to → length (terminated (take from texts)) + length (terminated (slice_range texts from to)) ≡ length (terminated (take to texts))
+bytes_up_to texts from to h =
+    let place : from + (to - from) ≡ to = omega (arith, h) in
+    let rest : drop from (take to texts) ≡ slice_range texts from to = ap (λ n. drop from (take n texts)) (sym place) ∙ drop-take from (to - from) texts in
+    let first : take from (take to texts) ≡ take from texts = take-take from to texts h in
+    sym (bytes_of_both (take from texts) (slice_range texts from to)) ∙ (λ i. length (terminated ((sym first) i ++ (sym rest) i))) ∙ ap (λ l. length (terminated l)) (take-append-drop from (take to texts))

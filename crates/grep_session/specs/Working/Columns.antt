@@ -1,0 +1,138 @@
+-- What is found in the lines of a chunk after a change of the patterns, and put in a column.
+use Rattle.std.specs.Prelude.{◌≡◌, ℕ, ◌<◌, ⊤, Bool, true, false, List, [], ◌++◌, All, length, drop, get_or, nat_eq, nat_lt, slice_range, ◌+◌, ◌≤◌, ◌&&◌, Option, Some, None, MatchBool}
+use Rattle.std.specs.List.{AllZip, list_any}
+use Rattle.std.specs.Bool.{Decides}
+use Rattle.re_syntax.specs.Bytes.{Text}
+use Rattle.re_syntax.specs.Expression.{Expression}
+use Rattle.re_syntax.specs.Holds.{Matches}
+use Rattle.re_syntax.specs.Lines.{terminated}
+use Rattle.re_syntax.specs.declared.span.Span.{Span}
+use Rattle.re_search.specs.Searching.{AddsAtMost}
+use Rattle.grep_core.specs.Meters.{Steps}
+use Rattle.grep_core.specs.declared.options.Options.{Options}
+use Rattle.line_chunks.specs.Working.Finds.{FoundIn, AreBelow, is_paired, numbers_at, without}
+use Rattle.line_chunks.specs.Working.Chunks.{KeptLine, no_line, FitsColumn}
+use Rattle.grep_session.specs.declared.change.Change.{Change}
+use Rattle.grep_session.specs.declared.change.Change.TheVariants.{Anew, Added, Dropped}
+use Rattle.grep_session.specs.Touched.{PartsCostOf}
+use Rattle.grep_session.specs.Working.Changed.{HasChanged, HasNewParts, WasKept}
+use Rattle.grep_session.specs.Working.Found.{IsColumn}
+use Rattle.grep_session.specs.Working.Kept.{AddsMatching, ArePartsKept}
+
+-- ---- the numbers of a line
+
+-- of so many patterns, the number of the first that is searched for after a change
+abbrev pub first_sought : Change → ℕ → ℕ
+first_sought Anew many = 0
+first_sought (Added first) many = first
+first_sought _ many = many
+
+-- the numbers that stay, of those that were kept of a line
+abbrev pub left_numbers : Change → List ℕ → List ℕ
+left_numbers Anew numbers = []
+left_numbers (Dropped p) numbers = without p numbers
+left_numbers _ numbers = numbers
+
+-- the pairs are those of `old` that stay; where patterns are added, all do
+abbrev pub KeepsAll : Change → List (ℕ × ℕ) → List (ℕ × ℕ) → Type 0
+KeepsAll (Added first) old left = left ≡ old
+KeepsAll _ old left = ⊤
+
+pub record AreLeft (change : Change) (size : ℕ) (old left : List (ℕ × ℕ)) : Type 0 where
+  pub within : AreBelow size left
+  pub numbers : (k : ℕ) → numbers_at k left ≡ left_numbers change (numbers_at k old)
+  pub all : KeepsAll change old left
+
+-- for each of the lines, the numbers of the expressions that match it were added, of which the
+-- first has the number `first`
+pub record AddsColumn (texts : List Text) (entire : Bool) (first : ℕ) (es : List Expression)
+    (old new : List (ℕ × ℕ)) : Type 0 where
+  pub more : List (ℕ × ℕ)
+  pub added : new ≡ old ++ more
+  pub within : AreBelow (length texts) more
+  pub numbers : (k : ℕ) → k < length texts →
+      AddsMatching (get_or texts k []) entire first es (numbers_at k old) (numbers_at k new)
+
+-- the pairs that stay, and those of the expressions that are searched for after a change
+pub record AreMatches (change : Change) (texts : List Text) (entire : Bool) (es : List Expression)
+    (old new : List (ℕ × ℕ)) : Type 0 where
+  pub left : List (ℕ × ℕ)
+  pub are_left : AreLeft change (length texts) old left
+  pub adds : AddsColumn texts entire (first_sought change (length es))
+      (drop (first_sought change (length es)) es) left new
+
+-- ---- the parts of a line
+
+-- the parts of a line that some expression matches are searched anew, by the numbers that were kept
+-- of it and the new ones
+abbrev pub has_new_parts : Change → List ℕ → List ℕ → Bool
+has_new_parts (Added first) old new = nat_lt (length old) (length new)
+has_new_parts (Dropped p) old new = list_any (λ n. nat_eq n p) old
+has_new_parts _ old new = true
+
+-- patterns are added
+abbrev pub IsAdded : Change → Type 0
+IsAdded (Added first) = ⊤
+IsAdded _ = ⊥
+
+-- where patterns are added, the new pairs are the old ones and more
+abbrev pub Grows : Change → List (ℕ × ℕ) → List (ℕ × ℕ) → Type 0
+Grows (Added first) old new = (more : List (ℕ × ℕ)) × (new ≡ old ++ more)
+Grows _ old new = ⊤
+
+-- the parts of a line: none if no expression matches it, searched anew, or those that were kept
+abbrev pub ArePartsAgain : Bool → Bool → List Expression → Options → KeptLine → List Span → Type 0
+ArePartsAgain false anew es options line spans = spans ≡ []
+ArePartsAgain true true es options line spans = ArePartsKept es options line.text spans
+ArePartsAgain true false es options line spans = spans ≡ line.found.spans
+
+-- the parts of each of the lines of a chunk
+abbrev pub AreAllParts : Change → List Expression → Options → List KeptLine → List (ℕ × ℕ) →
+    List (ℕ × ℕ) → List (List Span) → Type 0
+AreAllParts change es options lines old new parts =
+    (k : ℕ) → k < length lines → options.only_matching ≡ true →
+    ArePartsAgain (is_paired k new) (has_new_parts change (numbers_at k old) (numbers_at k new)) es
+    options (get_or lines k no_line) (get_or parts k [])
+
+-- whether the parts of each of the lines are searched anew is known
+abbrev pub AreDecided : Change → List Expression → Options → List Text → List (ℕ × ℕ) →
+    List (ℕ × ℕ) → Type 0
+AreDecided change changed options texts old new =
+    (k : ℕ) → k < length texts →
+    Decides (has_new_parts change (numbers_at k old) (numbers_at k new))
+    (HasNewParts change changed options (get_or texts k []))
+
+-- ---- columns
+
+-- what was found in these chunks was added, and fits them; it is right for what was kept before
+pub record AddsColumns (change : Change) (es : List Expression) (options : Options)
+    (chunks : List (List KeptLine)) (old new : List (Option FoundIn)) : Type 0 where
+  pub found : List (Option FoundIn)
+  pub added : new ≡ old ++ found
+  pub fit : AllZip FitsColumn chunks found
+  pub are_right : (before changed : List Expression) → HasChanged change es before changed →
+      All (All (WasKept change before options)) chunks → AllZip (IsColumn es options) chunks found
+
+-- ---- the next line of a chunk that an expression matches
+
+-- the number of the first line from line `from` on that the expression matches; None says that there
+-- is none
+abbrev pub IsNextLine : Expression → Bool → List Text → ℕ → Option ℕ → Type 0
+IsNextLine e entire texts from None =
+    (k : ℕ) → from ≤ k → k < length texts → ¬ Matches e (get_or texts k []) entire
+IsNextLine e entire texts from (Some next) =
+    (from ≤ next) × (next < length texts) × Matches e (get_or texts next []) entire
+    × ((k : ℕ) → from ≤ k → k < next → ¬ Matches e (get_or texts k []) entire)
+
+-- the bytes of the lines up to it, with their newlines
+abbrev pub next_line_cost : List Text → ℕ → Option ℕ → ℕ
+next_line_cost texts from None = length (terminated (drop from texts))
+next_line_cost texts from (Some next) = length (terminated (slice_range texts from (next + 1)))
+
+-- the steps for a line's parts: those of a search if some expression matches it and its parts are
+-- searched anew, and otherwise none
+pub record CostsParts (matched anew : Bool) (es : List Expression) (options : Options) (line : Text)
+    (begun ended : Steps) : Type 0 where
+  pub own : ℕ
+  pub is_own : MatchBool (matched && anew) (PartsCostOf es options line own) (own ≡ 0)
+  pub few : AddsAtMost own begun ended

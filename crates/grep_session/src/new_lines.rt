@@ -1,0 +1,89 @@
+//! Lines that a session is given.
+ghost use Rattle.std.specs.Prelude.{◌≡◌, [], ◌∷◌, ◌++◌, length, map, All, IfOk, OnErr, IfErr};
+ghost use Rattle.re_syntax.specs.Lines.{HasNoNewline};
+ghost use Rattle.line_chunks.specs.Working.Chunks.{all_of, line_text};
+
+use line_chunks::KeptLines;
+use std::alloc::{AllocError, Global};
+use std::marker::Model;
+
+/// How many bytes of lines a chunk has from which on it takes no further line.
+const CHUNK: u32 = 65_536;
+
+/// Lines for a session, in the chunks that its file will have. Contracts see the list of them; none
+/// has a newline in it.
+#[derive(Drop)]
+pub struct NewLines {
+    alloc: Global,
+    lines: KeptLines,
+}
+
+impl Model for NewLines {
+    ghost use Rattle.std.specs.Prelude.{List};
+    ghost use Rattle.re_syntax.specs.Bytes.{Text};
+
+    ghost Value = { List Text };
+
+    ghost use Rattle.std.specs.Prelude.{map, All};
+    ghost use Rattle.re_syntax.specs.Lines.{HasNoNewline};
+    ghost use Rattle.line_chunks.specs.Working.Chunks.{all_of, line_text};
+
+    ghost view = { λ new. map line_text (all_of new.lines) };
+
+    ghost invariant = { λ new. All HasNoNewline (map line_text (all_of new.lines)) };
+}
+
+impl NewLines {
+    /// No lines.
+    pub fn new(alloc: Global) -> NewLines
+        ensures { result ≡ [] }
+    {
+        NewLines {
+            alloc,
+            lines: KeptLines::new(alloc, CHUNK),
+        }
+    }
+
+    /// The number of lines.
+    pub fn len(&self) -> usize
+        ensures { result ≡ length self.now }
+    {
+        self.lines.len()
+    }
+
+    /// Adds a line after the others.
+    ///
+    /// # Errors
+    ///
+    /// `AllocError`; the lines stay as they are.
+    pub fn push(&mut self, line: &[u8]) -> Result<(), AllocError>
+        requires { HasNoNewline line.now }
+        ensures ok { IfOk result (λ _. self.new ≡ self.old ++ line.now ∷ []) }
+        ensures err { OnErr result (self.new ≡ self.old) }
+    {
+        self.lines.push(self.alloc, line)?;
+        Ok(())
+    }
+}
+
+/// The chunks of the lines, in which nothing is found yet.
+pub fn kept_of(given: NewLines) -> KeptLines
+    ensures same { map line_text (all_of result) ≡ given }
+    ensures free { All HasNoNewline given }
+{
+    let NewLines { alloc: _, lines } = given;
+    lines
+}
+
+/// Copies of the lines.
+pub fn copies_of(alloc: Global, texts: &[Vec<u8>]) -> Result<NewLines, AllocError>
+    requires { All HasNoNewline (map (λ text. text.items) texts.now) }
+    ensures ok { IfOk result (λ lines. lines ≡ map (λ text. text.items) texts.now) }
+    ensures memory { texts.now ≡ [] → IfErr result (λ _. ⊥) }
+{
+    let mut lines = NewLines::new(alloc);
+    for text in texts {
+        lines.push(text)?;
+    }
+    Ok(lines)
+}
