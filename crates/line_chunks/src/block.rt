@@ -111,16 +111,6 @@ fn remove_starts(starts: &mut Vec<u32>, from: usize, to: usize, by: usize)
 }
 
 impl Block {
-    /// No lines.
-    pub fn new(alloc: Global) -> Block
-        ensures { result ≡ [] }
-    {
-        Block {
-            bytes: Vec::new(alloc),
-            starts: Vec::new(alloc),
-        }
-    }
-
     /// No lines, with room for so many bytes.
     pub fn with_room(alloc: Global, bytes: usize) -> Result<Block, AllocError>
         ensures { IfOk result (λ block. block ≡ []) }

@@ -75,16 +75,6 @@ fn add_lines(
 }
 
 impl Chunk {
-    /// No lines.
-    pub fn new(alloc: Global) -> Chunk
-        ensures { result ≡ [] }
-    {
-        Chunk {
-            block: Block::new(alloc),
-            found: Found::new(alloc),
-        }
-    }
-
     /// No lines, with room for so many bytes.
     pub(crate) fn with_room(alloc: Global, bytes: usize) -> Result<Chunk, AllocError>
         ensures { IfOk result (λ chunk. chunk ≡ []) }

@@ -7,7 +7,7 @@ ghost use Rattle.line_chunks.specs.Working.Sums.{chunks_of, AreSummed, IsSummedT
 
 use crate::chunk::Chunk;
 use crate::entries::{Entry, find_seam, lines_before, matched_before, sum_from};
-use crate::pieces::{build, size_at};
+use crate::pieces::{Filling, Seams, build, size_at};
 use std::alloc::{AllocError, Global};
 
 /// Adds a line to an entry's chunk.
@@ -163,24 +163,16 @@ fn even_limit(limit: usize, bytes: usize) -> usize {
     (bytes / chunks).saturating_add(1)
 }
 
-/// The limit at which chunks are filled evenly if they are made of the first `before` lines of chunk
-/// `first`, of new lines, and of the lines of chunk `last` from `after` on.
-fn limit_of(
-    limit: usize,
-    entries: &[Entry],
-    first: usize,
-    before: usize,
-    last: usize,
-    after: usize,
-    new: &[Entry],
-) -> usize
-    requires before_within { before ≤ length (get_or (chunks_of entries.now) first []) }
-    requires after_within { after ≤ length (get_or (chunks_of entries.now) last []) }
+/// The limit at which chunks are filled evenly if they are made of the lines of chunk `first` that
+/// stay, of new lines, and of those of chunk `last` that stay.
+fn limit_of(limit: usize, entries: &[Entry], seams: Seams, new: &[Entry]) -> usize
+    requires before_within { seams.before ≤ length (get_or (chunks_of entries.now) seams.first []) }
+    requires after_within { seams.after ≤ length (get_or (chunks_of entries.now) seams.last []) }
 {
-    let kept = bytes_before(entries, first, before).saturating_add(bytes_after(
-        entries, last, after,
-    ));
-    even_limit(limit, kept.saturating_add(bytes_of(new)))
+    let before = bytes_before(entries, seams.first, seams.before);
+    let after = bytes_after(entries, seams.last, seams.after);
+    let bytes = before.saturating_add(after).saturating_add(bytes_of(new));
+    even_limit(limit, bytes)
 }
 
 /// Where the chunks after chunk `k` begin: after the last one if that is not there.
@@ -197,9 +189,8 @@ fn chunk_end(count: usize, k: usize) -> usize
 
 /// Puts the lines of other chunks in the place of `count` lines from `start` on.
 pub fn insert(
-    alloc: Global,
+    filling: Filling,
     entries: &mut Vec<Entry>,
-    limit: usize,
     start: usize,
     count: usize,
     new: &[Entry],
@@ -216,8 +207,14 @@ pub fn insert(
 {
     let (first, before) = find_seam(entries, start);
     let (last, after) = find_seam(entries, start + count);
-    let limit = limit_of(limit, entries, first, before, last, after, new);
-    let fresh = build(alloc, limit, entries, first, before, last, after, new)?;
+    let seams = Seams {
+        first,
+        before,
+        last,
+        after,
+    };
+    let limit = limit_of(filling.limit, entries, seams, new);
+    let fresh = build(Filling { limit, ..filling }, entries, seams, new)?;
     let end = chunk_end(entries.len(), last);
     put_chunks(entries, first, end, fresh)?;
     sum_from(entries, first);

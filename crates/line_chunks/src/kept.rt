@@ -11,6 +11,7 @@ use crate::columns::{drop_in_all, put_all};
 use crate::entries::{
     Entry, find_line, find_next, hits_to, lines_before, matched_before, sum_from,
 };
+use crate::pieces::Filling;
 use line_finds::Found;
 use re_syntax::Span;
 use std::alloc::{AllocError, Global};
@@ -133,6 +134,7 @@ impl KeptLines {
         ensures there { result < length (all_of self.now) →
             is_matched (get_or (all_of self.now) result no_line) ≡ matched }
     {
+        // for the proof alone: `find_next` requires fewer than 2^64 lines
         let _lines = self.len();
         find_next(&self.entries, from, matched)
     }
@@ -169,14 +171,11 @@ impl KeptLines {
         if left.checked_add(new.len()).is_none() {
             return Err(AllocError);
         }
-        insert(
+        let filling = Filling {
             alloc,
-            &mut self.entries,
-            self.limit as usize,
-            start,
-            count,
-            &new.entries,
-        )
+            limit: self.limit as usize,
+        };
+        insert(filling, &mut self.entries, start, count, &new.entries)
     }
 
     /// Replaces what is found in the lines of each chunk with the next of these; where that is
@@ -186,6 +185,7 @@ impl KeptLines {
         ensures lines { self.new ≡ with_columns self.old (into_iter_items found.old) }
         ensures rest { into_iter_items found.new ≡ drop (length self.old) (into_iter_items found.old) }
     {
+        // for the proof alone: `sum_from` requires fewer than 2^64 lines
         let _lines = self.len();
         put_all(&mut self.entries, found);
         sum_from(&mut self.entries, 0);
@@ -195,6 +195,7 @@ impl KeptLines {
     pub fn drop_number(&mut self, p: usize)
         ensures { self.new ≡ map (map (line_without p)) self.old }
     {
+        // for the proof alone: `sum_from` requires fewer than 2^64 lines
         let _lines = self.len();
         drop_in_all(&mut self.entries, p);
         sum_from(&mut self.entries, 0);

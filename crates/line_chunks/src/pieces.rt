@@ -7,6 +7,28 @@ use crate::chunk::Chunk;
 use crate::entries::Entry;
 use std::alloc::{AllocError, Global};
 
+/// How new chunks are filled.
+#[derive(Clone, Copy, Drop)]
+pub struct Filling {
+    /// Where their memory comes from.
+    pub alloc: Global,
+    /// With so many bytes of text a chunk takes no further line.
+    pub limit: usize,
+}
+
+/// The two ends of the lines that are replaced.
+#[derive(Clone, Copy, Drop)]
+pub struct Seams {
+    /// The chunk at their beginning.
+    pub first: usize,
+    /// How many of its lines are before them; these stay.
+    pub before: usize,
+    /// The chunk at their end.
+    pub last: usize,
+    /// How many of its lines are before their end; the others stay.
+    pub after: usize,
+}
+
 /// The number of bytes that the last chunk still takes.
 fn room_of(entries: &[Entry], limit: usize) -> usize
     ensures { 0 < result → 0 < length entries.now }
@@ -22,12 +44,12 @@ fn room_of(entries: &[Entry], limit: usize) -> usize
 /// The room that is asked for besides what is expected, in bytes.
 const MARGIN: usize = 128;
 
-/// Adds a chunk without lines, with room for so many bytes and some more.
-fn add_empty(alloc: Global, fresh: &mut Vec<Entry>, room: usize) -> Result<(), AllocError>
+/// Adds a chunk without lines, with room for the bytes of a full one and some more.
+fn add_empty(filling: Filling, fresh: &mut Vec<Entry>) -> Result<(), AllocError>
     ensures lines { IfOk result (λ _. all_of (chunks_of fresh.new.items) ≡ all_of (chunks_of fresh.old.items)) }
     ensures some { IfOk result (λ _. 0 < length fresh.new.items) }
 {
-    let chunk = Chunk::with_room(alloc, room.saturating_add(MARGIN))?;
+    let chunk = Chunk::with_room(filling.alloc, filling.limit.saturating_add(MARGIN))?;
     fresh.push(Entry {
         chunk,
         end: 0,
@@ -37,14 +59,14 @@ fn add_empty(alloc: Global, fresh: &mut Vec<Entry>, room: usize) -> Result<(), A
 }
 
 /// Adds a chunk without lines if the last one takes no further line.
-fn make_room(alloc: Global, fresh: &mut Vec<Entry>, limit: usize) -> Result<(), AllocError>
+fn make_room(filling: Filling, fresh: &mut Vec<Entry>) -> Result<(), AllocError>
     ensures lines { IfOk result (λ _. all_of (chunks_of fresh.new.items) ≡ all_of (chunks_of fresh.old.items)) }
     ensures some { IfOk result (λ _. 0 < length fresh.new.items) }
 {
-    if room_of(fresh, limit) > 0 {
+    if room_of(fresh, filling.limit) > 0 {
         return Ok(());
     }
-    add_empty(alloc, fresh, limit)
+    add_empty(filling, fresh)
 }
 
 /// Where a piece ends of the lines from `from` up to `to`: at the first line that does not begin
@@ -96,9 +118,8 @@ fn extend_last(
 /// Adds as many of the lines from `from` up to `to` as the last chunk takes, or a new one if that is
 /// full. The result is where the others begin.
 fn add_piece(
-    alloc: Global,
+    filling: Filling,
     fresh: &mut Vec<Entry>,
-    limit: usize,
     chunk: &Chunk,
     from: usize,
     to: usize,
@@ -110,8 +131,8 @@ fn add_piece(
     ensures lines { IfOk result (λ at. all_of (chunks_of fresh.new.items) ≡
         all_of (chunks_of fresh.old.items) ++ slice_range chunk.now from at) }
 {
-    make_room(alloc, fresh, limit)?;
-    let room = room_of(fresh, limit);
+    make_room(filling, fresh)?;
+    let room = room_of(fresh, filling.limit);
     let at = piece_end(chunk, from, to, room);
     extend_last(fresh, chunk, from, at)?;
     Ok(at)
@@ -119,9 +140,8 @@ fn add_piece(
 
 /// Adds the lines of a chunk from `from` up to `to`.
 fn add_lines(
-    alloc: Global,
+    filling: Filling,
     fresh: &mut Vec<Entry>,
-    limit: usize,
     chunk: &Chunk,
     from: usize,
     to: usize,
@@ -133,16 +153,15 @@ fn add_lines(
 {
     let mut at = from;
     while at < to {
-        at = add_piece(alloc, fresh, limit, chunk, at, to)?;
+        at = add_piece(filling, fresh, chunk, at, to)?;
     }
     Ok(())
 }
 
 /// Adds the lines of chunk `k` from `from` up to `to`.
 fn add_part(
-    alloc: Global,
+    filling: Filling,
     fresh: &mut Vec<Entry>,
-    limit: usize,
     entries: &[Entry],
     k: usize,
     from: usize,
@@ -157,22 +176,17 @@ fn add_part(
         return Ok(());
     }
     let entry = &entries[k];
-    add_lines(alloc, fresh, limit, &entry.chunk, from, to)
+    add_lines(filling, fresh, &entry.chunk, from, to)
 }
 
 /// Adds the lines of all these chunks.
-fn add_all(
-    alloc: Global,
-    fresh: &mut Vec<Entry>,
-    limit: usize,
-    entries: &[Entry],
-) -> Result<(), AllocError>
+fn add_all(filling: Filling, fresh: &mut Vec<Entry>, entries: &[Entry]) -> Result<(), AllocError>
     ensures { IfOk result (λ _. all_of (chunks_of fresh.new.items) ≡
         all_of (chunks_of fresh.old.items) ++ all_of (chunks_of entries.now)) }
 {
     for entry in entries {
         let size = entry.chunk.len();
-        add_lines(alloc, fresh, limit, &entry.chunk, 0, size)?;
+        add_lines(filling, fresh, &entry.chunk, 0, size)?;
     }
     Ok(())
 }
@@ -187,28 +201,24 @@ pub fn size_at(entries: &[Entry], k: usize) -> usize
     0
 }
 
-/// Chunks of the first `before` lines of chunk `first`, of new lines, and of those of chunk `last`
-/// from `after` on.
+/// Chunks of the lines of chunk `first` that stay, of new lines, and of those of chunk `last` that
+/// stay.
 pub fn build(
-    alloc: Global,
-    limit: usize,
+    filling: Filling,
     entries: &[Entry],
-    first: usize,
-    before: usize,
-    last: usize,
-    after: usize,
+    seams: Seams,
     new: &[Entry],
 ) -> Result<Vec<Entry>, AllocError>
-    requires before_within { before ≤ length (get_or (chunks_of entries.now) first []) }
-    requires after_within { after ≤ length (get_or (chunks_of entries.now) last []) }
+    requires before_within { seams.before ≤ length (get_or (chunks_of entries.now) seams.first []) }
+    requires after_within { seams.after ≤ length (get_or (chunks_of entries.now) seams.last []) }
     ensures { IfOk result (λ fresh. all_of (chunks_of fresh.items) ≡
-        take before (get_or (chunks_of entries.now) first []) ++
-        (all_of (chunks_of new.now) ++ drop after (get_or (chunks_of entries.now) last []))) }
+        take seams.before (get_or (chunks_of entries.now) seams.first []) ++
+        (all_of (chunks_of new.now) ++ drop seams.after (get_or (chunks_of entries.now) seams.last []))) }
 {
-    let mut fresh = Vec::new(alloc);
-    add_part(alloc, &mut fresh, limit, entries, first, 0, before)?;
-    add_all(alloc, &mut fresh, limit, new)?;
-    let size = size_at(entries, last);
-    add_part(alloc, &mut fresh, limit, entries, last, after, size)?;
+    let mut fresh = Vec::new(filling.alloc);
+    add_part(filling, &mut fresh, entries, seams.first, 0, seams.before)?;
+    add_all(filling, &mut fresh, new)?;
+    let size = size_at(entries, seams.last);
+    add_part(filling, &mut fresh, entries, seams.last, seams.after, size)?;
     Ok(fresh)
 }
