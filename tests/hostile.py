@@ -75,6 +75,19 @@ def strings_that_fail_late(bench: Bench) -> Verdict:
     return Verdict(Answer(b"", b"", 1), bench.ask("-F", "-f", "p", "f"))
 
 
+@case("All parts of a line of a mebibyte, each of whose searches goes to the line's end.")
+def parts_of_a_long_line(bench: Bench) -> Verdict:
+    bench.write("f", b"a" * MEBIBYTE + b"\n")
+    return Verdict(Answer(b"a\n" * MEBIBYTE), bench.ask("-o", "-E", "a|a*[bc]", "f"))
+
+
+@case("A longer part ends at the end of a line of a mebibyte, of others that were likely.")
+def last_part_of_a_long_line(bench: Bench) -> Verdict:
+    bench.write("f", b"xa" * (MEBIBYTE // 2) + b"b\n")
+    wanted = b"x\n" * (MEBIBYTE // 2 - 1) + b"xab\n"
+    return Verdict(Answer(wanted), bench.ask("-o", "-E", "-e", "x|xa*b", "-e", "x[ax]*c", "f"))
+
+
 @case("Each byte but the newline as a fixed string selects the lines that have it.")
 def each_byte(bench: Bench) -> Verdict:
     lines = [b"x" + bytes((byte,)) + b"y" for byte in range(256) if byte != 10]
@@ -301,6 +314,12 @@ def long_count_in_script(bench: Bench) -> Verdict:
     script = b"file f 1%s\nfile f %s1\nab\npatterns 1\na\nshow\n" % (zeros, zeros)
     wanted = Answer(b"refused BadCommand\n" + b"ok\n" * 2 + b"o ab\nstatus 0\n", b"", 1)
     return Verdict(wanted, bench.ask(stdin=script))
+
+
+@occur_case("All parts of a line of a mebibyte in a session, each of whose searches goes to its end.")
+def parts_of_a_long_line_in_script(bench: Bench) -> Verdict:
+    script = b"syntax extended\nflag o on\nfile f 1\n%s\npatterns 1\na|a*[bc]\nshow\n" % (b"a" * MEBIBYTE)
+    return Verdict(Answer(b"ok\n" * 4 + b"o a\n" * MEBIBYTE + b"status 0\n"), bench.ask(stdin=script))
 
 
 @case("A million empty lines are counted, and numbered.")

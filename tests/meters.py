@@ -19,7 +19,7 @@ MAKES_METERS = "re_auto"
 UNCOUNTED = {"re_needle", "re_strings", "re_steps", "re_match"}
 """The crates with functions that search bytes and count no step."""
 
-SEARCH = {*UNCOUNTED, "re_search"}
+SEARCH = {*UNCOUNTED, "re_ends", "re_search"}
 """The crates that search, and count the steps of their callers."""
 
 DEFINITIONS = {"grep_io": "re_needle", "line_chunks": "re_needle", "grep_session": "re_needle"}

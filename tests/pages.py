@@ -23,20 +23,20 @@ import count  # noqa: E402
 MOST_WORDS = {
     "README.md": 1_400,
     "CONTRIBUTING.md": 500,
-    "docs/GUARANTEES.md": 1_620,
-    "docs/SPECIFICATION.md": 5_330,
-    "docs/ARCHITECTURE.md": 2_950,
-    "docs/PROVING.md": 6_480,
-    "docs/DECISIONS.md": 4_880,
+    "docs/GUARANTEES.md": 1_680,
+    "docs/SPECIFICATION.md": 5_420,
+    "docs/ARCHITECTURE.md": 3_220,
+    "docs/PROVING.md": 6_700,
+    "docs/DECISIONS.md": 5_000,
     "docs/PERFORMANCE.md": 1_500,
     "docs/CHANGING.md": 1_930,
     "docs/ROADMAP.md": 1_000,
-    "docs/GLOSSARY.md": 820,
-    "crates/*/README.md": 4_730,
+    "docs/GLOSSARY.md": 870,
+    "crates/*/README.md": 4_850,
     "tests/README.md": 1_000,
     "editors/emacs/README.md": 1_500,
     "editors/nvim/*.md": 1_500,
-    "*": 36_900,
+    "*": 38_000,
 }
 """How many words pages have at most, by the pattern of their names."""
 

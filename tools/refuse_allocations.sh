@@ -16,6 +16,7 @@ printf '%s\n' aab xyz ab b wordword Aab q1 q2 q3 > strings
 printf '%s\n' 'a[a-c]b' 'x*yz' 'ab$' 'bc.' 'word[a-z]*' 'Aab*' 'q1.' 'q2.' 'q3.' > expressions
 printf '%s\n' a b c d e f a > letters
 { printf 'aab\n'; head -c 200000 /dev/zero | tr '\0' a; printf '\naab\n'; } > long
+{ head -c 2000 /dev/zero | tr '\0' a; printf '\nb\n'; } > parts
 
 # The status that the words have without a refusal, and the words. It exits where a run does what it may not.
 runs=0
@@ -69,6 +70,7 @@ try 0 -n -e b -e 'a*b' short - long
 try 0 -E -i -o -f patterns short long
 try 0 -F -n -f strings short long
 try 0 -F -i -o -f strings short
+try 0 -o -E 'a|a*[bc]' parts
 try 0 -f expressions short long
 try 0 -c -v -x -E '(a{2,3}|b)*' long short
 try 0 -f - short

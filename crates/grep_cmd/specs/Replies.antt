@@ -93,25 +93,26 @@ Replies (step ∷ steps) before replies after =
 -- ---- work
 
 -- a command takes this many steps of search at most: none, or what its edit costs; what is no edit
--- searches nothing
-abbrev pub SearchesAtMost : Step → Inputs → ℕ → Type 0
-SearchesAtMost (does edit) before most = (most ≡ 0) ⊎ Costs edit before most
-SearchesAtMost _ before most = most ≡ 0
+-- searches nothing. `refused` says whether memory that saves steps was refused.
+abbrev pub SearchesAtMost : Bool → Step → Inputs → ℕ → Type 0
+SearchesAtMost refused (does edit) before most = (most ≡ 0) ⊎ Costs refused edit before most
+SearchesAtMost refused _ before most = most ≡ 0
 
 -- some commands, answered so, take this many together
-abbrev pub AllSearchAtMost : List Step → Watched → List Text → Watched → ℕ → Type 0
-AllSearchAtMost [] before replies after most = (replies ≡ []) × (after ≡ before) × (most ≡ 0)
-AllSearchAtMost (step ∷ steps) before replies after most =
+abbrev pub AllSearchAtMost : Bool → List Step → Watched → List Text → Watched → ℕ → Type 0
+AllSearchAtMost refused [] before replies after most =
+    (replies ≡ []) × (after ≡ before) × (most ≡ 0)
+AllSearchAtMost refused (step ∷ steps) before replies after most =
     (reply : List Text) × (between : Watched) × (rest : List Text) × (own : ℕ) × (others : ℕ) ×
-    RepliesTo step before reply between × SearchesAtMost step before.inputs own ×
-    AllSearchAtMost steps between rest after others × (replies ≡ reply ++ rest) ×
+    RepliesTo step before reply between × SearchesAtMost refused step before.inputs own ×
+    AllSearchAtMost refused steps between rest after others × (replies ≡ reply ++ rest) ×
     (most ≡ own + others)
 
 -- the commands of a script, answered so, took no more steps of search than their edits cost
 pub record SearchesTouched (steps : List Step) (replies : List Text) (after : Watched)
     (begun spent : StepCounts) : Type 0 where
   pub most : ℕ
-  pub is_most : AllSearchAtMost steps new_watched replies after most
+  pub is_most : AllSearchAtMost spent.refused steps new_watched replies after most
   pub few : AddsAtMost most begun spent
 
 -- ---- runs

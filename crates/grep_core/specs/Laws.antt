@@ -1,5 +1,5 @@
 -- What the definitions promise of themselves.
-use Rattle.std.specs.Prelude.{◌≡◌, ℕ, ◌||◌, IsTrue, ◌↔◌, List, Option, None}
+use Rattle.std.specs.Prelude.{◌≡◌, ℕ, ◌||◌, IsTrue, ◌↔◌, List, Option, None, Bool, true, false, ◌≤◌}
 use Rattle.re_syntax.specs.declared.syntax.Syntax.{Syntax}
 use Rattle.re_syntax.specs.Bytes.{Text}
 use Rattle.re_syntax.specs.Expression.{Expression}
@@ -21,8 +21,16 @@ pub record HasOneAnswer (options : Options) : Type 0 where
   pub one_list_of_messages : (es : List Expression) (files : List File) →
       IsOne (Messages es options files)
   pub one_status : (es : List Expression) (files : List File) → IsOne (StatusOf es options files)
-  pub one_cost : (es : List Expression) (matchers : ℕ) (files : List File) →
-      IsOne (FilesCost es options matchers files)
+  pub one_cost : (es : List Expression) (refused : Bool) (matchers : ℕ) (files : List File) →
+      IsOne (FilesCost es options refused matchers files)
+
+-- a search costs no more if no memory is refused, when the parts of a line cost at most four
+-- searches of it, than if each part costs one
+abbrev pub MemorySavesSteps : Options → Type 0
+MemorySavesSteps options =
+    (es : List Expression) (matchers : ℕ) (files : List File) (few most : ℕ) →
+    FilesCost es options false matchers files few → FilesCost es options true matchers files most →
+    few ≤ most
 
 -- patterns mean at most one list of expressions
 abbrev pub MeansOne : Syntax → Options → Type 0

@@ -1,5 +1,5 @@
 //! Laws of the definitions, each the contract of a function that does nothing.
-ghost use Rattle.grep_core.specs.Laws.{HasOneAnswer, MeansOne, ContextIsForLines};
+ghost use Rattle.grep_core.specs.Laws.{HasOneAnswer, MeansOne, MemorySavesSteps, ContextIsForLines};
 
 use crate::Options;
 use re_syntax::Syntax;
@@ -9,6 +9,12 @@ use re_syntax::Syntax;
 #[tactic(auto, using(crate::proofs::lemmas::LawsHold::has_one_answer))]
 pub fn has_one_answer(_options: Options)
     ensures { HasOneAnswer _options }
+{}
+
+/// A search costs no more if no memory is refused than if it is.
+#[tactic(auto, using(crate::proofs::lemmas::LawsHold::memory_saves_steps))]
+pub fn memory_saves_steps(_options: Options)
+    ensures { MemorySavesSteps _options }
 {}
 
 /// Patterns mean at most one list of expressions.

@@ -1,6 +1,6 @@
 -- How many steps an edit takes at most: only what it touches is searched.
 use Rattle.std.specs.Prelude.{◌≡◌, ℕ, ◌+◌, ◌*◌, ◌<◌, ◌≤◌, false, List, [], All, ◌∷◌, ◌⊎◌, length}
-use Rattle.std.specs.Prelude.{Result, Ok, Err, get_or, MatchBool, ⊤}
+use Rattle.std.specs.Prelude.{Result, Ok, Err, Bool, get_or, MatchBool, ⊤}
 use Rattle.std.specs.List.{flat_map}
 use Rattle.re_syntax.specs.Bytes.{Text}
 use Rattle.re_syntax.specs.Expression.{Expression}
@@ -14,7 +14,7 @@ use Rattle.grep_core.specs.declared.options.Flag.{Flag}
 use Rattle.grep_core.specs.declared.options.Flag.TheVariants.{IgnoreCase, OnlyMatching, LineRegexp}
 use Rattle.grep_core.specs.declared.options.Options.{Options}
 use Rattle.grep_core.specs.Choose.{IfHolds, Chosen}
-use Rattle.grep_core.specs.Cost.{search_cost}
+use Rattle.grep_core.specs.Cost.{search_cost, searches_for}
 use Rattle.grep_core.specs.Files.{Inputs, AreMeant, Matched}
 use Rattle.re_syntax.specs.Profile.{most_patterns}
 use Rattle.grep_session.specs.declared.fault.EditFault.{EditFault}
@@ -77,13 +77,15 @@ abbrev pub pairs_cost : ℕ → List Text → ℕ
 pairs_cost patterns [] = 0
 pairs_cost patterns (line ∷ lines) = search_cost patterns line + pairs_cost patterns lines
 
-module _ (es : List Expression) (options : Options) where
-  -- the cost of a line's parts under `-o`: all patterns search once for each part, and once more
+-- `refused` says whether memory that saves steps was refused
+module _ (es : List Expression) (options : Options) (refused : Bool) where
+  -- the cost of a line's parts under `-o`: all patterns search once for each part and once more,
+  -- but for memory at most four times
   abbrev pub PartsCostOf : Text → ℕ → Type 0
   PartsCostOf line cost =
       MatchBool options.only_matching
       ((parts : List (ℕ × ℕ)) × AreParts es line options.line_regexp parts ×
-      (cost ≡ (length parts + 1) * search_cost (length es) line))
+      (cost ≡ searches_for refused (length parts + 1) * search_cost (length es) line))
       (cost ≡ 0)
 
   abbrev pub PartsCost : List Text → ℕ → Type 0
@@ -92,29 +94,30 @@ module _ (es : List Expression) (options : Options) where
       (own : ℕ) × (rest : ℕ) × PartsCostOf line own × PartsCost lines rest × (cost ≡ own + rest)
 
 -- the cost of an accepted edit, with the patterns and the options that it leaves
-pub record CostsAccepted (edit : Edit) (old new : Inputs) (cost : ℕ) : Type 0 where
+pub record CostsAccepted (refused : Bool) (edit : Edit) (old new : Inputs) (cost : ℕ) : Type 0 where
   pub es : List Expression
   pub are_meant : AreMeant new.syntax new.options new.patterns es
   pub touched : Touched
   pub are_touched : Touches edit old touched
   pub parts : ℕ
-  pub are_parts : PartsCost es new.options touched.lines parts
+  pub are_parts : PartsCost es new.options refused touched.lines parts
   pub is_sum : cost ≡ pairs_cost touched.patterns touched.paired + parts
 
 -- a refused edit costs nothing
-abbrev pub CostsAs : Edit → Inputs → Result Inputs EditFault → ℕ → Type 0
-CostsAs edit old (Ok new) cost = CostsAccepted edit old new cost
-CostsAs edit old (Err fault) cost = cost ≡ 0
+abbrev pub CostsAs : Bool → Edit → Inputs → Result Inputs EditFault → ℕ → Type 0
+CostsAs refused edit old (Ok new) cost = CostsAccepted refused edit old new cost
+CostsAs refused edit old (Err fault) cost = cost ≡ 0
 
--- the cost of an edit of these inputs
-abbrev pub Costs : Edit → Inputs → ℕ → Type 0
-Costs edit old cost =
-    (outcome : Result Inputs EditFault) × Applies edit old outcome × CostsAs edit old outcome cost
+-- the cost of an edit of these inputs, if memory that saves steps was refused or not
+abbrev pub Costs : Bool → Edit → Inputs → ℕ → Type 0
+Costs refused edit old cost =
+    (outcome : Result Inputs EditFault) × Applies edit old outcome ×
+    CostsAs refused edit old outcome cost
 
 -- the steps of an edit: none, or no more than its cost
 pub record TakesSteps (edit : Edit) (old : Inputs) (begun ended : Steps) : Type 0 where
   pub most : ℕ
-  pub is_most : (most ≡ 0) ⊎ Costs edit old most
+  pub is_most : (most ≡ 0) ⊎ Costs ended.refused edit old most
   pub few : AddsAtMost most begun ended
 
 -- the options on which nothing that is kept depends

@@ -13,9 +13,8 @@ ghost use Rattle.grep_session.specs.Working.Changed.{ChangeCost, SearchesEach};
 ghost use Rattle.grep_session.specs.Working.Columns.{AddsColumns, IsAdded};
 ghost use Rattle.grep_session.specs.Working.Found.{IsColumn, chunks_of, chunks_of_files, lines_of_files};
 ghost use Rattle.grep_session.specs.Working.Kept.{IsFileKept, kept_file};
-ghost use Rattle.grep_session.specs.Working.Rooms.{SameBounded};
+ghost use Rattle.re_search.specs.Searching.{SameMatchers};
 
-use crate::bounded::Bounded;
 use crate::change::Change;
 use crate::finding::Search;
 use crate::found::put_columns;
@@ -25,7 +24,7 @@ use crate::parting::find_parts;
 use crate::pushing::push;
 use grep_core::Options;
 use line_chunks::{Chunk, Found, KeptLines, Matches};
-use re_search::{Matcher, Meter};
+use re_search::{LineMatch, Matcher, Meter};
 use std::alloc::{AllocError, Global};
 
 /// Whether no pattern was added that matches a line of a chunk, and none changed.
@@ -42,7 +41,7 @@ fn is_same(change: Change, old: &Matches, new: &Matches) -> bool
 
 /// What is found in the lines of a chunk after a change of the patterns; `None` where it is what
 /// was found before.
-fn find_in_chunk<M: Bounded>(
+fn find_in_chunk<M: LineMatch>(
     search: &Search,
     matchers: &mut [M],
     change: Change,
@@ -52,7 +51,7 @@ fn find_in_chunk<M: Bounded>(
     requires whole { AllAnswer search.now.options.line_regexp (map M.whole matchers.old) }
     requires few { length matchers.old ≤ most_patterns }
     requires within { IsWithin change (length matchers.old) }
-    ensures same_matchers { SameBounded M.expression M.whole M.room matchers.old matchers.new }
+    ensures same_matchers { SameMatchers M.expression M.whole M.room matchers.old matchers.new }
     ensures fits { IfOk result (FitsColumn chunk.now) }
     ensures ok { IfOk result
         (λ found. (before changed : List Expression) →
@@ -77,7 +76,7 @@ fn find_in_chunk<M: Bounded>(
 }
 
 /// Adds what is found in the chunks of a file after a change of the patterns.
-pub fn find_in_lines<M: Bounded>(
+pub fn find_in_lines<M: LineMatch>(
     search: &Search,
     matchers: &mut [M],
     change: Change,
@@ -88,7 +87,7 @@ pub fn find_in_lines<M: Bounded>(
     requires whole { AllAnswer search.now.options.line_regexp (map M.whole matchers.old) }
     requires few { length matchers.old ≤ most_patterns }
     requires within { IsWithin change (length matchers.old) }
-    ensures same_matchers { SameBounded M.expression M.whole M.room matchers.old matchers.new }
+    ensures same_matchers { SameMatchers M.expression M.whole M.room matchers.old matchers.new }
     ensures ok { IfOk result
         (λ _.
         AddsColumns change (map M.expression matchers.old) search.now.options lines.now
@@ -108,7 +107,7 @@ pub fn find_in_lines<M: Bounded>(
 }
 
 /// Adds what is found in the chunks of a file, if it can be opened, after a change of the patterns.
-fn find_in_file<M: Bounded>(
+fn find_in_file<M: LineMatch>(
     search: &Search,
     matchers: &mut [M],
     change: Change,
@@ -119,7 +118,7 @@ fn find_in_file<M: Bounded>(
     requires whole { AllAnswer search.now.options.line_regexp (map M.whole matchers.old) }
     requires few { length matchers.old ≤ most_patterns }
     requires within { IsWithin change (length matchers.old) }
-    ensures same_matchers { SameBounded M.expression M.whole M.room matchers.old matchers.new }
+    ensures same_matchers { SameMatchers M.expression M.whole M.room matchers.old matchers.new }
     ensures ok { IfOk result
         (λ _.
         AddsColumns change (map M.expression matchers.old) search.now.options
@@ -138,7 +137,7 @@ fn find_in_file<M: Bounded>(
 }
 
 /// What is found in the chunks of all files, in order, after a change of the patterns.
-fn find_all<M: Bounded>(
+fn find_all<M: LineMatch>(
     search: &Search,
     matchers: &mut [M],
     change: Change,
@@ -148,7 +147,7 @@ fn find_all<M: Bounded>(
     requires whole { AllAnswer search.now.options.line_regexp (map M.whole matchers.old) }
     requires few { length matchers.old ≤ most_patterns }
     requires within { IsWithin change (length matchers.old) }
-    ensures same_matchers { SameBounded M.expression M.whole M.room matchers.old matchers.new }
+    ensures same_matchers { SameMatchers M.expression M.whole M.room matchers.old matchers.new }
     ensures ok { IfOk result
         (λ found.
         AddsColumns change (map M.expression matchers.old) search.now.options
@@ -180,7 +179,7 @@ pub fn find_columns(
     requires whole { AllAnswer options.now.line_regexp (map wants_whole matchers.old.items) }
     requires few { length matchers.old.items ≤ most_patterns }
     requires within { IsWithin change (length matchers.old.items) }
-    ensures same_matchers { SameBounded matched_expression wants_whole room_of matchers.old.items
+    ensures same_matchers { SameMatchers matched_expression wants_whole room_of matchers.old.items
         matchers.new.items }
     ensures room { vec_capacity matchers.new ≡ vec_capacity matchers.old }
     ensures same { map kept_file files.new.items ≡ map kept_file files.old.items }

@@ -7,17 +7,16 @@ ghost use Rattle.re_syntax.specs.Parts.{AreParts};
 ghost use Rattle.re_syntax.specs.Profile.{most_patterns};
 ghost use Rattle.line_chunks.specs.Working.Chunks.{all_of, line_text};
 ghost use Rattle.grep_session.specs.Touched.{PartsCostOf};
-ghost use Rattle.grep_session.specs.Working.Changed.{CostAnew, SearchesEach};
+ghost use Rattle.grep_session.specs.Working.Changed.{CostAnew, SearchesEach, SearchesOne};
 ghost use Rattle.grep_session.specs.Working.Kept.{ArePartsKept, IsKept, span_places};
-ghost use Rattle.grep_session.specs.Working.Rooms.{SameBounded};
+ghost use Rattle.re_search.specs.Searching.{SameMatchers};
 
-use crate::bounded::{Bounded, next_part};
 use crate::change::Change;
 use crate::columns::find_in_lines;
 use crate::new_lines::{NewLines, kept_of};
 use grep_core::Options;
 use line_chunks::KeptLines;
-use re_search::{Matcher, Meter, Span};
+use re_search::{Course, LineMatch, Matcher, Meter, Span, next_part};
 use std::alloc::{AllocError, Global};
 
 /// With what lines are searched, besides the matchers.
@@ -30,7 +29,7 @@ pub struct Search {
 }
 
 /// Adds the parts of the line.
-fn add_parts<M: Bounded>(
+fn add_parts<M: LineMatch>(
     matchers: &mut [M],
     search: &Search,
     line: &[u8],
@@ -44,13 +43,20 @@ fn add_parts<M: Bounded>(
         (λ _.
         AreParts (map M.expression matchers.old) line.now search.now.options.line_regexp
         (map span_places spans.new.items)) }
-    ensures same_matchers { SameBounded M.expression M.whole M.room matchers.old matchers.new }
-    ensures steps { (own : ℕ) ×
-        PartsCostOf (map M.expression matchers.old) search.now.options line.now own ×
-        AddsAtMost own meter.old meter.new }
+    ensures same_matchers { SameMatchers M.expression M.whole M.room matchers.old matchers.new }
+    ensures steps { SearchesOne (PartsCostOf (map M.expression matchers.old) search.now.options) line.now
+        meter.old meter.new }
 {
+    let mut course = Course::new(search.alloc, meter);
     let mut from = 0;
-    while let Some(part) = next_part(matchers, search.options, line, from, meter) {
+    while let Some(part) = next_part(
+        matchers,
+        search.options.line_regexp,
+        line,
+        from,
+        &mut course,
+        meter,
+    ) {
         spans.push(part)?;
         from = part.end;
     }
@@ -58,7 +64,7 @@ fn add_parts<M: Bounded>(
 }
 
 /// The parts of the line under `-o`, otherwise none.
-pub fn parts_of<M: Bounded>(
+pub fn parts_of<M: LineMatch>(
     search: &Search,
     matchers: &mut [M],
     line: &[u8],
@@ -67,15 +73,15 @@ pub fn parts_of<M: Bounded>(
     requires whole { AllAnswer search.now.options.line_regexp (map M.whole matchers.old) }
     ensures ok { IfOk result
         (λ spans. ArePartsKept (map M.expression matchers.old) search.now.options line.now spans.items) }
-    ensures same_matchers { SameBounded M.expression M.whole M.room matchers.old matchers.new }
-    ensures steps { (own : ℕ) ×
-        PartsCostOf (map M.expression matchers.old) search.now.options line.now own ×
-        AddsAtMost own meter.old meter.new }
+    ensures same_matchers { SameMatchers M.expression M.whole M.room matchers.old matchers.new }
+    ensures steps { SearchesOne (PartsCostOf (map M.expression matchers.old) search.now.options) line.now
+        meter.old meter.new }
 {
     let mut spans = Vec::new(search.alloc);
-    if search.options.only_matching {
-        add_parts(matchers, search, line, &mut spans, meter)?;
+    if !search.options.only_matching {
+        return Ok(spans);
     }
+    add_parts(matchers, search, line, &mut spans, meter)?;
     Ok(spans)
 }
 
@@ -94,7 +100,7 @@ pub fn search_lines(
         (λ _.
         All (IsKept (map matched_expression matchers.old.items) options.now) (all_of lines.new)) }
     ensures texts { map line_text (all_of lines.new) ≡ map line_text (all_of lines.old) }
-    ensures same_matchers { SameBounded matched_expression wants_whole room_of matchers.old.items
+    ensures same_matchers { SameMatchers matched_expression wants_whole room_of matchers.old.items
         matchers.new.items }
     ensures memory { all_of lines.old ≡ [] → IfErr result (λ _. ⊥) }
     ensures steps { SearchesEach (CostAnew (map matched_expression matchers.old.items) options.now)
@@ -128,7 +134,7 @@ pub fn search_new(
         All (IsKept (map matched_expression matchers.old.items) options.now) (all_of lines)) }
     ensures texts { IfOk result (λ lines. map line_text (all_of lines) ≡ given) }
     ensures free { All HasNoNewline given }
-    ensures same_matchers { SameBounded matched_expression wants_whole room_of matchers.old.items
+    ensures same_matchers { SameMatchers matched_expression wants_whole room_of matchers.old.items
         matchers.new.items }
     ensures memory { given ≡ [] → IfErr result (λ _. ⊥) }
     ensures steps { SearchesEach (CostAnew (map matched_expression matchers.old.items) options.now)

@@ -3,7 +3,6 @@
 #![tactic(auto)]
 
 mod around;
-mod bounded;
 mod caches;
 mod change;
 mod choosing;
@@ -32,7 +31,7 @@ mod verdicts;
 pub use caches::Caches;
 pub use fault::EditFault;
 pub use hit::Hit;
-pub use laws::{accepted_edits_decide, edits_are_determined};
+pub use laws::{accepted_edits_decide, edits_are_determined, memory_saves_edit_steps};
 pub use new_lines::NewLines;
 pub use re_search::Meter;
 pub use session::Session;

@@ -10,17 +10,16 @@ ghost use Rattle.grep_session.specs.declared.change.Change.TheVariants.{Dropped}
 ghost use Rattle.grep_session.specs.Working.Changed.{IsWithin};
 ghost use Rattle.grep_session.specs.Working.Columns.{first_sought, AreLeft, AddsColumn, AreMatches};
 ghost use Rattle.grep_session.specs.Working.Columns.{IsNextLine, next_line_cost};
-ghost use Rattle.grep_session.specs.Working.Rooms.{SameBounded};
+ghost use Rattle.re_search.specs.Searching.{SameMatchers};
 
-use crate::bounded::Bounded;
 use crate::change::Change;
 use crate::finding::Search;
 use line_chunks::{Chunk, Matches};
-use re_search::Meter;
+use re_search::{LineMatch, Meter};
 use std::alloc::{AllocError, Global};
 
 /// The number of the first line of a chunk, from line `from` on, that the matcher matches.
-fn next_line<M: Bounded>(
+fn next_line<M: LineMatch>(
     matcher: &mut M,
     chunk: &Chunk,
     from: usize,
@@ -35,14 +34,14 @@ fn next_line<M: Bounded>(
     ensures steps { AddsAtMost (next_line_cost (map line_text chunk.now) from result) meter.old
         meter.new }
 {
-    let Some(at) = matcher.next(chunk.text_from(from), meter) else {
+    let Some(at) = matcher.next_matched(chunk.text_from(from), meter) else {
         return None;
     };
     Some(chunk.number_at(from, chunk.start(from) + at.start))
 }
 
 /// Adds the lines of a chunk that the matcher matches.
-fn add_column<M: Bounded>(
+fn add_column<M: LineMatch>(
     matcher: &mut M,
     number: usize,
     chunk: &Chunk,
@@ -71,7 +70,7 @@ fn add_column<M: Bounded>(
 
 /// Adds the lines of a chunk that each of the matchers matches, the first of which has the number
 /// `first`.
-fn add_columns<M: Bounded>(
+fn add_columns<M: LineMatch>(
     matchers: &mut [M],
     first: usize,
     entire: bool,
@@ -85,7 +84,7 @@ fn add_columns<M: Bounded>(
         (λ _.
         AddsColumn (map line_text chunk.now) entire first (map M.expression matchers.old)
         matches.old matches.new) }
-    ensures same_matchers { SameBounded M.expression M.whole M.room matchers.old matchers.new }
+    ensures same_matchers { SameMatchers M.expression M.whole M.room matchers.old matchers.new }
     ensures steps { AddsAtMost
         (length matchers.old * length (terminated (map line_text chunk.now))) meter.old meter.new }
 {
@@ -143,7 +142,7 @@ fn left_matches(
 }
 
 /// Which patterns match which lines of a chunk after a change; `old` says it before the change.
-pub fn find_matches<M: Bounded>(
+pub fn find_matches<M: LineMatch>(
     search: &Search,
     matchers: &mut [M],
     change: Change,
@@ -158,7 +157,7 @@ pub fn find_matches<M: Bounded>(
     ensures ok { IfOk result
         (AreMatches change (map line_text chunk.now) search.now.options.line_regexp
         (map M.expression matchers.old) old.now) }
-    ensures same_matchers { SameBounded M.expression M.whole M.room matchers.old matchers.new }
+    ensures same_matchers { SameMatchers M.expression M.whole M.room matchers.old matchers.new }
     ensures steps { AddsAtMost
         ((length matchers.old - first_sought change (length matchers.old))
         * length (terminated (map line_text chunk.now))) meter.old meter.new }

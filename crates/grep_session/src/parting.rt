@@ -9,13 +9,12 @@ ghost use Rattle.grep_session.specs.Touched.{PartsCostOf};
 ghost use Rattle.grep_session.specs.Working.Changed.{NewPartsCost, SearchesEach, SearchesOne};
 ghost use Rattle.grep_session.specs.Working.Columns.{Grows, has_new_parts, ArePartsAgain, AreAllParts};
 ghost use Rattle.grep_session.specs.Working.Columns.{AreDecided, CostsParts};
-ghost use Rattle.grep_session.specs.Working.Rooms.{SameBounded};
+ghost use Rattle.re_search.specs.Searching.{SameMatchers};
 
-use crate::bounded::Bounded;
 use crate::change::Change;
 use crate::finding::{Search, parts_of};
 use line_chunks::{Chunk, Matches, SpanLists};
-use re_search::Meter;
+use re_search::{LineMatch, Meter};
 use std::alloc::AllocError;
 
 /// Of each line of a chunk that some pattern matches, whether its parts are searched anew.
@@ -45,7 +44,7 @@ fn marks_anew(
 
 /// Adds the parts of line `k` of a chunk: none if no pattern matches it, those that are searched
 /// anew, or those that are kept.
-fn put_parts<M: Bounded>(
+fn put_parts<M: LineMatch>(
     search: &Search,
     matchers: &mut [M],
     chunk: &Chunk,
@@ -65,7 +64,7 @@ fn put_parts<M: Bounded>(
         (λ _.
         ArePartsAgain matched anew (map M.expression matchers.old) search.now.options
         (get_or chunk.now k no_line) (get_or parts.new k [])) }
-    ensures same_matchers { SameBounded M.expression M.whole M.room matchers.old matchers.new }
+    ensures same_matchers { SameMatchers M.expression M.whole M.room matchers.old matchers.new }
     ensures steps { CostsParts matched anew (map M.expression matchers.old) search.now.options
         (line_text (get_or chunk.now k no_line)) meter.old meter.new }
 {
@@ -80,7 +79,7 @@ fn put_parts<M: Bounded>(
 }
 
 /// The parts of the lines of a chunk, under `-o`.
-fn find_all_parts<M: Bounded>(
+fn find_all_parts<M: LineMatch>(
     search: &Search,
     matchers: &mut [M],
     change: Change,
@@ -97,7 +96,7 @@ fn find_all_parts<M: Bounded>(
     ensures ok { IfOk result
         (AreAllParts change (map M.expression matchers.old) search.now.options chunk.now old.now
         new.now) }
-    ensures same_matchers { SameBounded M.expression M.whole M.room matchers.old matchers.new }
+    ensures same_matchers { SameMatchers M.expression M.whole M.room matchers.old matchers.new }
     ensures steps { (changed : List Expression) →
         AreDecided change changed search.now.options (map line_text chunk.now) old.now new.now →
         SearchesEach
@@ -118,7 +117,7 @@ fn find_all_parts<M: Bounded>(
 
 /// The parts of the lines of a chunk after a change: under `-o` of those that some pattern matches,
 /// and otherwise none. `old` and `new` say which patterns matched which lines, and which do now.
-pub fn find_parts<M: Bounded>(
+pub fn find_parts<M: LineMatch>(
     search: &Search,
     matchers: &mut [M],
     change: Change,
@@ -135,7 +134,7 @@ pub fn find_parts<M: Bounded>(
     ensures ok { IfOk result
         (AreAllParts change (map M.expression matchers.old) search.now.options chunk.now old.now
         new.now) }
-    ensures same_matchers { SameBounded M.expression M.whole M.room matchers.old matchers.new }
+    ensures same_matchers { SameMatchers M.expression M.whole M.room matchers.old matchers.new }
     ensures steps { (changed : List Expression) →
         AreDecided change changed search.now.options (map line_text chunk.now) old.now new.now →
         SearchesEach

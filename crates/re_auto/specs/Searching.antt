@@ -32,15 +32,18 @@ abbrev pub DecidesMatchOfAll : List Expression → List Bool → Text → Bool �
 DecidesMatchOfAll es wholes line verdict =
     (whole : Bool) → AllAnswer whole wholes → IsTrue verdict ↔ SomeMatches es line whole
 
--- the same matchers in the same order: each has its expression as before, and asks for whole lines
--- or not as before
+-- the same matchers in the same order: each has its expression as before, asks for whole lines or
+-- not as before, and may keep as much as before
 pub record SameMatchers {M : Type 0} (expression : M → Expression) (whole : M → Bool)
-    (old new : List M) : Type 0 where
+    (room : M → ℕ) (old new : List M) : Type 0 where
   pub same_expressions : map expression new ≡ map expression old
   pub same_wholes : map whole new ≡ map whole old
+  pub same_rooms : map room new ≡ map room old
 
--- at most `most` steps were counted, and no count fell; each count stops at the greatest u64
+-- at most `most` steps were counted, and no count fell; each count stops at the greatest u64; what
+-- was refused stays so
 pub record AddsAtMost (most : ℕ) (old new : Steps) : Type 0 where
   pub built : min old.built (2 ^ 64 - 1) ≤ new.built
   pub reused : min old.reused (2 ^ 64 - 1) ≤ new.reused
   pub sum : new.built + new.reused ≤ old.built + old.reused + most
+  pub refused : IsTrue old.refused → IsTrue new.refused

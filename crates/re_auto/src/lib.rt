@@ -3,7 +3,7 @@
 #![tactic(auto)]
 
 mod beginnings;
-mod bits;
+pub mod bits;
 mod build;
 mod laws;
 mod meter;

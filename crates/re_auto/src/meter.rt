@@ -1,14 +1,16 @@
 ghost use Rattle.std.specs.Prelude.{◌≡◌};
-ghost use Rattle.re_auto.specs.Meters.{many_built, many_reused, one_reused, fresh};
+ghost use Rattle.re_auto.specs.Meters.{many_built, many_reused, one_reused, with_refusal, fresh};
 
 use std::marker::Model;
 
 /// The number of steps taken: bytes over which a set of positions was advanced. Each count stops at
-/// the greatest `u64`. Only [`fresh_meter`] makes a meter.
+/// the greatest `u64`. It also says whether memory that saves steps was refused. Only
+/// [`fresh_meter`] makes a meter.
 #[derive(Drop)]
 pub struct Meter {
     built: u64,
     reused: u64,
+    refused: bool,
 }
 
 impl Model for Meter {
@@ -16,7 +18,8 @@ impl Model for Meter {
 
     ghost Value = { Steps };
 
-    ghost view = { λ m. record { built = m.built; reused = m.reused } };
+    ghost view = { λ m.
+        record { built = m.built; reused = m.reused; refused = m.refused } };
 }
 
 impl Meter {
@@ -32,6 +35,20 @@ impl Meter {
         ensures { result ≡ self.now.reused }
     {
         self.reused
+    }
+
+    /// Whether memory that saves steps was refused.
+    pub fn was_refused(&self) -> bool
+        ensures { result ≡ self.now.refused }
+    {
+        self.refused
+    }
+
+    /// Notes that memory that saves steps was refused. For the matchers above this crate.
+    pub fn note_refusal(&mut self)
+        ensures { self.new ≡ with_refusal self.old }
+    {
+        self.refused = true;
     }
 
     /// Counts `steps` more computed steps. For this crate and the matchers above it.
@@ -64,5 +81,6 @@ pub fn fresh_meter() -> Meter
     Meter {
         built: 0,
         reused: 0,
+        refused: false,
     }
 }

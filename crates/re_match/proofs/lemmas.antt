@@ -6,3 +6,4 @@ pub mod SetMatches
 pub mod SetBlocks
 pub mod SetAround
 pub mod StepSums
+pub mod PartsWithin

@@ -11,6 +11,7 @@ ghost use Rattle.re_auto.specs.Searching.{FindsPart, AddsAtMost};
 ghost use Rattle.re_needle.specs.Working.Blocks.{IsBlock, PassesUnmatched, CountsMatched};
 ghost use Rattle.re_needle.specs.Working.Blocks.{FindsMatched, next_cost};
 ghost use Rattle.re_steps.specs.Working.Stages.{Searches, mode_for};
+ghost use Rattle.re_ends.specs.Working.GreatestEnds.{AddsEnds, FoundPast};
 ghost use Rattle.re_match.specs.Working.CachedMatchers.{AnswersLine};
 
 use crate::line_match::LineMatch;
@@ -180,6 +181,8 @@ impl LineMatch for Cached {
 
     ghost whole = { λ c. c.whole };
 
+    ghost room = { λ c. c.most };
+
     fn is_match(&mut self, line: &[u8], meter: &mut Meter) -> bool
         ensures reported { IsTrue result ↔
             Matches (expression_of self.old.tree) line.now self.old.whole }
@@ -203,6 +206,19 @@ impl LineMatch for Cached {
         ensures same { self.new ≡ self.old }
     {
         self.simulated.find(line, from, meter)
+    }
+
+    fn add_ends(&mut self, line: &[u8], ends: &mut [usize], meter: &mut Meter)
+        requires { length ends.old ≡ length line.now }
+        ensures added { AddsEnds
+            (FoundPast (expression_of self.old.tree ∷ []) line.now self.old.whole) line.now ends.old
+            ends.new }
+        ensures same_expression { expression_of self.new.tree ≡ expression_of self.old.tree }
+        ensures same_whole { self.new.whole ≡ self.old.whole }
+        ensures steps { AddsAtMost (length line.now + 1) meter.old meter.new }
+        ensures same { self.new ≡ self.old }
+    {
+        self.simulated.add_ends(line, ends, meter);
     }
 
     fn next_matched(&mut self, block: &[u8], meter: &mut Meter) -> Option<Span>

@@ -4,11 +4,13 @@ ghost use Rattle.std.specs.Prelude.{IfSome, ◌<◌, length};
 ghost use Rattle.re_syntax.specs.Holds.{Matches};
 ghost use Rattle.re_syntax.specs.Lines.{lines_of, HasNoNewline};
 ghost use Rattle.re_auto.specs.Meters.{many_built};
-ghost use Rattle.re_match.specs.Working.Literals.{literal_expression, IsPartOfLines};
+ghost use Rattle.re_match.specs.Working.Literals.{literal_expression, IsPartOfLines, part_cost};
 ghost use Rattle.re_auto.specs.Searching.{FindsPart, AddsAtMost};
 ghost use Rattle.re_needle.specs.Working.Blocks.{IsBlock, PassesUnmatched, CountsMatched};
 ghost use Rattle.re_needle.specs.Working.Blocks.{FindsMatched, FindsNext, next_cost};
+ghost use Rattle.re_ends.specs.Working.GreatestEnds.{AddsEnds, FoundPast};
 
+use crate::front_ends::{Occurs, add_line, add_occurrences, bytes_to_part};
 use crate::line_match::LineMatch;
 use crate::looks::Uncounted;
 use crate::sweeps::{Sweeps, count_by_sweeps, next_by_sweeps};
@@ -136,6 +138,32 @@ impl Fixed {
         has_no_newline(self.finder.needle())
     }
 
+    // The next part.
+    fn part(&self, line: &[u8], from: usize) -> Option<Span>
+        requires { from ≤ length line.now }
+        ensures reported { FindsPart (literal_expression self.now ∷ []) line.now self.now.whole from result }
+        ensures within { IfSome result
+            (λ part. (from ≤ part.end) × (part.end ≤ length line.now)) }
+    {
+        if self.whole {
+            return self.whole_line(line, from);
+        }
+        self.occurrence(line, from)
+    }
+
+    // Gives each place the greatest end of the parts that begin there.
+    fn put_ends(&self, line: &[u8], ends: &mut [usize])
+        requires { length ends.old ≡ length line.now }
+        ensures { AddsEnds (FoundPast (literal_expression self.now ∷ []) line.now self.now.whole) line.now
+            ends.old ends.new }
+    {
+        if self.whole {
+            add_line(self.is_line(line), line, ends);
+            return;
+        }
+        add_occurrences(self, line, ends);
+    }
+
     // Whether the line is matched.
     #[inline(always)]
     fn search(&mut self, line: &[u8], meter: &mut Meter) -> bool
@@ -160,6 +188,8 @@ impl LineMatch for Fixed {
 
     ghost whole = { λ f. f.whole };
 
+    ghost room = { λ f. 0 };
+
     fn is_match(&mut self, line: &[u8], meter: &mut Meter) -> bool
         ensures reported { IsTrue result ↔
             Matches (literal_expression self.old) line.now self.old.whole }
@@ -180,13 +210,24 @@ impl LineMatch for Fixed {
         ensures same_whole { self.new.whole ≡ self.old.whole }
         ensures steps { AddsAtMost (length line.now - from + 1) meter.old meter.new }
         ensures same { self.new ≡ self.old }
-        ensures counted { meter.new ≡ many_built (length line.now - from + 1) meter.old }
+        ensures counted { meter.new ≡ many_built (part_cost line.now from result) meter.old }
     {
-        meter.add_built((line.len() - from) as u64 + 1);
-        if self.whole {
-            return self.whole_line(line, from);
-        }
-        self.occurrence(line, from)
+        let found = self.part(line, from);
+        meter.add_built(bytes_to_part(line, from, found));
+        found
+    }
+
+    fn add_ends(&mut self, line: &[u8], ends: &mut [usize], meter: &mut Meter)
+        requires { length ends.old ≡ length line.now }
+        ensures added { AddsEnds (FoundPast (literal_expression self.old ∷ []) line.now self.old.whole) line.now
+            ends.old ends.new }
+        ensures same_expression { literal_expression self.new ≡ literal_expression self.old }
+        ensures same_whole { self.new.whole ≡ self.old.whole }
+        ensures steps { AddsAtMost (length line.now + 1) meter.old meter.new }
+        ensures same { self.new ≡ self.old }
+    {
+        meter.add_built(line.len() as u64 + 1);
+        self.put_ends(line, ends);
     }
 
     fn next_matched(&mut self, block: &[u8], meter: &mut Meter) -> Option<Span>
@@ -251,5 +292,15 @@ impl Sweeps for Fixed {
 
     fn search(&mut self, line: &[u8], meter: &mut Meter) -> bool {
         Fixed::search(self, line, meter)
+    }
+}
+
+impl Occurs for Fixed {
+    ghost use Rattle.re_match.specs.Working.Literals.{literal_expression};
+
+    ghost expression = { λ f. literal_expression f };
+
+    fn occurrence(&self, line: &[u8], from: usize) -> Option<Span> {
+        Fixed::occurrence(self, line, from)
     }
 }

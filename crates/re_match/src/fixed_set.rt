@@ -6,12 +6,14 @@ ghost use Rattle.re_strings.specs.Working.FixedSets.{IsString};
 ghost use Rattle.re_syntax.specs.Holds.{Matches};
 ghost use Rattle.re_syntax.specs.Lines.{lines_of};
 ghost use Rattle.re_auto.specs.Meters.{many_built};
-ghost use Rattle.re_match.specs.Working.Literals.{any_literal};
+ghost use Rattle.re_match.specs.Working.Literals.{any_literal, part_cost};
 ghost use Rattle.re_strings.specs.Working.Keys.{keys};
 ghost use Rattle.re_auto.specs.Searching.{FindsPart, AddsAtMost};
 ghost use Rattle.re_needle.specs.Working.Blocks.{IsBlock, IsLineFrom, PassesUnmatched};
 ghost use Rattle.re_needle.specs.Working.Blocks.{FindsMatched, next_cost};
+ghost use Rattle.re_ends.specs.Working.GreatestEnds.{AddsEnds, FoundPast};
 
+use crate::front_ends::{Occurs, add_line, add_occurrences, bytes_to_part};
 use crate::line_match::LineMatch;
 use crate::looks::{Looks, Uncounted};
 use crate::sweeps::{Sweeps, next_by_sweeps};
@@ -180,6 +182,32 @@ impl FixedSet {
         self.table.find(line, from)
     }
 
+    // The next part.
+    fn part(&self, line: &[u8], from: usize) -> Option<Span>
+        requires { from ≤ length line.now }
+        ensures reported { FindsPart (any_literal self.now ∷ []) line.now self.now.whole from result }
+        ensures within { IfSome result
+            (λ part. (from ≤ part.end) × (part.end ≤ length line.now)) }
+    {
+        if self.whole {
+            return self.whole_line(line, from);
+        }
+        self.occurrence(line, from)
+    }
+
+    // Gives each place the greatest end of the parts that begin there.
+    fn put_ends(&self, line: &[u8], ends: &mut [usize])
+        requires { length ends.old ≡ length line.now }
+        ensures { AddsEnds (FoundPast (any_literal self.now ∷ []) line.now self.now.whole) line.now
+            ends.old ends.new }
+    {
+        if self.whole {
+            add_line(self.is_line(line), line, ends);
+            return;
+        }
+        add_occurrences(self, line, ends);
+    }
+
     // Whether the line is matched.
     #[inline(always)]
     fn search(&mut self, line: &[u8], meter: &mut Meter) -> bool
@@ -229,6 +257,8 @@ impl LineMatch for FixedSet {
 
     ghost whole = { λ f. f.whole };
 
+    ghost room = { λ f. 0 };
+
     fn is_match(&mut self, line: &[u8], meter: &mut Meter) -> bool
         ensures reported { IsTrue result ↔ Matches (any_literal self.old) line.now self.old.whole }
         ensures same_expression { any_literal self.new ≡ any_literal self.old }
@@ -247,13 +277,24 @@ impl LineMatch for FixedSet {
         ensures same_whole { self.new.whole ≡ self.old.whole }
         ensures steps { AddsAtMost (length line.now - from + 1) meter.old meter.new }
         ensures same { self.new ≡ self.old }
-        ensures counted { meter.new ≡ many_built (length line.now - from + 1) meter.old }
+        ensures counted { meter.new ≡ many_built (part_cost line.now from result) meter.old }
     {
-        meter.add_built((line.len() - from) as u64 + 1);
-        if self.whole {
-            return self.whole_line(line, from);
-        }
-        self.occurrence(line, from)
+        let found = self.part(line, from);
+        meter.add_built(bytes_to_part(line, from, found));
+        found
+    }
+
+    fn add_ends(&mut self, line: &[u8], ends: &mut [usize], meter: &mut Meter)
+        requires { length ends.old ≡ length line.now }
+        ensures added { AddsEnds (FoundPast (any_literal self.old ∷ []) line.now self.old.whole) line.now
+            ends.old ends.new }
+        ensures same_expression { any_literal self.new ≡ any_literal self.old }
+        ensures same_whole { self.new.whole ≡ self.old.whole }
+        ensures steps { AddsAtMost (length line.now + 1) meter.old meter.new }
+        ensures same { self.new ≡ self.old }
+    {
+        meter.add_built(line.len() as u64 + 1);
+        self.put_ends(line, ends);
     }
 
     fn next_matched(&mut self, block: &[u8], meter: &mut Meter) -> Option<Span>
@@ -305,5 +346,15 @@ impl Sweeps for FixedSet {
 
     fn search(&mut self, line: &[u8], meter: &mut Meter) -> bool {
         FixedSet::search(self, line, meter)
+    }
+}
+
+impl Occurs for FixedSet {
+    ghost use Rattle.re_match.specs.Working.Literals.{any_literal};
+
+    ghost expression = { λ f. any_literal f };
+
+    fn occurrence(&self, line: &[u8], from: usize) -> Option<Span> {
+        FixedSet::occurrence(self, line, from)
     }
 }

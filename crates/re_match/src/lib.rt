@@ -5,6 +5,7 @@
 mod cached;
 mod fixed;
 mod fixed_set;
+mod front_ends;
 mod line_match;
 mod looks;
 mod matcher;

@@ -1,4 +1,4 @@
-ghost use Rattle.std.specs.Prelude.{◌≡◌, Bool, ◌+◌, ◌-◌, ◌<◌, ◌≤◌, ◌↔◌, [], ◌∷◌, IsTrue, IfSome};
+ghost use Rattle.std.specs.Prelude.{◌≡◌, Bool, ℕ, ◌+◌, ◌-◌, ◌<◌, ◌≤◌, ◌↔◌, [], ◌∷◌, IsTrue, IfSome};
 ghost use Rattle.std.specs.Prelude.{length};
 ghost use Rattle.re_syntax.specs.Expression.{Expression};
 ghost use Rattle.re_syntax.specs.Holds.{Matches};
@@ -6,6 +6,7 @@ ghost use Rattle.re_syntax.specs.Lines.{lines_of};
 ghost use Rattle.re_auto.specs.Searching.{FindsPart, AddsAtMost};
 ghost use Rattle.re_needle.specs.Working.Blocks.{IsBlock, PassesUnmatched, CountsMatched};
 ghost use Rattle.re_needle.specs.Working.Blocks.{FindsMatched, next_cost};
+ghost use Rattle.re_ends.specs.Working.GreatestEnds.{AddsEnds, FoundPast};
 
 use crate::looks::Uncounted;
 use re_auto::Meter;
@@ -21,11 +22,15 @@ pub trait LineMatch {
     /// Whether the whole line has to be matched (XCU grep, option `-x`).
     ghost whole: { Self → Bool };
 
+    /// How many entries its cache may have, which no search changes; 0 without a cache.
+    ghost room: { Self → ℕ };
+
     /// Whether the line is matched, in at most one step for each of its bytes and one more.
     fn is_match(&mut self, line: &[u8], meter: &mut Meter) -> bool
         ensures reported { IsTrue result ↔ Matches (expression self.old) line.now (whole self.old) }
         ensures same_expression { expression self.new ≡ expression self.old }
         ensures same_whole { whole self.new ≡ whole self.old }
+        ensures same_room { room self.new ≡ room self.old }
         ensures steps { AddsAtMost (length line.now + 1) meter.old meter.new };
 
     /// The part that begins earliest at `from` or later, and of those that begin there the
@@ -35,7 +40,20 @@ pub trait LineMatch {
         ensures reported { FindsPart (expression self.old ∷ []) line.now (whole self.old) from result }
         ensures same_expression { expression self.new ≡ expression self.old }
         ensures same_whole { whole self.new ≡ whole self.old }
+        ensures same_room { room self.new ≡ room self.old }
         ensures steps { AddsAtMost (length line.now - from + 1) meter.old meter.new };
+
+    /// Gives each place of the line the greatest end of the matched stretches that begin there and
+    /// are not empty, if it is greater than the end that the place has. It takes at most one step
+    /// for each byte and one more.
+    fn add_ends(&mut self, line: &[u8], ends: &mut [usize], meter: &mut Meter)
+        requires { length ends.old ≡ length line.now }
+        ensures added { AddsEnds (FoundPast (expression self.old ∷ []) line.now (whole self.old))
+            line.now ends.old ends.new }
+        ensures same_expression { expression self.new ≡ expression self.old }
+        ensures same_whole { whole self.new ≡ whole self.old }
+        ensures same_room { room self.new ≡ room self.old }
+        ensures steps { AddsAtMost (length line.now + 1) meter.old meter.new };
 
     /// The first line of a block of whole lines that is matched, by its place without its newline.
     /// It takes at most one step for each byte up to that newline and one for the newline. If no
@@ -48,6 +66,7 @@ pub trait LineMatch {
             (λ at. (at.start ≤ at.end) × (at.end < length block.now)) }
         ensures same_expression { expression self.new ≡ expression self.old }
         ensures same_whole { whole self.new ≡ whole self.old }
+        ensures same_room { room self.new ≡ room self.old }
         ensures steps { AddsAtMost (next_cost block.now result) meter.old meter.new }
     {
         let mut start = 0;
@@ -70,6 +89,7 @@ pub trait LineMatch {
             result }
         ensures same_expression { expression self.new ≡ expression self.old }
         ensures same_whole { whole self.new ≡ whole self.old }
+        ensures same_room { room self.new ≡ room self.old }
         ensures steps { AddsAtMost (length block.now) meter.old meter.new }
     {
         let mut count: u64 = 0;

@@ -13,6 +13,7 @@ ghost use Rattle.re_match.specs.Reading.{IsRefusedFor};
 ghost use Rattle.re_match.specs.Working.Matchers.{matched_expression, wants_whole, is_fixed};
 ghost use Rattle.re_match.specs.Working.Matchers.{room_of, entries_of, CountsSteps, IsBuildFault};
 ghost use Rattle.re_auto.specs.Searching.{FindsPart, AddsAtMost};
+ghost use Rattle.re_ends.specs.Working.GreatestEnds.{AddsEnds, FoundPast};
 ghost use Rattle.re_needle.specs.Working.Blocks.{IsBlock, PassesUnmatched, CountsMatched};
 ghost use Rattle.re_needle.specs.Working.Blocks.{FindsMatched, next_cost};
 
@@ -107,11 +108,13 @@ impl Matcher {
 }
 
 impl LineMatch for Matcher {
-    ghost use Rattle.re_match.specs.Working.Matchers.{matched_expression, wants_whole};
+    ghost use Rattle.re_match.specs.Working.Matchers.{matched_expression, wants_whole, room_of};
 
     ghost expression = { matched_expression };
 
     ghost whole = { wants_whole };
+
+    ghost room = { room_of };
 
     fn is_match(&mut self, line: &[u8], meter: &mut Meter) -> bool
         ensures reported { IsTrue result ↔
@@ -145,6 +148,25 @@ impl LineMatch for Matcher {
             Matcher::FixedSet(set) => set.find(line, from, meter),
             Matcher::Simulated(simulated) => simulated.find(line, from, meter),
             Matcher::Cached(cached) => cached.find(line, from, meter),
+        }
+    }
+
+    fn add_ends(&mut self, line: &[u8], ends: &mut [usize], meter: &mut Meter)
+        requires { length ends.old ≡ length line.now }
+        ensures added { AddsEnds
+            (FoundPast (matched_expression self.old ∷ []) line.now (wants_whole self.old)) line.now
+            ends.old ends.new }
+        ensures same_expression { matched_expression self.new ≡ matched_expression self.old }
+        ensures same_whole { wants_whole self.new ≡ wants_whole self.old }
+        ensures steps { AddsAtMost (length line.now + 1) meter.old meter.new }
+        ensures same_entries { entries_of self.new ≡ entries_of self.old }
+        ensures same_room { room_of self.new ≡ room_of self.old }
+    {
+        match self {
+            Matcher::Fixed(fixed) => fixed.add_ends(line, ends, meter),
+            Matcher::FixedSet(set) => set.add_ends(line, ends, meter),
+            Matcher::Simulated(simulated) => simulated.add_ends(line, ends, meter),
+            Matcher::Cached(cached) => cached.add_ends(line, ends, meter),
         }
     }
 

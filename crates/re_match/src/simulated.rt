@@ -15,12 +15,17 @@ ghost use Rattle.re_needle.specs.Working.Needles.{IsSettled};
 ghost use Rattle.re_steps.specs.Working.Stages.{mode_for};
 ghost use Rattle.re_auto.specs.Searching.{FindsPart, AddsAtMost};
 ghost use Rattle.re_needle.specs.Working.Blocks.{IsBlock, PassesUnmatched, CountsMatched};
+ghost use Rattle.re_auto.specs.Meters.{many_built};
+ghost use Rattle.re_ends.specs.Working.GreatestEnds.{AddsEnds, FoundPast};
+ghost use Rattle.re_ends.specs.Working.EndPairs.{AreEndsFor};
 
+use crate::front_ends::add_line;
 use crate::line_match::LineMatch;
 use crate::looks::Uncounted;
 use crate::prefilter::Prefilter;
 use crate::sweeps::{Sweeps, count_by_sweeps, next_by_sweeps};
 use re_auto::{Automaton, BuildFault, Meter, Mode, StateSet};
+use re_ends::EndPair;
 use re_steps::{SetPair, StartPair};
 use re_syntax::{Span, Tree};
 use std::alloc::Global;
@@ -35,6 +40,7 @@ pub struct Simulated {
     prefilter: Prefilter,
     sets: SetPair,
     starts: StartPair,
+    back: EndPair,
 }
 
 impl Model for Simulated {
@@ -43,6 +49,7 @@ impl Model for Simulated {
     ghost use Rattle.re_needle.specs.Working.Needles.{IsNeedleFor};
     ghost use Rattle.re_match.specs.Working.Simulated.{TreeMatcher};
     ghost use Rattle.re_steps.specs.Working.Simulations.{AreSetsFor, AreStartsFor};
+    ghost use Rattle.re_ends.specs.Working.EndPairs.{AreEndsFor};
     ghost use Rattle.std.specs.Coded.{codes};
 
     ghost Value = { TreeMatcher };
@@ -53,7 +60,8 @@ impl Model for Simulated {
 
     ghost invariant = { λ s. AreSetsFor (expression_of s.automaton) s.sets ×
         AreStartsFor (expression_of s.automaton) s.starts
-        × IsNeedleFor (expression_of s.automaton) s.prefilter.needle };
+        × IsNeedleFor (expression_of s.automaton) s.prefilter.needle
+        × AreEndsFor (expression_of s.automaton) s.back };
 }
 
 impl Simulated {
@@ -77,7 +85,7 @@ impl Simulated {
             drop(automaton);
             return Err(BuildFault::Memory);
         };
-        let (sets, starts) = match pairs_for(alloc, &automaton) {
+        let (sets, starts, back) = match pairs_for(alloc, &automaton) {
             Ok(pairs) => pairs,
             Err(fault) => {
                 drop(automaton);
@@ -91,6 +99,7 @@ impl Simulated {
             prefilter,
             sets,
             starts,
+            back,
         })
     }
 
@@ -212,18 +221,37 @@ impl Simulated {
         }
         self.starts.find(&self.automaton, line, from, meter)
     }
+
+    // Gives each place the greatest end of the matched stretches that begin there, in a pass back
+    // over the line.
+    fn put_ends(&mut self, line: &[u8], ends: &mut [usize], meter: &mut Meter)
+        requires { length ends.old ≡ length line.now }
+        ensures added { AddsEnds (FoundPast (expression_of self.old.tree ∷ []) line.now false)
+            line.now ends.old ends.new }
+        ensures same { self.new ≡ self.old }
+        ensures counted { meter.new ≡ many_built (length line.now) meter.old }
+    {
+        self.back.add_ends(&self.automaton, line, ends, meter);
+    }
 }
 
-// The sets and the starts for the automaton. The one error is `Memory`.
-fn pairs_for(alloc: Global, automaton: &Automaton) -> Result<(SetPair, StartPair), BuildFault>
+// The sets, the starts and the ends for the automaton. The one error is `Memory`.
+fn pairs_for(
+    alloc: Global,
+    automaton: &Automaton,
+) -> Result<(SetPair, StartPair, EndPair), BuildFault>
     ensures made { IfOk result
-        (λ pairs. AreSetsFor (expression_of automaton.now) pairs.0 ×
-        AreStartsFor (expression_of automaton.now) pairs.1) }
+        (λ pairs. AreSetsFor (expression_of automaton.now) pairs.0
+        × AreStartsFor (expression_of automaton.now) pairs.1
+        × AreEndsFor (expression_of automaton.now) pairs.2) }
     ensures refused { IfErr result (λ fault. fault ≡ Memory) }
 {
     let sets = SetPair::new(alloc, automaton)?;
     let starts = StartPair::new(alloc, automaton)?;
-    Ok((sets, starts))
+    let Ok(back) = EndPair::new(alloc, automaton) else {
+        return Err(BuildFault::Memory);
+    };
+    Ok((sets, starts, back))
 }
 
 impl LineMatch for Simulated {
@@ -232,6 +260,8 @@ impl LineMatch for Simulated {
     ghost expression = { λ s. expression_of s.tree };
 
     ghost whole = { λ s. s.whole };
+
+    ghost room = { λ s. 0 };
 
     fn is_match(&mut self, line: &[u8], meter: &mut Meter) -> bool
         ensures reported { IsTrue result ↔
@@ -257,6 +287,24 @@ impl LineMatch for Simulated {
             return self.whole_line(line, from, meter);
         }
         self.part(line, from, meter)
+    }
+
+    fn add_ends(&mut self, line: &[u8], ends: &mut [usize], meter: &mut Meter)
+        requires { length ends.old ≡ length line.now }
+        ensures added { AddsEnds
+            (FoundPast (expression_of self.old.tree ∷ []) line.now self.old.whole) line.now ends.old
+            ends.new }
+        ensures same_expression { expression_of self.new.tree ≡ expression_of self.old.tree }
+        ensures same_whole { self.new.whole ≡ self.old.whole }
+        ensures steps { AddsAtMost (length line.now + 1) meter.old meter.new }
+        ensures same { self.new ≡ self.old }
+    {
+        if self.whole {
+            let matched = self.search(line, meter);
+            add_line(matched, line, ends);
+            return;
+        }
+        self.put_ends(line, ends, meter);
     }
 
     fn next_matched(&mut self, block: &[u8], meter: &mut Meter) -> Option<Span> {

@@ -71,6 +71,7 @@ pub fn count_by_sweeps<M: Sweeps>(matcher: &mut M, block: &[u8], meter: &mut Met
         (lines_of block.now) result }
     ensures same_expression { M.expression matcher.new ≡ M.expression matcher.old }
     ensures same_whole { M.whole matcher.new ≡ M.whole matcher.old }
+    ensures same_room { M.room matcher.new ≡ M.room matcher.old }
     ensures steps { AddsAtMost (length block.now) meter.old meter.new }
 {
     let mut count: u64 = 0;

@@ -12,3 +12,4 @@ pub mod OneMatcher
 pub mod SearchedBlocks
 pub mod FilterLaws
 pub mod PlainLaws
+pub mod CourseLaws

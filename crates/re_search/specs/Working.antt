@@ -5,3 +5,4 @@ pub mod Blocks
 pub mod Filters
 pub mod Sought
 pub mod Asking
+pub mod Courses

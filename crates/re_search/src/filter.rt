@@ -123,7 +123,7 @@ impl Filter {
         requires { (whole : Bool) × AllAnswer whole (map M.whole matchers.old) }
         ensures reported { DecidesMatchOfAll (map M.expression matchers.old) (map M.whole matchers.old)
             line.now result }
-        ensures same_matchers { SameMatchers M.expression M.whole matchers.old matchers.new }
+        ensures same_matchers { SameMatchers M.expression M.whole M.room matchers.old matchers.new }
         ensures steps { AddsAtMost (length matchers.old * (length line.now + 1)) meter.old
             meter.new }
     {
@@ -146,7 +146,7 @@ impl Filter {
         requires { (whole : Bool) × AllAnswer whole (map M.whole matchers.old) }
         ensures reported { DecidesMatchOfAll (map M.expression matchers.old) (map M.whole matchers.old)
             line.now result }
-        ensures same_matchers { SameMatchers M.expression M.whole matchers.old matchers.new }
+        ensures same_matchers { SameMatchers M.expression M.whole M.room matchers.old matchers.new }
         ensures steps { AddsAtMost (length matchers.old * (length line.now + 1)) meter.old
             meter.new }
     {

@@ -2,15 +2,17 @@
 //! above use of one matcher is passed on.
 #![tactic(auto)]
 
+mod course;
 mod filter;
 mod plain;
 mod searchers;
 mod several;
 
+pub use course::Course;
 pub use filter::{Filter, needed_strings};
 pub use plain::is_plain;
 pub use re_auto::Meter;
 pub use re_match::{Cached, Fixed, FixedSet, LineMatch, Matcher, Simulated};
 pub use re_syntax::{Span, Syntax};
-pub use searchers::Searchers;
+pub use searchers::{Searchers, next_part};
 pub use several::parts;

@@ -5,9 +5,12 @@ ghost use Rattle.re_auto.specs.Searching.{AllAnswer};
 ghost use Rattle.re_search.specs.Working.Filters.{AreNeeded};
 
 mod asking;
+mod parts;
 
 use crate::filter::Filter;
+pub use parts::next_part;
 use re_match::LineMatch;
+use std::alloc::Global;
 
 /// Matchers that are asked together, with a filter that is asked before them. They are lent: their
 /// owner has them again afterwards, the same but for what they keep of their searches.
@@ -16,6 +19,7 @@ use re_match::LineMatch;
 /// of the filter is matched by none of them.
 #[derive(Drop)]
 pub struct Searchers<'a, 'f, M: LineMatch> {
+    alloc: Global,
     matchers: &'a mut [M],
     filter: &'f Filter,
     whole: bool,

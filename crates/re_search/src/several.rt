@@ -33,7 +33,7 @@ pub fn parts<M: LineMatch>(
     requires alike { (whole : Bool) × AllAnswer whole (map M.whole matchers.old) }
     ensures reported { FindsPartOfAll (map M.expression matchers.old) (map M.whole matchers.old)
         line.now from result }
-    ensures same_matchers { SameMatchers M.expression M.whole matchers.old matchers.new }
+    ensures same_matchers { SameMatchers M.expression M.whole M.room matchers.old matchers.new }
     ensures steps { AddsAtMost (length matchers.old * (length line.now - from + 1)) meter.old
         meter.new }
 {
@@ -73,7 +73,7 @@ pub fn is_matched<M: LineMatch>(matchers: &mut [M], line: &[u8], meter: &mut Met
     requires { (whole : Bool) × AllAnswer whole (map M.whole matchers.old) }
     ensures reported { DecidesMatchOfAll (map M.expression matchers.old) (map M.whole matchers.old)
         line.now result }
-    ensures same_matchers { SameMatchers M.expression M.whole matchers.old matchers.new }
+    ensures same_matchers { SameMatchers M.expression M.whole M.room matchers.old matchers.new }
     ensures steps { AddsAtMost (length matchers.old * (length line.now + 1)) meter.old meter.new }
 {
     for matcher in matchers.iter_mut() {

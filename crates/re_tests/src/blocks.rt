@@ -245,7 +245,7 @@ fn assert_asked(
 {
     let (texts, _, lines, next, count, part) = *row;
     let block = block_of(alloc, lines)?;
-    let mut searchers = Searchers::new(matchers, filter, false);
+    let mut searchers = Searchers::new(alloc, matchers, filter, false);
     let counted = searchers.count_matched(&block, &mut fresh_meter());
     assert_eq!(rt; counted, count, "{texts:?} in {lines:?}");
     let found = searchers.next_matched(&block, &mut fresh_meter());
@@ -255,7 +255,9 @@ fn assert_asked(
     };
     let line = &block[at.start..at.end];
     assert!(rt; searchers.is_matched(line, &mut fresh_meter()));
-    let first = searchers.part(line, 0, &mut fresh_meter());
+    let mut meter = fresh_meter();
+    let mut course = searchers.course(&meter);
+    let first = searchers.next_part(line, 0, &mut course, &mut meter);
     assert_eq!(rt; ends_of(first), part, "{texts:?} in {lines:?}");
     Ok(())
 }

@@ -8,6 +8,8 @@ mod blocks;
 #[cfg(test)]
 mod cache;
 #[cfg(test)]
+mod courses;
+#[cfg(test)]
 mod filters;
 #[cfg(test)]
 mod many_strings;

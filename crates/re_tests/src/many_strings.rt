@@ -11,13 +11,18 @@ fn set_of(alloc: Global, texts: &[u8], whole: bool) -> Result<FixedSet, AllocErr
     FixedSet::new(alloc, texts, false, whole)
 }
 
-// The part from a place on. Its search takes one step for each byte that is left, and one more.
+// The part from a place on. Its search takes one step for each byte up to its end; if there is
+// none, one for each byte that is left, and one more.
 fn part_from(rt: &impl Abort, set: &mut FixedSet, line: &[u8], from: usize) -> Option<Span> {
     assert!(rt; from <= line.len());
     let mut meter = fresh_meter();
     let part = set.find(line, from, &mut meter);
-    let steps = (line.len() - from) as u64 + 1;
-    assert_steps(rt, &meter, steps, 0, line);
+    let end = match part {
+        Some(part) => part.end,
+        None => line.len() + 1,
+    };
+    assert!(rt; from <= end);
+    assert_steps(rt, &meter, (end - from) as u64, 0, line);
     part
 }
 

@@ -53,7 +53,7 @@ static MEANINGS: [Row; 6] = [
 ];
 
 /// A search by two patterns costs twice a line's length and one; a search of its parts costs that
-/// once for each part and once more.
+/// once for each part and once more, but at most four times.
 static TOUCHED: [Row; 14] = [
     (AddFile("f", b"aa\nb\nca\n"), DONE, b"", b"", 1, 0),
     (AddPatterns(b"a\nb"), DONE, b"aa\nb\nca\n", b"", 0, 16),
@@ -143,6 +143,21 @@ static PARTS: [Row; 12] = [
     (Splice(0, 0, 1, b""), DONE, b"1:b\n", b"", 0, 0),
 ];
 
+/// All parts of a line cost at most four searches of it, though each goes on to the line's end.
+static LINEAR: [Row; 4] = [
+    (SetSyntax(Extended), DONE, b"", b"", 1, 0),
+    (SetFlag(OnlyMatching, true), DONE, b"", b"", 1, 0),
+    (AddPatterns(b"a|a*[bc]"), DONE, b"", b"", 1, 0),
+    (
+        AddFile("f", b"aaaaaaaaaaaaaaaaaaaaaaaa\n"),
+        DONE,
+        b"a\na\na\na\na\na\na\na\na\na\na\na\na\na\na\na\na\na\na\na\na\na\na\na\n",
+        b"",
+        0,
+        125,
+    ),
+];
+
 const BEHIND: Option<Context> = Some(Context {
     before: 0,
     after: 1,
@@ -229,7 +244,7 @@ static NEWLINES: [Row; 8] = [
 ];
 
 /// The sessions.
-pub fn sessions() -> [&'static [Row]; 8] {
+pub fn sessions() -> [&'static [Row]; 9] {
     [
         &ONE_LINE_COMES,
         &ANOTHER_SYNTAX,
@@ -237,6 +252,7 @@ pub fn sessions() -> [&'static [Row]; 8] {
         &TOUCHED,
         &BRANCHES,
         &PARTS,
+        &LINEAR,
         &ONE_FILE,
         &NEWLINES,
     ]

@@ -151,7 +151,7 @@ module _ {R W : Type 0} (remaining : R → Option Text) (failures : R → ℕ) (
 
   -- a command for which its line is enough
   pub does_alone : (step : Step) (reply : List Text) → HasHanded remaining failures reader now handed → IsStep (line_command line) [] step → RepliesTo step before reply after
-      → (most : ℕ) → SearchesAtMost step before.inputs most → AddsAtMost most begun spent
+      → (most : ℕ) → SearchesAtMost spent.refused step before.inputs most → AddsAtMost most begun spent
       → DoesStep remaining failures reader handed line now begun spent before after reply
   does_alone step reply h is replies most is_most few = record {
     taken = [];

@@ -102,7 +102,7 @@ module _ {R : Type 0} (remaining : R → Option Text) (failures : R → ℕ) (re
     pub is_step : IsStep (line_command line) taken step
     pub replies_to : RepliesTo step before reply after
     pub most : ℕ
-    pub is_most : SearchesAtMost step before.inputs most
+    pub is_most : SearchesAtMost spent.refused step before.inputs most
     pub few : AddsAtMost most begun spent
 
 module _ {R : Type 0} (remaining : R → Option Text) (failures : R → ℕ) (reader : R)

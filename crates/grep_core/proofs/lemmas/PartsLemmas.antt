@@ -1,5 +1,5 @@
 -- The parts of a line that were written, one more part at a time.
-use Rattle.std.proofs.Common.{◌≡◌, ℕ, ◌+◌, ◌*◌, ◌<◌, ◌≤◌, Bool, List, [], ◌∷◌, ◌++◌, Option, None, Some, IfSome, length, map, slice_range, refl, sym, ap, subst, ◌∙◌, append_assoc, append-nil, arith}
+use Rattle.std.proofs.Common.{◌≡◌, ℕ, ◌+◌, ◌<◌, ◌≤◌, Bool, List, [], ◌∷◌, ◌++◌, Option, None, Some, IfSome, length, map, slice_range, refl, sym, ap, subst, ◌∙◌, append_assoc, append-nil, arith}
 use Rattle.std.proofs.lemmas.List.{map-append, length_push, length-append}
 use Rattle.re_syntax.specs.Bytes.{Text}
 use Rattle.re_syntax.specs.Expression.{Expression}
@@ -7,7 +7,7 @@ use Rattle.re_syntax.specs.Parts.{IsFound, IsPart, ArePartsFrom, AreParts}
 use Rattle.re_syntax.proofs.lemmas.PartsLaws.{IsPart-unique}
 use Rattle.re_syntax.proofs.lemmas.PartsExist.{AreParts-exist}
 use Rattle.re_search.specs.Meters.{Steps}
-use Rattle.re_search.specs.Searching.{FindsPart, AddsAtMost}
+use Rattle.re_search.specs.Searching.{FindsPart}
 use Rattle.re_syntax.specs.declared.span.Span.{Span}
 use Rattle.grep_core.specs.declared.options.Options.{Options}
 use Rattle.grep_io.specs.Counted.{one_more}
@@ -15,8 +15,12 @@ use Rattle.grep_core.specs.Output.{parts, form, head_of}
 use Rattle.grep_core.specs.Run.{Writer, TakesAll, TakesFront}
 use Rattle.grep_io.specs.Working.Handed.{file_so_far}
 use Rattle.grep_core.specs.Working.OneLine.{RowsOfSelected, WritesSelected, BreaksSelected}
-use Rattle.grep_core.specs.Cost.{search_cost, PartsAsked, AsksParts}
-use Rattle.grep_core.proofs.lemmas.CostLaws.{adds_none, adds_once_more, adds_for_more}
+use Rattle.grep_core.specs.Cost.{search_cost, searches_for, PartsAsked, AsksParts}
+use Rattle.re_search.specs.declared.course.Course.{Course}
+use Rattle.re_search.specs.declared.course.Known.TheVariants.{Nothing}
+use Rattle.re_search.specs.Working.Courses.{HasTaken}
+use Rattle.re_search.proofs.lemmas.CourseLaws.{course_begins, few_searches}
+use Rattle.grep_core.proofs.lemmas.CostLaws.{adds_for_more, more_searches}
 use Rattle.grep_core.proofs.lemmas.WriterLaws.{TakesAll-nothing, TakesAll-more, TakesFront-more, TakesFront-longer}
 
 -- a part is not empty and lies within the line
@@ -43,10 +47,10 @@ module _ (es : List Expression) (options : Options) (many : Bool) (name : Text) 
     pub on_line : from ≤ length line
     pub wrote : TakesAll old now (map part_row done)
 
-  pub parts_none : (w : Writer) (steps : Steps) (cost : ℕ) → 0 ≤ length line → (s : PartsSoFar 0 w w) × AddsAtMost (length s.done * cost) steps steps
-  parts_none w steps cost on =
+  pub parts_none : (w : Writer) (steps : Steps) (course : Course) (cost : ℕ) → 0 ≤ length line → course.begun ≡ steps.built + steps.reused → course.known ≡ Nothing → (s : PartsSoFar 0 w w) × HasTaken cost steps (length s.done) course steps
+  parts_none w steps course cost on begun nothing =
       let all = AreParts-exist es line options.line_regexp in
-      (record { done = []; left = all.0; are_parts = all.1; are_left = all.1; on_line = on; wrote = TakesAll-nothing w }, adds_none (0 * cost) steps)
+      (record { done = []; left = all.0; are_parts = all.1; are_left = all.1; on_line = on; wrote = TakesAll-nothing w }, course_begins cost course steps begun nothing)
 
   -- the next part is the first of those that are left
   next_left : (from i j : ℕ) (left : List (ℕ × ℕ)) → ArePartsFrom es line options.line_regexp from left → IsPart es line options.line_regexp from i j
@@ -89,9 +93,9 @@ module _ (es : List Expression) (options : Options) (many : Bool) (name : Text) 
         }
 
   -- the row of the next part was written
-  pub parts_next : (from i j : ℕ) (old mid now : Writer) (begun spent after : Steps) (cost : ℕ) → (s : PartsSoFar from old mid) → AddsAtMost (length s.done * cost) begun spent → IsPart es line options.line_regexp from i j → TakesAll mid now (part_row (i, j) ∷ [])
-      → AddsAtMost cost spent after → (next : PartsSoFar j old now) × AddsAtMost (length next.done * cost) begun after
-  parts_next from i j old mid now begun spent after cost s few p took more =
+  pub parts_next : (from i j : ℕ) (old mid now : Writer) (begun spent after : Steps) (before course : Course) (cost : ℕ) → (s : PartsSoFar from old mid) → HasTaken cost begun (length s.done) before spent → IsPart es line options.line_regexp from i j → TakesAll mid now (part_row (i, j) ∷ [])
+      → ((times : ℕ) → HasTaken cost begun times before spent → HasTaken cost begun (times + 1) course after) → (next : PartsSoFar j old now) × HasTaken cost begun (length next.done) course after
+  parts_next from i j old mid now begun spent after before course cost s few p took more =
       let next = next_left from i j s.left s.are_left p in
       let one_more : length (s.done ++ (i, j) ∷ []) ≡ length s.done + 1 = length_push s.done (i, j) in (
         record {
@@ -102,14 +106,16 @@ module _ (es : List Expression) (options : Options) (many : Bool) (name : Text) 
           on_line = p.found.on_line;
           wrote = subst (TakesAll old now) (sym (map-append part_row s.done ((i, j) ∷ []))) (TakesAll-more old mid now (map part_row s.done) (part_row (i, j) ∷ []) s.wrote took);
         },
-        subst (λ n. AddsAtMost (n * cost) begun after) (sym one_more) (adds_once_more (length s.done) cost begun spent after few more),
+        subst (λ n. HasTaken cost begun n course after) (sym one_more) (more (length s.done) few),
       )
 
   -- the parts were asked for once more than there are before a place
-  pub parts_asked : form options ≡ parts → (from : ℕ) (old now : Writer) (begun spent after : Steps) (matchers : ℕ) → (s : PartsSoFar from old now) → AddsAtMost (length s.done * search_cost matchers line) begun spent → AddsAtMost (search_cost matchers line) spent after
-      → AsksParts es options matchers line begun after
-  parts_asked asked from old now begun spent after matchers s few more = record {
-    times = length (s.done ++ s.left) + 1;
-    are_times = subst (λ shape. PartsAsked es options shape line (length (s.done ++ s.left) + 1)) (sym asked) (s.done ++ s.left, s.are_parts, refl);
-    few = adds_for_more (length s.done + 1) (length (s.done ++ s.left) + 1) (search_cost matchers line) begun after (omega (arith, length-append s.done s.left)) (adds_once_more (length s.done) (search_cost matchers line) begun spent after few more);
+  pub parts_asked : form options ≡ parts → (from : ℕ) (old now : Writer) (begun after : Steps) (course : Course) (matchers : ℕ) → (s : PartsSoFar from old now) → HasTaken (search_cost matchers line) begun (length s.done + 1) course after → AsksParts es options matchers line begun after
+  parts_asked asked from old now begun after course matchers s taken = record {
+    times = searches_for after.refused (length (s.done ++ s.left) + 1);
+    are_times = subst (λ shape. PartsAsked es options after.refused shape line (searches_for after.refused (length (s.done ++ s.left) + 1))) (sym asked) (s.done ++ s.left, s.are_parts, refl);
+    few =
+        adds_for_more (searches_for after.refused (length s.done + 1)) (searches_for after.refused (length (s.done ++ s.left) + 1)) (search_cost matchers line) begun after
+        (more_searches after.refused (length s.done + 1) (length (s.done ++ s.left) + 1) (omega (arith, length-append s.done s.left)))
+        (few_searches (search_cost matchers line) begun (length s.done + 1) course after taken after.refused (λ is. is));
   }

@@ -205,37 +205,37 @@ module _ (options : Options) where
 
     -- ---- steps
 
-    PartsAsked-same : (shape : Form) (line : Text) (times : ℕ) → PartsAsked ds options shape line times → PartsAsked es options shape line times
-    PartsAsked-same parts line times h = (h.0, ArePartsFrom-same ds es same options line options.line_regexp 0 h.0 h.1, h.2)
-    PartsAsked-same nothing line times h = h
-    PartsAsked-same names line times h = h
-    PartsAsked-same counts line times h = h
-    PartsAsked-same lines line times h = h
-    PartsAsked-same (around context) line times h = h
+    PartsAsked-same : (refused : Bool) (shape : Form) (line : Text) (times : ℕ) → PartsAsked ds options refused shape line times → PartsAsked es options refused shape line times
+    PartsAsked-same refused parts line times h = (h.0, ArePartsFrom-same ds es same options line options.line_regexp 0 h.0 h.1, h.2)
+    PartsAsked-same refused nothing line times h = h
+    PartsAsked-same refused names line times h = h
+    PartsAsked-same refused counts line times h = h
+    PartsAsked-same refused lines line times h = h
+    PartsAsked-same refused (around context) line times h = h
 
     -- fewer matchers cost no more
     module _ (few most : ℕ) (fewer : few ≤ most) where
       line_cost : (times : ℕ) (line : Text) → (times + 1) * search_cost few line ≤ (times + 1) * search_cost most line
       line_cost times line = mul-le-mul_left (times + 1) (mul-le-mul_right (length line + 1) fewer)
 
-      LinesCost-same : (text : List Text) (cost : ℕ) → LinesCost ds options few text cost → (more : ℕ) × LinesCost es options most text more × (cost ≤ more)
-      LinesCost-same [] cost h = (0, refl, omega (arith, h))
-      LinesCost-same (line ∷ text) cost h =
-          let rest = LinesCost-same text h.1 h.3 in
+      LinesCost-same : (refused : Bool) (text : List Text) (cost : ℕ) → LinesCost ds options refused few text cost → (more : ℕ) × LinesCost es options refused most text more × (cost ≤ more)
+      LinesCost-same refused [] cost h = (0, refl, omega (arith, h))
+      LinesCost-same refused (line ∷ text) cost h =
+          let rest = LinesCost-same refused text h.1 h.3 in
           let own = line_cost h.0 line in
-          ((h.0 + 1) * search_cost most line + rest.0, (h.0, rest.0, PartsAsked-same (form options) line h.0 h.2, rest.1, refl), omega (arith, h.4, own, rest.2))
+          ((h.0 + 1) * search_cost most line + rest.0, (h.0, rest.0, PartsAsked-same refused (form options) line h.0 h.2, rest.1, refl), omega (arith, h.4, own, rest.2))
 
-      FilesCost-same : (files : List File) (cost : ℕ) → FilesCost ds options few files cost → (more : ℕ) × FilesCost es options most files more × (cost ≤ more)
-      FilesCost-same [] cost h = (0, refl, omega (arith, h))
-      FilesCost-same (file ∷ files) cost h =
-          let own = LinesCost-same file.lines h.0 h.2 in
-          let rest = FilesCost-same files h.1 h.3 in
+      FilesCost-same : (refused : Bool) (files : List File) (cost : ℕ) → FilesCost ds options refused few files cost → (more : ℕ) × FilesCost es options refused most files more × (cost ≤ more)
+      FilesCost-same refused [] cost h = (0, refl, omega (arith, h))
+      FilesCost-same refused (file ∷ files) cost h =
+          let own = LinesCost-same refused file.lines h.0 h.2 in
+          let rest = FilesCost-same refused files h.1 h.3 in
           (own.0 + rest.0, (own.0, rest.0, own.1, rest.1, refl), omega (arith, h.4, own.2, rest.2))
 
       SearchesFiles-same : (files : List File) (old new : Steps) → SearchesFiles ds options few files old new → SearchesFiles es options most files old new
       SearchesFiles-same files old new s =
-          let c = FilesCost-same files s.cost s.is_cost in
-          record { cost = c.0; is_cost = c.1; few = record { built = s.few.built; reused = s.few.reused; sum = omega (arith, c.2, s.few.sum) } }
+          let c = FilesCost-same new.refused files s.cost s.is_cost in
+          record { cost = c.0; is_cost = c.1; few = record { built = s.few.built; reused = s.few.reused; sum = omega (arith, c.2, s.few.sum); refused = s.few.refused } }
 
     -- ---- runs
 

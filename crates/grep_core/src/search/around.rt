@@ -209,7 +209,7 @@ pub fn search_around<R: CountedRead, M: LineMatch, W: CountedWrite>(
         (R.failures lines.old.lines.reader) (R.failures lines.new.lines.reader)
         (writer W.contents W.failures out.old) (writer W.contents W.failures out.new)
         meter.old meter.new result }
-    ensures same { SameSearchers M.expression M.whole searchers.old searchers.new }
+    ensures same { SameSearchers M.expression M.whole M.room searchers.old searchers.new }
 {
     let mut selected: u64 = 0;
     'lines: loop {

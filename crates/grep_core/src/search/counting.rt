@@ -45,7 +45,7 @@ fn pass_counted<R: CountedRead, M: LineMatch>(
         → AddsCounted R.remaining R.failures (expressions_by M.expression searchers.old) options.now
         reader handed lines.new meter.old meter.new selected result }
     ensures same_loan { R.loan lines.new.lines.reader ≡ R.loan lines.old.lines.reader }
-    ensures same { SameSearchers M.expression M.whole searchers.old searchers.new }
+    ensures same { SameSearchers M.expression M.whole M.room searchers.old searchers.new }
 {
     let block = lines.ready();
     let Some(count) = lines.count(block) else {
@@ -77,7 +77,7 @@ pub fn count_lines<R: CountedRead, M: LineMatch, W: CountedWrite>(
         (R.failures lines.old.lines.reader) (R.failures lines.new.lines.reader)
         (writer W.contents W.failures out.old) (writer W.contents W.failures out.new)
         meter.old meter.new result }
-    ensures same { SameSearchers M.expression M.whole searchers.old searchers.new }
+    ensures same { SameSearchers M.expression M.whole M.room searchers.old searchers.new }
 {
     let options = &request.options;
     let mut selected: u64 = 0;

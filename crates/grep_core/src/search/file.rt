@@ -49,7 +49,7 @@ fn search_lines<R: CountedRead, M: LineMatch, W: CountedWrite>(
         (R.failures lines.old.lines.reader) (R.failures lines.new.lines.reader)
         (writer W.contents W.failures out.old) (writer W.contents W.failures out.new)
         meter.old meter.new result }
-    ensures same { SameSearchers M.expression M.whole searchers.old searchers.new }
+    ensures same { SameSearchers M.expression M.whole M.room searchers.old searchers.new }
 {
     let early = request.options.leaves_early();
     let asked = !request.options.invert_match | request.writes_bare_lines();
@@ -101,7 +101,7 @@ fn search_opened<R: CountedRead, M: LineMatch, W: CountedWrite>(
         (R.failures lines.old.lines.reader) (R.failures lines.new.lines.reader)
         (writer W.contents W.failures out.old) (writer W.contents W.failures out.new)
         meter.old meter.new result }
-    ensures same { SameSearchers M.expression M.whole searchers.old searchers.new }
+    ensures same { SameSearchers M.expression M.whole M.room searchers.old searchers.new }
 {
     if request.options.only_counts() {
         return count_lines(lines, searchers, request, out, meter);
@@ -133,7 +133,7 @@ pub fn search_file<S: Sources, M: LineMatch, W: CountedWrite>(
         (S.failures sources.old) (S.failures sources.new)
         (writer W.contents W.failures out.old) (writer W.contents W.failures out.new)
         meter.old meter.new result }
-    ensures same { SameSearchers M.expression M.whole searchers.old searchers.new }
+    ensures same { SameSearchers M.expression M.whole M.room searchers.old searchers.new }
 {
     let Some(reader) = sources.open(source.place) else {
         let end = FileEnd::Missing;

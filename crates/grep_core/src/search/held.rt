@@ -30,7 +30,7 @@ pub fn next_held<'a, R: CountedRead, M: LineMatch>(
         × IsDivided (sought_by M.expression searchers.old) result before all
         × IsNextOf lines.now all }
     ensures none { asked ≡ false → result.count ≡ 0 }
-    ensures same { SameSearchers M.expression M.whole searchers.old searchers.new }
+    ensures same { SameSearchers M.expression M.whole M.room searchers.old searchers.new }
     ensures steps { AddsAtMost (length (expressions_by M.expression searchers.old) * result.bytes)
         meter.old meter.new }
 {
@@ -90,7 +90,7 @@ pub fn write_stretch<M: LineMatch, W: CountedWrite>(
         (BreaksLines (expressions_by M.expression searchers.old) request.now.options
         request.now.many request.now.name.now (number + 1) all
         (writer W.contents W.failures out.old) (writer W.contents W.failures out.new)) }
-    ensures same { SameSearchers M.expression M.whole searchers.old searchers.new }
+    ensures same { SameSearchers M.expression M.whole M.room searchers.old searchers.new }
     ensures steps { (before : List Text) (all : List Text)
         → IsDivided (sought_by M.expression searchers.old) stretch.now before all
         → (began : Steps) → AddsAtMost (length (expressions_by M.expression searchers.old)

@@ -32,12 +32,13 @@ fn write_parts<M: LineMatch, W: CountedWrite>(
         (BreaksSelected (expressions_by M.expression searchers.old) request.now.options request.now.many
         request.now.name.now number line.now (writer W.contents W.failures out.old)
         (writer W.contents W.failures out.new)) }
-    ensures same { SameSearchers M.expression M.whole searchers.old searchers.new }
+    ensures same { SameSearchers M.expression M.whole M.room searchers.old searchers.new }
     ensures steps { AsksParts (expressions_by M.expression searchers.old) request.now.options
         (length (expressions_by M.expression searchers.old)) line.now meter.old meter.new }
 {
+    let mut course = searchers.course(meter);
     let mut from = 0;
-    while let Some(part) = searchers.part(line, from, meter) {
+    while let Some(part) = searchers.next_part(line, from, &mut course, meter) {
         request.write_part(number, line, part, out, b"")?;
         from = part.end;
     }
@@ -62,7 +63,7 @@ pub fn write_selected<M: LineMatch, W: CountedWrite>(
         (BreaksSelected (expressions_by M.expression searchers.old) request.now.options request.now.many
         request.now.name.now number line.now (writer W.contents W.failures out.old)
         (writer W.contents W.failures out.new)) }
-    ensures same { SameSearchers M.expression M.whole searchers.old searchers.new }
+    ensures same { SameSearchers M.expression M.whole M.room searchers.old searchers.new }
     ensures steps { AsksParts (expressions_by M.expression searchers.old) request.now.options
         (length (expressions_by M.expression searchers.old)) line.now meter.old meter.new }
 {
@@ -94,7 +95,7 @@ pub fn search_line<M: LineMatch, W: CountedWrite>(
         (BreaksLine (expressions_by M.expression searchers.old) request.now.options request.now.many
         request.now.name.now number line.now (writer W.contents W.failures out.old)
         (writer W.contents W.failures out.new)) }
-    ensures same { SameSearchers M.expression M.whole searchers.old searchers.new }
+    ensures same { SameSearchers M.expression M.whole M.room searchers.old searchers.new }
     ensures steps { SearchesLine (expressions_by M.expression searchers.old) request.now.options
         (length (expressions_by M.expression searchers.old)) line.now meter.old meter.new }
 {

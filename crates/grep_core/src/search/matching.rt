@@ -20,7 +20,7 @@ pub fn is_selected<M: LineMatch>(
     requires whole { asks_whole searchers.old ≡ options.line_regexp }
     ensures reported { IsTrue result ↔ Selected (expressions_by M.expression searchers.old) options
         line.now }
-    ensures same { SameSearchers M.expression M.whole searchers.old searchers.new }
+    ensures same { SameSearchers M.expression M.whole M.room searchers.old searchers.new }
     ensures steps { AddsAtMost
         (search_cost (length (expressions_by M.expression searchers.old)) line.now) meter.old
         meter.new }

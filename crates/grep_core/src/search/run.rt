@@ -62,7 +62,7 @@ fn search_source<S: Sources, M: LineMatch, W: CountedWrite, N: CountedWrite>(
         (devices (writer W.contents W.failures out.new) (writer N.contents N.failures messages.new)
         (S.failures sources.new) meter.new)
         result }
-    ensures same { SameSearchers M.expression M.whole searchers.old searchers.new }
+    ensures same { SameSearchers M.expression M.whole M.room searchers.old searchers.new }
 {
     let found = match search_file(source, sources, searchers, out, meter) {
         Ok(found) => found,
@@ -133,7 +133,7 @@ pub fn search_all<S: Sources, M: LineMatch, W: CountedWrite, N: CountedWrite>(
         (devices (writer W.contents W.failures out.new) (writer N.contents N.failures messages.new)
         (S.failures sources.new) meter.new)
         result }
-    ensures same_matchers { SameMatchers M.expression M.whole matchers.old matchers.new }
+    ensures same_matchers { SameMatchers M.expression M.whole M.room matchers.old matchers.new }
 {
     let filter = Filter::none();
     let request = SearchRequest {
@@ -170,9 +170,14 @@ pub fn search_filtered<S: Sources, M: LineMatch, W: CountedWrite, N: CountedWrit
         (devices (writer W.contents W.failures out.new) (writer N.contents N.failures messages.new)
         (S.failures sources.new) meter.new)
         result }
-    ensures same_matchers { SameMatchers M.expression M.whole matchers.old matchers.new }
+    ensures same_matchers { SameMatchers M.expression M.whole M.room matchers.old matchers.new }
 {
-    let mut searchers = Searchers::new(matchers, request.filter, request.options.line_regexp);
+    let mut searchers = Searchers::new(
+        request.alloc,
+        matchers,
+        request.filter,
+        request.options.line_regexp,
+    );
     search_sources(request, sources, &mut searchers, out, messages, meter)
 }
 
@@ -195,7 +200,7 @@ fn search_sources<S: Sources, M: LineMatch, W: CountedWrite, N: CountedWrite>(
         (devices (writer W.contents W.failures out.new) (writer N.contents N.failures messages.new)
         (S.failures sources.new) meter.new)
         result }
-    ensures same { SameSearchers M.expression M.whole searchers.old searchers.new }
+    ensures same { SameSearchers M.expression M.whole M.room searchers.old searchers.new }
 {
     let count = sources.count();
     let many = count >= 2;

@@ -127,14 +127,3 @@ pub applies_same : (flag : Flag) (on : Bool) (old : Inputs) → option_of flag o
 applies_same flag on old same readable =
     let options : with_option flag on old.options ≡ old.options = ap (λ b. with_option flag b old.options) (sym same) ∙ with_same flag old.options in
     inl (subst (λ (o : Options). All (IsReadable old.syntax o.ignore_case) old.patterns) (sym options) readable, ap (λ o. Ok (record old { options = o })) (sym options))
-
--- memory is needed
-pub needs_for_verdicts : (flag : Flag) (on : Bool) (old : Inputs) → ChangesVerdicts flag → (option_of flag old.options ≡ on → ⊥) → NeedsNoMemory (SetFlag flag on) old → ⊥
-needs_for_verdicts flag on old changes other (inl output) = changes.no_output output
-needs_for_verdicts flag on old changes other (inr (inl same)) = other same
-needs_for_verdicts flag on old changes other (inr (inr parts)) = changes.no_parts parts.0
-
-pub needs_for_parts : (flag : Flag) (on : Bool) (old : Inputs) → (flag ≡ OnlyMatching) × (on ≡ true) → (option_of flag old.options ≡ on → ⊥) → NeedsNoMemory (SetFlag flag on) old → ⊥
-needs_for_parts flag on old is other (inl output) = subst is_of_output is.0 output
-needs_for_parts flag on old is other (inr (inl same)) = other same
-needs_for_parts flag on old is other (inr (inr parts)) = false≢true (sym parts.1 ∙ is.1)

@@ -112,18 +112,22 @@ module _ (change : Change) (changed es : List Expression) (options : Options) wh
   abbrev pub n : ℕ
   n = searched_for change changed
 
-  both_costs : (texts : List Text) (p : ℕ) → CostOfEach (NewPartsCost change changed es options) texts p → CostOfEach (ChangeCost change changed es options) texts (n * length (terminated texts) + p)
-  both_costs [] p c = omega (arith, c)
-  both_costs (text ∷ texts) p c =
+  both_costs : (refused : Bool) (texts : List Text) (p : ℕ) → CostOfEach (NewPartsCost change changed es options refused) texts p → CostOfEach (ChangeCost change changed es options refused) texts (n * length (terminated texts) + p)
+  both_costs refused [] p c = omega (arith, c)
+  both_costs refused (text ∷ texts) p c =
       let long : length (terminated (text ∷ texts)) ≡ length text + 1 + length (terminated texts) = omega (arith, length-append text (newline ∷ terminated texts)) in
       let bytes : n * length (terminated (text ∷ texts)) ≡ search_cost n text + n * length (terminated texts) = ap (λ k. n * k) long ∙ spread (length text + 1) (length (terminated texts)) in
-      (search_cost n text + c.0, n * length (terminated texts) + c.1, (c.0, c.2, refl), both_costs texts c.1 c.3, omega (arith, bytes, c.4))
+      (search_cost n text + c.0, n * length (terminated texts) + c.1, (c.0, c.2, refl), both_costs refused texts c.1 c.3, omega (arith, bytes, c.4))
     where
       spread : (a b : ℕ) → n * (a + b) ≡ n * a + n * b
       spread a b = omega arith
 
   pub chunk_steps : (texts : List Text) (begun mid ended : Steps) → AddsAtMost (n * length (terminated texts)) begun mid → SearchesEach (NewPartsCost change changed es options) texts mid ended → SearchesEach (ChangeCost change changed es options) texts begun ended
-  chunk_steps texts begun mid ended few parts = record { cost = n * length (terminated texts) + parts.cost; is_cost = both_costs texts parts.cost parts.is_cost; few = adds_both (n * length (terminated texts)) parts.cost begun mid ended few parts.few }
+  chunk_steps texts begun mid ended few parts = record {
+    at_most = λ refused later.
+        let p = parts.at_most refused later in
+        (n * length (terminated texts) + p.0, both_costs refused texts p.0 p.1, adds_both (n * length (terminated texts)) p.0 begun mid ended few p.2);
+  }
 
   -- the same before the search for parts
   pub chunk_begun : (texts : List Text) (begun ended : Steps) → AddsAtMost (n * length (terminated texts)) begun ended → SearchesEach (ChangeCost change changed es options) texts begun ended

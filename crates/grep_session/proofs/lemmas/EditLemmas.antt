@@ -22,7 +22,7 @@ use Rattle.grep_core.proofs.lemmas.CostLaws.{same_length}
 use Rattle.re_syntax.specs.Profile.{most_patterns}
 use Rattle.grep_session.specs.declared.kept.KeptFile.{KeptFile}
 use Rattle.grep_session.specs.declared.session.Session.TheInside.{Inside}
-use Rattle.grep_session.specs.Working.Rooms.{SameBounded}
+use Rattle.re_search.specs.Searching.{SameMatchers}
 use Rattle.grep_session.specs.Working.Changed.{CostAnew, SearchesEach}
 use Rattle.grep_session.specs.Working.Sessions.{IsSession, inputs_of}
 use Rattle.grep_session.proofs.lemmas.RoomLemmas.{keep_same}
@@ -50,7 +50,7 @@ AreMatchers-same syntax options texts old new s e w = record {
 }
 
 -- a session whose matchers were asked, and whose files are as right as before
-pub asked_session : (s t : Inside) → t ≡ record s { texts = t.texts; matchers = t.matchers; files = t.files } → t.texts.items ≡ s.texts.items → IsSession s → SameBounded matched_expression wants_whole room_of s.matchers.items t.matchers.items
+pub asked_session : (s t : Inside) → t ≡ record s { texts = t.texts; matchers = t.matchers; files = t.files } → t.texts.items ≡ s.texts.items → IsSession s → SameMatchers matched_expression wants_whole room_of s.matchers.items t.matchers.items
     → All (IsFileKept (map matched_expression s.matchers.items) s.options) t.files.items → IsSession t
 asked_session s t is texts old same kept = subst IsSession (sym is) (record {
   matchers = subst (λ ts. AreMatchers s.syntax s.options (map (λ text. text.items) ts) t.matchers.items) (sym texts) (AreMatchers-same s.syntax s.options _ s.matchers.items t.matchers.items old.matchers same.same_expressions same.same_wholes);

@@ -12,10 +12,14 @@ use Rattle.re_syntax.specs.declared.span.Span.{Span}
 use Rattle.grep_core.specs.Meters.{Steps}
 use Rattle.grep_core.specs.declared.options.Options.{Options}
 use Rattle.grep_core.specs.Choose.{IfHolds}
-use Rattle.grep_core.specs.Cost.{search_cost}
-use Rattle.grep_core.proofs.lemmas.CostLaws.{adds_once_more, adds_for_more}
+use Rattle.re_search.specs.declared.course.Course.{Course}
+use Rattle.re_search.specs.Working.Courses.{HasTaken}
+use Rattle.re_search.proofs.lemmas.CourseLaws.{few_searches}
+use Rattle.grep_core.specs.Cost.{search_cost, searches_for}
+use Rattle.grep_core.proofs.lemmas.CostLaws.{adds_for_more, adds_none, more_searches}
 use Rattle.grep_session.specs.Working.Kept.{AreMatching, AddsMatching, span_places}
 use Rattle.grep_session.specs.Touched.{PartsCostOf}
+use Rattle.grep_session.specs.Working.Changed.{SearchesOne}
 
 -- ---- the numbers of the expressions that match a line
 
@@ -91,50 +95,37 @@ module _ (es : List Expression) (options : Options) (line : Text) where
   spans_done from spans s none =
       subst (AreParts es line options.line_regexp) (ap (λ l. map span_places spans ++ l) (none_left from s.left s.are_left none) ∙ append-nil (map span_places spans)) s.are_parts
 
-  -- the parts cost one search each, and one more
-  pub spans_cost : options.only_matching ≡ true → (from : ℕ) (spans : List Span) (begun spent after : Steps) (matchers : ℕ) → matchers ≡ length es → SpansSoFar from spans
-      → AddsAtMost (length spans * search_cost matchers line) begun spent → AddsAtMost (search_cost matchers line) spent after → (own : ℕ) × PartsCostOf es options line own × AddsAtMost own begun after
-  spans_cost asked from spans begun spent after matchers many s few more =
-      let all = map span_places spans ++ s.left in
-      let own = (length all + 1) * search_cost (length es) line in
-      let enough : length spans + 1 ≤ length all + 1 = omega (arith, length-append (map span_places spans) s.left, length-map spans span_places) in
-      let cost : MatchBool true ((parts : List (ℕ × ℕ)) × AreParts es line options.line_regexp parts × (own ≡ (length parts + 1) * search_cost (length es) line)) (own ≡ 0) = (all, s.are_parts, refl) in (
-        own,
-        subst (λ b. MatchBool b ((parts : List (ℕ × ℕ)) × AreParts es line options.line_regexp parts × (own ≡ (length parts + 1) * search_cost (length es) line)) (own ≡ 0)) (sym asked) cost,
-        subst (λ n. AddsAtMost ((length all + 1) * search_cost n line) begun after) many
-            (adds_for_more (length spans + 1) (length all + 1) (search_cost matchers line) begun after enough (adds_once_more (length spans) (search_cost matchers line) begun spent after few more)),
-      )
+  -- the parts cost what the searches for them took
+  pub spans_cost : options.only_matching ≡ true → (from : ℕ) (spans : List Span) (begun after : Steps) (course : Course) (matchers : ℕ) → matchers ≡ length es → SpansSoFar from spans → HasTaken (search_cost matchers line) begun (length spans + 1) course after
+      → SearchesOne (PartsCostOf es options) line begun after
+  spans_cost asked from spans begun after course matchers many s taken = record {
+    at_most = λ refused later.
+        let all = map span_places spans ++ s.left in
+        let own = searches_for refused (length all + 1) * search_cost (length es) line in
+        let enough : length spans + 1 ≤ length all + 1 = omega (arith, length-append (map span_places spans) s.left, length-map spans span_places) in
+        let cost : MatchBool true ((parts : List (ℕ × ℕ)) × AreParts es line options.line_regexp parts × (own ≡ searches_for refused (length parts + 1) * search_cost (length es) line)) (own ≡ 0) = (all, s.are_parts, refl) in (
+          own,
+          subst (λ b. MatchBool b ((parts : List (ℕ × ℕ)) × AreParts es line options.line_regexp parts × (own ≡ searches_for refused (length parts + 1) * search_cost (length es) line)) (own ≡ 0)) (sym asked) cost,
+          subst (λ n. AddsAtMost (searches_for refused (length all + 1) * search_cost n line) begun after) many
+              (adds_for_more (searches_for refused (length spans + 1)) (searches_for refused (length all + 1)) (search_cost matchers line) begun after (more_searches refused (length spans + 1) (length all + 1) enough)
+              (few_searches (search_cost matchers line) begun (length spans + 1) course after taken refused later)),
+        );
+  }
 
-  -- one part more costs one search more
-  pub spans_more_cost : (spans : List Span) (span : Span) (cost : ℕ) (begun spent after : Steps) → AddsAtMost (length spans * cost) begun spent → AddsAtMost cost spent after → AddsAtMost (length (spans ++ span ∷ []) * cost) begun after
-  spans_more_cost spans span cost begun spent after few more =
-      subst (λ n. AddsAtMost (n * cost) begun after) (sym (length_push spans span)) (adds_once_more (length spans) cost begun spent after few more)
+  -- one part more was asked for
+  pub spans_more : (spans pushed : List Span) (span : Span) (cost : ℕ) (begun after : Steps) (course : Course) → pushed ≡ spans ++ span ∷ [] → HasTaken cost begun (length spans + 1) course after → HasTaken cost begun (length pushed) course after
+  spans_more spans pushed span cost begun after course is taken = subst (λ n. HasTaken cost begun n course after) (sym (ap length is ∙ length_push spans span)) taken
+
+  -- where parts are not asked for they cost nothing
+  pub unasked_parts : options.only_matching ≡ false → (steps : Steps) → SearchesOne (PartsCostOf es options) line steps steps
+  unasked_parts unasked steps = record {
+    at_most = λ refused later. (0, subst (λ b. MatchBool b ((parts : List (ℕ × ℕ)) × AreParts es line options.line_regexp parts × (0 ≡ searches_for refused (length parts + 1) * search_cost (length es) line)) (◌≡◌ {A = ℕ} 0 0)) (sym unasked) refl, adds_none 0 steps);
+  }
 
   -- a line's parts have a cost
-  pub parts_cost_exists : (own : ℕ) × PartsCostOf es options line own
-  parts_cost_exists = by_flag options.only_matching
+  pub parts_cost_exists : (refused : Bool) → (own : ℕ) × PartsCostOf es options refused line own
+  parts_cost_exists refused = by_flag options.only_matching
     where
-      by_flag : (asked : Bool) → (own : ℕ) × MatchBool asked ((parts : List (ℕ × ℕ)) × AreParts es line options.line_regexp parts × (own ≡ (length parts + 1) * search_cost (length es) line)) (own ≡ 0)
-      by_flag true = let ps = AreParts-exist es line options.line_regexp in ((length ps.0 + 1) * search_cost (length es) line, (ps.0, ps.1, refl))
+      by_flag : (asked : Bool) → (own : ℕ) × MatchBool asked ((parts : List (ℕ × ℕ)) × AreParts es line options.line_regexp parts × (own ≡ searches_for refused (length parts + 1) * search_cost (length es) line)) (own ≡ 0)
+      by_flag true = let ps = AreParts-exist es line options.line_regexp in (searches_for refused (length ps.0 + 1) * search_cost (length es) line, (ps.0, ps.1, refl))
       by_flag false = (0, refl)
-
--- an element moves from what is left to what is done
-pub one_taken : {X Y Z : Type 0} (f : Y → Z) (g : X → Z) (done new : List Y) (y : Y) (x : X) (left rest : List X) (all : List Z) → map f done ++ map g left ≡ all → left ≡ x ∷ rest → f y ≡ g x → new ≡ done ++ y ∷ [] → map f new ++ map g rest ≡ all
-one_taken f g done new y x left rest all so_far next same pushed =
-    ap (λ l. map f l ++ map g rest) pushed ∙ ap (λ l. l ++ map g rest) (map-append f done (y ∷ [])) ∙ append_assoc (map f done) (f y ∷ []) (map g rest)
-    ∙ ap (λ z. map f done ++ (z ∷ map g rest)) same ∙ ap (λ l. map f done ++ map g l) (sym next) ∙ so_far
-
--- what is left begins with the element that is taken
-pub taken_first : {X Z : Type 0} (g : X → Z) (x : X) (left rest : List X) (done all : List Z) → done ++ map g left ≡ all → left ≡ x ∷ rest → done ++ (g x ∷ map g rest) ≡ all
-taken_first g x left rest done all so_far next = ap (λ l. done ++ map g l) (sym next) ∙ so_far
-
--- a list with an element to take is not empty
-pub none_taken : {X Z : Type 0} (g : X → Z) (done rest : List Z) (z : Z) (all : List X) → done ++ (z ∷ rest) ≡ map g all → all ≡ [] → ⊥
-none_taken g done rest z all e none =
-    let same : length (done ++ (z ∷ rest)) ≡ 0 = ap length (e ∙ ap (map g) none) in
-    omega (arith, same, length-append done (z ∷ rest))
-
--- a list of length 0 is empty
-pub empty_list : {X : Type 0} (xs : List X) → length xs ≡ 0 → xs ≡ []
-empty_list [] none = refl
-empty_list (x ∷ xs) none = absurd (let false : ⊥ = omega (arith, none) in false)

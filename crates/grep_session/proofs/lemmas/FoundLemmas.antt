@@ -175,10 +175,6 @@ fit_all chunks found fit = fit_first chunks [] found (subst (λ cs. AllZip FitsC
 pub right_all : (es : List Expression) (options : Options) (chunks : List (List KeptLine)) (found : List (Option FoundIn)) → AllZip (IsColumn es options) chunks found → All (IsKept es options) (all_of (with_columns chunks found))
 right_all es options chunks found right = right_chunks es options chunks [] found (subst (λ cs. AllZip (IsColumn es options) cs found) (sym (append-nil chunks)) right)
 
--- one more new line
-pub texts_pushed : (old : List (List KeptLine)) (new : List (List KeptLine)) (text : Text) → all_of new ≡ all_of old ++ new_line text ∷ [] → map line_text (all_of new) ≡ map line_text (all_of old) ++ text ∷ []
-texts_pushed old new text pushed = ap (map line_text) pushed ∙ map-append line_text (all_of old) (new_line text ∷ [])
-
 -- nothing has to be known of lines that are searched anew
 pub all_anew : (before : List Expression) (options : Options) (lines : List KeptLine) → All (WasKept Anew before options) lines
 all_anew before options lines = λ k d h. tt

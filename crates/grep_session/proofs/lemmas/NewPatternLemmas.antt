@@ -17,7 +17,7 @@ use Rattle.grep_core.specs.Files.{Inputs, AreMeant}
 use Rattle.grep_session.specs.declared.change.Change.TheVariants.{Added}
 use Rattle.grep_session.specs.declared.fault.EditFault.{EditFault}
 use Rattle.grep_session.specs.Working.Changed.{ChangeCost, HasChanged, SearchesEach}
-use Rattle.grep_session.specs.Working.Rooms.{SameBounded}
+use Rattle.re_search.specs.Searching.{SameMatchers}
 use Rattle.grep_session.specs.Working.Sessions.{IsSession, inputs_of}
 use Rattle.grep_session.specs.declared.session.Session.TheInside.{Inside}
 use Rattle.grep_session.specs.Edits.{AddPatterns, EditGives, with_patterns}
@@ -92,7 +92,7 @@ module _ (s : Inside) (list : Text) (old : IsSession s) (first : ℕ) (at : firs
       }
 
   -- the added matchers are removed again
-  pub bounded_off : (more all now new : List Matcher) → all ≡ s.matchers.items ++ more → SameBounded matched_expression wants_whole room_of all now → new ≡ take first now → SameBounded matched_expression wants_whole room_of s.matchers.items new
+  pub bounded_off : (more all now new : List Matcher) → all ≡ s.matchers.items ++ more → SameMatchers matched_expression wants_whole room_of all now → new ≡ take first now → SameMatchers matched_expression wants_whole room_of s.matchers.items new
   bounded_off more all now new both same put = record {
     same_expressions = taken_off matched_expression s.matchers.items more all first both at now new same.same_expressions put;
     same_wholes = taken_off wants_whole s.matchers.items more all first both at now new same.same_wholes put;
@@ -111,6 +111,7 @@ module _ (list : Text) (old : Inputs) (few : most_patterns < length old.patterns
   pub takes_new : (first : ℕ) (es changed : List Expression) (begun ended : Steps) → All (IsReadable old.syntax old.options.ignore_case) (list_of list) → AreMeant old.syntax old.options (old.patterns ++ list_of list) es → AreMeant old.syntax old.options (list_of list) changed
       → length changed ≡ length (list_of list) → SearchesEach (ChangeCost (Added first) changed es old.options) (all_lines old) begun ended → TakesSteps (AddPatterns list) old begun ended
   takes_new first es changed begun ended readable meant new many s =
-      let sum = CostOfEach-sum (Added first) changed es old.options (all_lines old) s.cost s.is_cost in
-      takes_touched (AddPatterns list) old (with_patterns (old.patterns ++ list_of list) old) es (record { patterns = length (list_of list); paired = all_lines old; lines = sum.0 }) s.cost sum.1 begun ended (inr (few, inl (readable, refl))) (changed, new, sum.0, sum.2, refl) meant sum.3
-      (sum.4 ∙ ap (λ n. pairs_cost n (all_lines old) + sum.1) many) s.few
+      let spent = s.at_most ended.refused (λ is. is) in
+      let sum = CostOfEach-sum (Added first) changed es old.options ended.refused (all_lines old) spent.0 spent.1 in
+      takes_touched (AddPatterns list) old (with_patterns (old.patterns ++ list_of list) old) es (record { patterns = length (list_of list); paired = all_lines old; lines = sum.0 }) spent.0 sum.1 begun ended (inr (few, inl (readable, refl))) (changed, new, sum.0, sum.2, refl) meant sum.3
+      (sum.4 ∙ ap (λ n. pairs_cost n (all_lines old) + sum.1) many) spent.2

@@ -7,6 +7,7 @@ use Rattle.re_syntax.specs.Bytes.{Text}
 use Rattle.re_syntax.specs.Expression.{Expression}
 use Rattle.re_syntax.specs.declared.span.Span.{Span}
 use Rattle.grep_core.specs.Meters.{Steps}
+use Rattle.re_search.specs.Searching.{AddsAtMost}
 use Rattle.grep_core.specs.declared.options.Options.{Options}
 use Rattle.grep_core.proofs.lemmas.CostLaws.{adds_within}
 use Rattle.line_chunks.specs.Working.Finds.{is_paired, numbers_at}
@@ -43,6 +44,12 @@ added_marks items change first size n old new (Ok marks) is counted grows marked
 
 -- ---- one line
 
+-- the steps for the parts of a line that are searched
+pub costs_search : (matched anew : Bool) (es : List Expression) (options : Options) (line : Text) (begun ended : Steps) → matched ≡ true → anew ≡ true → SearchesOne (PartsCostOf es options) line begun ended → CostsParts matched anew es options line begun ended
+costs_search matched anew es options line begun ended m a s =
+    let both : matched && anew ≡ true = ap (λ b. b && anew) m ∙ a in
+    record { at_most = λ refused later. let own = s.at_most refused later in (own.0, subst (λ b. MatchBool b (PartsCostOf es options refused line own.0) (own.0 ≡ 0)) (sym both) own.1, own.2) }
+
 -- the parts of a line by what its marks stand for
 pub parts_by : (matched paired anew fresh : Bool) (es : List Expression) (options : Options) (line : KeptLine) (spans : List Span) → matched ≡ paired → (paired ≡ true → anew ≡ fresh) → ArePartsAgain matched anew es options line spans → ArePartsAgain paired fresh es options line spans
 parts_by matched false anew fresh es options line spans m a are = subst (λ b. ArePartsAgain b anew es options line spans) m are
@@ -51,15 +58,15 @@ parts_by matched true anew fresh es options line spans m a are = subst (λ b. Ar
 -- the steps for its parts
 pub costs_one : (change : Change) (changed es : List Expression) (options : Options) (line : Text) (matched paired anew fresh : Bool) (begun ended : Steps) → matched ≡ paired → (paired ≡ true → anew ≡ fresh) → Decides fresh (HasNewParts change changed options line)
     → CostsParts matched anew es options line begun ended → SearchesOne (NewPartsCost change changed es options) line begun ended
-costs_one change changed es options line matched paired anew fresh begun ended m a d s = by_marks matched anew m a s.is_own
+costs_one change changed es options line matched paired anew fresh begun ended m a d s = record { at_most = λ refused later. let own = s.at_most refused later in by_marks refused own.0 own.2 matched anew m a own.1 }
   where
-    none : s.own ≡ 0 → SearchesOne (NewPartsCost change changed es options) line begun ended
-    none zero_cost = let cost = NewPartsCost-exists change changed es options line in record { own = cost.0; is_own = cost.1; few = adds_within s.own cost.0 begun ended (omega (arith, zero_cost)) s.few }
+    none : (refused : Bool) (own : ℕ) → AddsAtMost own begun ended → own ≡ 0 → (cost : ℕ) × NewPartsCost change changed es options refused line cost × AddsAtMost cost begun ended
+    none refused own few nothing = let cost = NewPartsCost-exists change changed es options refused line in (cost.0, cost.1, adds_within own cost.0 begun ended (omega (arith, nothing)) few)
 
-    by_marks : (b f : Bool) → b ≡ paired → (paired ≡ true → f ≡ fresh) → MatchBool (b && f) (PartsCostOf es options line s.own) (s.own ≡ 0) → SearchesOne (NewPartsCost change changed es options) line begun ended
-    by_marks false f m a own = none own
-    by_marks true false m a own = none own
-    by_marks true true m a own = record { own = s.own; is_own = inl (d.0 (sym (a (sym m))), own); few = s.few }
+    by_marks : (refused : Bool) (own : ℕ) → AddsAtMost own begun ended → (b f : Bool) → b ≡ paired → (paired ≡ true → f ≡ fresh) → MatchBool (b && f) (PartsCostOf es options refused line own) (own ≡ 0) → (cost : ℕ) × NewPartsCost change changed es options refused line cost × AddsAtMost cost begun ended
+    by_marks refused own few false f m a nothing = none refused own few nothing
+    by_marks refused own few true false m a nothing = none refused own few nothing
+    by_marks refused own few true true m a is_own = (own, inl (d.0 (sym (a (sym m))), is_own), few)
 
 -- one more text
 pub take-suc' : (texts : List Text) (k : ℕ) (text : Text) → k < length texts → get_or texts k [] ≡ text → take (k + 1) texts ≡ take k texts ++ text ∷ []

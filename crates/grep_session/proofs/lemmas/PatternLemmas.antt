@@ -14,7 +14,7 @@ use Rattle.re_search.specs.Working.Matchers.{matched_expression, room_of, wants_
 use Rattle.re_syntax.proofs.lemmas.SomeOfJoined.{Any-single}
 use Rattle.grep_session.specs.declared.change.Change.TheVariants.{Dropped}
 use Rattle.grep_session.specs.Working.Changed.{HasChanged, ChangeCost, SearchesEach}
-use Rattle.grep_session.specs.Working.Rooms.{SameBounded}
+use Rattle.re_search.specs.Searching.{SameMatchers}
 use Rattle.grep_session.specs.Edits.{DropPattern, with_patterns}
 use Rattle.grep_session.specs.Touched.{TakesSteps, parts_alone, all_lines}
 use Rattle.grep_session.specs.declared.session.Session.TheInside.{Inside}
@@ -53,11 +53,12 @@ pub takes_drop : (p : ℕ) (old : Inputs) (es before : List Expression) (e : Exp
 takes_drop p old es before e begun ended within meant h s =
     let same : e ≡ h.0 = ap (λ (l : List Expression). get_or l 0 e) h.4 in
     let is : e ≡ get_or before p e = subst (λ d. d ≡ get_or before p d) (sym same) h.2 in
-    let sum = CostOfEach-sum (Dropped p) (e ∷ []) es old.options (all_lines old) s.cost s.is_cost in
+    let spent = s.at_most ended.refused (λ is. is) in
+    let sum = CostOfEach-sum (Dropped p) (e ∷ []) es old.options ended.refused (all_lines old) spent.0 spent.1 in
     let one = AllZip-at (λ text e. IsMeant old.syntax old.options.ignore_case text e) old.patterns before p [] e meant within in
     let chosen = Chosen-as (Matched (e ∷ []) old.options) (λ line. Matches e line old.options.line_regexp) (λ line m. Any-single (λ e. Matches e line old.options.line_regexp) e m) (λ line m. Any-first (λ e. Matches e line old.options.line_regexp) e [] m) (all_lines old) sum.0 sum.2 in
-    takes_touched (DropPattern p) old (with_patterns (remove old.patterns p) old) es (parts_alone sum.0) s.cost sum.1 begun ended (inl (within, refl)) (e, subst (IsMeant old.syntax old.options.ignore_case (get_or old.patterns p [])) (sym is) one, sum.0, chosen, refl)
-    (subst (AreMeant old.syntax old.options (remove old.patterns p)) (sym h.3) (AllZip-remove (λ text e. IsMeant old.syntax old.options.ignore_case text e) old.patterns before p meant)) sum.3 (sum.4 ∙ ap (λ n. n + sum.1) (pairs_cost-none (all_lines old))) s.few
+    takes_touched (DropPattern p) old (with_patterns (remove old.patterns p) old) es (parts_alone sum.0) spent.0 sum.1 begun ended (inl (within, refl)) (e, subst (IsMeant old.syntax old.options.ignore_case (get_or old.patterns p [])) (sym is) one, sum.0, chosen, refl)
+    (subst (AreMeant old.syntax old.options (remove old.patterns p)) (sym h.3) (AllZip-remove (λ text e. IsMeant old.syntax old.options.ignore_case text e) old.patterns before p meant)) sum.3 (sum.4 ∙ ap (λ n. n + sum.1) (pairs_cost-none (all_lines old))) spent.2
 
 -- an element that was removed is put back
 insert_first : {X : Type 0} (xs : List X) (y : X) → insert xs 0 y ≡ y ∷ xs
@@ -79,7 +80,7 @@ put_back_same f xs now new p gone h is left put =
     ap (map f) put ∙ map-insert f now p gone ∙ ap (λ l. insert l p (f gone)) left ∙ insert_remove (map f xs) p (f gone) (omega (arith, h, length-map xs f)) at
 
 -- matchers that are the same but for one that was removed, after it is put back
-pub bounded_back : (xs left now new : List Matcher) (p : ℕ) (gone : Matcher) → p < length xs → gone ≡ get_or xs p gone → left ≡ remove xs p → SameBounded matched_expression wants_whole room_of left now → new ≡ insert now p gone → SameBounded matched_expression wants_whole room_of xs new
+pub bounded_back : (xs left now new : List Matcher) (p : ℕ) (gone : Matcher) → p < length xs → gone ≡ get_or xs p gone → left ≡ remove xs p → SameMatchers matched_expression wants_whole room_of left now → new ≡ insert now p gone → SameMatchers matched_expression wants_whole room_of xs new
 bounded_back xs left now new p gone h is rest same put = record {
   same_expressions = put_back_same matched_expression xs now new p gone h is (same.same_expressions ∙ map-remove matched_expression xs left p rest) put;
   same_wholes = put_back_same wants_whole xs now new p gone h is (same.same_wholes ∙ map-remove wants_whole xs left p rest) put;

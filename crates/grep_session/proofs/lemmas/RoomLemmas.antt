@@ -1,29 +1,13 @@
--- Matchers that are the same as before and may keep as much: where none was asked, over two calls, and where one of them was asked.
+-- How much the matchers of a session may keep, as some come and go.
 use Rattle.std.proofs.Common.{◌≡◌, ℕ, ◌≤◌, ◌<◌, Bool, List, [], ◌∷◌, ◌++◌, length, map, get_or, refl, sym, subst, ap, ◌∙◌, All, arith}
-use Rattle.std.proofs.Math.ListN.{set}
 use Rattle.std.proofs.lemmas.List.{map-append, length-map, get_or-map}
 use Rattle.std.proofs.lemmas.List.Elements.{All-append, All-nil, All-push}
 use Rattle.std.specs.List.{remove}
-use Rattle.re_syntax.specs.Expression.{Expression}
-use Rattle.re_search.proofs.lemmas.OneMatcherMore.{same_after}
 use Rattle.re_search.specs.Matcher.{Matcher}
 use Rattle.re_search.specs.Working.Matchers.{room_of}
-use Rattle.grep_session.specs.Working.Rooms.{SameBounded, KeepAtMost}
+use Rattle.grep_session.specs.Working.Rooms.{KeepAtMost}
 use Rattle.grep_session.proofs.lemmas.SessionLemmas.{map-remove}
 use Rattle.grep_session.proofs.lemmas.DroppingLemmas.{All-remove}
-
-module _ {M : Type 0} {expression : M → Expression} {whole : M → Bool} {room : M → ℕ} where
-  -- a list has the same matchers as itself
-  pub none_asked : {ms : List M} → SameBounded expression whole room ms ms
-  none_asked = record { same_expressions = refl; same_wholes = refl; same_rooms = refl }
-
-  -- what is the same after each of two calls is so after both
-  pub same_over : {old middle new : List M} → SameBounded expression whole room middle new → SameBounded expression whole room old middle → SameBounded expression whole room old new
-  same_over later first = record { same_expressions = later.same_expressions ∙ first.same_expressions; same_wholes = later.same_wholes ∙ first.same_wholes; same_rooms = later.same_rooms ∙ first.same_rooms }
-
-  -- they are so still where the matcher at place i is replaced by one with the same expression
-  pub one_asked : {old now : List M} → SameBounded expression whole room old now → (i : ℕ) (d n : M) → expression n ≡ expression (get_or now i d) → whole n ≡ whole (get_or now i d) → room n ≡ room (get_or now i d) → SameBounded expression whole room old (set now i n)
-  one_asked same i d n e w r = record { same_expressions = same_after expression _ _ same.same_expressions i d n e; same_wholes = same_after whole _ _ same.same_wholes i d n w; same_rooms = same_after room _ _ same.same_rooms i d n r }
 
 -- matchers that may keep as much as others keep at most as much
 pub keep_same : (most : ℕ) (old new : List Matcher) → map room_of new ≡ map room_of old → KeepAtMost most old → KeepAtMost most new

@@ -7,7 +7,6 @@ use Rattle.re_syntax.specs.Expression.{Expression}
 use Rattle.re_syntax.specs.Holds.{Matches}
 use Rattle.re_syntax.specs.Lines.{terminated}
 use Rattle.re_syntax.specs.declared.span.Span.{Span}
-use Rattle.re_search.specs.Searching.{AddsAtMost}
 use Rattle.grep_core.specs.Meters.{Steps}
 use Rattle.grep_core.specs.declared.options.Options.{Options}
 use Rattle.line_chunks.specs.Working.Finds.{FoundIn, AreBelow, is_paired, numbers_at, without}
@@ -15,7 +14,7 @@ use Rattle.line_chunks.specs.Working.Chunks.{KeptLine, no_line, FitsColumn}
 use Rattle.grep_session.specs.declared.change.Change.{Change}
 use Rattle.grep_session.specs.declared.change.Change.TheVariants.{Anew, Added, Dropped}
 use Rattle.grep_session.specs.Touched.{PartsCostOf}
-use Rattle.grep_session.specs.Working.Changed.{HasChanged, HasNewParts, WasKept}
+use Rattle.grep_session.specs.Working.Changed.{HasChanged, HasNewParts, TakesAtMost, WasKept}
 use Rattle.grep_session.specs.Working.Found.{IsColumn}
 use Rattle.grep_session.specs.Working.Kept.{AddsMatching, ArePartsKept}
 
@@ -133,6 +132,6 @@ next_line_cost texts from (Some next) = length (terminated (slice_range texts fr
 -- searched anew, and otherwise none
 pub record CostsParts (matched anew : Bool) (es : List Expression) (options : Options) (line : Text)
     (begun ended : Steps) : Type 0 where
-  pub own : ℕ
-  pub is_own : MatchBool (matched && anew) (PartsCostOf es options line own) (own ≡ 0)
-  pub few : AddsAtMost own begun ended
+  pub at_most : TakesAtMost
+      (λ refused own.
+      MatchBool (matched && anew) (PartsCostOf es options refused line own) (own ≡ 0)) begun ended

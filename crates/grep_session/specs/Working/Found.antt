@@ -23,14 +23,6 @@ pub record IsRight (es : List Expression) (options : Options) (line : Text)
   pub matching : AreMatching line options.line_regexp 0 es found.numbers
   pub parts : ArePartsKept es options line found.spans
 
--- what these expressions find in a line that those of these numbers match: its parts were searched,
--- or the kept ones stay
-abbrev pub IsFoundAgain : Bool → List Expression → Options → KeptLine → List ℕ → Finds → Type 0
-IsFoundAgain true es options line numbers found =
-    AreMatching line.text options.line_regexp 0 es numbers →
-    IsRight es options line.text found
-IsFoundAgain false es options line numbers found = found ≡ finds_with numbers line.found.spans
-
 -- what was found in a chunk is of as many lines, and once it replaces what is kept of these, that is
 -- what the expressions find in them
 abbrev pub IsColumn : List Expression → Options → List KeptLine → Option FoundIn → Type 0

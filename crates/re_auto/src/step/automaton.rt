@@ -151,7 +151,7 @@ impl Automaton {
     }
 
     /// The number of positions.
-    pub(crate) fn size(&self) -> usize
+    pub fn size(&self) -> usize
         ensures { result ≡ positions (expression_of self.now) }
     {
         self.tables.size
@@ -205,7 +205,7 @@ impl Automaton {
 
     /// The positions that a stretch can begin with at the line's first place, or at any other.
     #[inline(always)]
-    pub(crate) fn beginning(&self, at_begin: bool) -> &[u64]
+    pub fn beginning(&self, at_begin: bool) -> &[u64]
         ensures { Are result.now (λ q. (part_of (expression_of self.now) 0).first at_begin q)
             (words_for (positions (expression_of self.now))) }
     {
@@ -217,7 +217,7 @@ impl Automaton {
 
     /// The positions that a stretch can end with at the line's last place, or at any other.
     #[inline(always)]
-    pub(crate) fn ending(&self, at_end: bool) -> &[u64]
+    pub fn ending(&self, at_end: bool) -> &[u64]
         ensures { Are result.now (λ q. (part_of (expression_of self.now) 0).last at_end q)
             (words_for (positions (expression_of self.now))) }
     {
@@ -229,7 +229,7 @@ impl Automaton {
 
     /// The positions that can come directly after position `p`.
     #[inline(always)]
-    pub(crate) fn following(&self, p: usize) -> &[u64]
+    pub fn following(&self, p: usize) -> &[u64]
         requires { p < positions (expression_of self.now) }
         ensures { Are result.now (λ q. (part_of (expression_of self.now) 0).follow p q)
             (words_for (positions (expression_of self.now))) }
@@ -239,7 +239,7 @@ impl Automaton {
 
     /// The positions that take the byte.
     #[inline(always)]
-    pub(crate) fn taking(&self, byte: u8) -> &[u64]
+    pub fn taking(&self, byte: u8) -> &[u64]
         ensures { Are result.now (λ q. (part_of (expression_of self.now) 0).takes q byte)
             (words_for (positions (expression_of self.now))) }
     {

@@ -5,11 +5,11 @@ use Rattle.re_auto.specs.Searching.{AddsAtMost}
 
 -- steps after steps
 pub adds_both : (first next : ℕ) (old mid new : Steps) → AddsAtMost first old mid → AddsAtMost next mid new → AddsAtMost (first + next) old new
-adds_both first next old mid new a b = record { built = omega (arith, a.built, b.built); reused = omega (arith, a.reused, b.reused); sum = omega (arith, a.sum, b.sum) }
+adds_both first next old mid new a b = record { built = omega (arith, a.built, b.built); reused = omega (arith, a.reused, b.reused); sum = omega (arith, a.sum, b.sum); refused = λ h. b.refused (a.refused h) }
 
 -- at most a number of steps are at most a greater number
 pub adds_within : (few most : ℕ) (old new : Steps) → few ≤ most → AddsAtMost few old new → AddsAtMost most old new
-adds_within few most old new h a = record { built = a.built; reused = a.reused; sum = omega (arith, h, a.sum) }
+adds_within few most old new h a = record { built = a.built; reused = a.reused; sum = omega (arith, h, a.sum); refused = a.refused }
 
 -- the steps of a search of one line more
 pub adds_line : (start end line : ℕ) (old mid new : Steps) → start ≤ end → line ≡ end - start → AddsAtMost start old mid → AddsAtMost (line + 1) mid new → AddsAtMost (end + 1) old new

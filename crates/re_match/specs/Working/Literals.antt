@@ -1,7 +1,9 @@
 -- Fixed strings as matchers (XCU grep, options -F and -i).
-use Rattle.std.specs.Prelude.{◌≡◌, Bool, false, List, map, if◌then◌else◌}
+use Rattle.std.specs.Prelude.{◌≡◌, ℕ, ◌+◌, ◌-◌, Bool, false, List, Option, Some, None, length, map}
+use Rattle.std.specs.Prelude.{if◌then◌else◌}
 use Rattle.re_syntax.specs.Bytes.{Text}
 use Rattle.re_syntax.specs.Expression.{Expression, byte, sequence, alt}
+use Rattle.re_syntax.specs.declared.span.Span.{Span}
 use Rattle.re_syntax.specs.Holds.{folded}
 use Rattle.re_syntax.specs.Lines.{HasNoNewline}
 
@@ -33,3 +35,9 @@ literal_meaning fold text =
 -- a choice of what the strings mean
 abbrev pub any_literal : Literals → Expression
 any_literal literals = alt (map (literal_meaning literals.fold) literals.texts)
+
+-- how many bytes a search for a part from a place on answers for: those up to the part's end; if
+-- there is none, those up to the line's end, and one more
+abbrev pub part_cost : Text → ℕ → Option Span → ℕ
+part_cost line from None = length line - from + 1
+part_cost line from (Some part) = part.end - from

@@ -63,4 +63,4 @@ module _ (es : List Expression) (wholes : List Bool) (line : Text) (i : ℕ) (e 
 
 -- the steps of one search more
 pub steps_more : (i n : ℕ) (old middle new : Steps) → AddsAtMost (i * n) old middle → AddsAtMost n middle new → AddsAtMost ((i + 1) * n) old new
-steps_more i n old middle new a b = record { built = omega (arith, a.built, b.built); reused = omega (arith, a.reused, b.reused); sum = omega (arith, a.sum, b.sum) }
+steps_more i n old middle new a b = record { built = omega (arith, a.built, b.built); reused = omega (arith, a.reused, b.reused); sum = omega (arith, a.sum, b.sum); refused = λ h. b.refused (a.refused h) }

@@ -48,17 +48,18 @@ joined f all before rest front back is one other =
     map-append f front back ∙ ap (λ l. l ++ map f back) one ∙ ap (λ l. map f before ++ l) other ∙ sym (map-append f before rest) ∙ sym (ap (map f) is)
 
 -- where each part has the same matchers as before, so have all
-pub same_joined : {M : Type 0} {expression : M → Expression} {whole : M → Bool} (all before rest front back : List M) → all ≡ before ++ rest → SameMatchers expression whole before front
-    → SameMatchers expression whole rest back → SameMatchers expression whole all (front ++ back)
-same_joined {expression = expression} {whole = whole} all before rest front back is one other = record {
+pub same_joined : {M : Type 0} {expression : M → Expression} {whole : M → Bool} {room : M → ℕ} (all before rest front back : List M) → all ≡ before ++ rest → SameMatchers expression whole room before front
+    → SameMatchers expression whole room rest back → SameMatchers expression whole room all (front ++ back)
+same_joined {expression = expression} {whole = whole} {room = room} all before rest front back is one other = record {
   same_expressions = joined expression all before rest front back is one.same_expressions other.same_expressions;
   same_wholes = joined whole all before rest front back is one.same_wholes other.same_wholes;
+  same_rooms = joined room all before rest front back is one.same_rooms other.same_rooms;
 }
 
 -- the steps over the second part alone
 pub steps_of_rest : (a b n : ℕ) (old new : Steps) → AddsAtMost (b * n) old new → AddsAtMost ((a + b) * n) old new
-steps_of_rest a b n old new x = record { built = x.built; reused = x.reused; sum = omega (arith, x.sum) }
+steps_of_rest a b n old new x = record { built = x.built; reused = x.reused; sum = omega (arith, x.sum); refused = x.refused }
 
 -- those over the second part, and then over the first
 pub steps_joined : (a b n : ℕ) (old middle new : Steps) → AddsAtMost (b * n) old middle → AddsAtMost (a * n) middle new → AddsAtMost ((a + b) * n) old new
-steps_joined a b n old middle new x y = record { built = omega (arith, x.built, y.built); reused = omega (arith, x.reused, y.reused); sum = omega (arith, x.sum, y.sum) }
+steps_joined a b n old middle new x y = record { built = omega (arith, x.built, y.built); reused = omega (arith, x.reused, y.reused); sum = omega (arith, x.sum, y.sum); refused = λ h. y.refused (x.refused h) }

@@ -1,5 +1,5 @@
 -- Matchers that are asked together, as contracts see them.
-use Rattle.std.specs.Prelude.{◌≡◌, Bool, List, map}
+use Rattle.std.specs.Prelude.{◌≡◌, ℕ, Bool, List, map}
 use Rattle.re_syntax.specs.Expression.{Expression}
 use Rattle.re_search.specs.declared.searchers.Searchers.{Searchers}
 use Rattle.re_auto.specs.Searching.{SameMatchers}
@@ -21,7 +21,7 @@ module _ {M : Type 0} {g : _} where
 
   -- they are the same matchers, still lent by the same owner
   pub record SameSearchers (expression : M → Expression) (whole : M → Bool)
-      (old new : Searchers M g) : Type 0 where
-    pub same_matchers : SameMatchers expression whole old.matchers.now new.matchers.now
+      (room : M → ℕ) (old new : Searchers M g) : Type 0 where
+    pub same_matchers : SameMatchers expression whole room old.matchers.now new.matchers.now
     pub same_whole : new.whole ≡ old.whole
     pub same_loan : new.matchers.ghost_name ≡ old.matchers.ghost_name

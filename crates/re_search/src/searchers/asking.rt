@@ -1,8 +1,8 @@
 //! What matchers are asked of a line and of a block, each in counted steps.
-ghost use Rattle.std.specs.Prelude.{◌≡◌, ◌+◌, ◌-◌, ◌*◌, ◌<◌, ◌≤◌, ◌↔◌, IsTrue, IfSome, length, map};
+ghost use Rattle.std.specs.Prelude.{◌≡◌, ◌+◌, ◌*◌, ◌<◌, ◌≤◌, ◌↔◌, IsTrue, IfSome, length, map};
 ghost use Rattle.std.specs.Option.{ForSome};
 ghost use Rattle.re_syntax.specs.Lines.{lines_of};
-ghost use Rattle.re_auto.specs.Searching.{AddsAtMost, AllAnswer, FindsPart, SameMatchers};
+ghost use Rattle.re_auto.specs.Searching.{AddsAtMost, AllAnswer, SameMatchers};
 ghost use Rattle.re_search.specs.Working.Asking.{SameSearchers, asks_whole, expressions_by};
 ghost use Rattle.re_search.specs.Working.Asking.{sought_by};
 ghost use Rattle.re_needle.specs.Working.Blocks.{IsBlock, next_cost};
@@ -12,16 +12,22 @@ ghost use Rattle.re_search.specs.Working.Filters.{AreNeeded};
 
 use crate::filter::Filter;
 use crate::searchers::Searchers;
-use crate::several::{is_matched, least_candidate, parts};
+use crate::several::{is_matched, least_candidate};
 use re_auto::Meter;
 use re_match::LineMatch;
 use re_needle::line_end;
 use re_syntax::Span;
+use std::alloc::Global;
 
 impl<'a, 'f, M: LineMatch> Searchers<'a, 'f, M> {
     /// These matchers, of which all give this answer to whether the whole line has to be matched. A
     /// line without the strings of the filter, if it has any, is matched by none of them.
-    pub fn new(matchers: &'a mut [M], filter: &'f Filter, whole: bool) -> Searchers<'a, 'f, M>
+    pub fn new(
+        alloc: Global,
+        matchers: &'a mut [M],
+        filter: &'f Filter,
+        whole: bool,
+    ) -> Searchers<'a, 'f, M>
         requires alike { AllAnswer whole (map M.whole matchers.old) }
         requires needed { ForSome filter.now (λ strings. AreNeeded strings (map M.expression matchers.old)) }
         ensures same_matchers { result.matchers.now ≡ matchers.old }
@@ -29,6 +35,7 @@ impl<'a, 'f, M: LineMatch> Searchers<'a, 'f, M> {
         ensures same_loan { result.matchers.ghost_name ≡ matchers.entry.ghost_name }
     {
         Searchers {
+            alloc,
             matchers,
             filter,
             whole,
@@ -39,7 +46,7 @@ impl<'a, 'f, M: LineMatch> Searchers<'a, 'f, M> {
     /// one more for each matcher.
     pub fn is_matched(&mut self, line: &[u8], meter: &mut Meter) -> bool
         ensures reported { IsTrue result ↔ IsSought (sought_by M.expression self.old) line.now }
-        ensures same { SameSearchers M.expression M.whole self.old self.new }
+        ensures same { SameSearchers M.expression M.whole M.room self.old self.new }
         ensures steps { AddsAtMost
             (length (expressions_by M.expression self.old) * (length line.now + 1)) meter.old
             meter.new }
@@ -56,7 +63,7 @@ impl<'a, 'f, M: LineMatch> Searchers<'a, 'f, M> {
         ensures reported { FindsSought (sought_by M.expression self.old) (lines_of block.now) result }
         ensures within { IfSome result
             (λ at. (at.start ≤ at.end) × (at.end < length block.now)) }
-        ensures same { SameSearchers M.expression M.whole self.old self.new }
+        ensures same { SameSearchers M.expression M.whole M.room self.old self.new }
         ensures steps { AddsAtMost
             (length (expressions_by M.expression self.old) * next_cost block.now result) meter.old
             meter.new }
@@ -69,7 +76,7 @@ impl<'a, 'f, M: LineMatch> Searchers<'a, 'f, M> {
     pub fn count_matched(&mut self, block: &[u8], meter: &mut Meter) -> u64
         requires { IsBlock block.now }
         ensures reported { CountsSought (sought_by M.expression self.old) (lines_of block.now) result }
-        ensures same { SameSearchers M.expression M.whole self.old self.new }
+        ensures same { SameSearchers M.expression M.whole M.room self.old self.new }
         ensures steps { AddsAtMost
             (length (expressions_by M.expression self.old) * length block.now) meter.old
             meter.new }
@@ -78,20 +85,6 @@ impl<'a, 'f, M: LineMatch> Searchers<'a, 'f, M> {
             return count_of_one(self.matchers, self.whole, block, meter);
         }
         count_of_all(self.matchers, self.filter, self.whole, block, meter)
-    }
-
-    /// The next part of the line, like [`parts`], in at most one step for each matcher and byte
-    /// from `from` on, and one more for each matcher.
-    pub fn part(&mut self, line: &[u8], from: usize, meter: &mut Meter) -> Option<Span>
-        requires { from ≤ length line.now }
-        ensures reported { FindsPart (expressions_by M.expression self.old) line.now
-            (asks_whole self.old) from result }
-        ensures same { SameSearchers M.expression M.whole self.old self.new }
-        ensures steps { AddsAtMost
-            (length (expressions_by M.expression self.old) * (length line.now - from + 1))
-            meter.old meter.new }
-    {
-        part_of_all(self.matchers, self.whole, line, from, meter)
     }
 }
 
@@ -107,7 +100,7 @@ fn any_matches<M: LineMatch>(
     requires needed { ForSome filter.now (λ strings. AreNeeded strings (map M.expression matchers.old)) }
     ensures reported { IsTrue result ↔ IsSought
         (record { expressions = map M.expression matchers.old; whole = whole }) line.now }
-    ensures same_matchers { SameMatchers M.expression M.whole matchers.old matchers.new }
+    ensures same_matchers { SameMatchers M.expression M.whole M.room matchers.old matchers.new }
     ensures steps { AddsAtMost (length matchers.old * (length line.now + 1)) meter.old
         meter.new }
 {
@@ -121,24 +114,6 @@ fn any_matches<M: LineMatch>(
         return false;
     }
     filter.is_matched(matchers, line, meter)
-}
-
-// The next part of the line.
-fn part_of_all<M: LineMatch>(
-    matchers: &mut [M],
-    whole: bool,
-    line: &[u8],
-    from: usize,
-    meter: &mut Meter,
-) -> Option<Span>
-    requires within { from ≤ length line.now }
-    requires alike { AllAnswer whole (map M.whole matchers.old) }
-    ensures reported { FindsPart (map M.expression matchers.old) line.now whole from result }
-    ensures same_matchers { SameMatchers M.expression M.whole matchers.old matchers.new }
-    ensures steps { AddsAtMost (length matchers.old * (length line.now - from + 1)) meter.old
-        meter.new }
-{
-    parts(matchers, line, from, meter)
 }
 
 // How many bytes of a block are passed: whole lines, none of which some matcher matches. It takes
@@ -189,7 +164,7 @@ fn next_of<M: LineMatch>(
         (record { expressions = map M.expression matchers.old; whole = whole })
         (lines_of block.now) result }
     ensures within { IfSome result (λ at. (at.start ≤ at.end) × (at.end < length block.now)) }
-    ensures same_matchers { SameMatchers M.expression M.whole matchers.old matchers.new }
+    ensures same_matchers { SameMatchers M.expression M.whole M.room matchers.old matchers.new }
     ensures steps { AddsAtMost (length matchers.old * next_cost block.now result) meter.old
         meter.new }
 {
@@ -218,7 +193,7 @@ fn next_of_all<M: LineMatch>(
         (record { expressions = map M.expression matchers.old; whole = whole })
         (lines_of block.now) result }
     ensures within { IfSome result (λ at. (at.start ≤ at.end) × (at.end < length block.now)) }
-    ensures same_matchers { SameMatchers M.expression M.whole matchers.old matchers.new }
+    ensures same_matchers { SameMatchers M.expression M.whole M.room matchers.old matchers.new }
     ensures steps { AddsAtMost (length matchers.old * next_cost block.now result) meter.old
         meter.new }
 {
@@ -249,7 +224,7 @@ fn next_of_one<M: LineMatch>(
         (record { expressions = map M.expression matchers.old; whole = whole })
         (lines_of block.now) result }
     ensures within { IfSome result (λ at. (at.start ≤ at.end) × (at.end < length block.now)) }
-    ensures same_matchers { SameMatchers M.expression M.whole matchers.old matchers.new }
+    ensures same_matchers { SameMatchers M.expression M.whole M.room matchers.old matchers.new }
     ensures steps { AddsAtMost (length matchers.old * next_cost block.now result) meter.old
         meter.new }
 {
@@ -270,7 +245,7 @@ fn count_of_all<M: LineMatch>(
     ensures reported { CountsSought
         (record { expressions = map M.expression matchers.old; whole = whole })
         (lines_of block.now) result }
-    ensures same_matchers { SameMatchers M.expression M.whole matchers.old matchers.new }
+    ensures same_matchers { SameMatchers M.expression M.whole M.room matchers.old matchers.new }
     ensures steps { AddsAtMost (length matchers.old * length block.now) meter.old meter.new }
 {
     let mut count: u64 = 0;
@@ -297,7 +272,7 @@ fn count_of_one<M: LineMatch>(
     ensures reported { CountsSought
         (record { expressions = map M.expression matchers.old; whole = whole })
         (lines_of block.now) result }
-    ensures same_matchers { SameMatchers M.expression M.whole matchers.old matchers.new }
+    ensures same_matchers { SameMatchers M.expression M.whole M.room matchers.old matchers.new }
     ensures steps { AddsAtMost (length matchers.old * length block.now) meter.old meter.new }
 {
     matchers[0].count_matched(block, meter)

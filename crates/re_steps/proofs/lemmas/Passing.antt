@@ -18,7 +18,7 @@ use Rattle.re_steps.specs.Working.Simulations.{EndsAt, NoneEndsBefore}
 
 -- no step was taken yet
 pub no_step : (n : ℕ) (steps : Steps) → AddsAtMost n steps steps
-no_step n steps = record { built = omega arith; reused = omega arith; sum = omega arith }
+no_step n steps = record { built = omega arith; reused = omega arith; sum = omega arith; refused = λ h. h }
 
 -- what holds of no place before `next`, and not there, holds of none up to there
 pub none_more : (P : ℕ → Type 0) (place next : ℕ) → ((k : ℕ) → place ≤ k → k < next → ¬ P k) → ¬ P next → (k : ℕ) → place ≤ k → k < next + 1 → ¬ P k

@@ -121,23 +121,23 @@ module _ (e : Expression) (mode : Mode) (line : Text) where
 
   over_steps : (n : ℕ) (c : ℕ) (first old new : Stage) → GoesOver e mode c old new → AddsAtMost n first.steps old.steps → AddsAtMost (suc n) first.steps new.steps
   over_steps n c first old new over a = elim over.over [
-    | inl r ↦ rw r.steps (record { built = omega (arith, a.built); reused = omega (arith, a.reused); sum = omega (arith, a.sum) })
+    | inl r ↦ rw r.steps (record { built = omega (arith, a.built); reused = omega (arith, a.reused); sum = omega (arith, a.sum); refused = a.refused })
     | inr rest ↦ elim rest [
-      | inl b ↦ rw b.steps (record { built = omega (arith, a.built); reused = omega (arith, a.reused); sum = omega (arith, a.sum) })
-      | inr p ↦ rw p.same.steps (record { built = omega (arith, a.built); reused = omega (arith, a.reused); sum = omega (arith, a.sum) })
+      | inl b ↦ rw b.steps (record { built = omega (arith, a.built); reused = omega (arith, a.reused); sum = omega (arith, a.sum); refused = a.refused })
+      | inr p ↦ rw p.same.steps (record { built = omega (arith, a.built); reused = omega (arith, a.reused); sum = omega (arith, a.sum); refused = a.refused })
     ]
   ]
 
   -- each byte counts as one step at most
   pub goes_steps : (j : ℕ) (first last : Stage) → Goes e mode line j first last → AddsAtMost j first.steps last.steps
   unfolding Goes
-  goes_steps zero first last goes = rw goes.steps (record { built = omega arith; reused = omega arith; sum = omega arith })
+  goes_steps zero first last goes = rw goes.steps (record { built = omega arith; reused = omega arith; sum = omega arith; refused = λ h. h })
   goes_steps (suc j) first last (middle, goes, over) = over_steps j (slice_index line j) first middle last over (goes_steps j first middle goes)
 
   pub finishes_steps : (first : Stage) (cache : Cache) (steps : Steps) (answer : Bool) → Finishes e mode line first cache steps answer → AddsAtMost (length line + 1) first.steps steps
   finishes_steps first cache steps answer f =
       let a = goes_steps f.place first (record { set = f.set; cache = cache; steps = steps }) f.goes in
-      record { built = a.built; reused = a.reused; sum = omega (arith, a.sum, f.within) }
+      record { built = a.built; reused = a.reused; sum = omega (arith, a.sum, f.within); refused = a.refused }
 
 module _ (e : Expression) (line : Text) where
   -- no matched stretch ends at a place with a set that is gone over

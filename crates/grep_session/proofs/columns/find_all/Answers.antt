@@ -1,5 +1,5 @@
 use Rattle.std.proofs.Common.{◌≡◌, ◌≤◌, map, take, take_all, sym, refl, subst, arith, []}
-use Rattle.grep_session.proofs.lemmas.RoomLemmas.{none_asked, same_over}
+use Rattle.re_search.proofs.lemmas.KeptMatchers.{none_asked, same_over}
 use Rattle.grep_core.proofs.lemmas.CostLaws.{same_length}
 use Rattle.re_search.specs.Searching.{AllAnswer}
 use Rattle.re_syntax.specs.Profile.{most_patterns}

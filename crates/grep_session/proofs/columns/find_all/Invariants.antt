@@ -1,6 +1,6 @@
 use Rattle.std.proofs.Common.{map, take, All, List, []}
 use Rattle.re_syntax.specs.Expression.{Expression}
-use Rattle.grep_session.specs.Working.Rooms.{SameBounded}
+use Rattle.re_search.specs.Searching.{SameMatchers}
 use Rattle.grep_session.specs.Working.Changed.{HasChanged, ChangeCost, SearchesEach, WasFileKept}
 use Rattle.grep_session.specs.Working.Columns.{AddsColumns}
 use Rattle.grep_session.specs.Working.Found.{chunks_of_files, lines_of_files}
@@ -11,7 +11,7 @@ use Rattle.grep_session.proofs.columns.find_all.Given as goal
 abbrev pub invariant-loop-file : goal.invariant-loop-file
 invariant-loop-file g l = record {
   found : AddsColumns l.change (map g.M.LineMatch.expression l.fn.matchers) l.search.options (chunks_of_files (take l.file-index l.files)) [] l.found.items;
-  same_matchers : SameBounded g.M.LineMatch.expression g.M.LineMatch.whole g.M.Bounded.room l.fn.matchers l.matchers;
+  same_matchers : SameMatchers g.M.LineMatch.expression g.M.LineMatch.whole g.M.LineMatch.room l.fn.matchers l.matchers;
   steps : (before changed : List Expression) → HasChanged l.change (map g.M.LineMatch.expression l.fn.matchers) before changed → All (WasFileKept l.change before l.search.options) l.files
       → SearchesEach (ChangeCost l.change changed (map g.M.LineMatch.expression l.fn.matchers) l.search.options) (lines_of_files (map kept_file (take l.file-index l.files))) l.fn.meter l.meter;
 }

@@ -1,6 +1,6 @@
 use Rattle.std.proofs.Common.{All, map, sym, subst}
 use Rattle.std.specs.List.{AllZip}
-use Rattle.grep_session.specs.Working.Rooms.{SameBounded}
+use Rattle.re_search.specs.Searching.{SameMatchers}
 use Rattle.re_search.specs.Working.Matchers.{matched_expression, wants_whole, room_of}
 use Rattle.grep_core.proofs.lemmas.CostLaws.{same_length}
 use Rattle.grep_session.specs.Working.Kept.{IsFileKept}
@@ -13,12 +13,12 @@ use Rattle.grep_session.proofs.columns.find_columns.Goals as goal
 pub returns-in_err-found-clause-same_matchers : goal.returns-in_err-found-clause-same_matchers
 returns-in_err-found-clause-same_matchers c =
     let same = rw c.deref_mut.ensures.value at c.find_all.ensures.same_matchers in
-    subst (SameBounded matched_expression wants_whole room_of c.args.matchers.now.items) (sym (all_back c.args.matchers.now.len c.args.matchers.now.items c.find_all.new.matchers c.args.matchers.now.ok.0 (same_length matched_expression _ _ same.same_expressions))) same
+    subst (SameMatchers matched_expression wants_whole room_of c.args.matchers.now.items) (sym (all_back c.args.matchers.now.len c.args.matchers.now.items c.find_all.new.matchers c.args.matchers.now.ok.0 (same_length matched_expression _ _ same.same_expressions))) same
 
 pub returns-clause-same_matchers : goal.returns-clause-same_matchers
 returns-clause-same_matchers c =
     let same = rw c.deref_mut.ensures.value at c.find_all.ensures.same_matchers in
-    subst (SameBounded matched_expression wants_whole room_of c.args.matchers.now.items) (sym (all_back c.args.matchers.now.len c.args.matchers.now.items c.find_all.new.matchers c.args.matchers.now.ok.0 (same_length matched_expression _ _ same.same_expressions))) same
+    subst (SameMatchers matched_expression wants_whole room_of c.args.matchers.now.items) (sym (all_back c.args.matchers.now.len c.args.matchers.now.items c.find_all.new.matchers c.args.matchers.now.ok.0 (same_length matched_expression _ _ same.same_expressions))) same
 
 pub put_columns-requires : goal.put_columns-requires
 put_columns-requires c =
@@ -36,3 +36,9 @@ returns-clause-ok c = λ before changed h k.
     let there = subst (AllZip (IsColumn (map matched_expression c.args.matchers.now.items) options) (chunks_of_files files)) (sym a.added) right in
     let kept = c.put_columns.ensures.right es options (subst (λ fs. AllZip (IsColumn fs options) (chunks_of_files files) c.in_ok-found.found.items) (sym same.same_expressions) there) in
     subst (λ matchers. All (IsFileKept (map matched_expression matchers) options) c.put_columns.new.files.items) (sym (all_back c.args.matchers.now.len c.args.matchers.now.items c.find_all.new.matchers c.args.matchers.now.ok.0 (same_length matched_expression _ _ same.same_expressions))) kept
+
+pub returns-in_err-found-clause-steps : goal.returns-in_err-found-clause-steps
+returns-in_err-found-clause-steps c = rw (c.deref_mut.ensures.value, c.deref.ensures.value) at c.find_all.ensures.steps
+
+pub returns-clause-steps : goal.returns-clause-steps
+returns-clause-steps c = rw (c.deref_mut.ensures.value, c.deref.ensures.value) at c.find_all.ensures.steps

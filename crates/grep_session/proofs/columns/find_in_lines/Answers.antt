@@ -6,7 +6,7 @@ use Rattle.grep_core.proofs.lemmas.CostLaws.{same_length}
 use Rattle.grep_session.specs.Working.Changed.{ChangeCost, IsWithin, SearchesEach, WasKept}
 use Rattle.grep_session.specs.Working.Columns.{AddsColumns}
 use Rattle.grep_session.proofs.lemmas.FoundLemmas.{adds_no_column, adds_columns, adds_column, all_by_chunk, chunks_next, texts_next, texts_rest}
-use Rattle.grep_session.proofs.lemmas.RoomLemmas.{none_asked, same_over}
+use Rattle.re_search.proofs.lemmas.KeptMatchers.{none_asked, same_over}
 use Rattle.grep_session.proofs.lemmas.StepLemmas.{ChangeCost-exists, each_none, each_both, each_front}
 use Rattle.grep_session.proofs.columns.find_in_lines.Goals as goal
 

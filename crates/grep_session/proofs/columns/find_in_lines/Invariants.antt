@@ -1,7 +1,7 @@
 use Rattle.std.proofs.Common.{map, take, All, List}
 use Rattle.re_syntax.specs.Expression.{Expression}
 use Rattle.line_chunks.specs.Working.Chunks.{all_of, line_text}
-use Rattle.grep_session.specs.Working.Rooms.{SameBounded}
+use Rattle.re_search.specs.Searching.{SameMatchers}
 use Rattle.grep_session.specs.Working.Changed.{HasChanged, ChangeCost, SearchesEach, WasKept}
 use Rattle.grep_session.specs.Working.Columns.{AddsColumns}
 use Rattle.grep_session.proofs.columns.find_in_lines.Given as goal
@@ -10,7 +10,7 @@ use Rattle.grep_session.proofs.columns.find_in_lines.Given as goal
 abbrev pub invariant-loop-i : goal.invariant-loop-i
 invariant-loop-i g l = record {
   found : AddsColumns l.fn.change (map g.M.LineMatch.expression l.fn.matchers) l.search.options (take l.i l.lines) l.fn.found.items l.found.items;
-  same_matchers : SameBounded g.M.LineMatch.expression g.M.LineMatch.whole g.M.Bounded.room l.fn.matchers l.matchers;
+  same_matchers : SameMatchers g.M.LineMatch.expression g.M.LineMatch.whole g.M.LineMatch.room l.fn.matchers l.matchers;
   steps : (before changed : List Expression) → HasChanged l.fn.change (map g.M.LineMatch.expression l.fn.matchers) before changed → All (WasKept l.fn.change before l.search.options) (all_of l.lines)
       → SearchesEach (ChangeCost l.fn.change changed (map g.M.LineMatch.expression l.fn.matchers) l.search.options) (map line_text (all_of (take l.i l.lines))) l.fn.meter l.meter;
 }

@@ -12,7 +12,7 @@ invariant-loop-from g l = record {
   column : ColumnSoFar (g.M.LineMatch.expression l.fn.matcher) (g.M.LineMatch.whole l.fn.matcher) l.number (map line_text l.chunk) l.from l.fn.matches l.matches;
   same_expression : g.M.LineMatch.expression l.matcher ≡ g.M.LineMatch.expression l.fn.matcher;
   same_whole : g.M.LineMatch.whole l.matcher ≡ g.M.LineMatch.whole l.fn.matcher;
-  same_room : g.M.Bounded.room l.matcher ≡ g.M.Bounded.room l.fn.matcher;
+  same_room : g.M.LineMatch.room l.matcher ≡ g.M.LineMatch.room l.fn.matcher;
   steps : AddsAtMost (length (terminated (take l.from (map line_text l.chunk)))) l.fn.meter l.meter;
 }
 

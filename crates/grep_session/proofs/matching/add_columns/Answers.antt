@@ -3,7 +3,7 @@ use Rattle.std.proofs.lemmas.List.{length-map}
 use Rattle.re_syntax.specs.Lines.{terminated}
 use Rattle.re_search.proofs.lemmas.OneMatcherMore.{one_more, value_at, within}
 use Rattle.line_chunks.specs.Working.Chunks.{line_text}
-use Rattle.grep_session.proofs.lemmas.RoomLemmas.{none_asked, one_asked}
+use Rattle.re_search.proofs.lemmas.KeptMatchers.{none_asked, one_asked}
 use Rattle.grep_core.proofs.lemmas.CostLaws.{adds_none, adds_for_more, adds_once_more}
 use Rattle.grep_session.specs.Working.Columns.{AddsColumn}
 use Rattle.grep_session.proofs.lemmas.ColumnLoops.{columns_none, columns_more}

@@ -22,7 +22,7 @@ returns-in_err-add_columns-clause-same_matchers g c =
     record {
       same_expressions = map_back g.M.LineMatch.expression old now first later same.same_expressions;
       same_wholes = map_back g.M.LineMatch.whole old now first later same.same_wholes;
-      same_rooms = map_back g.M.Bounded.room old now first later same.same_rooms;
+      same_rooms = map_back g.M.LineMatch.room old now first later same.same_rooms;
     }
 
 pub returns-clause-same_matchers : goal.returns-clause-same_matchers
@@ -35,7 +35,7 @@ returns-clause-same_matchers g c =
     record {
       same_expressions = map_back g.M.LineMatch.expression old now first later same.same_expressions;
       same_wholes = map_back g.M.LineMatch.whole old now first later same.same_wholes;
-      same_rooms = map_back g.M.Bounded.room old now first later same.same_rooms;
+      same_rooms = map_back g.M.LineMatch.room old now first later same.same_rooms;
     }
 
 pub returns-clause-ok : goal.returns-clause-ok

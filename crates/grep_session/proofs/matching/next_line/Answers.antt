@@ -16,7 +16,7 @@ returns-in_default-clause-reported g c =
 pub returns-in_default-clause-steps : goal.returns-in_default-clause-steps
 returns-in_default-clause-steps g c =
     let bytes = ap length (block_lines _ c.text_from.ensures.block) ∙ ap (λ ls. length (terminated ls)) c.text_from.ensures.lines in
-    subst (λ n. AddsAtMost n c.args.meter.now c.next.new.meter) bytes c.in_default.ensures.steps
+    subst (λ n. AddsAtMost n c.args.meter.now c.next_matched.new.meter) bytes c.in_default.ensures.steps
 
 pub overflow_add-start : goal.overflow_add-start
 overflow_add-start g c =
@@ -51,4 +51,4 @@ returns-clause-steps g c =
     let there = inside P texts c.args.from _ c.in-Some.at c.text_from.ensures.lines next within in
     let same : c.number_at.result ≡ n = c.number_at.ensures.at n (omega arith) (omega (arith, there, length-map c.args.chunk.now line_text)) (place P texts c.args.from _ c.in-Some.at c.text_from.ensures.lines next within _ c.start.ensures.start) in
     let bytes = cost P texts c.args.from _ c.in-Some.at c.text_from.ensures.lines next within in
-    rw same (subst (λ n. AddsAtMost n c.args.meter.now c.next.new.meter) bytes c.in-Some.ensures.steps)
+    rw same (subst (λ n. AddsAtMost n c.args.meter.now c.next_matched.new.meter) bytes c.in-Some.ensures.steps)

@@ -6,7 +6,7 @@ use Rattle.line_chunks.specs.Working.Finds.{is_paired, numbers_at}
 use Rattle.grep_session.specs.Working.Changed.{HasNewParts, NewPartsCost, SearchesEach}
 use Rattle.grep_session.specs.Working.Columns.{has_new_parts}
 use Rattle.grep_session.proofs.lemmas.PartingLemmas.{parts_by, costs_one, parts_next, take-suc', with_next}
-use Rattle.grep_session.proofs.lemmas.RoomLemmas.{none_asked, same_over}
+use Rattle.re_search.proofs.lemmas.KeptMatchers.{none_asked, same_over}
 use Rattle.grep_session.proofs.lemmas.StepLemmas.{NewPartsCost-exists, each_none, each_one, each_next, each_front}
 use Rattle.grep_session.proofs.parting.find_all_parts.Goals as goal
 

@@ -11,6 +11,7 @@ invariant-lines g l = record {
   counts : CountsTo (λ (line : Text). Matches (g.M.Sweeps.expression l.fn.matcher) line (g.M.Sweeps.whole l.fn.matcher)) l.block l.rest l.count;
   same_expression : g.M.Sweeps.expression l.matcher ≡ g.M.Sweeps.expression l.fn.matcher;
   same_whole : g.M.Sweeps.whole l.matcher ≡ g.M.Sweeps.whole l.fn.matcher;
+  same_room : g.M.Sweeps.room l.matcher ≡ g.M.Sweeps.room l.fn.matcher;
   steps : AddsAtMost (length l.block - length l.rest) l.fn.meter l.meter;
 }
 

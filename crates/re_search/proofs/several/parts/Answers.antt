@@ -19,7 +19,7 @@ loop-matcher-preserved g c =
     record {
       reported = part_more _ _ _ i _ _ (within whole old now ws i d h).1 (value_at whole old now ws i d h _) _ _ _ _ (one_more expression old now es i d h) c.better-best.ensures
           c.loop-matcher.invariant.reported c.find-found.ensures.reported;
-      same_matchers = one_asked same i d _ c.find-found.ensures.same_expression c.find-found.ensures.same_whole;
+      same_matchers = one_asked same i d _ c.find-found.ensures.same_expression c.find-found.ensures.same_whole c.find-found.ensures.same_room;
       steps = steps_more i _ _ _ _ c.loop-matcher.invariant.steps c.find-found.ensures.steps;
     }
 

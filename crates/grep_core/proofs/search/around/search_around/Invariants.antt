@@ -12,7 +12,7 @@ invariant-lines g l = record {
       l.fn.lines.lines.reader l.fn.surroundings.progress.context l.lines (writer g.W.CountedWrite.contents g.W.CountedWrite.failures l.fn.out) (writer g.W.CountedWrite.contents g.W.CountedWrite.failures l.out) l.fn.meter l.meter l.selected l.surroundings.progress l.surroundings.recent.lines;
   limit : l.surroundings.recent.limit ≡ l.fn.surroundings.progress.context.before;
   few_held : IsOneLineAndFew l.lines.lines.ahead;
-  same : SameSearchers g.M.LineMatch.expression g.M.LineMatch.whole l.fn.searchers l.searchers;
+  same : SameSearchers g.M.LineMatch.expression g.M.LineMatch.whole g.M.LineMatch.room l.fn.searchers l.searchers;
 }
 
 abbrev pub decreases-lines : goal.decreases-lines

@@ -1,17 +1,19 @@
 use Rattle.std.proofs.Common.{◌≡◌, ◌∙◌, length, map, arith}
 use Rattle.re_search.specs.Working.Asking.{asks_whole}
-use Rattle.re_search.proofs.lemmas.KeptMatchers.{unasked, asked_over}
-use Rattle.grep_core.proofs.lemmas.CostLaws.{from_place}
+use Rattle.re_search.proofs.lemmas.KeptMatchers.{unasked, asked_over, same_sought}
 use Rattle.grep_core.proofs.lemmas.OneLineLemmas.{err_with}
 use Rattle.grep_core.proofs.lemmas.PassLemmas.{TakesAll-line, TakesFront-line}
 use Rattle.grep_core.proofs.lemmas.PartsLemmas.{parts_none, parts_next, parts_done, parts_broken, parts_asked}
 use Rattle.grep_core.proofs.search.line.write_parts.Goals as goal
 
 pub loop-part-init : goal.loop-part-init
-loop-part-init g c = record { parts = parts_none _ _ _ _ _ _ _ _ _ (omega arith); same = unasked }
+loop-part-init g c = record { parts = parts_none _ _ _ _ _ _ _ _ _ _ (omega arith) c.course-course.ensures.begun c.course-course.ensures.known; right = rw c.course-course.ensures.known tt; same = unasked }
 
-pub part-requires : goal.part-requires
-part-requires g c = c.loop-part.invariant.parts.0.on_line
+pub next_part-requires-clause-within : goal.next_part-requires-clause-within
+next_part-requires-clause-within g c = c.loop-part.invariant.parts.0.on_line
+
+pub next_part-requires-clause-right : goal.next_part-requires-clause-right
+next_part-requires-clause-right g c = rw (same_sought c.loop-part.invariant.same) c.loop-part.invariant.right
 
 pub write_part-requires : goal.write_part-requires
 write_part-requires g c =
@@ -44,11 +46,13 @@ loop-part-preserved g c =
     let whole : asks_whole c.loop-part.searchers ≡ w.options.line_regexp = same.same_whole ∙ c.requires.whole in
     let part = c.in-Some.part in
     let reported = rw (whole, same.same_matchers.same_expressions) at c.in-Some.ensures.reported in
+    let steps = rw same.same_matchers.same_expressions at c.in-Some.ensures.steps in
     record {
       parts =
-          parts_next es w.options w.many w.name.now c.args.number c.args.line.now c.loop-part.from part.start part.end _ _ _ c.args.meter.now c.loop-part.meter c.part.new.meter _ c.loop-part.invariant.parts.0 c.loop-part.invariant.parts.1 reported
+          parts_next es w.options w.many w.name.now c.args.number c.args.line.now c.loop-part.from part.start part.end _ _ _ c.args.meter.now c.loop-part.meter c.next_part.new.meter c.loop-part.course c.next_part.new.course _ c.loop-part.invariant.parts.0 c.loop-part.invariant.parts.1 reported
           (TakesAll-line g.W.CountedWrite.contents g.W.CountedWrite.failures c.loop-part.out c.write_part.new.out _ c.in_ok-write_part.ensures)
-          (from_place (length es) c.args.line.now c.loop-part.from _ _ (rw same.same_matchers.same_expressions at c.in-Some.ensures.steps));
+          (λ times taken. steps c.args.meter.now times taken);
+      right = rw (same_sought same) at c.in-Some.ensures.right;
       same = asked_over c.in-Some.ensures.same same;
     }
 
@@ -71,14 +75,14 @@ pub returns-in_err-write_part-clause-steps : goal.returns-in_err-write_part-clau
 returns-in_err-write_part-clause-steps g c =
     let w = c.args.request.now in
     let es = map g.M.LineMatch.expression c.args.searchers.now.matchers.now in
-    let same = c.loop-part.invariant.same in
-    parts_asked es w.options w.many w.name.now c.args.number c.args.line.now c.requires.asked c.loop-part.from _ _ c.args.meter.now c.loop-part.meter c.part.new.meter _ c.loop-part.invariant.parts.0 c.loop-part.invariant.parts.1
-    (from_place (length es) c.args.line.now c.loop-part.from _ _ (rw same.same_matchers.same_expressions at c.in-Some.ensures.steps))
+    let s = c.loop-part.invariant.parts in
+    let steps = rw c.loop-part.invariant.same.same_matchers.same_expressions at c.in-Some.ensures.steps in
+    parts_asked es w.options w.many w.name.now c.args.number c.args.line.now c.requires.asked c.loop-part.from _ _ c.args.meter.now c.next_part.new.meter c.next_part.new.course _ s.0 (steps c.args.meter.now (length s.0.done) s.1)
 
 pub returns-clause-steps : goal.returns-clause-steps
 returns-clause-steps g c =
     let w = c.args.request.now in
     let es = map g.M.LineMatch.expression c.args.searchers.now.matchers.now in
-    let same = c.loop-part.invariant.same in
-    parts_asked es w.options w.many w.name.now c.args.number c.args.line.now c.requires.asked c.loop-part.from _ _ c.args.meter.now c.loop-part.meter c.part.new.meter _ c.loop-part.invariant.parts.0 c.loop-part.invariant.parts.1
-    (from_place (length es) c.args.line.now c.loop-part.from _ _ (rw same.same_matchers.same_expressions at c.in_default.ensures.steps))
+    let s = c.loop-part.invariant.parts in
+    let steps = rw c.loop-part.invariant.same.same_matchers.same_expressions at c.in_default.ensures.steps in
+    parts_asked es w.options w.many w.name.now c.args.number c.args.line.now c.requires.asked c.loop-part.from _ _ c.args.meter.now c.next_part.new.meter c.next_part.new.course _ s.0 (steps c.args.meter.now (length s.0.done) s.1)

@@ -25,5 +25,5 @@ invariant-loop-k g l = record {
   within : l.k ≤ length (g.S.Sources.listed l.fn.sources);
   in_order : g.S.Sources.stands_at l.sources l.k;
   same_loan : g.S.Sources.loan l.sources ≡ g.S.Sources.loan l.fn.sources;
-  same : SameSearchers g.M.LineMatch.expression g.M.LineMatch.whole l.fn.searchers l.searchers;
+  same : SameSearchers g.M.LineMatch.expression g.M.LineMatch.whole g.M.LineMatch.room l.fn.searchers l.searchers;
 }

@@ -3,7 +3,7 @@ use Rattle.std.proofs.lemmas.List.Elements.{All-push}
 use Rattle.re_search.specs.Working.Matchers.{matched_expression}
 use Rattle.grep_session.specs.Working.Kept.{IsFileKept}
 use Rattle.grep_session.proofs.lemmas.EditLemmas.{asked_session}
-use Rattle.grep_session.proofs.lemmas.RoomLemmas.{none_asked}
+use Rattle.re_search.proofs.lemmas.KeptMatchers.{none_asked}
 use Rattle.grep_session.proofs.session.Session.add_missing.Goals as goal
 
 pub invariant_of-self : goal.invariant_of-self

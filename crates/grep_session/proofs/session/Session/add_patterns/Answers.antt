@@ -9,12 +9,13 @@ use Rattle.re_syntax.specs.Profile.{most_patterns}
 use Rattle.grep_session.specs.Working.Kept.{IsFileKept}
 use Rattle.grep_core.specs.Working.MatcherLists.{AreMatchers}
 use Rattle.grep_session.specs.Working.Reading.{RefusesFirst}
-use Rattle.grep_session.specs.Working.Rooms.{SameBounded}
+use Rattle.re_search.specs.Searching.{SameMatchers}
 use Rattle.grep_session.specs.Working.Sessions.{inputs_of}
 use Rattle.grep_session.proofs.lemmas.EditLemmas.{AreMatchers-same, asked_session}
 use Rattle.grep_session.proofs.lemmas.StepLemmas.{takes_none}
 use Rattle.grep_session.proofs.lemmas.NewPatternLemmas.{are_added, bounded_off, not_too_many, refuses_new, takes_new}
-use Rattle.grep_session.proofs.lemmas.RoomLemmas.{keep_same, keep_both, none_asked}
+use Rattle.re_search.proofs.lemmas.KeptMatchers.{none_asked}
+use Rattle.grep_session.proofs.lemmas.RoomLemmas.{keep_same, keep_both}
 use Rattle.grep_session.proofs.session.Session.add_patterns.Goals as goal
 
 pub returns-in-Err-read_matchers-clause-gives : goal.returns-in-Err-read_matchers-clause-gives
@@ -142,7 +143,7 @@ invariant_of-self c = asked_session c.self.inside _ refl c.reserve_texts.ensures
 pub invariant_of-self-in-Err-add_matchers : goal.invariant_of-self-in-Err-add_matchers
 invariant_of-self-in-Err-add_matchers c =
     let s = c.self.inside in
-    asked_session s _ refl c.reserve_texts.ensures.items c.self.invariant (subst (SameBounded matched_expression wants_whole room_of s.matchers.items) (sym c.in-Err-add_matchers.ensures.err) none_asked) c.self.invariant.kept
+    asked_session s _ refl c.reserve_texts.ensures.items c.self.invariant (subst (SameMatchers matched_expression wants_whole room_of s.matchers.items) (sym c.in-Err-add_matchers.ensures.err) none_asked) c.self.invariant.kept
 
 pub returns-then-too_many-clause-gives : goal.returns-then-too_many-clause-gives
 returns-then-too_many-clause-gives c =

@@ -7,7 +7,7 @@ use Rattle.grep_session.proofs.lemmas.DroppingLemmas.{All-remove}
 use Rattle.grep_session.specs.Working.Sessions.{inputs_of}
 use Rattle.grep_session.proofs.lemmas.SessionLemmas.{map-remove}
 use Rattle.grep_session.proofs.lemmas.EditLemmas.{asked_session}
-use Rattle.grep_session.proofs.lemmas.RoomLemmas.{none_asked}
+use Rattle.re_search.proofs.lemmas.KeptMatchers.{none_asked}
 use Rattle.grep_session.proofs.session.Session.drop_file.Goals as goal
 
 pub returns-clause-gives : goal.returns-clause-gives

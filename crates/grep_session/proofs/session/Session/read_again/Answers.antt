@@ -10,7 +10,8 @@ use Rattle.grep_session.proofs.lemmas.EditLemmas.{AreMatchers-same, asked_sessio
 use Rattle.grep_session.proofs.lemmas.AllPatternsRead.{refuses_again}
 use Rattle.grep_session.proofs.lemmas.ChangeLemmas.{anew_files}
 use Rattle.grep_session.proofs.lemmas.StepLemmas.{takes_lines}
-use Rattle.grep_session.proofs.lemmas.RoomLemmas.{keep_same, none_asked}
+use Rattle.re_search.proofs.lemmas.KeptMatchers.{none_asked}
+use Rattle.grep_session.proofs.lemmas.RoomLemmas.{keep_same}
 use Rattle.grep_session.proofs.session.Session.read_again.Goals as goal
 
 pub returns-in-Err-clause-gives : goal.returns-in-Err-clause-gives

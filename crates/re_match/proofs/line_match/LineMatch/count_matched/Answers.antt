@@ -28,6 +28,7 @@ lines-preserved g c =
       counts = next;
       same_expression = c.next_matched.ensures.same_expression ∙ i.same_expression;
       same_whole = c.next_matched.ensures.same_whole ∙ i.same_whole;
+      same_room = c.next_matched.ensures.same_room ∙ i.same_room;
       steps = adds_within (length block - length rest + (at.end + 1)) (length block - length (drop (at.end + 1) rest)) _ _ few
           (adds_both (length block - length rest) (at.end + 1) _ _ _ i.steps c.in-Some.ensures.steps);
     }

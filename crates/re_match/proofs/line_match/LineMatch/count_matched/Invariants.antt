@@ -11,6 +11,7 @@ invariant-lines g l = record {
   counts : CountsTo (λ (line : Text). Matches (g.Self.LineMatch.expression l.fn.self) line (g.Self.LineMatch.whole l.fn.self)) l.block l.rest l.count;
   same_expression : g.Self.LineMatch.expression l.self ≡ g.Self.LineMatch.expression l.fn.self;
   same_whole : g.Self.LineMatch.whole l.self ≡ g.Self.LineMatch.whole l.fn.self;
+  same_room : g.Self.LineMatch.room l.self ≡ g.Self.LineMatch.room l.fn.self;
   steps : AddsAtMost (length l.block - length l.rest) l.fn.meter l.meter;
 }
 

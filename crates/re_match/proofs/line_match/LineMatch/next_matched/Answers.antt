@@ -29,5 +29,6 @@ lines-preserved g c =
           (rw (← i.same_expression, ← i.same_whole) (λ holds. false≢true (c.if-is_match.ensures.reported.1 holds)));
       same_expression = c.is_match.ensures.same_expression ∙ i.same_expression;
       same_whole = c.is_match.ensures.same_whole ∙ i.same_whole;
+      same_room = c.is_match.ensures.same_room ∙ i.same_room;
       steps = adds_line start end _ _ _ _ cut.0 (long (λ (line : Text). Matches (g.Self.LineMatch.expression c.args.self.now) line (g.Self.LineMatch.whole c.args.self.now)) block start end cut i.passed) i.steps c.is_match.ensures.steps;
     }

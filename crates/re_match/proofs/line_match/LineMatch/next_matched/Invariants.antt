@@ -10,6 +10,7 @@ invariant-lines g l = record {
   passed : PassesUnmatched (g.Self.LineMatch.expression l.fn.self) (g.Self.LineMatch.whole l.fn.self) l.block l.start;
   same_expression : g.Self.LineMatch.expression l.self ≡ g.Self.LineMatch.expression l.fn.self;
   same_whole : g.Self.LineMatch.whole l.self ≡ g.Self.LineMatch.whole l.fn.self;
+  same_room : g.Self.LineMatch.room l.self ≡ g.Self.LineMatch.room l.fn.self;
   steps : AddsAtMost l.start l.fn.meter l.meter;
 }
 

@@ -20,7 +20,7 @@ loop-place-preserved g c =
     record {
       reported = none_more _ _ _ i _ _ (within whole old now ws i d h).1 (value_at whole old now ws i d h _) (one_more expression old now es i d h)
           c.loop-place.invariant.reported (λ m. false≢true (c.if-is_match.ensures.reported.1 m));
-      same_matchers = one_asked same i d _ c.is_match.ensures.same_expression c.is_match.ensures.same_whole;
+      same_matchers = one_asked same i d _ c.is_match.ensures.same_expression c.is_match.ensures.same_whole c.is_match.ensures.same_room;
       steps = steps_more i _ _ _ _ c.loop-place.invariant.steps c.is_match.ensures.steps;
     }
 
@@ -39,7 +39,7 @@ returns-then-is_match-clause-reported g c =
     (c.if-is_match.ensures.reported.0 refl)
 
 pub returns-then-is_match-clause-same_matchers : goal.returns-then-is_match-clause-same_matchers
-returns-then-is_match-clause-same_matchers g c = one_asked c.loop-place.invariant.same_matchers _ c.index-matchers-place.result _ c.is_match.ensures.same_expression c.is_match.ensures.same_whole
+returns-then-is_match-clause-same_matchers g c = one_asked c.loop-place.invariant.same_matchers _ c.index-matchers-place.result _ c.is_match.ensures.same_expression c.is_match.ensures.same_whole c.is_match.ensures.same_room
 
 pub returns-clause-reported : goal.returns-clause-reported
 returns-clause-reported g c =

@@ -8,7 +8,7 @@ abbrev pub invariant-lines : goal.invariant-lines
 invariant-lines g l = record {
   within : l.start ≤ length l.block;
   passed : PassesUnsought (record { expressions = map g.M.LineMatch.expression l.fn.matchers; whole = l.whole }) l.block l.start;
-  same_matchers : SameMatchers g.M.LineMatch.expression g.M.LineMatch.whole l.fn.matchers l.matchers;
+  same_matchers : SameMatchers g.M.LineMatch.expression g.M.LineMatch.whole g.M.LineMatch.room l.fn.matchers l.matchers;
   steps : AddsAtMost (length l.fn.matchers * l.start) l.fn.meter l.meter;
 }
 

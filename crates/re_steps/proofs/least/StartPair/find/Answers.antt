@@ -43,6 +43,7 @@ returns-then-is_settled-clause-steps c =
       built = steps.built;
       reused = steps.reused;
       sum = omega (arith, steps.sum, c.places.invariant.within);
+      refused = steps.refused;
     }
 
 pub returns-then-is_settled-clause-made : goal.returns-then-is_settled-clause-made

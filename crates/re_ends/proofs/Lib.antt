@@ -1,0 +1,2 @@
+-- lemmas by subject; the answers to goals of functions are in folders of their modules
+pub mod lemmas

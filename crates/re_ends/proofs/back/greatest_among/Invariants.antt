@@ -1,0 +1,10 @@
+use Rattle.std.proofs.Common.{ℕ, ◌*◌, ◌<◌, ◌≤◌, ◌⊎◌, get_or}
+use Rattle.std.specs.Prelude.{◌↔◌}
+use Rattle.re_auto.specs.Working.Bits.{Has}
+use Rattle.re_ends.proofs.back.greatest_among.Given as goal
+
+-- what is already found and what is left to see are together the whole
+abbrev pub invariant-words : goal.invariant-words
+invariant-words l =
+    (m : ℕ) → ((m < l.greatest) ⊎ ((r : ℕ) × (l.k * 64 ≤ r) × Has l.row r × (m < get_or l.ends r 0)))
+    ↔ ((m < l.fn.least) ⊎ ((r : ℕ) × Has l.row r × (m < get_or l.ends r 0)))

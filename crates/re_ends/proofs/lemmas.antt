@@ -1,0 +1,2 @@
+pub mod EndLaws
+pub mod FoundEnds

@@ -1,0 +1,2 @@
+pub mod GreatestEnds
+pub mod EndPairs

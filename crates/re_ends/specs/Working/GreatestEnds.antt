@@ -1,0 +1,50 @@
+-- Greatest ends: for each position, the greatest place at which a stretch can end that takes the
+-- byte at a place with it.
+use Rattle.std.specs.Prelude.{◌≡◌, ℕ, zero, suc, ◌+◌, ◌<◌, ◌≤◌, ◌↔◌, ◌⊎◌, Bool, List, length, slice_index}
+use Rattle.re_syntax.specs.Bytes.{Text}
+use Rattle.re_syntax.specs.Expression.{Expression}
+use Rattle.re_syntax.specs.Holds.{Holds}
+use Rattle.re_syntax.specs.Parts.{IsFound}
+use Rattle.re_auto.specs.Working.Positions.{Part, is_end, ByteAt}
+
+-- A stretch that takes the byte at place p with position q can take n bytes more and end there.
+abbrev pub Leads : Part → Text → ℕ → ℕ → ℕ → Type 0
+Leads part line p zero q = ByteAt (part.takes q) line p × part.last (is_end line (suc p)) q
+Leads part line p (suc n) q =
+    ByteAt (part.takes q) line p × ((r : ℕ) × part.follow q r × Leads part line (suc p) n r)
+
+-- it can end after place m
+abbrev pub LeadsPast : Part → Text → ℕ → ℕ → ℕ → Type 0
+LeadsPast part line p q m = (n : ℕ) × (m ≤ p + n) × Leads part line p n q
+
+-- Each position has the greatest end of the stretches that take the byte at place p with it: its
+-- number is greater than m exactly if one of them ends after m, so it is 0 where there is none.
+abbrev pub AreEndsAt : Part → Text → ℕ → List ℕ → Type 0
+AreEndsAt part line p ends = (q m : ℕ) → (m < slice_index ends q) ↔ LeadsPast part line p q m
+
+-- A step back over the byte c, from the ends at the place after it, which is `place`. `at_end` says
+-- that this is the line's last.
+abbrev pub IsStepBack : Part → ℕ → Bool → List ℕ → ℕ → List ℕ → Type 0
+IsStepBack part place at_end after c ends =
+    (q m : ℕ) →
+    (m < slice_index ends q) ↔
+    (part.takes q c
+    × ((m < place) × part.last at_end q
+    ⊎ ((r : ℕ) × part.follow q r × (m < slice_index after r))))
+
+-- a matched stretch that is not empty begins at i and ends after m
+abbrev pub MatchesPast : Expression → Text → ℕ → ℕ → Type 0
+MatchesPast e line i m =
+    (j : ℕ) × (m < j) × (i < j) × (j ≤ length line) × Holds line e i j
+
+-- some expression has a part that begins at i, wherever the search began, and ends after m
+abbrev pub FoundPast : List Expression → Text → Bool → ℕ → ℕ → Type 0
+FoundPast es line whole i m = (j : ℕ) × (m < j) × IsFound es line whole 0 i j
+
+-- each place of the line has the greatest of the end that it had and those of the matched stretches
+-- that begin there
+abbrev pub AddsEnds : (ℕ → ℕ → Type 0) → Text → List ℕ → List ℕ → Type 0
+AddsEnds Past line old new =
+    (length new ≡ length line) ×
+    ((i m : ℕ) → i < length line →
+    (m < slice_index new i) ↔ ((m < slice_index old i) ⊎ Past i m))

@@ -1,0 +1,176 @@
+-- The search for the parts of one line: the ends of its parts, and the steps.
+use Rattle.std.proofs.Common.{◌≡◌, ℕ, ◌+◌, ◌-◌, ◌*◌, ◌<◌, ◌≤◌, min, inl, inr, Bool, true, false, List, [], ◌∷◌, ◌++◌, length, take, get_or, if◌then◌else◌, refl, sym, ap, ◌∙◌, subst, arith}
+use Rattle.std.specs.Prelude.{◌↔◌, slice_index, IsTrue}
+use Rattle.std.proofs.lemmas.Bool.{cases_lt, false≢true}
+use Rattle.std.proofs.Math.Nat.{mul-le-mul_left, mul-le-mul_right}
+use Rattle.std.proofs.Math.ListN.{replicate}
+use Rattle.std.proofs.lemmas.List.{get_or-replicate, get_or_past, length-replicate}
+use Rattle.re_syntax.specs.Bytes.{Text}
+use Rattle.re_syntax.specs.Expression.{Expression}
+use Rattle.re_syntax.specs.Parts.{IsFound, IsPart}
+use Rattle.re_auto.specs.Meters.{Steps, with_refusal}
+use Rattle.re_auto.specs.Searching.{AddsAtMost, AllAnswer}
+use Rattle.re_ends.specs.Working.GreatestEnds.{FoundPast, AddsEnds}
+use Rattle.re_ends.proofs.lemmas.FoundEnds.{adds_both_ends, both_past}
+use Rattle.re_search.specs.declared.course.Course.{Course}
+use Rattle.re_search.specs.declared.course.Known.{Known}
+use Rattle.re_search.specs.declared.course.Known.TheVariants.{Nothing, Ends, Refused}
+use Rattle.re_search.specs.Working.Sought.{Sought}
+use Rattle.re_search.specs.Working.Courses.{AreEnds, HasTaken, IsReady, passes, passes_before}
+use Rattle.re_search.proofs.lemmas.OneMatcherMore.{answer_of}
+
+module _ (sought : Sought) (line : Text) (ends : List ℕ) (from start : ℕ) (are : AreEnds sought line ends) (passed : (i : ℕ) → from ≤ i → i < start → get_or ends i 0 ≡ 0) where
+  -- what is found begins at no place that was passed
+  not_before : (k l : ℕ) → IsFound sought.expressions line sought.whole from k l → start ≤ k
+  not_before k l f =
+      elim (cases_lt k start) [
+        | inl lt ↦
+            let inside : k < length line = omega (arith, f.not_empty, f.on_line) in
+            let some = (are.1 k (l - 1) inside).1 (l, omega (arith, f.not_empty), record { begins = omega arith; not_empty = f.not_empty; on_line = f.on_line; is_whole = f.is_whole; holds = f.holds }) in
+            let none = passed k f.begins lt in
+            absurd (omega (arith, some, none))
+        | inr ge ↦ ge
+      ]
+
+  -- no part is left
+  pub none_from : length ends ≤ start → (i j : ℕ) → IsFound sought.expressions line sought.whole from i j → ⊥
+  none_from all i j f = let ge = not_before i j f in omega (arith, all, are.0, ge, f.not_empty, f.on_line)
+
+  -- the first place that has an end begins the next part
+  pub first_from : from ≤ start → start < length ends → 0 < get_or ends start 0 → IsPart sought.expressions line sought.whole from start (get_or ends start 0)
+  first_from low lt some = record { found = found; earliest = λ k l f. not_before k l f; longest = λ l f. at_most l f.begins f }
+    where
+      inside : start < length line
+      inside = omega (arith, lt, are.0)
+
+      at_most : (l : ℕ) → from ≤ start → IsFound sought.expressions line sought.whole from start l → l ≤ get_or ends start 0
+      at_most l ge f =
+          let past = (are.1 start (l - 1) inside).1 (l, omega (arith, f.not_empty), record { begins = omega arith; not_empty = f.not_empty; on_line = f.on_line; is_whole = f.is_whole; holds = f.holds }) in
+          omega (arith, past, f.not_empty)
+
+      found : IsFound sought.expressions line sought.whole from start (get_or ends start 0)
+      found =
+          let (j, past, f) = (are.1 start (get_or ends start 0 - 1) inside).0 (omega (arith, some)) in
+          let again : IsFound sought.expressions line sought.whole from start j = record { begins = low; not_empty = f.not_empty; on_line = f.on_line; is_whole = f.is_whole; holds = f.holds } in
+          let le = at_most j low again in
+          let same : j ≡ get_or ends start 0 = omega (arith, past, le, some) in
+          subst (IsFound sought.expressions line sought.whole from start) same again
+
+-- what is added to no ends are all of them
+pub ends_of_zeros : (P : ℕ → ℕ → Type 0) (line : Text) (old new : List ℕ) → ((i : ℕ) → get_or old i 0 ≡ 0) → AddsEnds P line old new → (length new ≡ length line) × ((i m : ℕ) → i < length line → (m < slice_index new i) ↔ P i m)
+ends_of_zeros P line old new zeros adds = (
+  adds.0,
+  λ i m lt. (
+    λ h. elim ((adds.1 i m lt).0 h) [ inl o ↦ absurd (let none = zeros i in omega (arith, o, none)) | inr p ↦ p ],
+    λ p. (adds.1 i m lt).1 (inr p),
+  ),
+)
+
+-- the ends of one matcher more
+pub ends_more : (es : List Expression) (wholes : List Bool) (line : Text) (i : ℕ) (e : Expression) (w whole : Bool) (old mid new : List ℕ) → i < length wholes → get_or wholes i w ≡ w → take (i + 1) es ≡ take i es ++ e ∷ [] → AllAnswer whole wholes →
+    AddsEnds (FoundPast (take i es) line whole) line old mid → AddsEnds (FoundPast (e ∷ []) line w) line mid new → AddsEnds (FoundPast (take (i + 1) es) line whole) line old new
+ends_more es wholes line i e w whole old mid new h at next all first more =
+    let answer = answer_of whole w wholes i h at all in
+    subst (λ fs. AddsEnds (FoundPast fs line whole) line old new) (sym next)
+    (adds_both_ends (FoundPast (take i es) line whole) (FoundPast (e ∷ []) line whole) (FoundPast (take i es ++ e ∷ []) line whole) line old mid new (both_past (take i es) (e ∷ []) line whole) first (subst (λ v. AddsEnds (FoundPast (e ∷ []) line v) line mid new) answer more))
+
+-- at most so many steps are at most more
+within : (a b cost : ℕ) (old new : Steps) → a ≤ b → AddsAtMost (a * cost) old new → AddsAtMost (b * cost) old new
+within a b cost old new le few = let more = mul-le-mul_right cost le in record { built = few.built; reused = few.reused; sum = omega (arith, few.sum, more); refused = few.refused }
+
+-- and one search more
+one_more : (a cost most : ℕ) (old mid new : Steps) → most ≤ cost → AddsAtMost (a * cost) old mid → AddsAtMost most mid new → AddsAtMost ((a + 1) * cost) old new
+one_more a cost most old mid new le few next = let sum : (a + 1) * cost ≡ a * cost + cost = omega arith in record { built = omega (arith, few.built, next.built); reused = omega (arith, few.reused, next.reused); sum = omega (arith, few.sum, next.sum, le, sum); refused = λ h. next.refused (few.refused h) }
+
+module _ (cost : ℕ) (first : Steps) (times : ℕ) (course : Course) (now : Steps) where
+  -- the pass isn't due: the next part can be searched
+  pub not_due : (course.known ≡ Nothing → now.built + now.reused ≤ course.begun + 2 * cost) → HasTaken cost first times course now → IsReady cost first times course now
+  not_due cheap taken = record { begun = taken.begun; few = go course.known cheap taken.few; refused = taken.refused }
+    where
+      least : (t : ℕ) → AddsAtMost (min t 3 * cost) first now → now.built + now.reused ≤ course.begun + 2 * cost → AddsAtMost (min t 2 * cost) first now
+      least t few spent =
+          elim (cases_lt t 2) [
+            | inl lt ↦ let same : min t 3 ≡ min t 2 = omega (arith, lt) in subst (λ k. AddsAtMost (k * cost) first now) same few
+            | inr ge ↦
+                let two : min t 2 * cost ≡ 2 * cost = (let is : min t 2 ≡ 2 = omega (arith, ge) in ap (λ k. k * cost) is) in
+                record { built = few.built; reused = few.reused; sum = omega (arith, spent, taken.begun, two); refused = few.refused }
+          ]
+
+      go : (known : Known) → (known ≡ Nothing → now.built + now.reused ≤ course.begun + 2 * cost) → AddsAtMost (passes known times * cost) first now → AddsAtMost (passes_before known times * cost) first now
+      go Nothing cheap few = least times few (cheap refl)
+      go (Ends ends) cheap few = within (min times 4) (min (times + 1) 4) cost first now (omega arith) few
+      go Refused cheap few = few
+
+-- the pass was made
+pub learned : (cost : ℕ) (first : Steps) (times : ℕ) (old new : Course) (mid now : Steps) → old.known ≡ Nothing → new.begun ≡ old.begun → (ends : _) → new.known ≡ Ends ends → HasTaken cost first times old mid → AddsAtMost cost mid now → IsReady cost first times new now
+learned cost first times old new mid now nothing same ends is taken more = record {
+  begun = same ∙ taken.begun;
+  few =
+      subst (λ k. AddsAtMost (passes_before k times * cost) first now) (sym is)
+      (within (min times 3 + 1) (min (times + 1) 4) cost first now (omega arith) (one_more (min times 3) cost cost first mid now (omega arith) (subst (λ k. AddsAtMost (passes k times * cost) first mid) nothing taken.few) more));
+  refused = λ no. absurd (not_both ends (sym is ∙ no));
+}
+  where
+    not_both : (ends : _) → Ends ends ≡ Refused → ⊥
+    not_both ends e = cc
+
+-- memory for the pass was refused
+pub refused : (cost : ℕ) (first : Steps) (times : ℕ) (old new : Course) (mid now : Steps) → old.known ≡ Nothing → new.begun ≡ old.begun → new.known ≡ Refused → HasTaken cost first times old mid → now ≡ with_refusal mid → IsReady cost first times new now
+refused cost first times old new mid now nothing same is taken noted = record {
+  begun = same ∙ taken.begun;
+  few =
+      let few = subst (λ k. AddsAtMost (passes k times * cost) first mid) nothing taken.few in
+      let more : AddsAtMost (min times 3 * cost) first (with_refusal mid) = record { built = few.built; reused = few.reused; sum = few.sum; refused = λ h. refl } in
+      subst (λ k. AddsAtMost (passes_before k times * cost) first now) (sym is) (within (min times 3) times cost first now (omega arith) (subst (AddsAtMost (min times 3 * cost) first) (sym noted) more));
+  refused = λ h. subst (λ (s : Steps). IsTrue s.refused) (sym noted) refl;
+}
+
+module _ (matchers place long : ℕ) (first : Steps) (times : ℕ) (course : Course) (mid now : Steps) (ready : IsReady (matchers * (long + 1)) first times course mid) (more : AddsAtMost (matchers * (long - place + 1)) mid now) where
+  abbrev pub cost : ℕ
+  cost = matchers * (long + 1)
+
+  few : matchers * (long - place + 1) ≤ cost
+  few = mul-le-mul_left matchers (omega arith)
+
+  -- the next part was searched, since its end isn't known
+  pub searched : ((ends : _) → course.known ≡ Ends ends → ⊥) → HasTaken cost first (times + 1) course now
+  searched unknown = record { begun = ready.begun; few = go course.known refl ready.few; refused = λ e. more.refused (ready.refused e) }
+    where
+      go : (known : Known) → course.known ≡ known → AddsAtMost (passes_before known times * cost) first mid → AddsAtMost (passes known (times + 1) * cost) first now
+      go Nothing is spent = within (min times 2 + 1) (min (times + 1) 3) cost first now (omega arith) (one_more (min times 2) cost _ first mid now few spent more)
+      go (Ends ends) is spent = absurd (unknown ends is)
+      go Refused is spent = one_more times cost _ first mid now few spent more
+
+-- the next part was known
+pub looked_up : (cost : ℕ) (first : Steps) (times : ℕ) (course : Course) (now : Steps) → (ends : _) → course.known ≡ Ends ends → IsReady cost first times course now → HasTaken cost first (times + 1) course now
+looked_up cost first times course now ends is ready = record { begun = ready.begun; few = subst (λ k. AddsAtMost (passes k (times + 1) * cost) first now) (sym is) (subst (λ k. AddsAtMost (passes_before k times * cost) first now) is ready.few); refused = ready.refused }
+
+-- a list of zeros has no other number
+pub zero_at : (n i : ℕ) → ◌≡◌ {A = ℕ} (get_or (replicate n 0) i 0) 0
+zero_at n i = elim (cases_lt i n) [ inl lt ↦ get_or-replicate n i 0 0 lt | inr ge ↦ get_or_past (replicate n 0) i 0 (let long = length-replicate {A = ℕ} n 0 in omega (arith, long, ge)) ]
+
+-- the first part was not asked for yet
+pub course_begins : (cost : ℕ) (course : Course) (now : Steps) → course.begun ≡ now.built + now.reused → course.known ≡ Nothing → HasTaken cost now 0 course now
+course_begins cost course now begun nothing = record {
+  begun = begun;
+  few = record { built = omega arith; reused = omega arith; sum = omega arith; refused = λ h. h };
+  refused = λ no. absurd (not_both (sym nothing ∙ no));
+}
+  where
+    not_both : Nothing ≡ Refused → ⊥
+    not_both e = cc
+
+-- at most four searches of the line, unless memory was refused
+pub few_searches : (cost : ℕ) (first : Steps) (times : ℕ) (course : Course) (now : Steps) → HasTaken cost first times course now → (refused : Bool) → (IsTrue now.refused → IsTrue refused) → AddsAtMost ((if refused then times else min times 4) * cost) first now
+few_searches cost first times course now taken true later = within (passes course.known times) times cost first now (most course.known) taken.few
+  where
+    most : (known : Known) → passes known times ≤ times
+    most Nothing = omega arith
+    most (Ends ends) = omega arith
+    most Refused = omega arith
+few_searches cost first times course now taken false later = within (passes course.known times) (min times 4) cost first now (few course.known refl) taken.few
+  where
+    few : (known : Known) → course.known ≡ known → passes known times ≤ min times 4
+    few Nothing e = omega arith
+    few (Ends ends) e = omega arith
+    few Refused e = absurd (false≢true (later (taken.refused e)))

@@ -1,0 +1,53 @@
+-- The search for the parts of one line: what it knows of the line, and how many steps it took.
+use Rattle.std.specs.Prelude.{◌≡◌, ⊤, IsTrue, ℕ, ◌+◌, ◌*◌, ◌<◌, ◌↔◌, List, min, length, slice_index}
+use Rattle.re_syntax.specs.Bytes.{Text}
+use Rattle.re_auto.specs.Meters.{Steps}
+use Rattle.re_auto.specs.Searching.{AddsAtMost}
+use Rattle.re_ends.specs.Working.GreatestEnds.{FoundPast}
+use Rattle.re_search.specs.declared.course.Course.{Course}
+use Rattle.re_search.specs.declared.course.Known.{Known}
+use Rattle.re_search.specs.declared.course.Known.TheVariants.{Nothing, Ends, Refused}
+use Rattle.re_search.specs.Working.Sought.{Sought}
+
+-- each place of the line has the greatest end of the parts that begin there, or 0
+abbrev pub AreEnds : Sought → Text → List ℕ → Type 0
+AreEnds sought line ends =
+    (length ends ≡ length line) ×
+    ((i m : ℕ) → i < length line →
+    (m < slice_index ends i) ↔ FoundPast sought.expressions line sought.whole i m)
+
+-- what is known of the line is right
+abbrev pub IsRightOf : Sought → Text → Known → Type 0
+IsRightOf sought line Nothing = ⊤
+IsRightOf sought line (Ends ends) = AreEnds sought line ends.items
+IsRightOf sought line Refused = ⊤
+
+-- How many searches of the whole line are as dear as this number of searches for a part: no more
+-- than three before the pass that finds all ends, which is one more. Where memory for the ends was
+-- refused, each search for a part may be one, and the meter says so.
+abbrev pub passes : Known → ℕ → ℕ
+passes Nothing times = min times 3
+passes (Ends ends) times = min times 4
+passes Refused times = times
+
+-- these steps were taken since the first part was asked for, by so many searches for a part, where
+-- a search of the whole line takes `line_cost` steps
+pub record HasTaken (line_cost : ℕ) (first : Steps) (times : ℕ) (course : Course)
+    (now : Steps) : Type 0 where
+  pub begun : course.begun ≡ first.built + first.reused
+  pub few : AddsAtMost (passes course.known times * line_cost) first now
+  pub refused : course.known ≡ Refused → IsTrue now.refused
+
+-- the same before the next search for a part, which may search the line once more if its ends
+-- aren't known
+abbrev pub passes_before : Known → ℕ → ℕ
+passes_before Nothing times = min times 2
+passes_before (Ends ends) times = min (times + 1) 4
+passes_before Refused times = times
+
+-- the next part can be searched in the same course
+pub record IsReady (line_cost : ℕ) (first : Steps) (times : ℕ) (course : Course)
+    (now : Steps) : Type 0 where
+  pub begun : course.begun ≡ first.built + first.reused
+  pub few : AddsAtMost (passes_before course.known times * line_cost) first now
+  pub refused : course.known ≡ Refused → IsTrue now.refused

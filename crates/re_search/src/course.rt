@@ -1,0 +1,88 @@
+//! The search for the parts of one line, from the first to the last.
+ghost use Rattle.std.specs.Prelude.{◌≡◌, ℕ, ◌+◌, ◌*◌, ◌≤◌, true, false, length};
+ghost use Rattle.re_syntax.specs.Bytes.{Text};
+ghost use Rattle.re_auto.specs.Searching.{FindsPart};
+ghost use Rattle.re_search.specs.declared.course.Known.TheVariants.{Nothing};
+ghost use Rattle.re_search.specs.Working.Courses.{AreEnds};
+ghost use Rattle.re_search.specs.Working.Sought.{Sought};
+
+use re_auto::Meter;
+use re_syntax::Span;
+use std::alloc::Global;
+
+/// How the search for the parts of one line goes: the steps that were counted before it, and what
+/// it knows of the line.
+#[derive(Drop)]
+pub struct Course {
+    pub(crate) alloc: Global,
+    pub(crate) begun: u128,
+    pub(crate) known: Known,
+}
+
+/// What is known of the parts of a line.
+#[derive(Drop)]
+pub enum Known {
+    /// Nothing.
+    Nothing,
+    /// For each place the greatest end of the parts that begin there, or 0 if none begins there.
+    Ends(Vec<usize>),
+    /// Nothing, and there is no memory for more.
+    Refused,
+}
+
+impl Course {
+    /// Nothing is known of the line, and no part is searched yet. No memory is taken.
+    pub fn new(alloc: Global, meter: &Meter) -> Course
+        ensures begun { result.begun ≡ meter.now.built + meter.now.reused }
+        ensures known { result.known ≡ Nothing }
+    {
+        Course {
+            alloc,
+            begun: sum(meter),
+            known: Known::Nothing,
+        }
+    }
+
+    /// Whether nothing is known of the line, and by now more steps were taken than `count` matchers
+    /// take to search it twice. Searches that each read one byte beyond their part don't.
+    pub(crate) fn is_pass_due(&self, count: usize, line: &[u8], meter: &Meter) -> bool
+        ensures due { result ≡ true → self.now.known ≡ Nothing }
+        ensures not_due { result ≡ false → self.now.known ≡ Nothing →
+            meter.now.built + meter.now.reused ≤ self.now.begun + 2 * (count * (length line.now + 1)) }
+    {
+        match self.known {
+            Known::Nothing => (),
+            Known::Ends(_) => return false,
+            Known::Refused => return false,
+        }
+        let cost = count as u128 * (line.len() as u128 + 1);
+        self.begun.saturating_add(2 * cost) < sum(meter)
+    }
+}
+
+/// The steps of both kinds that were counted.
+fn sum(meter: &Meter) -> u128
+    ensures { result ≡ meter.now.built + meter.now.reused }
+{
+    meter.built() as u128 + meter.reused() as u128
+}
+
+/// The first part from a place on, by the greatest ends of the parts that begin at each place.
+#[inline(never)]
+pub fn part_from(ends: &[usize], from: usize) -> Option<Span>
+    requires { from ≤ length ends.now }
+    ensures { (sought : Sought) (line : Text) → AreEnds sought line ends.now →
+        FindsPart sought.expressions line sought.whole from result }
+{
+    let mut start = from;
+    'places: while start < ends.len() {
+        if ends[start] > 0 {
+            return Some(Span {
+                start,
+                end: ends[start],
+            });
+        }
+        start += 1;
+    }
+    None
+}

@@ -1,0 +1,160 @@
+//! The parts of a line, one after another, in at most four searches of the line.
+ghost use Rattle.std.specs.Prelude.{◌≡◌, ℕ, ◌+◌, ◌*◌, ◌≤◌, length, map};
+ghost use Rattle.re_auto.specs.Meters.{Steps};
+ghost use Rattle.re_auto.specs.Searching.{AddsAtMost, AllAnswer, FindsPart, SameMatchers};
+ghost use Rattle.re_ends.specs.Working.GreatestEnds.{AddsEnds, FoundPast};
+ghost use Rattle.re_search.specs.declared.course.Known.TheVariants.{Nothing};
+ghost use Rattle.re_search.specs.Working.Asking.{SameSearchers, asks_whole, expressions_by};
+ghost use Rattle.re_search.specs.Working.Asking.{sought_by};
+ghost use Rattle.re_search.specs.Working.Sought.{Sought};
+ghost use Rattle.re_search.specs.Working.Courses.{IsRightOf, IsReady, HasTaken};
+
+use crate::course::{Course, Known, part_from};
+use crate::searchers::Searchers;
+use crate::several::parts;
+use re_auto::Meter;
+use re_match::LineMatch;
+use re_syntax::Span;
+
+impl<'a, 'f, M: LineMatch> Searchers<'a, 'f, M> {
+    /// The course of a search for the parts of one line, before the first. No memory is taken.
+    pub fn course(&self, meter: &Meter) -> Course
+        ensures begun { result.begun ≡ meter.now.built + meter.now.reused }
+        ensures known { result.known ≡ Nothing }
+    {
+        Course::new(self.alloc, meter)
+    }
+
+    /// The next part of the line: of all stretches that are not empty, begin at `from` or later and
+    /// are matched by some matcher, the one that begins earliest, and of those that begin there the
+    /// longest (XBD 9.1). The course is the one with which the parts before were searched. All parts
+    /// of a line take at most four searches of it, however many they are, unless memory for what is
+    /// learned of the line is refused. The parts are the same then, and the meter notes it.
+    pub fn next_part(
+        &mut self,
+        line: &[u8],
+        from: usize,
+        course: &mut Course,
+        meter: &mut Meter,
+    ) -> Option<Span>
+        requires within { from ≤ length line.now }
+        requires right { IsRightOf (sought_by M.expression self.old) line.now course.old.known }
+        ensures reported { FindsPart (expressions_by M.expression self.old) line.now
+            (asks_whole self.old) from result }
+        ensures same { SameSearchers M.expression M.whole M.room self.old self.new }
+        ensures right { IsRightOf (sought_by M.expression self.old) line.now course.new.known }
+        ensures steps { (first : Steps) (times : ℕ) →
+            HasTaken (length (expressions_by M.expression self.old) * (length line.now + 1)) first
+            times course.old meter.old
+            → HasTaken (length (expressions_by M.expression self.old) * (length line.now + 1)) first
+            (times + 1) course.new meter.new }
+    {
+        next_part(self.matchers, self.whole, line, from, course, meter)
+    }
+}
+
+/// The next part of the line, by matchers that all give this answer to whether the whole line has
+/// to be matched: like [`Searchers::next_part`].
+pub fn next_part<M: LineMatch>(
+    matchers: &mut [M],
+    whole: bool,
+    line: &[u8],
+    from: usize,
+    course: &mut Course,
+    meter: &mut Meter,
+) -> Option<Span>
+    requires within { from ≤ length line.now }
+    requires alike { AllAnswer whole (map M.whole matchers.old) }
+    requires right { IsRightOf
+        (record { expressions = map M.expression matchers.old; whole = whole }) line.now
+        course.old.known }
+    ensures reported { FindsPart (map M.expression matchers.old) line.now whole from result }
+    ensures same_matchers { SameMatchers M.expression M.whole M.room matchers.old matchers.new }
+    ensures right { IsRightOf
+        (record { expressions = map M.expression matchers.old; whole = whole }) line.now
+        course.new.known }
+    ensures steps { (first : Steps) (times : ℕ) →
+        HasTaken (length matchers.old * (length line.now + 1)) first times course.old meter.old
+        → HasTaken (length matchers.old * (length line.now + 1)) first (times + 1) course.new
+        meter.new }
+{
+    prepare(matchers, whole, line, course, meter);
+    if let Known::Ends(ends) = &course.known {
+        return part_from(ends, from);
+    }
+    parts(matchers, line, from, meter)
+}
+
+// Learns the ends of all parts of the line, if the search for them takes too long otherwise.
+fn prepare<M: LineMatch>(
+    matchers: &mut [M],
+    whole: bool,
+    line: &[u8],
+    course: &mut Course,
+    meter: &mut Meter,
+)
+    requires alike { AllAnswer whole (map M.whole matchers.old) }
+    requires right { IsRightOf
+        (record { expressions = map M.expression matchers.old; whole = whole }) line.now
+        course.old.known }
+    ensures same_matchers { SameMatchers M.expression M.whole M.room matchers.old matchers.new }
+    ensures right { IsRightOf
+        (record { expressions = map M.expression matchers.old; whole = whole }) line.now
+        course.new.known }
+    ensures steps { (first : Steps) (times : ℕ) →
+        HasTaken (length matchers.old * (length line.now + 1)) first times course.old meter.old
+        → IsReady (length matchers.old * (length line.now + 1)) first times course.new meter.new }
+{
+    if !course.is_pass_due(matchers.len(), line, meter) {
+        return;
+    }
+    learn(matchers, whole, line, course, meter);
+}
+
+// Learns the ends of all parts of the line, if there is memory for them.
+#[inline(never)]
+fn learn<M: LineMatch>(
+    matchers: &mut [M],
+    whole: bool,
+    line: &[u8],
+    course: &mut Course,
+    meter: &mut Meter,
+)
+    requires alike { AllAnswer whole (map M.whole matchers.old) }
+    requires nothing { course.old.known ≡ Nothing }
+    ensures same_matchers { SameMatchers M.expression M.whole M.room matchers.old matchers.new }
+    ensures right { IsRightOf
+        (record { expressions = map M.expression matchers.old; whole = whole }) line.now
+        course.new.known }
+    ensures steps { (first : Steps) (times : ℕ) →
+        HasTaken (length matchers.old * (length line.now + 1)) first times course.old meter.old
+        → IsReady (length matchers.old * (length line.now + 1)) first times course.new meter.new }
+{
+    let Ok(mut ends) = vec![in course.alloc; 0usize; line.len()] else {
+        meter.note_refusal();
+        course.known = Known::Refused;
+        return;
+    };
+    add_all_ends(matchers, whole, line, &mut ends, meter);
+    course.known = Known::Ends(ends);
+}
+
+// Gives each place of the line the greatest end of the parts that begin there.
+fn add_all_ends<M: LineMatch>(
+    matchers: &mut [M],
+    whole: bool,
+    line: &[u8],
+    ends: &mut [usize],
+    meter: &mut Meter,
+)
+    requires alike { AllAnswer whole (map M.whole matchers.old) }
+    requires room { length ends.old ≡ length line.now }
+    ensures added { AddsEnds (FoundPast (map M.expression matchers.old) line.now whole) line.now
+        ends.old ends.new }
+    ensures same_matchers { SameMatchers M.expression M.whole M.room matchers.old matchers.new }
+    ensures steps { AddsAtMost (length matchers.old * (length line.now + 1)) meter.old meter.new }
+{
+    for matcher in matchers.iter_mut() {
+        matcher.add_ends(line, ends, meter);
+    }
+}
