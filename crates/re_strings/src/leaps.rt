@@ -11,9 +11,9 @@ use std::alloc::{AllocError, Global};
 // The longest window, even if all strings are longer.
 const MOST_WINDOW: usize = 16;
 
-/// What is known of pairs of bytes. The window at a place of a line is as long as the shortest
-/// string. If the strings have its last two bytes only near their beginning, or not at all, then no
-/// string begins at its first places.
+/// What is known of pairs of bytes. The window at a place of a line is no longer than any string. If
+/// the strings have its last two bytes only near their beginning, or not at all, then no string
+/// begins at its first places.
 #[derive(Drop)]
 pub struct Leaps {
     /// The length of the window.
@@ -25,9 +25,54 @@ pub struct Leaps {
 
 impl Leaps {
     /// The first place, `place` or later, where a string may begin; the line's end if there is
-    /// none.
+    /// none. `fronts` has a window of two bytes, so it knows with which pairs strings begin.
     #[inline(always)]
-    pub fn leap(&self, line: &[u8], place: usize, fold: bool) -> usize
+    pub fn leap(&self, fronts: &Leaps, line: &[u8], place: usize, fold: bool) -> usize
+        requires leaps { IsLeaps self.now }
+        requires pair { 2 ≤ self.now.window }
+        requires fronts { IsLeaps fronts.now }
+        requires two { fronts.now.window ≡ 2 }
+        requires within { place ≤ length line.now }
+        ensures within { (place ≤ result) × (result ≤ length line.now) }
+        ensures none { (strings : List Text) → AreLeapsOf strings self.now →
+            AreLeapsOf strings fronts.now → NoneBegins strings (keys fold line.now) place result }
+    {
+        let mut at = self.stride(line, place, fold);
+        'windows: while line.len() - at >= self.window {
+            let shift = self.near_shift(fronts, line, at, fold);
+            if shift == 0 {
+                return at;
+            }
+            at = self.stride(line, at + shift, fold);
+        }
+        line.len()
+    }
+
+    // At how many places from this one on no string begins, by the last two bytes of the window
+    // there, or else by its first two.
+    #[inline(always)]
+    fn near_shift(&self, fronts: &Leaps, line: &[u8], at: usize, fold: bool) -> usize
+        requires leaps { IsLeaps self.now }
+        requires pair { 2 ≤ self.now.window }
+        requires fronts { IsLeaps fronts.now }
+        requires two { fronts.now.window ≡ 2 }
+        requires within { at + self.now.window ≤ length line.now }
+        ensures short { result < self.now.window }
+        ensures none { (strings : List Text) → AreLeapsOf strings self.now →
+            AreLeapsOf strings fronts.now → NoneBegins strings (keys fold line.now) at (at + result) }
+    {
+        let shift = self.shift(line, at, fold);
+        if shift > 0 {
+            return shift;
+        }
+        fronts.shift(line, at, fold)
+    }
+
+    // Makes longest leaps, up to a window that allows none, or to where there is no room for one.
+    // Since all are as long, the processor reads the next window before it knows what this one
+    // allows.
+    #[inline(always)]
+    fn stride(&self, line: &[u8], place: usize, fold: bool) -> usize
         requires leaps { IsLeaps self.now }
         requires pair { 2 ≤ self.now.window }
         requires within { place ≤ length line.now }
@@ -35,35 +80,15 @@ impl Leaps {
         ensures none { (strings : List Text) → AreLeapsOf strings self.now →
             NoneBegins strings (keys fold line.now) place result }
     {
+        let longest = self.window - 1;
         let mut at = place;
         'windows: while line.len() - at >= self.window {
-            let shift = self.far_shift(line, at, fold);
-            if shift == 0 {
+            if self.shift(line, at, fold) < longest {
                 return at;
             }
-            at += shift;
+            at += longest;
         }
-        line.len()
-    }
-
-    // At how many places from this one on no string begins, by the window there and the one after
-    // the longest leap. Both are read at once, so that the second need not wait for the first.
-    #[inline(always)]
-    fn far_shift(&self, line: &[u8], at: usize, fold: bool) -> usize
-        requires leaps { IsLeaps self.now }
-        requires pair { 2 ≤ self.now.window }
-        requires within { at + self.now.window ≤ length line.now }
-        ensures short { at + result ≤ length line.now }
-        ensures none { (strings : List Text) → AreLeapsOf strings self.now →
-            NoneBegins strings (keys fold line.now) at (at + result) }
-    {
-        let longest = self.window - 1;
-        let first = self.shift(line, at, fold);
-        if line.len() - at < longest + self.window {
-            return first;
-        }
-        let second = self.shift(line, at + longest, fold);
-        both_shifts(first, second, longest)
+        at
     }
 
     // At how many places from this one on no string begins, by the window there.
@@ -83,26 +108,15 @@ impl Leaps {
     }
 }
 
-// The leap, and if it is a longest one, the next leap too.
-#[inline(always)]
-fn both_shifts(first: usize, second: usize, longest: usize) -> usize
-    requires few { first + second < 2 ^ 64 }
-    ensures first { first < longest → result ≡ first }
-    ensures both { longest ≤ first → result ≡ first + second }
-{
-    if first < longest {
-        first
-    } else {
-        first + second
-    }
-}
-
-/// What is known of the pairs of bytes of these strings.
-pub fn leaps_of(alloc: Global, strings: &[&[u8]]) -> Result<Leaps, AllocError>
+/// What is known of the pairs of bytes of these strings, in windows of this length.
+pub fn leaps_of(alloc: Global, strings: &[&[u8]], window: usize) -> Result<Leaps, AllocError>
+    requires few { window ≤ 16 }
+    requires long { (i : ℕ) → i < length strings.now →
+        window ≤ length (text_at (map (λ s. s.now) strings.now) i) }
     ensures leaps { IfOk result IsLeaps }
+    ensures window { IfOk result (λ l. l.window ≡ window) }
     ensures right { IfOk result (λ l. AreLeapsOf (map (λ s. s.now) strings.now) l) }
 {
-    let window = window_of(strings);
     let longest = window.saturating_sub(1) as u8;
     let mut shifts = all_alike(alloc, longest, 32_896)?;
     'strings: for place in 0..strings.len() {
@@ -120,8 +134,8 @@ fn all_alike(alloc: Global, shift: u8, rows: usize) -> Result<Vec<u8>, AllocErro
     vec![in alloc; shift; rows]
 }
 
-// The length of the shortest string, at most `MOST_WINDOW`.
-fn window_of(strings: &[&[u8]]) -> usize
+/// The length of the shortest string, at most `MOST_WINDOW`.
+pub fn window_of(strings: &[&[u8]]) -> usize
     ensures few { result ≤ 16 }
     ensures long { (i : ℕ) → i < length strings.now →
         result ≤ length (text_at (map (λ s. s.now) strings.now) i) }

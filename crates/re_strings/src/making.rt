@@ -6,7 +6,7 @@ ghost use Rattle.re_strings.specs.Working.FixedSets.{IsTable, IsTableOf, IsTrie,
 ghost use Rattle.re_strings.specs.Working.FixedSets.{Labels};
 
 use crate::growth::{Branch, grow};
-use crate::leaps::leaps_of;
+use crate::leaps::{leaps_of, window_of};
 use crate::links::{line_starts, links_of, starts_of};
 use crate::table::Table;
 use crate::trie::Trie;
@@ -38,7 +38,9 @@ pub fn table_of(alloc: Global, strings: &[&[u8]], fold: bool) -> Result<Table, A
     drop(owns);
     let starts = line_starts(alloc, &trie, plain, fold)?;
     let depths = depths_of(alloc, &trie)?;
-    let leaps = leaps_of(alloc, strings)?;
+    let window = window_of(strings);
+    let leaps = leaps_of(alloc, strings, window)?;
+    let fronts = leaps_of(alloc, strings, window.min(2))?;
     Ok(Table {
         trie,
         starts,
@@ -46,6 +48,7 @@ pub fn table_of(alloc: Global, strings: &[&[u8]], fold: bool) -> Result<Table, A
         depths,
         ends: links.ends,
         leaps,
+        fronts,
         fold,
     })
 }

@@ -29,6 +29,8 @@ pub struct Table {
     pub ends: Vec<u32>,
     /// How far a search may leap at the root.
     pub leaps: Leaps,
+    /// The same by the two bytes where it stands, with which some string may begin.
+    pub fronts: Leaps,
     /// Whether both cases of each letter of a line are alike; the strings are then in lower case.
     pub fold: bool,
 }
@@ -171,7 +173,7 @@ impl Table {
         if self.leaps.window < 2 {
             return first_start(&self.starts, line, place);
         }
-        self.leaps.leap(line, place, fold)
+        self.leaps.leap(&self.fronts, line, place, fold)
     }
 }
 

@@ -3,8 +3,6 @@ ghost use Rattle.std.specs.Prelude.{◌≡◌, ℕ, ◌+◌, ◌<◌, ◌≤◌,
 ghost use Rattle.std.specs.Prelude.{MatchOption, IfSome};
 ghost use Rattle.re_strings.specs.Working.FixedSets.{IsTrie, IsTrieOf, IsFront, Labels};
 
-use memchr::memchr;
-
 /// A tree whose nodes are the beginnings of some strings, shorter ones first. Each has the byte
 /// that it adds to its parent.
 #[derive(Drop)]
@@ -18,6 +16,7 @@ pub struct Trie {
 
 impl Trie {
     /// The child of the node for this byte.
+    // Nearly all nodes have few children, so a call of `memchr` costs more than this loop.
     #[inline]
     pub fn child(&self, node: usize, byte: u8) -> Option<usize>
         requires trie { IsTrie self.now.first.items self.now.bytes.items }
@@ -31,7 +30,11 @@ impl Trie {
     {
         let from = self.first[node] as usize;
         let to = self.first[node + 1] as usize;
-        let place = memchr(byte, &self.bytes[from..to])?;
-        Some(from + place)
+        'children: for child in from..to {
+            if self.bytes[child] == byte {
+                return Some(child);
+            }
+        }
+        None
     }
 }

@@ -140,6 +140,8 @@ pub record IsTable (t : Table) : Type 0 where
   pub depths : length t.depths.items ≡ length t.trie.bytes.items
   pub ends : length t.ends.items ≡ length t.trie.bytes.items
   pub leaps : IsLeaps t.leaps
+  pub fronts : IsLeaps t.fronts
+  pub pairs : 2 ≤ t.leaps.window → t.fronts.window ≡ 2
 
 -- the rows are right for the strings
 pub record IsTableOf (all : Labels) (t : Table) : Type 0 where
@@ -151,6 +153,7 @@ pub record IsTableOf (all : Labels) (t : Table) : Type 0 where
   pub ends : (n : ℕ) → n < length t.trie.bytes.items →
       EndsIn all.strings (all.label n) (slice_index t.ends.items n)
   pub leaps : AreLeapsOf all.strings t.leaps
+  pub fronts : AreLeapsOf all.strings t.fronts
 
 -- the node is the longest end of the line up to this place that a string begins with
 abbrev pub StandsAtNode : Labels → ℕ → Text → ℕ → ℕ → Type 0

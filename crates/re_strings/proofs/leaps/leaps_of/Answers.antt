@@ -18,8 +18,8 @@ pub shorten-requires-clause-long : goal.shorten-requires-clause-long
 shorten-requires-clause-long c =
     let read : text_at (map (λ s. s.now) c.args.strings.now) c.strings.place ≡ (get_or c.args.strings.now c.strings.place (record { ref_ptr = (0, 0); now = [] })).now =
     get_or-map (λ s. s.now) c.args.strings.now c.strings.place (record { ref_ptr = (0, 0); now = [] }) [] c.strings-test.true in
-    let long = c.window_of-window.ensures.long c.strings.place c.strings-test.true in
-    subst (λ (t : Text). c.window_of-window.result ≤ length t) read long
+    let long = c.requires.long c.strings.place c.strings-test.true in
+    subst (λ (t : Text). c.args.window ≤ length t) read long
 
 pub strings-preserved : goal.strings-preserved
 strings-preserved c =
@@ -37,8 +37,8 @@ strings-preserved c =
                 omega (arith, old, less)
             | inr late ↦
                 let at : c.strings.place ≡ i = omega (arith, lt, late) in
-                subst (λ n. slice_index c.shorten.new.shifts.items (pair_row (slice_index (text_at texts n) j) (slice_index (text_at texts n) (j + 1))) + j + 2 ≤ c.window_of-window.result) at
-                (subst (λ (t : Text). slice_index c.shorten.new.shifts.items (pair_row (slice_index t j) (slice_index t (j + 1))) + j + 2 ≤ c.window_of-window.result) (sym read) (c.shorten.ensures.short j le))
+                subst (λ n. slice_index c.shorten.new.shifts.items (pair_row (slice_index (text_at texts n) j) (slice_index (text_at texts n) (j + 1))) + j + 2 ≤ c.args.window) at
+                (subst (λ (t : Text). slice_index c.shorten.new.shifts.items (pair_row (slice_index t j) (slice_index t (j + 1))) + j + 2 ≤ c.args.window) (sym read) (c.shorten.ensures.short j le))
           ];
     }
 
@@ -47,6 +47,6 @@ returns-clause-right c =
     let texts : List Text = map (λ s. s.now) c.args.strings.now in
     let size : length texts ≡ length c.args.strings.now = length-map c.args.strings.now (λ s. s.now) in
     let place = c.strings.auto.place-end in
-    leaps_by_places texts (record { window = c.window_of-window.result; shifts = c.strings.shifts })
-    (λ i lt. c.window_of-window.ensures.long i (omega (arith, lt, size)))
+    leaps_by_places texts (record { window = c.args.window; shifts = c.strings.shifts })
+    (λ i lt. c.requires.long i (omega (arith, lt, size)))
     (λ i lt j le. c.strings.invariant.right i (omega (arith, lt, size, place, c.strings-test.false)) j le)

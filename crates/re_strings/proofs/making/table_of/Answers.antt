@@ -18,6 +18,7 @@ returns-clause-right c = λ strings same.
         depths = c.in_ok-depths.ensures.right all trie;
         ends = λ n lt. linked.endings n (omega (arith, lt, ended));
         leaps = same_leaps (map (λ s. s.now) c.args.strings.now) strings same c.in_ok-leaps.leaps c.in_ok-leaps.ensures.right;
+        fronts = same_leaps (map (λ s. s.now) c.args.strings.now) strings same c.in_ok-fronts.fronts c.in_ok-fronts.ensures.right;
       },
     )
 
@@ -30,4 +31,10 @@ returns-clause-table c = record {
   depths = c.in_ok-depths.ensures.all;
   ends = c.in_ok-links.ensures.linked.all_ends;
   leaps = c.in_ok-leaps.ensures.leaps;
+  fronts = c.in_ok-fronts.ensures.leaps;
+  pairs = λ le.
+      let window = c.in_ok-leaps.ensures.window in
+      let front = c.in_ok-fronts.ensures.window in
+      let least = c.min.ensures in
+      omega (arith, le, window, front, least);
 }

@@ -8,7 +8,7 @@ abbrev pub invariant-windows : goal.invariant-windows
 invariant-windows l = record {
   low : l.place ≤ l.at;
   high : l.at ≤ length l.line;
-  none : (strings : List Text) → AreLeapsOf strings l.self → NoneBegins strings (keys l.fold l.line) l.place l.at;
+  none : (strings : List Text) → AreLeapsOf strings l.self → AreLeapsOf strings l.fronts → NoneBegins strings (keys l.fold l.line) l.place l.at;
 }
 
 abbrev pub decreases-windows : goal.decreases-windows

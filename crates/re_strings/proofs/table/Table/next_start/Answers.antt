@@ -33,7 +33,7 @@ returns-clause-stands c = λ all t from low s.
     let here = c.requires.within in
     let within = c.leap.ensures.within.1 in
     let none : NoneBegins all.strings line c.args.place c.leap.result =
-    subst (λ f. NoneBegins all.strings (keys f c.args.line.now) c.args.place c.leap.result) c.requires.alike (c.leap.ensures.none all.strings t.leaps) in
+    subst (λ f. NoneBegins all.strings (keys f c.args.line.now) c.args.place c.leap.result) c.requires.alike (c.leap.ensures.none all.strings t.leaps t.fronts) in
     leap_stands all from line t.trie.root c.args.place c.args.node (omega (arith, c.if-node-gt0.false)) s (omega (arith, size, here)) c.leap.result
     low c.leap.ensures.within.0 (omega (arith, size, within)) none
 
@@ -43,5 +43,5 @@ returns-clause-between c = λ all t from low s.
     let size : length line ≡ length c.args.line.now = length-map c.args.line.now (key c.args.self.now.fold) in
     let here = c.requires.within in
     let none : NoneBegins all.strings line c.args.place c.leap.result =
-    subst (λ f. NoneBegins all.strings (keys f c.args.line.now) c.args.place c.leap.result) c.requires.alike (c.leap.ensures.none all.strings t.leaps) in
+    subst (λ f. NoneBegins all.strings (keys f c.args.line.now) c.args.place c.leap.result) c.requires.alike (c.leap.ensures.none all.strings t.leaps t.fronts) in
     leap_between all from line t.trie.root c.args.place c.args.node (omega (arith, c.if-node-gt0.false)) s (omega (arith, size, here)) c.leap.result none
