@@ -43,7 +43,7 @@ impl Needle {
     /// The run to look for, the first of these that every match needs, also in groups and in what
     /// is repeated once or more: two or more single bytes; a run of small sets that is rare in most
     /// texts or is all there is; one byte that is not common; a long run of sets of any size; a
-    /// common byte. A choice has the sets that its branches begin with, and a set that is repeated
+    /// common byte; any run of small sets, be it of one. A choice has the sets that its branches begin with, and a set that is repeated
     /// counts once for each time. `None` if there is none of these. The one error is that memory
     /// was refused.
     pub fn of(alloc: Global, tree: &Tree) -> Result<Option<Needle>, AllocError>
@@ -64,7 +64,7 @@ impl Needle {
             return Ok(single);
         }
         let wide = run_start(&marks, RunOf::Sets);
-        let Ok(found) = wide_needle(alloc, &marks, wide) else {
+        let Ok(found) = common_needle(alloc, &marks, wide, RunOf::Sets, MANY_SETS) else {
             drop(single);
             return Err(AllocError);
         };
@@ -72,7 +72,10 @@ impl Needle {
             drop(single);
             return Ok(Some(needle));
         }
-        Ok(single)
+        if single.is_some() {
+            return Ok(single);
+        }
+        common_needle(alloc, &marks, sets, RunOf::SmallSets, 1)
     }
 
     /// What the search for it over a block costs.
@@ -149,15 +152,22 @@ fn set_needle(alloc: Global, marks: &[Mark], start: usize) -> Result<Option<Need
     }))
 }
 
-// The needle of sets of any size from a mark on, if there are many. On some texts such a run is on
-// most lines.
-fn wide_needle(alloc: Global, marks: &[Mark], start: usize) -> Result<Option<Needle>, AllocError>
-    requires { start ≤ length marks.now }
+// The needle of the sets from a mark on, if there are at least `least`. On some texts such a run is
+// on most lines.
+fn common_needle(
+    alloc: Global,
+    marks: &[Mark],
+    start: usize,
+    of: RunOf,
+    least: usize,
+) -> Result<Option<Needle>, AllocError>
+    requires start { start ≤ length marks.now }
+    requires some { 1 ≤ least }
     ensures { IfOk result
         (λ found. (e : Expression) → IsOutline (map shown marks.now) e → IsNeedleFor e found) }
 {
-    let sets = leading_sets(alloc, &marks[start..], RunOf::Sets)?;
-    if sets.len() < MANY_SETS {
+    let sets = leading_sets(alloc, &marks[start..], of)?;
+    if sets.len() < least {
         return Ok(None);
     }
     let Some(finder) = SetFinder::new(sets) else {

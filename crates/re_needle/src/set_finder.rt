@@ -42,12 +42,15 @@ impl Model for SetFinder {
 }
 
 impl SetFinder {
-    /// The search for these sets; `None` if there are fewer than two.
+    /// The search for these sets; `None` if there is none.
     pub fn new(sets: Vec<ByteSet>) -> Option<SetFinder>
         ensures { IfSome result (λ f. f ≡ sets.items) }
     {
         let first = rarest_probe(&sets, NOWHERE, NOWHERE, NOWHERE)?;
-        let second = rarest_probe(&sets, first.at, NOWHERE, NOWHERE)?;
+        let second = match rarest_probe(&sets, first.at, NOWHERE, NOWHERE) {
+            Some(probe) => probe,
+            None => first,
+        };
         let third = match rarest_probe(&sets, first.at, second.at, NOWHERE) {
             Some(probe) => probe,
             None => second,

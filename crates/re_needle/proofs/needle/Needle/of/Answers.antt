@@ -1,6 +1,7 @@
 use Rattle.std.proofs.Common.{map}
 use Rattle.re_syntax.specs.Expression.{expression_of}
 use Rattle.re_needle.specs.Working.Outlines.{IsOutline, shown}
+use Rattle.re_syntax.proofs.lemmas.Places.{ok_as}
 use Rattle.re_needle.proofs.lemmas.OutlineLaws.{outline_alone}
 use Rattle.re_needle.proofs.needle.Needle.of.Goals as goal
 
@@ -32,9 +33,16 @@ returns-in-Some-found c =
     rw c.deref-7.ensures.value (outline_alone c.new-marks.result.items c.add_outline.new.marks.items e c.new-marks.ensures.items c.in_ok-add_outline.ensures) in
     rw c.in-Some-found.is at (c.in-Ok.ensures e outline)
 
-pub returns : goal.returns
-returns c =
+pub returns-then-is_some : goal.returns-then-is_some
+returns-then-is_some c =
     let e = expression_of c.args.tree.now in
     let outline : IsOutline (map shown c.deref-5.result.now) e =
     rw c.deref-5.ensures.value (outline_alone c.new-marks.result.items c.add_outline.new.marks.items e c.new-marks.ensures.items c.in_ok-add_outline.ensures) in
     c.in_ok-single.ensures e outline
+
+pub returns : goal.returns
+returns c =
+    let e = expression_of c.args.tree.now in
+    let outline : IsOutline (map shown c.deref-8.result.now) e =
+    rw c.deref-8.ensures.value (outline_alone c.new-marks.result.items c.add_outline.new.marks.items e c.new-marks.ensures.items c.in_ok-add_outline.ensures) in
+    ok_as _ _ c.common_needle-2.result c.common_needle-2.ensures (λ found h. h e outline)

@@ -5,7 +5,7 @@ use Rattle.re_syntax.specs.Sets.{members}
 use Rattle.re_needle.specs.declared.run_finder.RunFinder.TheVariants as r
 use Rattle.re_needle.specs.Working.Outlines.{shown}
 use Rattle.re_needle.proofs.lemmas.NeedleLaws.{run_is_needle}
-use Rattle.re_needle.proofs.needle.wide_needle.Goals as goal
+use Rattle.re_needle.proofs.needle.common_needle.Goals as goal
 
 pub returns : goal.returns
 returns c =
@@ -13,7 +13,7 @@ returns c =
     let marks = c.args.marks.now in
     let run = rw take_rest at (c.in_ok-sets.ensures) in
     let stands : drop c.args.start (map shown marks) ≡ map Some (map members sets) ++ run.0 = drop-map shown c.args.start marks ∙ run.1 in
-    let some : 1 ≤ length (map members sets) = omega (arith, c.if-len-lt-MANY_SETS.false, c.len.ensures, length-map sets members) in
+    let some : 1 ≤ length (map members sets) = omega (arith, c.requires.some, c.if-len-least.false, c.len.ensures, length-map sets members) in
     let first : IsTrue (nat_eq c.args.start 0) → c.args.start ≡ 0 = λ reported. eqb-true c.args.start 0 reported in
     rw c.in-Some.ensures
     (run_is_needle (map shown marks) (r.Sets sets) (nat_eq c.args.start 0) false true run.0 c.args.start stands some first (λ reported. absurd (false≢true reported)))
