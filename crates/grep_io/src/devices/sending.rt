@@ -40,7 +40,9 @@ pub fn take_off(buffer: &mut Vec<u8>, count: usize)
     ensures items { buffer.new.items ≡ drop count buffer.old.items }
     ensures capacity { vec_capacity buffer.old ≤ vec_capacity buffer.new }
 {
-    buffer.drain(..count);
+    let left = buffer.len() - count;
+    buffer.copy_within(count.., 0);
+    buffer.truncate(left);
 }
 
 /// Sends the first `end` bytes of a buffer, and removes what was sent from it.
