@@ -47,7 +47,7 @@ fn add_parts<M: LineMatch>(
     ensures steps { SearchesOne (PartsCostOf (map M.expression matchers.old) search.now.options) line.now
         meter.old meter.new }
 {
-    let mut course = Course::new(search.alloc, meter);
+    let mut course = Course::new(search.alloc, matchers.len(), line, meter);
     let mut from = 0;
     while let Some(part) = next_part(
         matchers,

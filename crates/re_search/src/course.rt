@@ -1,21 +1,21 @@
 //! The search for the parts of one line, from the first to the last.
-ghost use Rattle.std.specs.Prelude.{◌≡◌, ℕ, ◌+◌, ◌*◌, ◌≤◌, true, false, length};
+ghost use Rattle.std.specs.Prelude.{◌≡◌, ◌+◌, ◌*◌, ◌≤◌, true, false, length};
 ghost use Rattle.re_syntax.specs.Bytes.{Text};
 ghost use Rattle.re_auto.specs.Searching.{FindsPart};
 ghost use Rattle.re_search.specs.declared.course.Known.TheVariants.{Nothing};
-ghost use Rattle.re_search.specs.Working.Courses.{AreEnds};
+ghost use Rattle.re_search.specs.Working.Courses.{AreEnds, HasTaken, IsCourseOf};
 ghost use Rattle.re_search.specs.Working.Sought.{Sought};
 
 use re_auto::Meter;
 use re_syntax::Span;
 use std::alloc::Global;
 
-/// How the search for the parts of one line goes: the steps that were counted before it, and what
-/// it knows of the line.
+/// How the search for the parts of one line goes: up to which sum of steps each part is searched for
+/// by itself, and what is known of the line.
 #[derive(Drop)]
 pub struct Course {
     pub(crate) alloc: Global,
-    pub(crate) begun: u128,
+    pub(crate) limit: u128,
     pub(crate) known: Known,
 }
 
@@ -31,32 +31,32 @@ pub enum Known {
 }
 
 impl Course {
-    /// Nothing is known of the line, and no part is searched yet. No memory is taken.
-    pub fn new(alloc: Global, meter: &Meter) -> Course
-        ensures begun { result.begun ≡ meter.now.built + meter.now.reused }
-        ensures known { result.known ≡ Nothing }
+    /// Nothing is known of the line, and no part is searched yet. By itself each part is searched for
+    /// as long as no more steps are taken than `count` matchers take to search the line twice.
+    /// Searches that each read one byte beyond their part don't take more. No memory is taken.
+    pub fn new(alloc: Global, count: usize, line: &[u8], meter: &Meter) -> Course
+        ensures right { (sought : Sought) → IsCourseOf sought line.now result }
+        ensures steps { HasTaken (count * (length line.now + 1)) meter.now 0 result meter.now }
     {
+        let cost = count as u128 * (line.len() as u128 + 1);
         Course {
             alloc,
-            begun: sum(meter),
+            limit: sum(meter).saturating_add(2 * cost),
             known: Known::Nothing,
         }
     }
 
-    /// Whether nothing is known of the line, and by now more steps were taken than `count` matchers
-    /// take to search it twice. Searches that each read one byte beyond their part don't.
-    pub(crate) fn is_pass_due(&self, count: usize, line: &[u8], meter: &Meter) -> bool
+    /// Whether nothing is known of the line, and more steps were taken than the limit.
+    pub(crate) fn is_pass_due(&self, meter: &Meter) -> bool
         ensures due { result ≡ true → self.now.known ≡ Nothing }
         ensures not_due { result ≡ false → self.now.known ≡ Nothing →
-            meter.now.built + meter.now.reused ≤ self.now.begun + 2 * (count * (length line.now + 1)) }
+            meter.now.built + meter.now.reused ≤ self.now.limit }
     {
         match self.known {
-            Known::Nothing => (),
-            Known::Ends(_) => return false,
-            Known::Refused => return false,
+            Known::Nothing => self.limit < sum(meter),
+            Known::Ends(_) => false,
+            Known::Refused => false,
         }
-        let cost = count as u128 * (line.len() as u128 + 1);
-        self.begun.saturating_add(2 * cost) < sum(meter)
     }
 }
 

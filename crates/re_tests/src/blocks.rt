@@ -256,7 +256,7 @@ fn assert_asked(
     let line = &block[at.start..at.end];
     assert!(rt; searchers.is_matched(line, &mut fresh_meter()));
     let mut meter = fresh_meter();
-    let mut course = searchers.course(&meter);
+    let mut course = searchers.course(line, &meter);
     let first = searchers.next_part(line, 0, &mut course, &mut meter);
     assert_eq!(rt; ends_of(first), part, "{texts:?} in {lines:?}");
     Ok(())

@@ -62,7 +62,7 @@ fn count_parts(
 {
     let none = Filter::none();
     let mut searchers = Searchers::new(alloc, matchers, &none, false);
-    let mut course = searchers.course(meter);
+    let mut course = searchers.course(line, meter);
     let mut from = 0;
     let mut count: u64 = 0;
     while let Some(part) = searchers.next_part(line, from, &mut course, meter) {

@@ -17,9 +17,8 @@ use Rattle.grep_io.specs.Working.Handed.{file_so_far}
 use Rattle.grep_core.specs.Working.OneLine.{RowsOfSelected, WritesSelected, BreaksSelected}
 use Rattle.grep_core.specs.Cost.{search_cost, searches_for, PartsAsked, AsksParts}
 use Rattle.re_search.specs.declared.course.Course.{Course}
-use Rattle.re_search.specs.declared.course.Known.TheVariants.{Nothing}
 use Rattle.re_search.specs.Working.Courses.{HasTaken}
-use Rattle.re_search.proofs.lemmas.CourseLaws.{course_begins, few_searches}
+use Rattle.re_search.proofs.lemmas.CourseLaws.{few_searches}
 use Rattle.grep_core.proofs.lemmas.CostLaws.{adds_for_more, more_searches}
 use Rattle.grep_core.proofs.lemmas.WriterLaws.{TakesAll-nothing, TakesAll-more, TakesFront-more, TakesFront-longer}
 
@@ -47,10 +46,10 @@ module _ (es : List Expression) (options : Options) (many : Bool) (name : Text) 
     pub on_line : from ≤ length line
     pub wrote : TakesAll old now (map part_row done)
 
-  pub parts_none : (w : Writer) (steps : Steps) (course : Course) (cost : ℕ) → 0 ≤ length line → course.begun ≡ steps.built + steps.reused → course.known ≡ Nothing → (s : PartsSoFar 0 w w) × HasTaken cost steps (length s.done) course steps
-  parts_none w steps course cost on begun nothing =
+  pub parts_none : (w : Writer) (steps : Steps) (course : Course) (cost : ℕ) → 0 ≤ length line → HasTaken cost steps 0 course steps → (s : PartsSoFar 0 w w) × HasTaken cost steps (length s.done) course steps
+  parts_none w steps course cost on taken =
       let all = AreParts-exist es line options.line_regexp in
-      (record { done = []; left = all.0; are_parts = all.1; are_left = all.1; on_line = on; wrote = TakesAll-nothing w }, course_begins cost course steps begun nothing)
+      (record { done = []; left = all.0; are_parts = all.1; are_left = all.1; on_line = on; wrote = TakesAll-nothing w }, taken)
 
   -- the next part is the first of those that are left
   next_left : (from i j : ℕ) (left : List (ℕ × ℕ)) → ArePartsFrom es line options.line_regexp from left → IsPart es line options.line_regexp from i j

@@ -36,7 +36,7 @@ fn write_parts<M: LineMatch, W: CountedWrite>(
     ensures steps { AsksParts (expressions_by M.expression searchers.old) request.now.options
         (length (expressions_by M.expression searchers.old)) line.now meter.old meter.new }
 {
-    let mut course = searchers.course(meter);
+    let mut course = searchers.course(line, meter);
     let mut from = 0;
     while let Some(part) = searchers.next_part(line, from, &mut course, meter) {
         request.write_part(number, line, part, out, b"")?;

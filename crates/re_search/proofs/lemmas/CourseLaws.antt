@@ -84,27 +84,27 @@ one_more a cost most old mid new le few next = let sum : (a + 1) * cost ≡ a * 
 
 module _ (cost : ℕ) (first : Steps) (times : ℕ) (course : Course) (now : Steps) where
   -- the pass isn't due: the next part can be searched
-  pub not_due : (course.known ≡ Nothing → now.built + now.reused ≤ course.begun + 2 * cost) → HasTaken cost first times course now → IsReady cost first times course now
-  not_due cheap taken = record { begun = taken.begun; few = go course.known cheap taken.few; refused = taken.refused }
+  pub not_due : (course.known ≡ Nothing → now.built + now.reused ≤ course.limit) → HasTaken cost first times course now → IsReady cost first times course now
+  not_due cheap taken = record { limit = taken.limit; few = go course.known cheap taken.few; refused = taken.refused }
     where
-      least : (t : ℕ) → AddsAtMost (min t 3 * cost) first now → now.built + now.reused ≤ course.begun + 2 * cost → AddsAtMost (min t 2 * cost) first now
+      least : (t : ℕ) → AddsAtMost (min t 3 * cost) first now → now.built + now.reused ≤ course.limit → AddsAtMost (min t 2 * cost) first now
       least t few spent =
           elim (cases_lt t 2) [
             | inl lt ↦ let same : min t 3 ≡ min t 2 = omega (arith, lt) in subst (λ k. AddsAtMost (k * cost) first now) same few
             | inr ge ↦
                 let two : min t 2 * cost ≡ 2 * cost = (let is : min t 2 ≡ 2 = omega (arith, ge) in ap (λ k. k * cost) is) in
-                record { built = few.built; reused = few.reused; sum = omega (arith, spent, taken.begun, two); refused = few.refused }
+                record { built = few.built; reused = few.reused; sum = omega (arith, spent, taken.limit, two); refused = few.refused }
           ]
 
-      go : (known : Known) → (known ≡ Nothing → now.built + now.reused ≤ course.begun + 2 * cost) → AddsAtMost (passes known times * cost) first now → AddsAtMost (passes_before known times * cost) first now
+      go : (known : Known) → (known ≡ Nothing → now.built + now.reused ≤ course.limit) → AddsAtMost (passes known times * cost) first now → AddsAtMost (passes_before known times * cost) first now
       go Nothing cheap few = least times few (cheap refl)
       go (Ends ends) cheap few = within (min times 4) (min (times + 1) 4) cost first now (omega arith) few
       go Refused cheap few = few
 
 -- the pass was made
-pub learned : (cost : ℕ) (first : Steps) (times : ℕ) (old new : Course) (mid now : Steps) → old.known ≡ Nothing → new.begun ≡ old.begun → (ends : _) → new.known ≡ Ends ends → HasTaken cost first times old mid → AddsAtMost cost mid now → IsReady cost first times new now
+pub learned : (cost : ℕ) (first : Steps) (times : ℕ) (old new : Course) (mid now : Steps) → old.known ≡ Nothing → new.limit ≡ old.limit → (ends : _) → new.known ≡ Ends ends → HasTaken cost first times old mid → AddsAtMost cost mid now → IsReady cost first times new now
 learned cost first times old new mid now nothing same ends is taken more = record {
-  begun = same ∙ taken.begun;
+  limit = subst (λ n. n ≤ first.built + first.reused + 2 * cost) (sym same) taken.limit;
   few =
       subst (λ k. AddsAtMost (passes_before k times * cost) first now) (sym is)
       (within (min times 3 + 1) (min (times + 1) 4) cost first now (omega arith) (one_more (min times 3) cost cost first mid now (omega arith) (subst (λ k. AddsAtMost (passes k times * cost) first mid) nothing taken.few) more));
@@ -115,9 +115,9 @@ learned cost first times old new mid now nothing same ends is taken more = recor
     not_both ends e = cc
 
 -- memory for the pass was refused
-pub refused : (cost : ℕ) (first : Steps) (times : ℕ) (old new : Course) (mid now : Steps) → old.known ≡ Nothing → new.begun ≡ old.begun → new.known ≡ Refused → HasTaken cost first times old mid → now ≡ with_refusal mid → IsReady cost first times new now
+pub refused : (cost : ℕ) (first : Steps) (times : ℕ) (old new : Course) (mid now : Steps) → old.known ≡ Nothing → new.limit ≡ old.limit → new.known ≡ Refused → HasTaken cost first times old mid → now ≡ with_refusal mid → IsReady cost first times new now
 refused cost first times old new mid now nothing same is taken noted = record {
-  begun = same ∙ taken.begun;
+  limit = subst (λ n. n ≤ first.built + first.reused + 2 * cost) (sym same) taken.limit;
   few =
       let few = subst (λ k. AddsAtMost (passes k times * cost) first mid) nothing taken.few in
       let more : AddsAtMost (min times 3 * cost) first (with_refusal mid) = record { built = few.built; reused = few.reused; sum = few.sum; refused = λ h. refl } in
@@ -134,7 +134,7 @@ module _ (matchers place long : ℕ) (first : Steps) (times : ℕ) (course : Cou
 
   -- the next part was searched, since its end isn't known
   pub searched : ((ends : _) → course.known ≡ Ends ends → ⊥) → HasTaken cost first (times + 1) course now
-  searched unknown = record { begun = ready.begun; few = go course.known refl ready.few; refused = λ e. more.refused (ready.refused e) }
+  searched unknown = record { limit = ready.limit; few = go course.known refl ready.few; refused = λ e. more.refused (ready.refused e) }
     where
       go : (known : Known) → course.known ≡ known → AddsAtMost (passes_before known times * cost) first mid → AddsAtMost (passes known (times + 1) * cost) first now
       go Nothing is spent = within (min times 2 + 1) (min (times + 1) 3) cost first now (omega arith) (one_more (min times 2) cost _ first mid now few spent more)
@@ -143,16 +143,16 @@ module _ (matchers place long : ℕ) (first : Steps) (times : ℕ) (course : Cou
 
 -- the next part was known
 pub looked_up : (cost : ℕ) (first : Steps) (times : ℕ) (course : Course) (now : Steps) → (ends : _) → course.known ≡ Ends ends → IsReady cost first times course now → HasTaken cost first (times + 1) course now
-looked_up cost first times course now ends is ready = record { begun = ready.begun; few = subst (λ k. AddsAtMost (passes k (times + 1) * cost) first now) (sym is) (subst (λ k. AddsAtMost (passes_before k times * cost) first now) is ready.few); refused = ready.refused }
+looked_up cost first times course now ends is ready = record { limit = ready.limit; few = subst (λ k. AddsAtMost (passes k (times + 1) * cost) first now) (sym is) (subst (λ k. AddsAtMost (passes_before k times * cost) first now) is ready.few); refused = ready.refused }
 
 -- a list of zeros has no other number
 pub zero_at : (n i : ℕ) → ◌≡◌ {A = ℕ} (get_or (replicate n 0) i 0) 0
 zero_at n i = elim (cases_lt i n) [ inl lt ↦ get_or-replicate n i 0 0 lt | inr ge ↦ get_or_past (replicate n 0) i 0 (let long = length-replicate {A = ℕ} n 0 in omega (arith, long, ge)) ]
 
 -- the first part was not asked for yet
-pub course_begins : (cost : ℕ) (course : Course) (now : Steps) → course.begun ≡ now.built + now.reused → course.known ≡ Nothing → HasTaken cost now 0 course now
-course_begins cost course now begun nothing = record {
-  begun = begun;
+pub course_begins : (cost : ℕ) (course : Course) (now : Steps) → course.limit ≤ now.built + now.reused + 2 * cost → course.known ≡ Nothing → HasTaken cost now 0 course now
+course_begins cost course now limit nothing = record {
+  limit = limit;
   few = record { built = omega arith; reused = omega arith; sum = omega arith; refused = λ h. h };
   refused = λ no. absurd (not_both (sym nothing ∙ no));
 }

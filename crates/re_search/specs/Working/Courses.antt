@@ -1,5 +1,5 @@
 -- The search for the parts of one line: what it knows of the line, and how many steps it took.
-use Rattle.std.specs.Prelude.{◌≡◌, ⊤, IsTrue, ℕ, ◌+◌, ◌*◌, ◌<◌, ◌↔◌, List, min, length, slice_index}
+use Rattle.std.specs.Prelude.{◌≡◌, ⊤, IsTrue, ℕ, ◌+◌, ◌*◌, ◌<◌, ◌≤◌, ◌↔◌, List, min, length, slice_index}
 use Rattle.re_syntax.specs.Bytes.{Text}
 use Rattle.re_auto.specs.Meters.{Steps}
 use Rattle.re_auto.specs.Searching.{AddsAtMost}
@@ -16,11 +16,15 @@ AreEnds sought line ends =
     ((i m : ℕ) → i < length line →
     (m < slice_index ends i) ↔ FoundPast sought.expressions line sought.whole i m)
 
--- what is known of the line is right
-abbrev pub IsRightOf : Sought → Text → Known → Type 0
-IsRightOf sought line Nothing = ⊤
-IsRightOf sought line (Ends ends) = AreEnds sought line ends.items
-IsRightOf sought line Refused = ⊤
+-- what is known of the line
+abbrev pub IsKnownOf : Sought → Text → Known → Type 0
+IsKnownOf sought line Nothing = ⊤
+IsKnownOf sought line (Ends ends) = AreEnds sought line ends.items
+IsKnownOf sought line Refused = ⊤
+
+-- the course is one of the search for the parts of this line
+abbrev pub IsCourseOf : Sought → Text → Course → Type 0
+IsCourseOf sought line course = IsKnownOf sought line course.known
 
 -- How many searches of the whole line are as dear as this number of searches for a part: no more
 -- than three before the pass that finds all ends, which is one more. Where memory for the ends was
@@ -34,7 +38,7 @@ passes Refused times = times
 -- a search of the whole line takes `line_cost` steps
 pub record HasTaken (line_cost : ℕ) (first : Steps) (times : ℕ) (course : Course)
     (now : Steps) : Type 0 where
-  pub begun : course.begun ≡ first.built + first.reused
+  pub limit : course.limit ≤ first.built + first.reused + 2 * line_cost
   pub few : AddsAtMost (passes course.known times * line_cost) first now
   pub refused : course.known ≡ Refused → IsTrue now.refused
 
@@ -48,6 +52,6 @@ passes_before Refused times = times
 -- the next part can be searched in the same course
 pub record IsReady (line_cost : ℕ) (first : Steps) (times : ℕ) (course : Course)
     (now : Steps) : Type 0 where
-  pub begun : course.begun ≡ first.built + first.reused
+  pub limit : course.limit ≤ first.built + first.reused + 2 * line_cost
   pub few : AddsAtMost (passes_before course.known times * line_cost) first now
   pub refused : course.known ≡ Refused → IsTrue now.refused

@@ -7,7 +7,7 @@ ghost use Rattle.re_search.specs.declared.course.Known.TheVariants.{Nothing};
 ghost use Rattle.re_search.specs.Working.Asking.{SameSearchers, asks_whole, expressions_by};
 ghost use Rattle.re_search.specs.Working.Asking.{sought_by};
 ghost use Rattle.re_search.specs.Working.Sought.{Sought};
-ghost use Rattle.re_search.specs.Working.Courses.{IsRightOf, IsReady, HasTaken};
+ghost use Rattle.re_search.specs.Working.Courses.{IsCourseOf, IsReady, HasTaken};
 
 use crate::course::{Course, Known, part_from};
 use crate::searchers::Searchers;
@@ -18,11 +18,13 @@ use re_syntax::Span;
 
 impl<'a, 'f, M: LineMatch> Searchers<'a, 'f, M> {
     /// The course of a search for the parts of one line, before the first. No memory is taken.
-    pub fn course(&self, meter: &Meter) -> Course
-        ensures begun { result.begun ≡ meter.now.built + meter.now.reused }
-        ensures known { result.known ≡ Nothing }
+    pub fn course(&self, line: &[u8], meter: &Meter) -> Course
+        ensures right { IsCourseOf (sought_by M.expression self.now) line.now result }
+        ensures steps { HasTaken
+            (length (expressions_by M.expression self.now) * (length line.now + 1)) meter.now 0
+            result meter.now }
     {
-        Course::new(self.alloc, meter)
+        Course::new(self.alloc, self.matchers.len(), line, meter)
     }
 
     /// The next part of the line: of all stretches that are not empty, begin at `from` or later and
@@ -38,11 +40,11 @@ impl<'a, 'f, M: LineMatch> Searchers<'a, 'f, M> {
         meter: &mut Meter,
     ) -> Option<Span>
         requires within { from ≤ length line.now }
-        requires right { IsRightOf (sought_by M.expression self.old) line.now course.old.known }
+        requires right { IsCourseOf (sought_by M.expression self.old) line.now course.old }
         ensures reported { FindsPart (expressions_by M.expression self.old) line.now
             (asks_whole self.old) from result }
         ensures same { SameSearchers M.expression M.whole M.room self.old self.new }
-        ensures right { IsRightOf (sought_by M.expression self.old) line.now course.new.known }
+        ensures right { IsCourseOf (sought_by M.expression self.old) line.now course.new }
         ensures steps { (first : Steps) (times : ℕ) →
             HasTaken (length (expressions_by M.expression self.old) * (length line.now + 1)) first
             times course.old meter.old
@@ -65,14 +67,14 @@ pub fn next_part<M: LineMatch>(
 ) -> Option<Span>
     requires within { from ≤ length line.now }
     requires alike { AllAnswer whole (map M.whole matchers.old) }
-    requires right { IsRightOf
+    requires right { IsCourseOf
         (record { expressions = map M.expression matchers.old; whole = whole }) line.now
-        course.old.known }
+        course.old }
     ensures reported { FindsPart (map M.expression matchers.old) line.now whole from result }
     ensures same_matchers { SameMatchers M.expression M.whole M.room matchers.old matchers.new }
-    ensures right { IsRightOf
+    ensures right { IsCourseOf
         (record { expressions = map M.expression matchers.old; whole = whole }) line.now
-        course.new.known }
+        course.new }
     ensures steps { (first : Steps) (times : ℕ) →
         HasTaken (length matchers.old * (length line.now + 1)) first times course.old meter.old
         → HasTaken (length matchers.old * (length line.now + 1)) first (times + 1) course.new
@@ -94,18 +96,18 @@ fn prepare<M: LineMatch>(
     meter: &mut Meter,
 )
     requires alike { AllAnswer whole (map M.whole matchers.old) }
-    requires right { IsRightOf
+    requires right { IsCourseOf
         (record { expressions = map M.expression matchers.old; whole = whole }) line.now
-        course.old.known }
+        course.old }
     ensures same_matchers { SameMatchers M.expression M.whole M.room matchers.old matchers.new }
-    ensures right { IsRightOf
+    ensures right { IsCourseOf
         (record { expressions = map M.expression matchers.old; whole = whole }) line.now
-        course.new.known }
+        course.new }
     ensures steps { (first : Steps) (times : ℕ) →
         HasTaken (length matchers.old * (length line.now + 1)) first times course.old meter.old
         → IsReady (length matchers.old * (length line.now + 1)) first times course.new meter.new }
 {
-    if !course.is_pass_due(matchers.len(), line, meter) {
+    if !course.is_pass_due(meter) {
         return;
     }
     learn(matchers, whole, line, course, meter);
@@ -123,9 +125,9 @@ fn learn<M: LineMatch>(
     requires alike { AllAnswer whole (map M.whole matchers.old) }
     requires nothing { course.old.known ≡ Nothing }
     ensures same_matchers { SameMatchers M.expression M.whole M.room matchers.old matchers.new }
-    ensures right { IsRightOf
+    ensures right { IsCourseOf
         (record { expressions = map M.expression matchers.old; whole = whole }) line.now
-        course.new.known }
+        course.new }
     ensures steps { (first : Steps) (times : ℕ) →
         HasTaken (length matchers.old * (length line.now + 1)) first times course.old meter.old
         → IsReady (length matchers.old * (length line.now + 1)) first times course.new meter.new }

@@ -1,7 +1,6 @@
 use Rattle.std.proofs.Common.{◌≡◌, ◌+◌, length, map, arith, sym, subst}
 use Rattle.std.proofs.lemmas.List.{length-map}
 use Rattle.re_search.specs.Working.Courses.{HasTaken}
-use Rattle.re_search.proofs.lemmas.CourseLaws.{course_begins}
 use Rattle.re_search.proofs.lemmas.KeptMatchers.{none_asked, same_over}
 use Rattle.grep_core.specs.Cost.{search_cost}
 use Rattle.grep_core.proofs.lemmas.CostLaws.{same_length}
@@ -13,8 +12,8 @@ loop-part-init g c =
     let cost = search_cost (length c.args.matchers.now) c.args.line.now in
     record {
       parts = spans_none _ _ _ _ c.requires.none (omega arith);
-      steps = subst (λ s. HasTaken cost c.args.meter.now (length s) c.new-course.result c.args.meter.now) (sym c.requires.none) (course_begins cost c.new-course.result c.args.meter.now c.new-course.ensures.begun c.new-course.ensures.known);
-      right = rw c.new-course.ensures.known tt;
+      steps = subst (λ s. HasTaken cost c.args.meter.now (length s) c.new-course.result c.args.meter.now) (sym c.requires.none) c.new-course.ensures.steps;
+      right = c.new-course.ensures.right _;
       same_matchers = none_asked;
     }
 

@@ -1,6 +1,6 @@
 use Rattle.std.proofs.Common.{◌-◌, map, length}
 use Rattle.re_search.specs.Searching.{SameMatchers}
-use Rattle.re_search.specs.Working.Courses.{HasTaken, IsRightOf}
+use Rattle.re_search.specs.Working.Courses.{HasTaken, IsCourseOf}
 use Rattle.grep_core.specs.Cost.{search_cost}
 use Rattle.grep_session.proofs.lemmas.FindingLemmas.{SpansSoFar}
 use Rattle.grep_session.proofs.finding.add_parts.Given as goal
@@ -10,7 +10,7 @@ abbrev pub invariant-loop-part : goal.invariant-loop-part
 invariant-loop-part g l = record {
   parts : SpansSoFar (map g.M.LineMatch.expression l.fn.matchers) l.search.options l.line l.from l.spans.items;
   steps : HasTaken (search_cost (length l.fn.matchers) l.line) l.fn.meter (length l.spans.items) l.course l.meter;
-  right : IsRightOf (record { expressions = map g.M.LineMatch.expression l.fn.matchers; whole = l.search.options.line_regexp }) l.line l.course.known;
+  right : IsCourseOf (record { expressions = map g.M.LineMatch.expression l.fn.matchers; whole = l.search.options.line_regexp }) l.line l.course;
   same_matchers : SameMatchers g.M.LineMatch.expression g.M.LineMatch.whole g.M.LineMatch.room l.fn.matchers l.matchers;
 }
 

@@ -2,7 +2,7 @@ use Rattle.std.proofs.Common.{false, ℕ, ◌≤◌, ◌-◌, length, map}
 use Rattle.re_search.specs.Searching.{AllAnswer}
 use Rattle.re_search.specs.Working.Matchers.{matched_expression, wants_whole}
 use Rattle.re_search.specs.Working.Asking.{sought_by}
-use Rattle.re_search.specs.Working.Courses.{IsRightOf}
+use Rattle.re_search.specs.Working.Courses.{IsCourseOf}
 use Rattle.re_tests.proofs.courses.count_parts.Given as goal
 
 -- what is known of the line is right
@@ -10,7 +10,7 @@ abbrev pub invariant-loop-part : goal.invariant-loop-part
 invariant-loop-part g l = record {
   within : l.from ≤ length l.line;
   few : l.count ≤ l.from;
-  right : IsRightOf (sought_by matched_expression l.searchers) l.line l.course.known;
+  right : IsCourseOf (sought_by matched_expression l.searchers) l.line l.course;
   others : AllAnswer false (map wants_whole l.others);
 }
 

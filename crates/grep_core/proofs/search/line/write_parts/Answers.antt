@@ -7,7 +7,7 @@ use Rattle.grep_core.proofs.lemmas.PartsLemmas.{parts_none, parts_next, parts_do
 use Rattle.grep_core.proofs.search.line.write_parts.Goals as goal
 
 pub loop-part-init : goal.loop-part-init
-loop-part-init g c = record { parts = parts_none _ _ _ _ _ _ _ _ _ _ (omega arith) c.course-course.ensures.begun c.course-course.ensures.known; right = rw c.course-course.ensures.known tt; same = unasked }
+loop-part-init g c = record { parts = parts_none _ _ _ _ _ _ _ _ _ _ (omega arith) c.course-course.ensures.steps; right = c.course-course.ensures.right; same = unasked }
 
 pub next_part-requires-clause-within : goal.next_part-requires-clause-within
 next_part-requires-clause-within g c = c.loop-part.invariant.parts.0.on_line

@@ -1,6 +1,6 @@
 use Rattle.std.proofs.Common.{◌-◌, map, length}
 use Rattle.re_search.specs.Working.Asking.{SameSearchers, sought_by}
-use Rattle.re_search.specs.Working.Courses.{HasTaken, IsRightOf}
+use Rattle.re_search.specs.Working.Courses.{HasTaken, IsCourseOf}
 use Rattle.grep_core.specs.Run.{writer}
 use Rattle.grep_core.specs.Cost.{search_cost}
 use Rattle.grep_core.proofs.lemmas.PartsLemmas.{PartsSoFar}
@@ -12,7 +12,7 @@ invariant-loop-part g l = record {
   parts : (s : PartsSoFar (map g.M.LineMatch.expression l.fn.searchers.matchers.now) l.request.options l.request.many l.request.name.now l.number l.line l.from
       (writer g.W.CountedWrite.contents g.W.CountedWrite.failures l.fn.out) (writer g.W.CountedWrite.contents g.W.CountedWrite.failures l.out))
       × HasTaken (search_cost (length (map g.M.LineMatch.expression l.fn.searchers.matchers.now)) l.line) l.fn.meter (length s.done) l.course l.meter;
-  right : IsRightOf (sought_by g.M.LineMatch.expression l.fn.searchers) l.line l.course.known;
+  right : IsCourseOf (sought_by g.M.LineMatch.expression l.fn.searchers) l.line l.course;
   same : SameSearchers g.M.LineMatch.expression g.M.LineMatch.whole g.M.LineMatch.room l.fn.searchers l.searchers;
 }
 

@@ -1,7 +1,7 @@
 use Rattle.std.proofs.Common.{◌*◌, ◌+◌, ◌-◌, length, map, subst}
 use Rattle.re_auto.specs.Searching.{AddsAtMost}
 use Rattle.re_search.specs.Working.Sought.{Sought}
-use Rattle.re_search.specs.Working.Courses.{IsRightOf}
+use Rattle.re_search.specs.Working.Courses.{IsKnownOf}
 use Rattle.re_search.proofs.lemmas.SearchedBlocks.{same_length}
 use Rattle.re_search.proofs.lemmas.CourseLaws.{searched, looked_up}
 use Rattle.re_search.proofs.searchers.parts.next_part.Goals as goal
@@ -12,7 +12,7 @@ parts-requires-clause-alike g c = (c.args.whole, rw c.prepare.ensures.same_match
 pub returns-in-Ends-clause-reported : goal.returns-in-Ends-clause-reported
 returns-in-Ends-clause-reported g c =
     let sought : Sought = record { expressions = map g.M.LineMatch.expression c.args.matchers.now; whole = c.args.whole } in
-    let are = subst (IsRightOf sought c.args.line.now) c.in-Ends.is c.prepare.ensures.right in
+    let are = subst (IsKnownOf sought c.args.line.now) c.in-Ends.is c.prepare.ensures.right in
     c.part_from.ensures sought c.args.line.now (rw c.deref.ensures.value are)
 
 pub returns-in-Ends-clause-steps : goal.returns-in-Ends-clause-steps
