@@ -7,3 +7,4 @@ pub mod SetBlocks
 pub mod SetAround
 pub mod StepSums
 pub mod PartsWithin
+pub mod LaterParts

@@ -2,3 +2,4 @@ pub mod Literals
 pub mod Simulated
 pub mod CachedMatchers
 pub mod Matchers
+pub mod NextParts

@@ -1,19 +1,30 @@
-//! What is known of lines and blocks by what each match contains, without a step of an automaton.
-ghost use Rattle.std.specs.Prelude.{◌≡◌, ◌≤◌, [], ◌∷◌, false, IfOk, IfSome, length};
+//! What is known of lines, parts and blocks by what each match contains.
+ghost use Rattle.std.specs.Prelude.{◌≡◌, ◌≤◌, IfOk, IfSome, IsTrue, length};
 ghost use Rattle.re_syntax.specs.Expression.{Expression, expression_of};
 ghost use Rattle.re_syntax.specs.Lines.{lines_of};
-ghost use Rattle.re_auto.specs.Searching.{FindsPart, AddsAtMost};
-ghost use Rattle.re_needle.specs.Working.Needles.{IsNeeded, IsNeedleFor};
+ghost use Rattle.re_auto.specs.Searching.{AddsAtMost};
+ghost use Rattle.re_needle.specs.Working.Needles.{IsNeeded, IsNeedleOf, IsNeedleFor};
 ghost use Rattle.re_needle.specs.Working.Needles.{IsSettled};
+ghost use Rattle.re_match.specs.Working.NextParts.{IsSaid};
 ghost use Rattle.re_needle.specs.Working.Blocks.{IsBlock, PassesUnmatched, CountsMatched};
 
 use crate::looks::Looks;
-use re_auto::Meter;
+use re_auto::{Automaton, Meter};
 use re_needle::{
     LookCost, Needle, RunFinder, count_lines_with, first_line_beginning_with, first_line_with_run,
 };
+use re_steps::{Tried, try_place};
 use re_syntax::{Span, Tree};
 use std::alloc::{AllocError, Global};
+
+/// What is known of the next part.
+#[derive(Clone, Copy, Drop)]
+pub enum NextPart {
+    /// It is this one, or there is none.
+    Known(Option<Span>),
+    /// It begins at this place or later, if there is one.
+    Later(usize),
+}
 
 /// What each match of an expression contains, if that is known. It is looked for in lines, and in
 /// blocks where such looks pay.
@@ -111,28 +122,35 @@ impl Prefilter {
         }
     }
 
-    /// The next part of the line, where the whole line need not be matched, if that is known without
-    /// a step.
+    /// What is known of the next part of the line, where the whole line need not be matched. If each
+    /// match begins with the needle, the needle's places are tried one after another.
     #[inline(always)]
-    pub fn part(&self, line: &[u8], from: usize) -> Option<Option<Span>>
-        requires { from ≤ length line.now }
-        ensures { (e : Expression) → IsNeedleFor e self.now.needle →
-            IfSome result (λ found. FindsPart (e ∷ []) line.now false from found) }
+    pub fn part(
+        &self,
+        automaton: &Automaton,
+        line: &[u8],
+        from: usize,
+        meter: &mut Meter,
+    ) -> NextPart
+        requires within { from ≤ length line.now }
+        requires needle { IsNeedleFor (expression_of automaton.now) self.now.needle }
+        ensures { IsSaid (expression_of automaton.now) line.now from meter.old meter.new result }
     {
         let Some(needle) = &self.needle else {
-            return None;
+            return NextPart::Later(from);
         };
+        if needle.is_first && !needle.is_all {
+            return first_tried(needle, automaton, line, from, meter);
+        }
         let Some(place) = needle.finder.find(&line[from..]) else {
-            return Some(None);
+            return NextPart::Known(None);
         };
         if !needle.is_all {
-            return None;
+            return NextPart::Later(from);
         }
         let start = from + place;
-        Some(Some(Span {
-            start,
-            end: start + needle.finder.len(),
-        }))
+        let end = start + needle.finder.len();
+        NextPart::Known(Some(Span { start, end }))
     }
 
     /// How many bytes of a block of whole lines are passed: whole lines, none of which is matched.
@@ -152,6 +170,36 @@ impl Prefilter {
         meter.add_built(passed as u64);
         passed
     }
+}
+
+// What is known of the next part if each match begins with the needle: its places are tried in turn,
+// until a part is found or a try stays open. A try gets as many steps as bytes were passed before it,
+// and one more.
+fn first_tried(
+    needle: &Needle,
+    automaton: &Automaton,
+    line: &[u8],
+    from: usize,
+    meter: &mut Meter,
+) -> NextPart
+    requires within { from ≤ length line.now }
+    requires needle { IsNeedleOf (expression_of automaton.now) needle.now }
+    requires first { IsTrue needle.now.is_first }
+    ensures { IsSaid (expression_of automaton.now) line.now from meter.old meter.new result }
+{
+    let mut place = from;
+    'places: while place < line.len() {
+        let Some(passed) = needle.finder.find(&line[place..]) else {
+            return NextPart::Known(None);
+        };
+        let start = place + passed;
+        match try_place(automaton, line, start, passed + 1, meter) {
+            Tried::Ends(end) => return NextPart::Known(Some(Span { start, end })),
+            Tried::Fails => place = start + 1,
+            Tried::Open => return NextPart::Later(start),
+        }
+    }
+    NextPart::Known(None)
 }
 
 // What it costs to look for the needle.

@@ -22,7 +22,7 @@ ghost use Rattle.re_ends.specs.Working.EndPairs.{AreEndsFor};
 use crate::front_ends::add_line;
 use crate::line_match::LineMatch;
 use crate::looks::Uncounted;
-use crate::prefilter::Prefilter;
+use crate::prefilter::{NextPart, Prefilter};
 use crate::sweeps::{Sweeps, count_by_sweeps, next_by_sweeps};
 use re_auto::{Automaton, BuildFault, Meter, Mode, StateSet};
 use re_ends::EndPair;
@@ -214,12 +214,12 @@ impl Simulated {
         requires { from ≤ length line.now }
         ensures reported { FindsPart (expression_of self.old.tree ∷ []) line.now false from result }
         ensures same { self.new ≡ self.old }
-        ensures steps { AddsAtMost (length line.now - from) meter.old meter.new }
+        ensures steps { AddsAtMost (length line.now - from + 1) meter.old meter.new }
     {
-        if let Some(known) = self.prefilter.part(line, from) {
-            return known;
+        match self.prefilter.part(&self.automaton, line, from, meter) {
+            NextPart::Known(found) => found,
+            NextPart::Later(start) => self.starts.find(&self.automaton, line, start, meter),
         }
-        self.starts.find(&self.automaton, line, from, meter)
     }
 
     // Gives each place the greatest end of the matched stretches that begin there, in a pass back

@@ -5,3 +5,4 @@ pub mod PairLemmas
 pub mod StateSetKeys
 pub mod RowLaws
 pub mod WalkLaws
+pub mod LoneLaws

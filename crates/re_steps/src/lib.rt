@@ -3,6 +3,7 @@
 #![tactic(auto)]
 
 mod least;
+mod lone;
 mod pace;
 mod pairs;
 mod sets;
@@ -11,6 +12,7 @@ mod table;
 mod walking;
 
 pub use least::StartPair;
+pub use lone::{Tried, try_place};
 pub use sets::SetPair;
 pub use table::{LineSearch, Table};
 pub use walking::Outcome;

@@ -16,3 +16,7 @@ pub adds_line : (start end line : ℕ) (old mid new : Steps) → start ≤ end �
 adds_line start end line old mid new low long a b =
     let all : start + (line + 1) ≤ end + 1 = omega (arith, low, long) in
     adds_within (start + (line + 1)) (end + 1) old new all (adds_both start (line + 1) old mid new a b)
+
+-- steps after steps are at most a number that is no less than their sum
+pub adds_up : (first next most : ℕ) (old mid new : Steps) → first + next ≤ most → AddsAtMost first old mid → AddsAtMost next mid new → AddsAtMost most old new
+adds_up first next most old mid new h a b = adds_within (first + next) most old new h (adds_both first next old mid new a b)

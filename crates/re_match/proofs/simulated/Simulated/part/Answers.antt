@@ -1,8 +1,11 @@
 use Rattle.re_syntax.specs.Expression.{expression_of}
+use Rattle.re_match.proofs.lemmas.LaterParts.{later_part}
 use Rattle.re_match.proofs.simulated.Simulated.part.Goals as goal
 
-pub returns-in-Some-clause-reported : goal.returns-in-Some-clause-reported
-returns-in-Some-clause-reported c = rw (← c.self.view_is) (rw c.in-Some.is at (c.part.ensures (expression_of c.self.inside.automaton) c.self.invariant.2))
+pub returns-in-Known-clause-reported : goal.returns-in-Known-clause-reported
+returns-in-Known-clause-reported c = rw (← c.self.view_is) c.in-Known.ensures.0
 
-pub returns-clause-reported : goal.returns-clause-reported
-returns-clause-reported c = rw (← c.self.view_is) c.find.ensures.reported
+pub returns-in-Later-clause-reported : goal.returns-in-Later-clause-reported
+returns-in-Later-clause-reported c =
+    rw (← c.self.view_is)
+    (later_part (expression_of c.self.inside.automaton) c.args.line.now c.args.from c.in-Later.start c.find.result c.in-Later.ensures.0 c.find.ensures.reported)

@@ -1,0 +1,14 @@
+use Rattle.std.proofs.Common.{◌-◌, length}
+use Rattle.re_syntax.specs.Expression.{expression_of}
+use Rattle.re_auto.specs.Searching.{AddsAtMost}
+use Rattle.re_match.specs.Working.NextParts.{BeginsLater}
+use Rattle.re_match.proofs.prefilter.first_tried.Given as goal
+
+abbrev pub invariant-places : goal.invariant-places
+invariant-places l = record {
+  later : BeginsLater (expression_of l.automaton) l.line l.from l.place;
+  steps : AddsAtMost (l.place - l.from) l.fn.meter l.meter;
+}
+
+abbrev pub decreases-places : goal.decreases-places
+decreases-places l = length l.line - l.place

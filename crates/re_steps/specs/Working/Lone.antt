@@ -1,0 +1,43 @@
+-- Stretches that begin at one place, on their way over a line.
+use Rattle.std.specs.Prelude.{ℕ, ◌-◌, ◌<◌, ◌≤◌, ◌↔◌, length}
+use Rattle.re_syntax.specs.Bytes.{Text}
+use Rattle.re_syntax.specs.Expression.{Expression}
+use Rattle.re_syntax.specs.Holds.{Holds}
+use Rattle.re_auto.specs.Meters.{Steps}
+use Rattle.re_auto.specs.Searching.{AddsAtMost}
+use Rattle.re_auto.specs.Working.Bits.{InWord}
+use Rattle.re_auto.specs.Working.Positions.{Reaches, part_of}
+use Rattle.re_steps.specs.declared.lone.Tried.{Tried}
+use Rattle.re_steps.specs.declared.lone.Tried.TheVariants.{Ends, Fails, Open}
+
+-- the word has the positions to which a stretch that begins at i can have come at place j
+abbrev pub AreReached : Expression → Text → ℕ → ℕ → ℕ → Type 0
+AreReached e line i j word = (q : ℕ) → InWord word q ↔ Reaches (part_of e 0) line i j q
+
+-- the longest of the matched stretches that begin at i and are not empty ends at j
+pub record IsLongest (e : Expression) (line : Text) (i j : ℕ) : Type 0 where
+  pub not_empty : i < j
+  pub on_line : j ≤ length line
+  pub holds : Holds line e i j
+  pub longest : (l : ℕ) → l ≤ length line → Holds line e i l → l ≤ j
+
+-- no matched stretch that is not empty begins at i
+abbrev pub HasNone : Expression → Text → ℕ → Type 0
+HasNone e line i = (l : ℕ) → i < l → l ≤ length line → ¬ Holds line e i l
+
+-- What a try says of the stretches that begin at i is right. It takes at most one step for each
+-- byte from there on, and at most `patience` steps if it finds none.
+abbrev pub IsTried : Expression → Text → ℕ → ℕ → Steps → Steps → Tried → Type 0
+IsTried e line i patience before after (Ends j) =
+    IsLongest e line i j × AddsAtMost (length line - i) before after
+IsTried e line i patience before after Fails =
+    HasNone e line i × AddsAtMost patience before after
+IsTried e line i patience before after Open = AddsAtMost patience before after
+
+-- of the matched stretches that begin at i and end before a place the longest ends at `last`, which
+-- is i where there is none
+pub record IsLastEnd (e : Expression) (line : Text) (i place last : ℕ) : Type 0 where
+  pub low : i ≤ last
+  pub high : last < place
+  pub holds : i < last → Holds line e i last
+  pub longest : (l : ℕ) → l < place → Holds line e i l → l ≤ last
