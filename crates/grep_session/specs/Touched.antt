@@ -80,7 +80,7 @@ pairs_cost patterns (line ∷ lines) = search_cost patterns line + pairs_cost pa
 -- `refused` says whether memory that saves steps was refused
 module _ (es : List Expression) (options : Options) (refused : Bool) where
   -- the cost of a line's parts under `-o`: all patterns search once for each part and once more,
-  -- but for memory at most four times
+  -- but at most four times, unless memory was refused
   abbrev pub PartsCostOf : Text → ℕ → Type 0
   PartsCostOf line cost =
       MatchBool options.only_matching

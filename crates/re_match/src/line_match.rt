@@ -104,7 +104,8 @@ pub trait LineMatch {
     }
 
     /// Where in a block of whole lines the first line begins that may be matched: no line before it
-    /// is matched. It takes no step: who asks for it counts the bytes that it passes. If only a search can say that, it is the first line.
+    /// is matched. It takes no step: who asks for it counts the bytes that it passes. If only a search
+    /// can say that, it is the first line.
     fn first_candidate(&self, block: &[u8], _: Uncounted) -> usize
         requires { IsBlock block.now }
         ensures { PassesUnmatched (expression self.now) (whole self.now) block.now result }
