@@ -10,3 +10,4 @@ pub mod NewlineLemmas
 pub mod NumberedLemmas
 pub mod PassedLemmas
 pub mod WriteLemmas
+pub mod NewlineLanes

@@ -1,14 +1,14 @@
 // Newlines among some bytes: the first, and how many there are.
-ghost use Rattle.std.specs.Prelude.{◌≡◌, ◌+◌, ◌<◌, ◌≤◌, ◌∷◌, ◌++◌, IfSome, MatchOption, length};
-ghost use Rattle.std.specs.Prelude.{take, drop};
+ghost use Rattle.std.specs.Prelude.{◌≡◌, ◌+◌, ◌*◌, ◌<◌, ◌≤◌, ◌==◌, if◌then◌else◌, ◌∷◌, ◌++◌};
+ghost use Rattle.std.specs.Prelude.{IfSome, MatchOption, length, map, take, drop};
 ghost use Rattle.memchr.specs.Find.{is_byte, places, places_between};
 ghost use Rattle.re_syntax.specs.Lines.{newline, HasNoNewline};
 
 use memchr::memchr;
+use std::simd::prelude::*;
 
-// How many bytes are counted at a time: their count is a byte too, so that many are compared at
-// once.
-const PORTION: usize = 240;
+// How many vectors of 32 bytes are counted at a time: the count of a lane is a byte too.
+const VECTORS: usize = 255;
 
 // How many bytes are looked at one by one for the first newline. Where lines are short that is
 // quicker than a call of `memchr`.
@@ -61,12 +61,38 @@ pub fn count_newlines(bytes: &[u8]) -> u64
 {
     let mut count: u64 = 0;
     let mut start = 0;
-    'portions: while start < bytes.len() {
-        let end = start + PORTION.min(bytes.len() - start);
-        count += newlines_between(bytes, start, end) as u64;
-        start = end;
+    'portions: while 32 <= bytes.len() - start {
+        let vectors = VECTORS.min((bytes.len() - start) / 32);
+        count += newlines_in_vectors(bytes, start, vectors) as u64;
+        start += 32 * vectors;
     }
-    count
+    count + newlines_between(bytes, start, bytes.len()) as u64
+}
+
+// How many there are in so many vectors of 32 bytes from a place on.
+#[inline(always)]
+fn newlines_in_vectors(bytes: &[u8], from: usize, vectors: usize) -> u16
+    requires within { from + 32 * vectors ≤ length bytes.now }
+    requires few { vectors ≤ 255 }
+    ensures { result ≡ length (places_between (is_byte newline) bytes.now from
+        (from + 32 * vectors)) }
+{
+    let mut counts = u8x32::splat(0);
+    'vectors: for place in 0..vectors {
+        counts = counts.strict_add(newlines_at(bytes, from + 32 * place));
+    }
+    counts.cast::<u16>().strict_reduce_sum()
+}
+
+// 1 for each of the next 32 bytes that is a newline, and else 0.
+#[inline(always)]
+fn newlines_at(bytes: &[u8], from: usize) -> u8x32
+    requires { from + 32 ≤ length bytes.now }
+    ensures { result ≡ map (λ x. if x == newline then 1 else 0) (take 32 (drop from bytes.now)) }
+{
+    u8x32::from_slice(&bytes[from..])
+        .simd_eq(u8x32::splat(b'\n'))
+        .select(u8x32::splat(1), u8x32::splat(0))
 }
 
 // How many there are between two places that are not far apart.

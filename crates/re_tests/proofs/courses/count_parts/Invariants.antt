@@ -1,4 +1,4 @@
-use Rattle.std.proofs.Common.{false, ℕ, ◌≤◌, ◌-◌, length, map}
+use Rattle.std.proofs.Common.{false, ◌≤◌, ◌-◌, length, map}
 use Rattle.re_search.specs.Searching.{AllAnswer}
 use Rattle.re_search.specs.Working.Matchers.{matched_expression, wants_whole}
 use Rattle.re_search.specs.Working.Asking.{sought_by}

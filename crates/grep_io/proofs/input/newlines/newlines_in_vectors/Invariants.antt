@@ -1,0 +1,11 @@
+use Rattle.std.proofs.Common.{◌≡◌, ◌+◌, ◌*◌, ◌≤◌, length}
+use Rattle.std.specs.Simd.Lanes.{Each1, sum_l}
+use Rattle.memchr.specs.Find.{is_byte, places_between}
+use Rattle.re_syntax.specs.Lines.{newline}
+use Rattle.grep_io.proofs.input.newlines.newlines_in_vectors.Given as goal
+
+abbrev pub invariant-vectors : goal.invariant-vectors
+invariant-vectors l = record {
+  few : Each1 (λ a. a ≤ l.place) l.counts;
+  counted : sum_l l.counts ≡ length (places_between (is_byte newline) l.bytes l.from (l.from + 32 * l.place));
+}
