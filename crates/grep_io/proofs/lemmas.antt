@@ -6,7 +6,6 @@ pub mod BufferLemmas
 pub mod LineSentLemmas
 pub mod FileLaws
 pub mod HandedLemmas
-pub mod NewlineLemmas
 pub mod NumberedLemmas
 pub mod PassedLemmas
 pub mod WriteLemmas

@@ -9,3 +9,4 @@ pub mod BegunLines
 pub mod CountedBlocks
 pub mod NextLines
 pub mod NibbleLanes
+pub mod NewlineLaws

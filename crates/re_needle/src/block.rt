@@ -8,9 +8,10 @@ ghost use Rattle.re_needle.specs.Working.Blocks.{next_cost};
 ghost use Rattle.re_needle.specs.Working.Needles.{run_of};
 ghost use Rattle.re_needle.specs.Working.Runs.{BeginsWithout, LacksRun};
 
+use crate::newline::first_newline;
 use crate::run_finder::RunFinder;
 use memchr::memmem::Finder;
-use memchr::{memchr, memrchr};
+use memchr::memrchr;
 use re_syntax::Span;
 
 /// Where the first line with the string begins in a block of whole lines; the end of the block if
@@ -163,7 +164,7 @@ pub fn line_end(block: &[u8], start: usize) -> Option<usize>
     ensures { MatchOption result (HasNoNewline (drop start block.now))
         (λ end. IsLineFrom block.now start end) }
 {
-    let length = near_newline(&block[start..])?;
+    let length = first_newline(&block[start..])?;
     Some(start + length)
 }
 
@@ -175,38 +176,4 @@ pub fn has_no_newline(bytes: &[u8]) -> bool
         Some(_) => false,
         None => true,
     }
-}
-
-// How many bytes are looked at one by one for the end of a line. Where lines are short that is
-// quicker than a call of `memchr`.
-const NEAR: usize = 8;
-
-// The place of the first newline, which may be near.
-#[inline(always)]
-fn near_newline(bytes: &[u8]) -> Option<usize>
-    ensures none { MatchOption result (HasNoNewline bytes.now)
-        (λ k. HasNoNewline (take k bytes.now)) }
-    ensures some { IfSome result (λ k. (k < length bytes.now)
-        × (bytes.now ≡ take k bytes.now ++ newline ∷ drop (k + 1) bytes.now)) }
-{
-    let near = NEAR.min(bytes.len());
-    'places: for place in 0..near {
-        if bytes[place] == b'\n' {
-            return Some(place);
-        }
-    }
-    match first_newline(&bytes[near..]) {
-        Some(further) => Some(near + further),
-        None => None,
-    }
-}
-
-// The place of the first newline.
-#[inline(always)]
-fn first_newline(bytes: &[u8]) -> Option<usize>
-    ensures { MatchOption result (HasNoNewline bytes.now) (λ k. (k < length bytes.now)
-        × HasNoNewline (take k bytes.now)
-        × (bytes.now ≡ take k bytes.now ++ newline ∷ drop (k + 1) bytes.now)) }
-{
-    memchr(b'\n', bytes)
 }

@@ -9,6 +9,7 @@ mod lanes;
 mod leading;
 mod mark;
 mod needle;
+mod newline;
 mod nibbles;
 mod outline;
 mod probes;
@@ -22,4 +23,5 @@ pub use block::{
 };
 pub use cost::LookCost;
 pub use needle::{Needle, one_byte};
+pub use newline::first_newline;
 pub use run_finder::RunFinder;

@@ -1,58 +1,13 @@
-// Newlines among some bytes: the first, and how many there are.
-ghost use Rattle.std.specs.Prelude.{◌≡◌, ◌+◌, ◌*◌, ◌<◌, ◌≤◌, ◌==◌, if◌then◌else◌, ◌∷◌, ◌++◌};
-ghost use Rattle.std.specs.Prelude.{IfSome, MatchOption, length, map, take, drop};
+// How many newlines there are.
+ghost use Rattle.std.specs.Prelude.{◌≡◌, ◌+◌, ◌*◌, ◌<◌, ◌≤◌, ◌==◌, if◌then◌else◌};
+ghost use Rattle.std.specs.Prelude.{length, map, take, drop};
 ghost use Rattle.memchr.specs.Find.{is_byte, places, places_between};
-ghost use Rattle.re_syntax.specs.Lines.{newline, HasNoNewline};
+ghost use Rattle.re_syntax.specs.Lines.{newline};
 
-use memchr::memchr;
 use std::simd::prelude::*;
 
 // How many vectors of 32 bytes are counted at a time: the count of a lane is a byte too.
 const VECTORS: usize = 255;
-
-// How many bytes are looked at one by one for the first newline. Where lines are short that is
-// quicker than a call of `memchr`.
-const NEAR: usize = 8;
-
-/// The place of the first newline.
-#[inline(always)]
-pub fn first_newline(bytes: &[u8]) -> Option<usize>
-    ensures none { MatchOption result (HasNoNewline bytes.now)
-        (λ k. HasNoNewline (take k bytes.now)) }
-    ensures some { IfSome result (λ k. (k < length bytes.now)
-        × (bytes.now ≡ take k bytes.now ++ newline ∷ drop (k + 1) bytes.now)) }
-{
-    let near = NEAR.min(bytes.len());
-    'places: for place in 0..near {
-        if bytes[place] == b'\n' {
-            return Some(place);
-        }
-    }
-    match far_newline(&bytes[near..]) {
-        Some(further) => Some(near + further),
-        None => None,
-    }
-}
-
-// The same, where no newline is near.
-fn far_newline(bytes: &[u8]) -> Option<usize>
-    ensures none { MatchOption result (HasNoNewline bytes.now)
-        (λ k. HasNoNewline (take k bytes.now)) }
-    ensures some { IfSome result (λ k. (k < length bytes.now)
-        × (bytes.now ≡ take k bytes.now ++ newline ∷ drop (k + 1) bytes.now)) }
-{
-    memchr(b'\n', bytes)
-}
-
-/// The first line of the bytes, and what follows its newline. `None` if they have no newline.
-#[inline(always)]
-pub fn first_line(bytes: &[u8]) -> Option<(&[u8], &[u8])>
-    ensures { MatchOption result (HasNoNewline bytes.now) (λ cut. HasNoNewline cut.0.now
-        × (bytes.now ≡ cut.0.now ++ newline ∷ cut.1.now)) }
-{
-    let length = first_newline(bytes)?;
-    Some((&bytes[..length], &bytes[length + 1..]))
-}
 
 /// How many newlines the bytes have. The count of `memchr` takes four times as long: it adds words
 /// where this adds bytes.

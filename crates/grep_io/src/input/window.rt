@@ -12,8 +12,8 @@ ghost use Rattle.grep_io.specs.Working.Held.{HasWholeLine, waiting, shown_line};
 ghost use Rattle.grep_io.specs.Working.Held.{ShownFits};
 
 use crate::devices::counted::CountedRead;
-use crate::input::newlines::first_newline;
 use memchr::memrchr;
+use re_needle::first_newline;
 use std::alloc::{AllocError, Global};
 use std::marker::Model;
 

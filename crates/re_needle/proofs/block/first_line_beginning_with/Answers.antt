@@ -20,6 +20,7 @@ returns-in_default-first_newline c = passed_so_far (run_of c.args.finder.now) c.
 
 pub lines-preserved : goal.lines-preserved
 lines-preserved c =
-    let ended = rw take_rest at c.in-Some-first_newline.ensures in
+    let free = rw take_rest at c.in-Some-first_newline.ensures.none in
+    let ended = rw take_rest at c.in-Some-first_newline.ensures.some in
     passed_line (run_of c.args.finder.now) c.args.block.now c.lines.start c.in-Some.place c.lines.invariant (rw take_rest at c.in-Some.ensures)
-    (λ begins. false≢true (c.if-line_begins.ensures.1 begins)) c.in-Some-first_newline.length ended.0 ended.1 ended.2
+    (λ begins. false≢true (c.if-line_begins.ensures.1 begins)) c.in-Some-first_newline.length ended.0 free ended.1
