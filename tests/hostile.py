@@ -330,6 +330,16 @@ def empty_lines(bench: Bench) -> Verdict:
     return Verdict(Answer(b"1000000\n1000000\n0\n1000000:\n"), Answer(b"".join(counts) + last))
 
 
+@case("Lines of each length up to 300 bytes, many times: each is numbered, and so are the empty ones.")
+def lines_of_each_length(bench: Bench) -> Verdict:
+    lines = [b"x" * length for length in range(301)] * 30
+    bench.write("f", b"\n".join(lines) + b"\n")
+    rows = [b"%d:%s\n" % (number, line) for number, line in enumerate(lines, 1)]
+    wanted = b"".join(rows) + b"".join(rows[::301]) + b"%d\n" % (30 * 300)
+    asked = ("-n", ""), ("-n", "^$"), ("-c", "x")
+    return Verdict(Answer(wanted), Answer(b"".join(bench.ask(*words, "f").out for words in asked)))
+
+
 @case("A line of 64 mebibytes is searched, and written whole.")
 def long_line(bench: Bench) -> Verdict:
     line = b"ab" * (32 * MEBIBYTE)
