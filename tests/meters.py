@@ -23,7 +23,10 @@ SEARCH = {*UNCOUNTED, "re_ends", "re_search"}
 """The crates that search, and count the steps of their callers."""
 
 DEFINITIONS = {"grep_io": "re_needle", "line_chunks": "re_needle", "grep_session": "re_needle"}
-"""Crates that list one of these for its definitions, and name it in no code."""
+"""Crates that list one of these for its definitions, and name none of its searches in code."""
+
+NEWLINE = "first_newline"
+"""A function of these that finds where a line ends, whatever is searched for."""
 
 MAY_LIST = {MAKES_METERS: SEARCH | {"grep", "occur", "examples"},
             **{name: SEARCH | {user for user, used in DEFINITIONS.items() if used == name} for name in UNCOUNTED}}
@@ -83,12 +86,12 @@ def head_of_search(bench: Bench) -> Verdict:
     return judged([f"lib.rt passes on {name}" for name in shown])
 
 
-@case("A crate that lists a search for its definitions names it in no code.")
+@case("A crate that lists a search for its definitions names none of its functions but that for newlines.")
 def code_of_readers(bench: Bench) -> Verdict:
     faults = []
     for crate, below in DEFINITIONS.items():
         for file in sorted((CRATES / crate / "src").glob("**/*.rt")):
-            code = re.sub(r"(?m)^\s*ghost use .*$", "", file.read_text(encoding="utf-8"))
+            code = re.sub(rf"(?m)^\s*ghost use .*$|\b{below}::{NEWLINE};", "", file.read_text(encoding="utf-8"))
             faults += [f"{crate}/{file.name} names {below}"] if re.search(rf"\b{below}\b", code) else []
     return judged(faults)
 
