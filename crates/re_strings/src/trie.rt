@@ -3,6 +3,11 @@ ghost use Rattle.std.specs.Prelude.{◌≡◌, ℕ, ◌+◌, ◌<◌, ◌≤◌,
 ghost use Rattle.std.specs.Prelude.{MatchOption, IfSome};
 ghost use Rattle.re_strings.specs.Working.FixedSets.{IsTrie, IsTrieOf, IsFront, Labels};
 
+use memchr::memchr;
+
+// Up to so many children are compared one by one: for so few a call of `memchr` costs more.
+const FEW_CHILDREN: usize = 16;
+
 /// A tree whose nodes are the beginnings of some strings, shorter ones first. Each has the byte
 /// that it adds to its parent.
 #[derive(Drop)]
@@ -16,7 +21,6 @@ pub struct Trie {
 
 impl Trie {
     /// The child of the node for this byte.
-    // Nearly all nodes have few children, so a call of `memchr` costs more than this loop.
     #[inline]
     pub fn child(&self, node: usize, byte: u8) -> Option<usize>
         requires trie { IsTrie self.now.first.items self.now.bytes.items }
@@ -30,6 +34,10 @@ impl Trie {
     {
         let from = self.first[node] as usize;
         let to = self.first[node + 1] as usize;
+        if to - from > FEW_CHILDREN {
+            let place = memchr(byte, &self.bytes[from..to])?;
+            return Some(from + place);
+        }
         'children: for child in from..to {
             if self.bytes[child] == byte {
                 return Some(child);

@@ -75,7 +75,7 @@ type Row = (
     &'static [(usize, usize)],
 );
 
-static ROWS: [Row; 12] = [
+static ROWS: [Row; 13] = [
     (b"aa\n", false, b"aaaa", true, &[(0, 2), (2, 4)]),
     (b"ab\nabc\nc\n", false, b"abcc", true, &[(0, 3), (3, 4)]),
     (b"ab\nbc", false, b"acb", false, &[]),
@@ -88,6 +88,14 @@ static ROWS: [Row; 12] = [
     // Places that are leapt over.
     (b"abcd\n", false, b"abababcd", true, &[(4, 8)]),
     (b"xa\xe1\n", false, b"xbaxa\xe1", true, &[(3, 6)]),
+    // Seventeen that begin alike.
+    (
+        b"xa\nxb\nxc\nxd\nxe\nxf\nxg\nxh\nxi\nxj\nxk\nxl\nxm\nxn\nxo\nxp\nxq",
+        false,
+        b"xrxqxxa",
+        true,
+        &[(2, 4), (5, 7)],
+    ),
     // The whole line.
     (b"ab\nabc\nbc", true, b"abc", true, &[(0, 3)]),
     (b"ab\nabc\nbc", true, b"abcd", false, &[]),

@@ -1,6 +1,18 @@
--- Children of a node, which end later than those of the nodes before it.
-use Rattle.std.proofs.Common.{◌≡◌, ℕ, zero, suc, subst, ◌+◌, ◌-◌, ◌<◌, ◌≤◌, List, length, slice_index, sym, arith}
+-- Children of a node, by a search for their byte.
+use Rattle.std.proofs.Common.{◌≡◌, ℕ, zero, suc, subst, ◌+◌, ◌-◌, ◌<◌, ◌≤◌, List, length, take, drop, slice_index, sym, ap, ◌∙◌, arith, eq-eqb, length-drop}
+use Rattle.std.proofs.lemmas.Bool.{eqb-true}
+use Rattle.std.proofs.lemmas.List.{get_or-drop, get_or-take, length-take-le}
 use Rattle.re_strings.specs.Working.FixedSets.{IsTrie}
+use Rattle.memchr.specs.Find.{Nowhere, Passes, is_byte}
+
+-- a byte that a search of a part doesn't find is at no place of it
+pub not_between : (bytes : List ℕ) (i j b : ℕ) → i ≤ j → j ≤ length bytes → Nowhere (Passes (is_byte b) (take (j - i) (drop i bytes))) 0 (length (take (j - i) (drop i bytes)))
+    → (m : ℕ) → i ≤ m → m < j → slice_index bytes m ≡ b → ⊥
+not_between bytes i j b low high none m le lt is =
+    let long : length (take (j - i) (drop i bytes)) ≡ j - i = length-take-le (j - i) (drop i bytes) (omega (arith, low, high, length-drop i bytes)) in
+    let place : i + (m - i) ≡ m = omega (arith, le) in
+    let there : slice_index (take (j - i) (drop i bytes)) (m - i) ≡ b = get_or-take (j - i) (drop i bytes) (m - i) 0 (omega (arith, le, lt)) ∙ get_or-drop i bytes (m - i) 0 ∙ ap (slice_index bytes) place ∙ is in
+    none (m - i) (omega arith) (omega (arith, long, le, lt)) (eq-eqb _ b there)
 
 -- the children of a later node end later
 ascends_by : (first bytes : List ℕ) → IsTrie first bytes → (i more : ℕ) → i + more < length bytes → slice_index first (i + 1) ≤ slice_index first (i + more + 1)
@@ -15,3 +27,13 @@ pub ascends : (first bytes : List ℕ) → IsTrie first bytes → (i j : ℕ) �
 ascends first bytes t i j le lt =
     let at : i + (j - i) ≡ j = omega (arith, le) in
     subst (λ n. slice_index first (i + 1) ≤ slice_index first (n + 1)) at (ascends_by first bytes t i (j - i) (omega (arith, at, lt)))
+
+-- a byte that a search of a part finds is at its place
+pub found_between : (bytes : List ℕ) (i j b k : ℕ) → i ≤ j → j ≤ length bytes → k < length (take (j - i) (drop i bytes)) → Passes (is_byte b) (take (j - i) (drop i bytes)) k
+    → (i + k < j) × (slice_index bytes (i + k) ≡ b)
+found_between bytes i j b k low high below passes =
+    let long : length (take (j - i) (drop i bytes)) ≡ j - i = length-take-le (j - i) (drop i bytes) (omega (arith, low, high, length-drop i bytes)) in
+    let inside : k < j - i = omega (arith, below, long) in (
+      omega (arith, inside, low),
+      sym (get_or-take (j - i) (drop i bytes) k 0 inside ∙ get_or-drop i bytes k 0) ∙ eqb-true _ b passes,
+    )

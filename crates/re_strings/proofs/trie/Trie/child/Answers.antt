@@ -1,5 +1,6 @@
-use Rattle.std.proofs.Common.{◌≡◌, ◌+◌, ◌∷◌, [], ◌++◌, slice_index, sym, ap, ◌∙◌, arith}
+use Rattle.std.proofs.Common.{◌≡◌, ◌+◌, ◌<◌, ◌∷◌, [], ◌++◌, length, slice_index, sym, ap, ◌∙◌, arith}
 use Rattle.std.proofs.lemmas.Grind.{get_or_default_zero}
+use Rattle.re_strings.proofs.lemmas.SetTries.{found_between, not_between}
 use Rattle.re_strings.proofs.trie.Trie.child.Goals as goal
 
 pub returns-clause-reported : goal.returns-clause-reported
@@ -35,3 +36,48 @@ returns-then-index-byte-clause-beyond c =
     let beyond = c.requires.trie.beyond c.args.node c.requires.within in
     let within = c.requires.trie.within c.args.node c.requires.within in
     (omega (arith, low_of c, low, beyond), omega (arith, high_of c, high, within), omega (arith, high_of c, high))
+
+pub returns-in_err-place-clause-reported : goal.returns-in_err-place-clause-reported
+returns-in_err-place-clause-reported c = λ all t. rw c.from_residual.ensures (λ front.
+    let found = t.complete c.args.node c.args.byte c.requires.within front in
+    let i : c.index.result.now ≡ slice_index c.args.self.now.first.items c.args.node =
+    c.index.ensures ∙ get_or_default_zero c.args.self.now.first.items c.args.node c.index.result.now (let r = c.requires.trie.rows in let w = c.requires.within in omega (arith, r, w)) in
+    let j : c.index-2.result.now ≡ slice_index c.args.self.now.first.items (c.args.node + 1) =
+    c.index-2.ensures ∙ get_or_default_zero c.args.self.now.first.items (c.args.node + 1) c.index-2.result.now (let r = c.requires.trie.rows in let w = c.requires.within in omega (arith, r, w)) in
+    not_between c.deref.result.now c.index.result.now c.index-2.result.now c.args.byte
+    (let o = c.requires.trie.ordered c.args.node c.requires.within in omega (arith, i, j, o))
+    (let o = c.requires.trie.within c.args.node c.requires.within in let e = ap length c.deref.ensures.value in omega (arith, j, o, e))
+    c.in_err-place.ensures
+    found.0 (let low = found.1.0 in omega (arith, i, low)) (let high = found.1.1 in omega (arith, j, high)) (ap (λ xs. slice_index xs found.0) c.deref.ensures.value ∙ found.2))
+
+first_of : (c : goal.In_ok-place) → c.index.result.now ≡ slice_index c.args.self.now.first.items c.args.node
+first_of c = c.index.ensures ∙ get_or_default_zero c.args.self.now.first.items c.args.node c.index.result.now (let r = c.requires.trie.rows in let w = c.requires.within in omega (arith, r, w))
+
+end_of : (c : goal.In_ok-place) → c.index-2.result.now ≡ slice_index c.args.self.now.first.items (c.args.node + 1)
+end_of c = c.index-2.ensures ∙ get_or_default_zero c.args.self.now.first.items (c.args.node + 1) c.index-2.result.now (let r = c.requires.trie.rows in let w = c.requires.within in omega (arith, r, w))
+
+found_of : (c : goal.In_ok-place) → (c.index.result.now + c.in_ok-place.place < c.index-2.result.now) × (slice_index c.deref.result.now (c.index.result.now + c.in_ok-place.place) ≡ c.args.byte)
+found_of c =
+    let ordered = c.requires.trie.ordered c.args.node c.requires.within in
+    let within = c.requires.trie.within c.args.node c.requires.within in
+    let same = ap length c.deref.ensures.value in
+    found_between c.deref.result.now c.index.result.now c.index-2.result.now c.args.byte c.in_ok-place.place
+    (omega (arith, first_of c, end_of c, ordered)) (omega (arith, end_of c, within, same)) c.in_ok-place.ensures.0.high c.in_ok-place.ensures.1
+
+pub returns-then-to-from-gt-FEW_CHILDREN-clause-beyond : goal.returns-then-to-from-gt-FEW_CHILDREN-clause-beyond
+returns-then-to-from-gt-FEW_CHILDREN-clause-beyond c =
+    let low = first_of c in
+    let high = end_of c in
+    let found = (found_of c).0 in
+    let beyond = c.requires.trie.beyond c.args.node c.requires.within in
+    let within = c.requires.trie.within c.args.node c.requires.within in
+    (omega (arith, low, beyond), omega (arith, high, within, found), omega (arith, high, found))
+
+pub returns-then-to-from-gt-FEW_CHILDREN-clause-reported : goal.returns-then-to-from-gt-FEW_CHILDREN-clause-reported
+returns-then-to-from-gt-FEW_CHILDREN-clause-reported c = λ all t.
+    let low = first_of c in
+    let high = end_of c in
+    let found = found_of c in
+    let m = c.index.result.now + c.in_ok-place.place in
+    t.child c.args.node m c.requires.within (omega (arith, low), omega (arith, high, found.0))
+    ∙ ap (λ b. all.label c.args.node ++ b ∷ []) (ap (λ xs. slice_index xs m) (sym c.deref.ensures.value) ∙ found.1)
