@@ -2,7 +2,7 @@
 ghost use Rattle.std.specs.Prelude.{◌≡◌, ◌≤◌, length};
 
 use crate::mark::Mark;
-use crate::survey::{Survey, rank_of};
+use crate::survey::{HALVED, Survey, rank_of};
 
 // From how many bytes on a run is long. If one of two runs is long, the longer one is taken; else
 // one that is much rarer takes precedence over a longer one.
@@ -10,6 +10,9 @@ const LONG: usize = 4;
 
 // By how many ranks a byte is much rarer than another.
 const MUCH: u8 = 32;
+
+// A byte of this rank or a higher one is on most lines of texts in words.
+const OFTEN: u8 = 240;
 
 // A set is small if at most about this number of 65,536 bytes of most texts are in it.
 const SMALL: u32 = 24_576;
@@ -29,11 +32,13 @@ pub enum RunOf {
     Sets,
 }
 
-// A run of marks: where it begins, how long it is, and how common its rarest mark is.
+/// A run of marks.
 #[derive(Clone, Copy)]
-struct Run {
-    start: usize,
+pub struct Run {
+    /// Where it begins.
+    pub start: usize,
     length: usize,
+    // How common its rarest mark is.
     rank: u8,
 }
 
@@ -60,9 +65,17 @@ impl Run {
         }
     }
 
+    /// Whether a mark of it is half as common as the first of the other, which is on most lines.
+    pub fn is_rarer(self, byte: Run) -> bool {
+        byte.length > 0 && byte.rank >= OFTEN && self.rank.saturating_add(HALVED) <= byte.rank
+    }
+
     // Whether it takes precedence over the other, which begins at the same place or before. A
-    // single byte never takes precedence over a single byte.
-    fn beats(self, other: Run) -> bool {
+    // single byte never takes precedence over a single byte, but a single set may.
+    fn beats(self, other: Run, of: RunOf) -> bool {
+        if self.length == 1 && other.length == 1 {
+            return !matches!(of, RunOf::Bytes) && self.is_rarer(other);
+        }
         if self.length >= LONG || other.length >= LONG || self.length < 2 || other.length < 2 {
             return self.length > other.length;
         }
@@ -73,9 +86,9 @@ impl Run {
     }
 }
 
-/// Where the run of such marks that is looked for begins.
-pub fn run_start(marks: &[Mark], of: RunOf) -> usize
-    ensures { result ≤ length marks.now }
+/// The run of such marks that is looked for.
+pub fn best_run(marks: &[Mark], of: RunOf) -> Run
+    ensures { result.start ≤ length marks.now }
 {
     let mut now = Run::at(0);
     let mut best = Run::at(0);
@@ -84,11 +97,11 @@ pub fn run_start(marks: &[Mark], of: RunOf) -> usize
             Some(rank) => now.with(rank),
             None => Run::at(place + 1),
         };
-        if now.beats(best) {
+        if now.beats(best, of) {
             best = now;
         }
     }
-    best.start
+    best
 }
 
 /// How common the bytes of the mark are, if it may be one of such a run.

@@ -6,7 +6,7 @@ ghost use Rattle.re_syntax.specs.Sets.{members};
 ghost use Rattle.re_needle.specs.Working.Needles.{IsNeedleFor};
 ghost use Rattle.re_needle.specs.Working.Outlines.{IsOutline, shown};
 
-use crate::choice::{RunOf, run_start};
+use crate::choice::{RunOf, best_run};
 use crate::cost::LookCost;
 use crate::leading::leading_sets;
 use crate::mark::Mark;
@@ -42,28 +42,32 @@ pub struct Needle {
 impl Needle {
     /// The run to look for, the first of these that every match needs, also in groups and in what
     /// is repeated once or more: two or more single bytes; a run of small sets that is rare in most
-    /// texts or is all there is; one byte that is not common; a long run of sets of any size; a
-    /// common byte; any run of small sets, be it of one. A choice has the sets that its branches
-    /// begin with, and a set that is repeated counts once for each time. `None` if there is none of
-    /// these. The one error is that memory was refused.
+    /// texts or is all there is; a small set that is half as common as a byte of most lines; one
+    /// byte that is not common; a long run of sets of any size; a common byte; any run of small
+    /// sets, be it of one. A choice has the sets that its branches begin with, and a set that is
+    /// repeated counts once for each time. `None` if there is none of these. The one error is that
+    /// memory was refused.
     pub fn of(alloc: Global, tree: &Tree) -> Result<Option<Needle>, AllocError>
         ensures { IfOk result (IsNeedleFor (expression_of tree.now)) }
     {
         let mut marks = Vec::new(alloc);
         add_outline(alloc, tree, &mut marks)?;
-        let start = run_start(&marks, RunOf::Bytes);
-        if let Some(needle) = text_needle(alloc, &marks, start, 2)? {
+        let bytes = best_run(&marks, RunOf::Bytes);
+        if let Some(needle) = text_needle(alloc, &marks, bytes.start, 2)? {
             return Ok(Some(needle));
         }
-        let sets = run_start(&marks, RunOf::SmallSets);
-        if let Some(needle) = set_needle(alloc, &marks, sets)? {
+        let sets = best_run(&marks, RunOf::SmallSets);
+        if let Some(needle) = set_needle(alloc, &marks, sets.start)? {
             return Ok(Some(needle));
         }
-        let single = text_needle(alloc, &marks, start, 1)?;
+        if sets.is_rarer(bytes) {
+            return common_needle(alloc, &marks, sets.start, RunOf::SmallSets, 1);
+        }
+        let single = text_needle(alloc, &marks, bytes.start, 1)?;
         if is_uncommon(&single) {
             return Ok(single);
         }
-        let wide = run_start(&marks, RunOf::Sets);
+        let wide = best_run(&marks, RunOf::Sets).start;
         let Ok(found) = common_needle(alloc, &marks, wide, RunOf::Sets, MANY_SETS) else {
             drop(single);
             return Err(AllocError);
@@ -75,7 +79,7 @@ impl Needle {
         if single.is_some() {
             return Ok(single);
         }
-        common_needle(alloc, &marks, sets, RunOf::SmallSets, 1)
+        common_needle(alloc, &marks, sets.start, RunOf::SmallSets, 1)
     }
 
     /// What the search for it over a block costs.

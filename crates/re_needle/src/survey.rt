@@ -7,8 +7,8 @@ use re_syntax::ByteSet;
 // About how many of 65,536 bytes of most texts are the commonest byte.
 const COMMONEST: u32 = 8_192;
 
-// A byte that is this number of ranks lower is half as common.
-const HALVED: u8 = 10;
+/// A byte that is this number of ranks lower is half as common.
+pub const HALVED: u8 = 10;
 
 /// How common the bytes of a set are.
 #[derive(Clone, Copy, Drop)]

@@ -1,5 +1,5 @@
 use Rattle.std.proofs.Common.{◌≤◌}
-use Rattle.re_needle.proofs.choice.run_start.Given as goal
+use Rattle.re_needle.proofs.choice.best_run.Given as goal
 
 abbrev pub invariant-marks : goal.invariant-marks
 invariant-marks l = record { now : l.now.start ≤ l.place; best : l.best.start ≤ l.place }
