@@ -8,3 +8,4 @@ pub mod SetAround
 pub mod StepSums
 pub mod PartsWithin
 pub mod LaterParts
+pub mod LineWalks
