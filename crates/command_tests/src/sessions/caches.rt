@@ -15,7 +15,7 @@ fn searched(alloc: Global, states: usize) -> Result<Caches, Fail>
 {
     let mut meter = fresh_meter();
     let mut session = Session::new(alloc, states);
-    session.add_patterns(b"ab*c\nab*d", &mut meter)?;
+    session.add_patterns(b"ab*e\nab*t", &mut meter)?;
     let mut lines = Vec::new(alloc);
     lines.push(vec![in alloc; b'a'; 1_000]?)?;
     session.add_file(Vec::new(alloc), lines, &mut meter)?;
