@@ -42,11 +42,11 @@ pub struct Needle {
 impl Needle {
     /// The run to look for, the first of these that every match needs, also in groups and in what
     /// is repeated once or more: two or more single bytes; a run of small sets that is rare in most
-    /// texts or is all there is; a small set that is half as common as a byte of most lines; one
-    /// byte that is not common; a long run of sets of any size; a common byte; any run of small
-    /// sets, be it of one. A choice has the sets that its branches begin with, and a set that is
-    /// repeated counts once for each time. `None` if there is none of these. The one error is that
-    /// memory was refused.
+    /// texts or is all there is; a byte or a small set that is half as common as a byte of most
+    /// lines; one byte that is not common; a long run of sets of any size; a common byte; any run
+    /// of small sets, be it of one. A choice has the sets that its branches begin with, and a set
+    /// that is repeated counts once for each time. `None` if there is none of these. The one error
+    /// is that memory was refused.
     pub fn of(alloc: Global, tree: &Tree) -> Result<Option<Needle>, AllocError>
         ensures { IfOk result (IsNeedleFor (expression_of tree.now)) }
     {
@@ -61,6 +61,9 @@ impl Needle {
             return Ok(Some(needle));
         }
         if sets.is_rarer(bytes) {
+            if let Some(needle) = text_needle(alloc, &marks, sets.start, 1)? {
+                return Ok(Some(needle));
+            }
             return common_needle(alloc, &marks, sets.start, RunOf::SmallSets, 1);
         }
         let single = text_needle(alloc, &marks, bytes.start, 1)?;

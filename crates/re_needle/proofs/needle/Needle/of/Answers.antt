@@ -22,8 +22,8 @@ returns-in-Some-2 c =
 pub returns-then-is_rarer : goal.returns-then-is_rarer
 returns-then-is_rarer c =
     let e = expression_of c.args.tree.now in
-    let outline : IsOutline (map shown c.deref-then-is_rarer.result.now) e =
-    rw c.deref-then-is_rarer.ensures.value (outline_alone c.new-marks.result.items c.add_outline.new.marks.items e c.new-marks.ensures.items c.in_ok-add_outline.ensures) in
+    let outline : IsOutline (map shown c.deref-then-is_rarer-2.result.now) e =
+    rw c.deref-then-is_rarer-2.ensures.value (outline_alone c.new-marks.result.items c.add_outline.new.marks.items e c.new-marks.ensures.items c.in_ok-add_outline.ensures) in
     ok_as _ _ c.common_needle.result c.common_needle.ensures (λ found h. h e outline)
 
 pub returns-then-is_uncommon : goal.returns-then-is_uncommon
