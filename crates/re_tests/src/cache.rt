@@ -26,7 +26,7 @@ type Row = (
 
 static ROWS: [Row; 16] = [
     (
-        b"ab*c",
+        b"ab*e",
         false,
         b"a",
         1000,
@@ -35,11 +35,11 @@ static ROWS: [Row; 16] = [
         (2, 998, 0, 1000),
         2,
     ),
-    (b"ab*c", false, b"a", 1000, false, 1, (2, 998, 2, 998), 1),
-    (b"ab*c", false, b"ab", 500, false, 1, (1000, 0, 1000, 0), 0),
-    (b"ab*c", false, b"ab", 500, false, 2, (3, 997, 3, 997), 2),
+    (b"ab*e", false, b"a", 1000, false, 1, (2, 998, 2, 998), 1),
+    (b"ab*e", false, b"ab", 500, false, 1, (1000, 0, 1000, 0), 0),
+    (b"ab*e", false, b"ab", 500, false, 2, (3, 997, 3, 997), 2),
     (
-        b"ab*c",
+        b"ab*e",
         false,
         b"ab",
         500,
@@ -48,7 +48,7 @@ static ROWS: [Row; 16] = [
         (3, 997, 0, 1000),
         3,
     ),
-    (b"ab*c", true, b"a", 1000, false, 4096, (2, 0, 0, 2), 2),
+    (b"ab*e", true, b"a", 1000, false, 4096, (2, 0, 0, 2), 2),
     (b"(ab)*", true, b"ab", 500, true, 4096, (3, 997, 0, 1000), 3),
     (b"(ab)*", true, b"ab", 500, true, 2, (3, 997, 3, 997), 2),
     (
