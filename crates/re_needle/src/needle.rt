@@ -6,7 +6,7 @@ ghost use Rattle.re_syntax.specs.Sets.{members};
 ghost use Rattle.re_needle.specs.Working.Needles.{IsNeedleFor};
 ghost use Rattle.re_needle.specs.Working.Outlines.{IsOutline, shown};
 
-use crate::choice::{RunOf, best_run};
+use crate::choice::{Run, RunOf, best_run};
 use crate::cost::LookCost;
 use crate::leading::leading_sets;
 use crate::mark::Mark;
@@ -42,11 +42,11 @@ pub struct Needle {
 impl Needle {
     /// The run to look for, the first of these that every match needs, also in groups and in what
     /// is repeated once or more: two or more single bytes; a run of small sets that is rare in most
-    /// texts or is all there is; a byte or a small set that is half as common as a byte of most
-    /// lines; one byte that is not common; a long run of sets of any size; a common byte; any run
-    /// of small sets, be it of one. A choice has the sets that its branches begin with, and a set
-    /// that is repeated counts once for each time. `None` if there is none of these. The one error
-    /// is that memory was refused.
+    /// texts or is all there is; one byte that is not common; a long run of sets of any size; a
+    /// common byte, or a small set that is half as common as a byte of most lines; any run of small
+    /// sets, be it of one. A choice has the sets that its branches begin with, and a set that is
+    /// repeated counts once for each time. `None` if there is none of these. The one error is that
+    /// memory was refused.
     pub fn of(alloc: Global, tree: &Tree) -> Result<Option<Needle>, AllocError>
         ensures { IfOk result (IsNeedleFor (expression_of tree.now)) }
     {
@@ -60,13 +60,7 @@ impl Needle {
         if let Some(needle) = set_needle(alloc, &marks, sets.start)? {
             return Ok(Some(needle));
         }
-        if sets.is_rarer(bytes) {
-            if let Some(needle) = text_needle(alloc, &marks, sets.start, 1)? {
-                return Ok(Some(needle));
-            }
-            return common_needle(alloc, &marks, sets.start, RunOf::SmallSets, 1);
-        }
-        let single = text_needle(alloc, &marks, bytes.start, 1)?;
+        let single = single_needle(alloc, &marks, bytes, sets)?;
         if is_uncommon(&single) {
             return Ok(single);
         }
@@ -127,6 +121,28 @@ fn text_needle(
         is_all,
         is_common,
     }))
+}
+
+// The needle of one byte. If that is on most lines, a byte or a small set takes its place that is
+// half as common.
+fn single_needle(
+    alloc: Global,
+    marks: &[Mark],
+    bytes: Run,
+    sets: Run,
+) -> Result<Option<Needle>, AllocError>
+    requires bytes { bytes.start ≤ length marks.now }
+    requires sets { sets.start ≤ length marks.now }
+    ensures { IfOk result
+        (λ found. (e : Expression) → IsOutline (map shown marks.now) e → IsNeedleFor e found) }
+{
+    if !sets.is_rarer(bytes) {
+        return text_needle(alloc, marks, bytes.start, 1);
+    }
+    if let Some(needle) = text_needle(alloc, marks, sets.start, 1)? {
+        return Ok(Some(needle));
+    }
+    common_needle(alloc, marks, sets.start, RunOf::SmallSets, 1)
 }
 
 // Whether the text is one byte that is on most lines of most texts.

@@ -19,13 +19,6 @@ returns-in-Some-2 c =
     rw c.deref-4.ensures.value (outline_alone c.new-marks.result.items c.add_outline.new.marks.items e c.new-marks.ensures.items c.in_ok-add_outline.ensures) in
     rw c.in-Some-2.is at (c.in_ok-needle-2.ensures e outline)
 
-pub returns-then-is_rarer : goal.returns-then-is_rarer
-returns-then-is_rarer c =
-    let e = expression_of c.args.tree.now in
-    let outline : IsOutline (map shown c.deref-then-is_rarer-2.result.now) e =
-    rw c.deref-then-is_rarer-2.ensures.value (outline_alone c.new-marks.result.items c.add_outline.new.marks.items e c.new-marks.ensures.items c.in_ok-add_outline.ensures) in
-    ok_as _ _ c.common_needle.result c.common_needle.ensures (λ found h. h e outline)
-
 pub returns-then-is_uncommon : goal.returns-then-is_uncommon
 returns-then-is_uncommon c =
     let e = expression_of c.args.tree.now in
@@ -52,4 +45,4 @@ returns c =
     let e = expression_of c.args.tree.now in
     let outline : IsOutline (map shown c.deref-8.result.now) e =
     rw c.deref-8.ensures.value (outline_alone c.new-marks.result.items c.add_outline.new.marks.items e c.new-marks.ensures.items c.in_ok-add_outline.ensures) in
-    ok_as _ _ c.common_needle-3.result c.common_needle-3.ensures (λ found h. h e outline)
+    ok_as _ _ c.common_needle-2.result c.common_needle-2.ensures (λ found h. h e outline)
