@@ -8,4 +8,3 @@ pub mod SetAround
 pub mod StepSums
 pub mod PartsWithin
 pub mod LaterParts
-pub mod LineWalks

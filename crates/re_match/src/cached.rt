@@ -14,13 +14,11 @@ ghost use Rattle.re_steps.specs.Working.Stages.{Searches, mode_for};
 ghost use Rattle.re_ends.specs.Working.GreatestEnds.{AddsEnds, FoundPast};
 ghost use Rattle.re_match.specs.Working.CachedMatchers.{AnswersLine};
 
-use crate::kept_lines::pass_lines;
 use crate::line_match::LineMatch;
-use crate::looks::{Looks, Uncounted};
+use crate::looks::Uncounted;
 use crate::simulated::Simulated;
 use crate::sweeps::{Sweeps, count_by_sweeps, next_by_sweeps};
 use re_auto::Meter;
-use re_needle::LookCost;
 use re_steps::{LineSearch, Outcome, Table};
 use re_syntax::Span;
 use std::alloc::Global;
@@ -34,7 +32,6 @@ use std::num::NonZeroUsize;
 pub struct Cached {
     simulated: Simulated,
     table: Table,
-    looks: Looks,
     alloc: Global,
 }
 
@@ -84,7 +81,6 @@ impl Cached {
         Ok(Cached {
             simulated,
             table,
-            looks: Looks::new(LookCost::Low),
             alloc,
         })
     }
@@ -264,26 +260,8 @@ impl Sweeps for Cached {
 
     ghost room = { λ c. c.most };
 
-    // Where nothing is known that could be looked for, lines are passed by kept steps.
     fn sweep(&self, block: &[u8], meter: &mut Meter) -> usize {
-        if !self.simulated.is_blind() {
-            return self.simulated.sweep(block, meter);
-        }
-        if self.table.is_blank() || !self.looks.is_due() {
-            return 0;
-        }
-        let passed = pass_lines(
-            &self.table,
-            &LineSearch {
-                alloc: self.alloc,
-                automaton: self.simulated.automaton(),
-                mode: self.simulated.mode(),
-                line: block,
-            },
-        );
-        self.looks.note(passed);
-        meter.add_reused_steps(passed as u64);
-        passed
+        self.simulated.sweep(block, meter)
     }
 
     fn search(&mut self, line: &[u8], meter: &mut Meter) -> bool {

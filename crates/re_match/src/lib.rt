@@ -6,7 +6,6 @@ mod cached;
 mod fixed;
 mod fixed_set;
 mod front_ends;
-mod kept_lines;
 mod line_match;
 mod looks;
 mod matcher;

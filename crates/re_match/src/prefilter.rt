@@ -44,12 +44,6 @@ impl Prefilter {
         Ok(Prefilter { needle, looks })
     }
 
-    /// Whether nothing is known that could be looked for.
-    #[inline(always)]
-    pub fn is_blind(&self) -> bool {
-        self.needle.is_none()
-    }
-
     /// A string that every matched stretch has, if one is known.
     pub fn text(&self) -> Option<&[u8]>
         ensures { (e : Expression) → IsNeedleFor e self.now.needle →

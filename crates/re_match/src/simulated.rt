@@ -110,14 +110,6 @@ impl Simulated {
         self.prefilter.text()
     }
 
-    /// Whether it searches for stretches of which nothing is known that could be looked for.
-    #[inline(always)]
-    pub(crate) fn is_blind(&self) -> bool
-        ensures { IsTrue result → self.now.whole ≡ false }
-    {
-        !self.whole && self.prefilter.is_blind()
-    }
-
     /// The automaton.
     #[inline(always)]
     pub(crate) fn automaton(&self) -> &Automaton

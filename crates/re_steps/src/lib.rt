@@ -14,5 +14,5 @@ mod walking;
 pub use least::StartPair;
 pub use lone::{Tried, try_place};
 pub use sets::SetPair;
-pub use table::{LIMIT, LineSearch, Table};
+pub use table::{LineSearch, Table};
 pub use walking::Outcome;

@@ -90,9 +90,9 @@ impl Table {
         })
     }
 
-    /// Whether there are no rows.
+    // Whether there are no rows.
     #[inline(always)]
-    pub fn is_blank(&self) -> bool
+    fn is_blank(&self) -> bool
         ensures { IsTrue result ↔ (length self.now.marks.items ≡ 0) }
     {
         self.marks.is_empty()

@@ -81,9 +81,9 @@ impl Table {
         Outcome::Reported(self.mark(self.stride.number(spot.row)).at_end)
     }
 
-    /// Whether a matched stretch ends at the first place of the line, which is not its last.
+    // Whether a matched stretch ends at the first place of the line, which is not its last.
     #[inline(always)]
-    pub fn is_matched_at_once(&self, asked: &LineSearch) -> bool
+    fn is_matched_at_once(&self, asked: &LineSearch) -> bool
         requires right { IsRightFor asked.now self.now }
         ensures yes { (start : Set) → slice_get self.now.sets.keys 1 ≡ Some start → IsTrue result →
             EndsInside (expression_in asked.now) asked.now.mode asked.now.line.now 0 start true }

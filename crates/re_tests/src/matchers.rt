@@ -200,7 +200,7 @@ fn a_long_line_takes_no_step_where_nothing_can_begin(rt: HostRuntime) -> Result<
 // A pattern, lines, the place of the first that is matched, and how many are.
 type Block = (Pattern, &'static [u8], Option<(usize, usize)>, u64);
 
-static BLOCKS: [Block; 15] = [
+static BLOCKS: [Block; 14] = [
     // Where the whole line is matched, the string has to be at its beginning.
     (BEGUN, b"ca\nba\nab\na", Some((6, 8)), 2),
     (BEGUN_BY_SETS, b"aqj\nqj", Some((4, 6)), 1),
@@ -253,17 +253,6 @@ static BLOCKS: [Block; 15] = [
         1,
     ),
     (BRANCHES, b"que\nqueues\nzebra", Some((4, 10)), 2),
-    // After 256 bytes, lines are passed by kept steps.
-    (
-        (Syntax::Extended, b"^[^b]+$", false, false),
-        b"aaaaaaaaaaaaaaaaaaaaaaaaaaaaaaaaaaaaaaaaaaaaaaaaaaaaaaaaaaaaaaaa\
-        aaaaaaaaaaaaaaaaaaaaaaaaaaaaaaaaaaaaaaaaaaaaaaaaaaaaaaaaaaaaaaaa\
-        aaaaaaaaaaaaaaaaaaaaaaaaaaaaaaaaaaaaaaaaaaaaaaaaaaaaaaaaaaaaaaaa\
-        aaaaaaaaaaaaaaaaaaaaaaaaaaaaaaaaaaaaaaaaaaaaaaaaaaaaaaaaaaaaaaaa\
-        b\nab\ncab\nb\n\nca\nb",
-        Some((268, 270)),
-        1,
-    ),
 ];
 
 fn blocks() -> &'static [Block] {
