@@ -6,7 +6,7 @@ ghost use Rattle.re_syntax.specs.Holds.{positions};
 ghost use Rattle.re_auto.specs.Working.Bits.{InWord};
 ghost use Rattle.re_auto.specs.Working.Positions.{part_of, is_begin, is_end};
 ghost use Rattle.re_auto.specs.Working.Tables.{HasOneWord};
-ghost use Rattle.re_steps.specs.Working.Lone.{IsLongest, HasNone, IsTried};
+ghost use Rattle.re_steps.specs.Working.Lone.{IsFollowed, IsTried};
 
 use re_auto::{Automaton, Meter, bits};
 
@@ -66,13 +66,7 @@ fn follow(automaton: &Automaton, line: &[u8], start: usize, patience: usize) -> 
     requires one { HasOneWord (expression_of automaton.now) }
     requires within { start < length line.now }
     requires some { 1 ≤ patience }
-    ensures on { (start < result.place) × (result.place ≤ length line.now) }
-    ensures low { start ≤ result.last }
-    ensures longest { start < result.last →
-        IsLongest (expression_of automaton.now) line.now start result.last }
-    ensures few { result.last ≡ start → result.place ≤ start + patience }
-    ensures none { result.last ≡ start → IsTrue result.is_over →
-        HasNone (expression_of automaton.now) line.now start }
+    ensures { IsFollowed (expression_of automaton.now) line.now start patience result }
 {
     let mut word = begun(automaton, line, start);
     let mut place = start + 1;
@@ -118,24 +112,13 @@ fn advanced(automaton: &Automaton, word: u64, byte: u8) -> u64
         (((p : ℕ) × InWord word p × (part_of (expression_of automaton.now) 0).follow p q)
         × (part_of (expression_of automaton.now) 0).takes q byte) }
 {
-    followers(automaton, word) & bits::only_word(automaton.taking(byte))
-}
-
-// The positions that can come directly after those of the word.
-#[inline(always)]
-fn followers(automaton: &Automaton, word: u64) -> u64
-    requires one { HasOneWord (expression_of automaton.now) }
-    requires small { (q : ℕ) → InWord word q → q < positions (expression_of automaton.now) }
-    ensures { (q : ℕ) → InWord result q ↔
-        ((p : ℕ) × InWord word p × (part_of (expression_of automaton.now) 0).follow p q) }
-{
     let mut next: u64 = 0;
     let mut left = word;
     'bits: while left != 0 {
         let p = bits::take_lowest(&mut left);
         next |= bits::only_word(automaton.following(p));
     }
-    next
+    next & bits::only_word(automaton.taking(byte))
 }
 
 // The place, if a stretch that is matched ends there; else `last`.
@@ -162,11 +145,5 @@ fn is_stopped(line: &[u8], start: usize, patience: usize, place: usize, last: us
     ensures on { result ≡ false → (place ≡ length line.now → ⊥)
         × (last ≡ start → place < start + patience) }
 {
-    if place == line.len() {
-        return true;
-    }
-    if last != start {
-        return false;
-    }
-    place - start >= patience
+    place == line.len() || (last == start && place - start >= patience)
 }

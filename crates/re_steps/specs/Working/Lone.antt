@@ -1,5 +1,5 @@
 -- Stretches that begin at one place, on their way over a line.
-use Rattle.std.specs.Prelude.{ℕ, ◌-◌, ◌<◌, ◌≤◌, ◌↔◌, length}
+use Rattle.std.specs.Prelude.{◌≡◌, ℕ, ◌+◌, ◌-◌, ◌<◌, ◌≤◌, ◌↔◌, IsTrue, length}
 use Rattle.re_syntax.specs.Bytes.{Text}
 use Rattle.re_syntax.specs.Expression.{Expression}
 use Rattle.re_syntax.specs.Holds.{Holds}
@@ -7,6 +7,7 @@ use Rattle.re_auto.specs.Meters.{Steps}
 use Rattle.re_auto.specs.Searching.{AddsAtMost}
 use Rattle.re_auto.specs.Working.Bits.{InWord}
 use Rattle.re_auto.specs.Working.Positions.{Reaches, part_of}
+use Rattle.re_steps.specs.declared.lone.Followed.{Followed}
 use Rattle.re_steps.specs.declared.lone.Tried.{Tried}
 use Rattle.re_steps.specs.declared.lone.Tried.TheVariants.{Ends, Fails, Open}
 
@@ -24,6 +25,16 @@ pub record IsLongest (e : Expression) (line : Text) (i j : ℕ) : Type 0 where
 -- no matched stretch that is not empty begins at i
 abbrev pub HasNone : Expression → Text → ℕ → Type 0
 HasNone e line i = (l : ℕ) → i < l → l ≤ length line → ¬ Holds line e i l
+
+-- The stretches that begin at i are known as far as a place. The longest of them ends at `last`, or
+-- there is none, which is known after at most `patience` bytes.
+pub record IsFollowed (e : Expression) (line : Text) (i patience : ℕ) (followed : Followed) : Type 0 where
+  pub begun : i < followed.place
+  pub within : followed.place ≤ length line
+  pub low : i ≤ followed.last
+  pub longest : i < followed.last → IsLongest e line i followed.last
+  pub few : followed.last ≡ i → followed.place ≤ i + patience
+  pub none : followed.last ≡ i → IsTrue followed.is_over → HasNone e line i
 
 -- What a try says of the stretches that begin at i is right. It takes at most one step for each
 -- byte from there on, and at most `patience` steps if it finds none.

@@ -29,21 +29,41 @@ places-preserved c =
       few = λ same. omega (arith, on.1 same);
     }
 
-pub returns-then-is_stopped-clause-longest : goal.returns-then-is_stopped-clause-longest
-returns-then-is_stopped-clause-longest c = λ some. elim (c.is_stopped.ensures.over c.if-is_stopped.true) [
-  | inl ends ↦ longest_of (expression_of c.args.automaton.now) c.args.line.now c.args.start c.last_end-last.result (subst (λ n. IsLastEnd (expression_of c.args.automaton.now) c.args.line.now c.args.start (suc n) c.last_end-last.result) ends (noted (expression_of c.args.automaton.now) c.args.line.now c.args.start c.places.place c.places.word c.places.last c.last_end-last.result c.places.invariant.begun c.places.invariant.reached c.places.invariant.last c.last_end-last.ensures)) some
-  | inr none ↦ absurd (omega (arith, none, some))
-]
+pub returns-then-is_stopped : goal.returns-then-is_stopped
+returns-then-is_stopped c =
+    let e = expression_of c.args.automaton.now in
+    let line = c.args.line.now in
+    let start = c.args.start in
+    let new = c.last_end-last.result in
+    let known = noted e line start c.places.place c.places.word c.places.last new c.places.invariant.begun c.places.invariant.reached c.places.invariant.last c.last_end-last.ensures in
+    record {
+      begun = c.places.invariant.begun;
+      within = c.places.invariant.within;
+      low = known.low;
+      longest = λ some. elim (c.is_stopped.ensures.over c.if-is_stopped.true) [
+        | inl ends ↦ longest_of e line start new (subst (λ n. IsLastEnd e line start (suc n) new) ends known) some
+        | inr none ↦ absurd (omega (arith, none, some))
+      ];
+      few = λ same. elim c.last_end-last.ensures [
+        | inl there ↦ absurd (let begun = c.places.invariant.begun in let is = there.0 in omega (arith, same, is, begun))
+        | inr none ↦ c.places.invariant.few (let is = none.0 in omega (arith, same, is))
+      ];
+      none = λ same over.
+          let ends : c.places.place ≡ length line = eqb-true _ _ over in
+          none_of_all e line start new (subst (λ n. IsLastEnd e line start (suc n) new) ends known) same;
+    }
 
-pub returns-then-is_stopped-clause-none : goal.returns-then-is_stopped-clause-none
-returns-then-is_stopped-clause-none c = λ same over.
-    let ends : c.places.place ≡ length c.args.line.now = eqb-true _ _ over in
-    none_of_all (expression_of c.args.automaton.now) c.args.line.now c.args.start c.last_end-last.result (subst (λ n. IsLastEnd (expression_of c.args.automaton.now) c.args.line.now c.args.start (suc n) c.last_end-last.result) ends (noted (expression_of c.args.automaton.now) c.args.line.now c.args.start c.places.place c.places.word c.places.last c.last_end-last.result c.places.invariant.begun c.places.invariant.reached c.places.invariant.last c.last_end-last.ensures)) same
-
-pub returns-clause-longest : goal.returns-clause-longest
-returns-clause-longest c = λ some.
-    longest_of (expression_of c.args.automaton.now) c.args.line.now c.args.start c.places.last (all_known (expression_of c.args.automaton.now) c.args.line.now c.args.start c.places.place c.places.word c.places.last c.places.invariant.begun c.places.invariant.within c.places.invariant.reached (omega (arith, c.places-test.false)) c.places.invariant.last) some
-
-pub returns-clause-none : goal.returns-clause-none
-returns-clause-none c = λ same over.
-    none_of_all (expression_of c.args.automaton.now) c.args.line.now c.args.start c.places.last (all_known (expression_of c.args.automaton.now) c.args.line.now c.args.start c.places.place c.places.word c.places.last c.places.invariant.begun c.places.invariant.within c.places.invariant.reached (omega (arith, c.places-test.false)) c.places.invariant.last) same
+pub returns : goal.returns
+returns c =
+    let e = expression_of c.args.automaton.now in
+    let line = c.args.line.now in
+    let start = c.args.start in
+    let all = all_known e line start c.places.place c.places.word c.places.last c.places.invariant.begun c.places.invariant.within c.places.invariant.reached (omega (arith, c.places-test.false)) c.places.invariant.last in
+    record {
+      begun = c.places.invariant.begun;
+      within = c.places.invariant.within;
+      low = c.places.invariant.last.low;
+      longest = longest_of e line start c.places.last all;
+      few = c.places.invariant.few;
+      none = λ same over. none_of_all e line start c.places.last all same;
+    }

@@ -3,7 +3,7 @@ use Rattle.re_syntax.specs.Expression.{expression_of}
 use Rattle.re_auto.specs.Working.Bits.{InWord}
 use Rattle.re_auto.specs.Working.Positions.{part_of}
 use Rattle.re_auto.proofs.lemmas.BitLemmas.{AreAmong, AddsUp}
-use Rattle.re_steps.proofs.lone.followers.Given as goal
+use Rattle.re_steps.proofs.lone.advanced.Given as goal
 
 -- what is already added and what is left to add are together the whole
 abbrev pub invariant-bits : goal.invariant-bits
