@@ -57,26 +57,22 @@ impl Needle {
             return Ok(Some(needle));
         }
         let sets = best_run(&marks, RunOf::SmallSets);
-        if let Some(needle) = set_needle(alloc, &marks, sets.start)? {
+        if let Some(needle) = set_needle(alloc, &marks, sets.start, RunOf::SmallSets, 2, false)? {
             return Ok(Some(needle));
         }
         let single = single_needle(alloc, &marks, bytes, sets)?;
-        if is_uncommon(&single) {
+        if matches!(&single, Some(needle) if !needle.is_common) {
             return Ok(single);
         }
         let wide = best_run(&marks, RunOf::Sets).start;
-        let Ok(found) = common_needle(alloc, &marks, wide, RunOf::Sets, MANY_SETS) else {
-            drop(single);
-            return Err(AllocError);
-        };
-        if let Some(needle) = found {
-            drop(single);
-            return Ok(Some(needle));
+        let found = set_needle(alloc, &marks, wide, RunOf::Sets, MANY_SETS, true)?;
+        if found.is_some() {
+            return Ok(found);
         }
         if single.is_some() {
             return Ok(single);
         }
-        common_needle(alloc, &marks, sets.start, RunOf::SmallSets, 1)
+        set_needle(alloc, &marks, sets.start, RunOf::SmallSets, 1, true)
     }
 
     /// What the search for it over a block costs.
@@ -85,14 +81,6 @@ impl Needle {
             return LookCost::High;
         }
         LookCost::Low
-    }
-}
-
-// Whether there is a needle, and it is not common.
-fn is_uncommon(needle: &Option<Needle>) -> bool {
-    match needle {
-        Some(needle) => !needle.is_common,
-        None => false,
     }
 }
 
@@ -142,7 +130,7 @@ fn single_needle(
     if let Some(needle) = text_needle(alloc, marks, sets.start, 1)? {
         return Ok(Some(needle));
     }
-    common_needle(alloc, marks, sets.start, RunOf::SmallSets, 1)
+    set_needle(alloc, marks, sets.start, RunOf::SmallSets, 1, true)
 }
 
 // Whether the text is one byte that is on most lines of most texts.
@@ -150,39 +138,15 @@ fn is_common_byte(text: &[u8]) -> bool {
     text.len() == 1 && rank_of(text[0]) >= COMMON
 }
 
-// The needle of the small sets from a mark on, if there are two or more.
-fn set_needle(alloc: Global, marks: &[Mark], start: usize) -> Result<Option<Needle>, AllocError>
-    requires { start ≤ length marks.now }
-    ensures { IfOk result
-        (λ found. (e : Expression) → IsOutline (map shown marks.now) e → IsNeedleFor e found) }
-{
-    let sets = leading_sets(alloc, &marks[start..], RunOf::SmallSets)?;
-    if sets.len() < 2 {
-        return Ok(None);
-    }
-    let is_all = sets.len() == marks.len();
-    let Some(finder) = SetFinder::new(sets) else {
-        return Ok(None);
-    };
-    if !is_all && !finder.is_selective() {
-        return Ok(None);
-    }
-    Ok(Some(Needle {
-        finder: RunFinder::Sets(finder),
-        is_first: start == 0,
-        is_all,
-        is_common: false,
-    }))
-}
-
-// The needle of the sets from a mark on, if there are at least `least`. On some texts such a run is
-// on most lines.
-fn common_needle(
+// The needle of the sets from a mark on, if there are at least `least`. `None` if it is not said to be
+// common, and is neither rare in most texts nor all there is.
+fn set_needle(
     alloc: Global,
     marks: &[Mark],
     start: usize,
     of: RunOf,
     least: usize,
+    is_common: bool,
 ) -> Result<Option<Needle>, AllocError>
     requires start { start ≤ length marks.now }
     requires some { 1 ≤ least }
@@ -193,14 +157,18 @@ fn common_needle(
     if sets.len() < least {
         return Ok(None);
     }
+    let is_all = !is_common && sets.len() == marks.len();
     let Some(finder) = SetFinder::new(sets) else {
         return Ok(None);
     };
+    if !is_common && !is_all && !finder.is_selective() {
+        return Ok(None);
+    }
     Ok(Some(Needle {
         finder: RunFinder::Sets(finder),
         is_first: start == 0,
-        is_all: false,
-        is_common: true,
+        is_all,
+        is_common,
     }))
 }
 

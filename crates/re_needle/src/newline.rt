@@ -19,17 +19,13 @@ pub fn first_newline(bytes: &[u8]) -> Option<usize>
     ensures some { IfSome result (λ k. (k < length bytes.now)
         × (bytes.now ≡ take k bytes.now ++ newline ∷ drop (k + 1) bytes.now)) }
 {
-    if bytes.len() < NEAR {
-        return far_newline(bytes);
+    if NEAR <= bytes.len() {
+        let place = bytes_before(bytes);
+        if place < NEAR {
+            return Some(place);
+        }
     }
-    let place = bytes_before(bytes);
-    if place < NEAR {
-        return Some(place);
-    }
-    match far_newline(&bytes[NEAR..]) {
-        Some(further) => Some(NEAR + further),
-        None => None,
-    }
+    memchr(b'\n', bytes)
 }
 
 // How many of the first 32 bytes come before the first newline.
@@ -45,14 +41,4 @@ fn bytes_before(bytes: &[u8]) -> usize
         return NEAR;
     }
     marks.trailing_zeros() as usize
-}
-
-// The same, where no newline is near.
-fn far_newline(bytes: &[u8]) -> Option<usize>
-    ensures none { MatchOption result (HasNoNewline bytes.now)
-        (λ k. HasNoNewline (take k bytes.now)) }
-    ensures some { IfSome result (λ k. (k < length bytes.now)
-        × (bytes.now ≡ take k bytes.now ++ newline ∷ drop (k + 1) bytes.now)) }
-{
-    memchr(b'\n', bytes)
 }

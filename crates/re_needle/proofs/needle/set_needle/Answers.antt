@@ -1,10 +1,11 @@
-use Rattle.std.proofs.Common.{◌≡◌, ◌≤◌, ◌++◌, IsTrue, false, length, map, drop, nat_eq, Some, ◌∙◌, arith}
-use Rattle.std.proofs.lemmas.Bool.{eqb-true}
+use Rattle.std.proofs.Common.{◌≡◌, ◌≤◌, ◌++◌, IsTrue, length, map, drop, nat_eq, Some, not, sym, ap, ◌∙◌, arith}
+use Rattle.std.proofs.lemmas.Bool.{eqb-true, false≢true}
 use Rattle.std.proofs.lemmas.List.{take_rest, drop-map, length-map}
 use Rattle.re_syntax.specs.Sets.{members}
 use Rattle.re_needle.specs.declared.run_finder.RunFinder.TheVariants as r
 use Rattle.re_needle.specs.Working.Outlines.{shown}
 use Rattle.re_needle.proofs.lemmas.NeedleLaws.{run_is_needle}
+use Rattle.re_needle.proofs.needle.set_needle.Goals.{then-not-is_common, else-not-is_common}
 use Rattle.re_needle.proofs.needle.set_needle.Goals as goal
 
 pub returns : goal.returns
@@ -13,9 +14,11 @@ returns c =
     let marks = c.args.marks.now in
     let run = rw take_rest at (c.in_ok-sets.ensures) in
     let stands : drop c.args.start (map shown marks) ≡ map Some (map members sets) ++ run.0 = drop-map shown c.args.start marks ∙ run.1 in
-    let some : 1 ≤ length (map members sets) = omega (arith, c.if-len-lt2.false, c.len.ensures, length-map sets members) in
-    let all : IsTrue (nat_eq c.len-2.result (length marks)) → length (map members sets) ≡ length (map shown marks) =
-    λ reported. omega (arith, eqb-true c.len-2.result (length marks) reported, c.len-2.ensures, length-map sets members, length-map marks shown) in
+    let some : 1 ≤ length (map members sets) = omega (arith, c.requires.some, c.if-len-least.false, c.len.ensures, length-map sets members) in
+    let all : IsTrue c.if-not-is_common.is_all → length (map members sets) ≡ length (map shown marks) = λ reported. elim c.if-not-is_common.branch [
+      | then-not-is_common w ↦ omega (arith, eqb-true w.len-then-not-is_common.result (length marks) (sym w.is_all-is ∙ reported), w.len-then-not-is_common.ensures, length-map sets members, length-map marks shown)
+      | else-not-is_common w ↦ absurd (false≢true (sym (ap not w.if-not-is_common.false) ∙ sym w.is_all-is ∙ reported))
+    ] in
     let first : IsTrue (nat_eq c.args.start 0) → c.args.start ≡ 0 = λ reported. eqb-true c.args.start 0 reported in
     rw c.in-Some.ensures
-    (run_is_needle (map shown marks) (r.Sets sets) (nat_eq c.args.start 0) (nat_eq c.len-2.result (length marks)) false run.0 c.args.start stands some first all)
+    (run_is_needle (map shown marks) (r.Sets sets) (nat_eq c.args.start 0) c.if-not-is_common.is_all c.args.is_common run.0 c.args.start stands some first all)

@@ -19,22 +19,22 @@ returns-in-Some-2 c =
     rw c.deref-4.ensures.value (outline_alone c.new-marks.result.items c.add_outline.new.marks.items e c.new-marks.ensures.items c.in_ok-add_outline.ensures) in
     rw c.in-Some-2.is at (c.in_ok-needle-2.ensures e outline)
 
-pub returns-then-is_uncommon : goal.returns-then-is_uncommon
-returns-then-is_uncommon c =
+pub returns-then-matches : goal.returns-then-matches
+returns-then-matches c =
     let e = expression_of c.args.tree.now in
     let outline : IsOutline (map shown c.deref-5.result.now) e =
     rw c.deref-5.ensures.value (outline_alone c.new-marks.result.items c.add_outline.new.marks.items e c.new-marks.ensures.items c.in_ok-add_outline.ensures) in
     c.in_ok-single.ensures e outline
 
-pub returns-in-Some-found : goal.returns-in-Some-found
-returns-in-Some-found c =
+pub returns-then-is_some : goal.returns-then-is_some
+returns-then-is_some c =
     let e = expression_of c.args.tree.now in
     let outline : IsOutline (map shown c.deref-7.result.now) e =
     rw c.deref-7.ensures.value (outline_alone c.new-marks.result.items c.add_outline.new.marks.items e c.new-marks.ensures.items c.in_ok-add_outline.ensures) in
-    rw c.in-Some-found.is at (c.in-Ok.ensures e outline)
+    c.in_ok-found.ensures e outline
 
-pub returns-then-is_some : goal.returns-then-is_some
-returns-then-is_some c =
+pub returns-then-is_some-2 : goal.returns-then-is_some-2
+returns-then-is_some-2 c =
     let e = expression_of c.args.tree.now in
     let outline : IsOutline (map shown c.deref-5.result.now) e =
     rw c.deref-5.ensures.value (outline_alone c.new-marks.result.items c.add_outline.new.marks.items e c.new-marks.ensures.items c.in_ok-add_outline.ensures) in
@@ -45,4 +45,4 @@ returns c =
     let e = expression_of c.args.tree.now in
     let outline : IsOutline (map shown c.deref-8.result.now) e =
     rw c.deref-8.ensures.value (outline_alone c.new-marks.result.items c.add_outline.new.marks.items e c.new-marks.ensures.items c.in_ok-add_outline.ensures) in
-    ok_as _ _ c.common_needle-2.result c.common_needle-2.ensures (λ found h. h e outline)
+    ok_as _ _ c.set_needle-3.result c.set_needle-3.ensures (λ found h. h e outline)
