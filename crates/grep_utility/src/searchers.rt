@@ -1,24 +1,28 @@
 //! The matchers of a search: one for all strings together, or one for each pattern.
-ghost use Rattle.std.specs.Prelude.{◌≡◌, ◌+◌, ◌^◌, ◌≤◌, ◌⊎◌, [], ◌∷◌, nat_lt, All, IsTrue, IfOk, IfErr};
+ghost use Rattle.std.specs.Prelude.{◌≡◌, ◌+◌, ◌^◌, ◌<◌, ◌≤◌, ◌⊎◌, [], ◌∷◌, nat_lt, IsTrue, IfOk, IfErr, IfSome};
 ghost use Rattle.std.specs.Prelude.{length, map};
 ghost use Rattle.std.specs.Option.{ForSome};
 ghost use Rattle.re_syntax.specs.Lines.{lines_of};
+ghost use Rattle.re_syntax.specs.Profile.{most_positions};
 ghost use Rattle.re_syntax.specs.Spelled.{has_limit};
 ghost use Rattle.re_search.specs.Working.Filters.{AreNeeded};
 ghost use Rattle.re_search.specs.Reading.{IsOutOfMemory};
 ghost use Rattle.re_search.specs.Working.Matchers.{matched_expression};
 ghost use Rattle.grep_core.specs.Matchers.{IsFirstRefused};
 ghost use Rattle.grep_core.specs.Working.MatcherLists.{AreMatchers};
-ghost use Rattle.grep_utility.specs.Working.Serving.{ServeFor, IsJoined, IsStringFor};
+ghost use Rattle.grep_utility.specs.Working.Serving.{ServeFor, IsJoined, AreReadAs};
 
 use crate::matchers::matchers_of;
 use grep_core::Options;
-use re_search::{Filter, FixedSet, Matcher, is_plain, needed_strings};
+use re_search::{Filter, FixedSet, Matcher, add_strings, needed_strings};
 use re_syntax::{FaultKind, MOST_POSITIONS, PatternFault, Syntax, split_file};
 use std::alloc::{AllocError, Global};
 
 /// How many patterns may be looked for one after another; one pass for more of them is quicker.
 const FEW: usize = 7;
+
+/// From how many bytes on each string of a choice is looked for in one pass.
+const LONG: usize = 5;
 
 /// How many bytes the patterns may have that one pass looks for. They have at most one beginning
 /// more than bytes, and the pass numbers its beginnings in 32 bits.
@@ -34,9 +38,9 @@ pub struct OwnedSearchers {
     pub needed: Filter,
 }
 
-/// The matchers of a search for the patterns, which are the lines of `texts`: one for all of them
-/// together, where they are many, each is a string, and `texts` has less than 2^32 - 1 bytes; else
-/// one for each.
+/// The matchers of a search for the patterns, which are the lines of `texts`: one for each; or one
+/// for all, where each is read as strings, they are many or one choice of long strings, and `texts`
+/// has less than 2^32 - 1 bytes.
 ///
 /// # Errors
 ///
@@ -57,11 +61,8 @@ pub fn searchers_of(
     ensures err { IfErr result (λ refused. IsOutOfMemory refused.1
         ⊎ IsFirstRefused syntax options.now.ignore_case (lines_of texts.now) refused.0 refused.1) }
 {
-    if has_more_than(FEW, texts)
-        && texts.len() <= MOST_BYTES
-        && are_strings(alloc, texts, syntax, options.ignore_case)
-    {
-        let Ok(matchers) = joined(alloc, texts, options) else {
+    if let Some(strings) = strings_of(alloc, texts, syntax, options.ignore_case) {
+        let Ok(matchers) = joined(alloc, &strings, options) else {
             let kind = FaultKind::Memory;
             return Err((0, PatternFault { kind, at: 0 }));
         };
@@ -84,36 +85,62 @@ pub fn has_more_than(most: usize, texts: &[u8]) -> bool
     split_file(texts).nth(most).is_some()
 }
 
-/// Whether each pattern is read as the string that it is, and is not too long where that counts.
-fn are_strings(alloc: Global, texts: &[u8], syntax: Syntax, fold: bool) -> bool
-    ensures { IsTrue result → All (IsStringFor syntax fold) (lines_of texts.now) }
+/// The strings that the patterns are read as, each followed by a newline, where one pass for all of
+/// them is quicker than a matcher for each pattern. `None` says nothing.
+fn strings_of(alloc: Global, texts: &[u8], syntax: Syntax, fold: bool) -> Option<Vec<u8>>
+    ensures few { IfSome result (λ _. length texts.now + 1 < 2 ^ 32) }
+    ensures some { IfSome result (λ _. 1 ≤ length (lines_of texts.now)) }
+    ensures read { IfSome result
+        (λ strings. AreReadAs syntax fold (lines_of texts.now) (lines_of strings.items)) }
 {
+    let is_long = texts.len() > MOST_POSITIONS && !has_more_than(FEW, texts);
+    if is_long || texts.len() > MOST_BYTES || !has_more_than(0, texts) {
+        return None;
+    }
+    let strings = read_strings(alloc, texts, syntax, fold)?;
+    if !are_quicker(texts, &strings) {
+        return None;
+    }
+    Some(strings)
+}
+
+/// The strings that the patterns are read as, each followed by a newline. `None` if a pattern is not
+/// read so, or is too long where that counts, or if memory is refused.
+fn read_strings(alloc: Global, texts: &[u8], syntax: Syntax, fold: bool) -> Option<Vec<u8>>
+    ensures { IfSome result
+        (λ strings. AreReadAs syntax fold (lines_of texts.now) (lines_of strings.items)) }
+{
+    let most = most_bytes(syntax, fold);
+    let mut strings = Vec::new(alloc);
     for text in split_file(texts) {
-        if !is_string_for(alloc, text, syntax, fold) {
-            return false;
+        if text.len() > most {
+            return None;
+        }
+        let begun = strings.len();
+        add_strings(alloc, text, syntax, &mut strings)?;
+        if strings.len() - begun > most {
+            return None;
         }
     }
-    true
+    Some(strings)
 }
 
-/// Whether the pattern is read as the string that it is, and is not too long where that counts.
-fn is_string_for(alloc: Global, text: &[u8], syntax: Syntax, fold: bool) -> bool
-    ensures { IsTrue result → IsStringFor syntax fold text.now }
-{
-    if has_most(syntax, fold) && text.len() > MOST_POSITIONS {
-        return false;
+/// Whether one pass for the strings is quicker than a matcher for each pattern: the patterns are many,
+/// or there is one, a choice of long strings.
+fn are_quicker(texts: &[u8], strings: &[u8]) -> bool {
+    if has_more_than(1, texts) || !has_more_than(1, strings) {
+        return has_more_than(FEW, texts);
     }
-    is_plain(alloc, text, syntax)
+    !split_file(strings).any(|string| string.len() < LONG)
 }
 
-/// Whether the length of a string counts.
-fn has_most(syntax: Syntax, fold: bool) -> bool
-    ensures { result ≡ has_limit syntax fold }
+/// How many bytes the strings of a pattern may have.
+fn most_bytes(syntax: Syntax, fold: bool) -> usize
+    ensures { IsTrue (has_limit syntax fold) → result ≡ most_positions }
 {
     match syntax {
-        Syntax::Basic => true,
-        Syntax::Extended => true,
-        Syntax::Fixed => fold,
+        Syntax::Fixed if !fold => usize::MAX,
+        _ => MOST_POSITIONS,
     }
 }
 

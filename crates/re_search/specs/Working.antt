@@ -6,3 +6,4 @@ pub mod Filters
 pub mod Sought
 pub mod Asking
 pub mod Courses
+pub mod Strings

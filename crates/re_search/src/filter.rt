@@ -205,7 +205,7 @@ fn needed_line(matcher: &Matcher) -> Option<&[u8]>
 }
 
 // Adds a text and a newline.
-fn add_line(texts: &mut Vec<u8>, text: &[u8]) -> Result<(), AllocError>
+pub(crate) fn add_line(texts: &mut Vec<u8>, text: &[u8]) -> Result<(), AllocError>
     ensures { IfOk result (λ _. texts.new.items ≡ texts.old.items ++ (text.now ++ newline ∷ [])) }
 {
     texts.extend_from_slice(text)?;

@@ -1,55 +1,76 @@
-//! Patterns that are read as the strings that they are.
-ghost use Rattle.std.specs.Prelude.{◌≡◌, ◌<◌, ℕ, IsTrue, Some, map, length, slice_get};
-ghost use Rattle.re_syntax.specs.Expression.{byte, expression_of, sequence};
-ghost use Rattle.re_syntax.specs.Spelled.{IsSpelled};
+//! Patterns that are read as strings.
+ghost use Rattle.std.specs.Prelude.{[], ◌∷◌, IfSome, map};
+ghost use Rattle.re_syntax.specs.Expression.{expression_of};
+ghost use Rattle.re_search.specs.Working.Strings.{AddsBytes, AddsEach, AddsStrings};
 
+use crate::filter::add_line;
+use memchr::memchr;
 use re_match::spelled_tree;
 use re_needle::one_byte;
 use re_syntax::{Syntax, Tree};
 use std::alloc::Global;
 
-/// Whether the text of a pattern is read as the string that it is: no byte of it is special in the
-/// syntax. `false` says nothing; it is also the answer if out of memory.
-pub fn is_plain(alloc: Global, text: &[u8], syntax: Syntax) -> bool
-    ensures { IsTrue result → IsSpelled syntax text.now (sequence (map byte text.now)) }
+/// Adds the strings that the text of a pattern is read as, each followed by a newline: the one that
+/// it is, or those of which it is a choice. `None` says nothing: it is also the answer if a string
+/// has a newline, or if memory is refused. What was added by then stays.
+pub fn add_strings(alloc: Global, text: &[u8], syntax: Syntax, strings: &mut Vec<u8>) -> Option<()>
+    ensures { IfSome result
+        (λ _. AddsStrings syntax text.now strings.old.items strings.new.items) }
 {
-    match syntax {
-        Syntax::Fixed => true,
-        _ => is_read_so(alloc, text, syntax),
+    if matches!(syntax, Syntax::Fixed) && memchr(b'\n', text).is_none() {
+        return add_line(strings, text).ok();
+    }
+    let tree = spelled_tree(alloc, text, syntax).ok()?;
+    match &tree {
+        Tree::Alt(branches) if branches.len() > 1 => add_each(branches, strings),
+        _ => add_string(&tree, strings),
     }
 }
 
-// Whether the text is read as the string that it is.
-fn is_read_so(alloc: Global, text: &[u8], syntax: Syntax) -> bool
-    ensures { IsTrue result → IsSpelled syntax text.now (sequence (map byte text.now)) }
+// Adds the strings that the trees are, each followed by a newline; `None` if one is no string.
+fn add_each(trees: &[Tree], strings: &mut Vec<u8>) -> Option<()>
+    ensures { IfSome result
+        (λ _. AddsEach (map expression_of trees.now) strings.old.items strings.new.items) }
 {
-    match spelled_tree(alloc, text, syntax) {
-        Ok(tree) => is_string(&tree, text),
-        Err(_) => false,
+    'trees: for place in 0..trees.len() {
+        add_string(&trees[place], strings)?;
     }
+    Some(())
 }
 
-// Whether the tree is that of the text's bytes, one after another.
-fn is_string(tree: &Tree, text: &[u8]) -> bool
-    ensures { IsTrue result → expression_of tree.now ≡ sequence (map byte text.now) }
+// Adds the string that the tree is, and a newline; `None` if it is no string.
+fn add_string(tree: &Tree, strings: &mut Vec<u8>) -> Option<()>
+    ensures { IfSome result
+        (λ _. AddsEach (expression_of tree.now ∷ []) strings.old.items strings.new.items) }
 {
     match tree {
-        Tree::Empty => text.is_empty(),
-        Tree::Set(_) => text.len() == 1 && one_byte(tree) == Some(text[0]),
-        Tree::Cat(parts) => parts.len() > 1 && parts.len() == text.len() && are_bytes(parts, text),
-        _ => false,
+        Tree::Empty => (),
+        Tree::Set(_) => add_byte(tree, strings)?,
+        Tree::Cat(parts) if parts.len() > 1 => add_bytes(parts, strings)?,
+        _ => return None,
     }
+    strings.push(b'\n').ok()
 }
 
-// Whether each part is the byte at its place of the text.
-fn are_bytes(parts: &[Tree], text: &[u8]) -> bool
-    requires { length parts.now ≡ length text.now }
-    ensures { IsTrue result → map expression_of parts.now ≡ map byte text.now }
+// Adds the bytes that the trees are; `None` if one is no byte, or a newline.
+fn add_bytes(trees: &[Tree], strings: &mut Vec<u8>) -> Option<()>
+    ensures { IfSome result
+        (λ _. AddsBytes (map expression_of trees.now) strings.old.items strings.new.items) }
 {
-    'places: for place in 0..parts.len() {
-        if one_byte(&parts[place]) != Some(text[place]) {
-            return false;
-        }
+    'trees: for place in 0..trees.len() {
+        add_byte(&trees[place], strings)?;
     }
-    true
+    Some(())
+}
+
+// Adds the byte that the tree is; `None` if it is no byte, or a newline.
+fn add_byte(tree: &Tree, strings: &mut Vec<u8>) -> Option<()>
+    ensures { IfSome result
+        (λ _. AddsBytes (expression_of tree.now ∷ []) strings.old.items strings.new.items) }
+{
+    let byte = one_byte(tree)?;
+    if byte == b'\n' {
+        return None;
+    }
+    strings.push(byte).ok()
 }

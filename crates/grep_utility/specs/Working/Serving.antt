@@ -1,13 +1,13 @@
 -- The matchers that a search uses for the patterns of a request.
-use Rattle.std.specs.Prelude.{◌≡◌, ◌≤◌, Bool, IsTrue, List, [], ◌∷◌, length, map, All}
+use Rattle.std.specs.Prelude.{◌≡◌, ◌≤◌, Bool, List, [], ◌∷◌, length, map, All}
+use Rattle.std.specs.List.{AllZip}
 use Rattle.re_syntax.specs.declared.syntax.Syntax.{Syntax}
 use Rattle.re_syntax.specs.Bytes.{Text}
-use Rattle.re_syntax.specs.Expression.{Expression, byte, sequence}
-use Rattle.re_syntax.specs.Profile.{most_positions}
-use Rattle.re_syntax.specs.Spelled.{IsSpelled, has_limit}
+use Rattle.re_syntax.specs.Expression.{Expression}
+use Rattle.re_syntax.specs.Spelled.{IsMeant}
 use Rattle.re_search.specs.Matcher.{Matcher}
 use Rattle.re_search.specs.Reading.{IsReadable}
-use Rattle.re_search.specs.Working.Literals.{any_literal}
+use Rattle.re_search.specs.Working.Literals.{any_literal, literal_meaning}
 use Rattle.re_search.specs.Working.Matchers.{matched_expression, wants_whole}
 use Rattle.re_search.specs.Searching.{AllAnswer}
 use Rattle.grep_core.specs.declared.options.Options.{Options}
@@ -25,15 +25,17 @@ pub record ServeFor (syntax : Syntax) (options : Options) (texts : List Text)
   pub wholes : AllAnswer options.line_regexp (map wants_whole matchers)
   pub readable : All (IsReadable syntax options.ignore_case) texts
 
--- the text is read as the string that it is, and is not too long where that counts
-pub record IsStringFor (syntax : Syntax) (fold : Bool) (text : Text) : Type 0 where
-  pub spelled : IsSpelled syntax text (sequence (map byte text))
-  pub small : IsTrue (has_limit syntax fold) → length text ≤ most_positions
+-- the texts are read as strings: what they mean is the same choice as what the strings mean
+pub record AreReadAs (syntax : Syntax) (fold : Bool) (texts strings : List Text) : Type 0 where
+  pub es : List Expression
+  pub meant : AllZip (λ text e. IsMeant syntax fold text e) texts es
+  pub same : IsSameChoice (map (literal_meaning fold) strings) es
+  pub readable : All (IsReadable syntax fold) texts
 
 -- there is one matcher, which looks for all strings
-pub record IsJoined (options : Options) (texts : List Text) (matchers : List Matcher) : Type 0 where
+pub record IsJoined (options : Options) (strings : List Text) (matchers : List Matcher) : Type 0 where
   pub one : Matcher
   pub alone : matchers ≡ one ∷ []
   pub expression : matched_expression one ≡
-      any_literal (record { texts = texts; fold = options.ignore_case; whole = options.line_regexp })
+      any_literal (record { texts = strings; fold = options.ignore_case; whole = options.line_regexp })
   pub whole : wants_whole one ≡ options.line_regexp

@@ -1,0 +1,19 @@
+use Rattle.std.proofs.Common.{[], ◌∷◌, arith, map, subst, take_all}
+use Rattle.re_syntax.specs.Expression.{expression_of}
+use Rattle.re_search.specs.Working.Strings.{AddsEach}
+use Rattle.re_search.proofs.lemmas.PlainLaws.{no_strings, next_string}
+use Rattle.re_search.proofs.plain.add_each.Goals as goal
+
+pub trees-init : goal.trees-init
+trees-init c = no_strings c.args.strings.now.items
+
+pub trees-preserved : goal.trees-preserved
+trees-preserved c =
+    let old = c.trees.strings.items in
+    let new = c.add_string.new.strings.items in
+    let tree = c.index-trees-place.result in
+    next_string expression_of c.args.trees.now c.trees.place tree c.args.strings.now.items old new c.trees-test.true c.trees.invariant
+    (subst (λ t. AddsEach (expression_of t ∷ []) old new) c.index-trees-place.is c.in_ok-add_string.ensures)
+
+pub returns : goal.returns
+returns c = subst (λ trees. AddsEach (map expression_of trees) c.args.strings.now.items c.trees.strings.items) (take_all c.trees.place c.args.trees.now (omega (arith, c.trees-test.false))) c.trees.invariant
