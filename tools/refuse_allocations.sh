@@ -72,6 +72,7 @@ try 0 -F -n -f strings short long
 try 0 -F -i -o -f strings short
 try 0 -o -E 'a|a*[bc]' parts
 try 0 -f expressions short long
+try 0 -E -n 'aaaaa|wordword' short long
 try 0 -c -v -x -E '(a{2,3}|b)*' long short
 try 0 -f - short
 try 0 -l b - short long
