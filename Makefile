@@ -3,9 +3,10 @@
 # make gate       proofs from nothing, edits that must fail, tests, the programs' stored runs
 # make audit      the wrong bodies that the gate leaves out, each of which has to be refused; before a release. What
 #                 the programs need is proved first, if it isn't
-# make test       the gate, and then the programs built anew and run on the cases of tests/
+# make test       the gate, and then the programs built anew, run on the cases of tests/, and test-growth
 # make test-program  runs the built programs on the cases of tests/ (needs Python 3.11)
 # make test-random  compares the built occur with the built grep on 100,000 random edits
+# make test-growth  looks for searches whose time grows faster than the line
 # make test-changes  compares an editor's lists, kept by `changes`, with what the built occur shows, on 100,000 edits
 # make test-memory  runs the programs, matchers and sessions with each of their allocations refused in turn (needs a C
 #                 compiler and Python 3.11)
@@ -26,7 +27,7 @@ FORCE =
 EMACS = emacs
 NVIM = nvim
 
-.PHONY: all programs gate audit test test-program test-random test-changes test-memory test-editor test-nvim \
+.PHONY: all programs gate audit test test-program test-random test-growth test-changes test-memory test-editor test-nvim \
     evidence dist install clean
 
 all: programs
@@ -55,12 +56,16 @@ audit: programs
 test: gate
 	$(MAKE) programs
 	$(MAKE) test-program
+	$(MAKE) test-growth
 
 test-program: build/grep build/occur
 	tools/evidence.sh test-program python3 tests/run.py build/grep build/occur
 
 test-random: build/grep build/occur
 	tools/evidence.sh test-random python3 tests/random_edits.py build/grep build/occur
+
+test-growth: build/grep build/occur
+	tools/evidence.sh test-growth python3 tests/random_growth.py build/grep build/occur
 
 test-changes: build/occur
 	tools/evidence.sh test-changes python3 tests/random_changes.py build/occur

@@ -1,6 +1,6 @@
-"""Cases of which crates can make a meter, or search without one: `grep_core`, `grep_session`, `grep_live` and
-`grep_utility` count all their steps on the meter that they are lent, since they can name nothing that makes
-another or searches uncounted. They run no program.
+"""Cases of which crates can make a meter, and where bytes are looked at: `grep_core`, `grep_session`, `grep_live` and
+`grep_utility` count all their work on the meter that they are lent, since they can name nothing that makes another;
+and what goes over bytes quickly is named in few places, each of which counts. They run no program.
 """
 
 from __future__ import annotations
@@ -13,28 +13,47 @@ from program import Answer, Bench, Cases, Verdict, all_of
 REPOSITORY = Path(__file__).resolve().parent.parent
 CRATES = REPOSITORY / "crates"
 
-MAKES_METERS = "re_auto"
-"""The crate whose function `fresh_meter` makes meters."""
+MAKES_METERS = {"re_meter", "re_auto"}
+"""The crate whose function `fresh_meter` makes meters, and the one that passes it on."""
 
-UNCOUNTED = {"re_needle", "re_strings", "re_steps", "re_match"}
-"""The crates with functions that search bytes and count no step."""
+MATCHING = {"re_needle", "re_strings", "re_steps", "re_match"}
+"""The crates below `re_search` whose functions search bytes."""
 
-SEARCH = {*UNCOUNTED, "re_ends", "re_search"}
-"""The crates that search, and count the steps of their callers."""
+SEARCH = {*MATCHING, "re_ends", "re_search"}
+"""The crates that search, and count the work of their callers."""
 
-DEFINITIONS = {"grep_io": "re_needle", "line_chunks": "re_needle", "grep_session": "re_needle"}
-"""Crates that list one of these for its definitions, and name none of its searches in code."""
+DEFINITIONS = {("grep_io", "re_needle"), ("line_chunks", "re_needle"), ("grep_session", "re_needle"),
+               ("grep_core", "re_meter"), ("grep_session", "re_meter"), ("grep_cmd", "re_meter")}
+"""Crates that list one of these for its definitions, and name none of its functions in code."""
 
 NEWLINE = "first_newline"
 """A function of these that finds where a line ends, whatever is searched for."""
 
-MAY_LIST = {MAKES_METERS: SEARCH | {"grep", "occur", "examples"},
-            **{name: SEARCH | {user for user, used in DEFINITIONS.items() if used == name} for name in UNCOUNTED}}
-"""For each of these crates those that may list it, beside the crates of tests."""
+
+def may_list(name: str) -> set[str]:
+    """The crates that may list this one, beside the crates of tests."""
+    users = SEARCH | {user for user, used in DEFINITIONS if used == name}
+    return users | {"grep", "occur", "examples"} if name == "re_auto" else users | MAKES_METERS if name == "re_meter" else users
+
 
 MATCHERS = {"Cached", "Fixed", "FixedSet", "LineMatch", "Matcher", "Simulated"}
-"""What `re_search` may pass on of the crates that count no step: each of its public searches takes a meter, or
-an `Uncounted`, which can't be named above."""
+"""What `re_search` may pass on of the crates below it: each of their public searches takes a meter."""
+
+QUICK = re.compile(r"\bmem(?:r?chr[23]?|mem)\b|\bstd::simd\b|\bFinder\b")
+"""What goes over bytes quickly: a search of the toolchain's `memchr`, or a vector."""
+
+MAY_BE_QUICK = {
+    "counted for each look": {"re_needle/text_finder.rt", "re_needle/run_finder.rt"},
+    "looks ask these, and what sets are made of": {"re_needle/alike.rt", "re_needle/lanes.rt", "re_needle/nibbles.rt",
+                                                   "re_needle/probes.rt"},
+    "makes what looks for a needle": {"re_needle/needle.rt", "re_needle/survey.rt", "re_match/fixed.rt"},
+    "bytes without a stretch on its way, each a step": {"re_auto/beginnings.rt"},
+    "the children of a node, each byte a step or passed": {"re_strings/trie.rt"},
+    "splits lines": {"re_needle/newline.rt", "re_needle/block.rt", "grep_io/input/newlines.rt", "grep_io/input/window.rt",
+                     "grep_io/devices/sending.rt"},
+    "looks at patterns, not at lines": {"re_search/filter.rt", "re_search/plain.rt"},
+}
+"""The files that may name it, by the reason."""
 
 case = Cases("grep", "meters.py")
 cases = all_of(case)
@@ -55,41 +74,42 @@ def listed(text: str) -> dict[str, list[str]]:
 
 def misplaced(text: str) -> list[str]:
     """What crates of a crates.txt list and may not."""
+    guarded = MATCHING | MAKES_METERS
     return [f"{name} lists {below}" for name, names in listed(text).items() if not name.endswith("_tests")
-            for below in names if name not in MAY_LIST.get(below, {name})]
+            for below in names if below in guarded and name not in may_list(below)]
 
 
 def passed_on(text: str) -> list[str]:
-    """What the head of a crate shows of that with which bytes are searched uncounted."""
+    """What the head of a crate shows of that which makes a meter, or searches below it."""
     shown = re.findall(r"^\s*pub (?:use|mod|fn|type|const|struct) [^;{]*(?:\{[^}]*\})?", text, re.MULTILINE)
-    names = {name for item in shown for name in re.findall(r"\w+|\*", item)} & {"fresh_meter", "Uncounted", "meter", "*"}
-    for crate in sorted(UNCOUNTED | {MAKES_METERS}):
+    names = {name for item in shown for name in re.findall(r"\w+|\*", item)} & {"fresh_meter", "meter", "*"}
+    for crate in sorted(MATCHING | MAKES_METERS):
         for item in shown:
             found = re.search(rf"\b{crate}(?: as \w+)?\s*$|\b{crate}::(.*)", item, re.DOTALL)
-            if found and crate in UNCOUNTED:
+            if found and crate in MATCHING:
                 names |= set(re.findall(r"\w+|\*", found[1] or crate)) - MATCHERS
             elif found and not found[1]:
                 names.add(crate)
     return sorted(names)
 
 
-@case("No crate above re_search lists one that makes meters or searches without one.")
+@case("No crate above re_search lists one that makes meters, or the matchers below it.")
 def crates_without_them(bench: Bench) -> Verdict:
     text = (REPOSITORY / "crates.txt").read_text(encoding="utf-8")
     unlisted = [f"crates.txt has no {name}" for name in sorted(SEARCH - set(listed(text)))]
     return judged(unlisted + misplaced(text))
 
 
-@case("re_search passes on nothing that makes a meter, or that searches without one.")
+@case("re_search passes on nothing that makes a meter, and of the searches below it the matchers alone.")
 def head_of_search(bench: Bench) -> Verdict:
     shown = passed_on((CRATES / "re_search" / "src" / "lib.rt").read_text(encoding="utf-8"))
     return judged([f"lib.rt passes on {name}" for name in shown])
 
 
-@case("A crate that lists a search for its definitions names none of its functions but that for newlines.")
+@case("A crate that lists one of these for its definitions names none of its functions but that for newlines.")
 def code_of_readers(bench: Bench) -> Verdict:
     faults = []
-    for crate, below in DEFINITIONS.items():
+    for crate, below in sorted(DEFINITIONS):
         for file in sorted((CRATES / crate / "src").glob("**/*.rt")):
             code = re.sub(rf"(?m)^\s*ghost use .*$|\b{below}::{NEWLINE};", "", file.read_text(encoding="utf-8"))
             faults += [f"{crate}/{file.name} names {below}"] if re.search(rf"\b{below}\b", code) else []
@@ -104,3 +124,17 @@ def sources_of_search(bench: Bench) -> Verdict:
         named = [file for file in files if "fresh_meter" in file.read_text(encoding="utf-8")]
         faults += [f"{crate}/{file.name} names fresh_meter" for file in named] if files else [f"{crate} has no source"]
     return judged(faults)
+
+
+@case("What goes over bytes quickly is named where it is counted, where lines are split, and nowhere else.")
+def quick_places(bench: Bench) -> Verdict:
+    found = {f"{file.relative_to(CRATES).parts[0]}/{file.relative_to(CRATES / file.relative_to(CRATES).parts[0] / 'src')}"
+             for file in sorted(CRATES.glob("*/src/**/*.rt")) if QUICK.search(code_of(file))}
+    wanted = set().union(*MAY_BE_QUICK.values())
+    return judged([f"{name} names a quick search" for name in sorted(found - wanted)]
+                  + [f"{name} names none" for name in sorted(wanted - found)])
+
+
+def code_of(file: Path) -> str:
+    """The text of a file without its comments and its imports of definitions."""
+    return re.sub(r"(?m)//.*$|^\s*ghost use .*$", "", file.read_text(encoding="utf-8"))

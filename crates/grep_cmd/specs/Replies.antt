@@ -7,12 +7,11 @@ use Rattle.std.specs.Io.KnownBytes.{prepend_known, Consumes}
 use Rattle.re_syntax.specs.Bytes.{Text}
 use Rattle.re_syntax.specs.Lines.{HasNoNewline, lines_of}
 use Rattle.grep_core.specs.Files.{File, Inputs, whole, broken}
-use Rattle.grep_core.specs.Meters.{Steps as StepCounts}
+use Rattle.grep_core.specs.Meters.{Adds, Steps as StepCounts}
 use Rattle.grep_core.specs.Output.{written}
 use Rattle.grep_core.specs.Reading.{Reading, IsReadingOf, AreLeft, open_source, file_of}
 use Rattle.grep_core.specs.Reading.{failures_of}
 use Rattle.grep_core.specs.Run.{count_more}
-use Rattle.grep_core.specs.Searching.{AddsAtMost}
 use Rattle.grep_core.specs.Written.{GoesOut, StopsWithin}
 use Rattle.grep_session.specs.declared.fault.EditFault.{EditFault}
 use Rattle.grep_session.specs.declared.fault.EditFault.TheVariants as fault
@@ -92,28 +91,32 @@ Replies (step ∷ steps) before replies after =
 
 -- ---- work
 
--- a command takes this many steps of search at most: none, or what its edit costs; what is no edit
--- searches nothing. `refused` says whether memory that saves steps was refused.
-abbrev pub SearchesAtMost : Bool → Step → Inputs → ℕ → Type 0
-SearchesAtMost refused (does edit) before most = (most ≡ 0) ⊎ Costs refused edit before most
-SearchesAtMost refused _ before most = most ≡ 0
+-- a command takes this many steps of search at most: none, or what its edit costs, where memory for a
+-- line's list of ends was refused so often; what is no edit searches nothing
+abbrev pub SearchesAtMost : Step → Inputs → ℕ → ℕ → Type 0
+SearchesAtMost (does edit) before refusals most =
+    ((most ≡ 0) × (refusals ≡ 0)) ⊎ Costs refusals edit before most
+SearchesAtMost _ before refusals most = (most ≡ 0) × (refusals ≡ 0)
 
 -- some commands, answered so, take this many together
-abbrev pub AllSearchAtMost : Bool → List Step → Watched → List Text → Watched → ℕ → Type 0
-AllSearchAtMost refused [] before replies after most =
-    (replies ≡ []) × (after ≡ before) × (most ≡ 0)
-AllSearchAtMost refused (step ∷ steps) before replies after most =
-    (reply : List Text) × (between : Watched) × (rest : List Text) × (own : ℕ) × (others : ℕ) ×
-    RepliesTo step before reply between × SearchesAtMost refused step before.inputs own ×
-    AllSearchAtMost refused steps between rest after others × (replies ≡ reply ++ rest) ×
-    (most ≡ own + others)
+abbrev pub AllSearchAtMost : List Step → Watched → List Text → Watched → ℕ → ℕ → Type 0
+AllSearchAtMost [] before replies after refusals most =
+    (replies ≡ []) × (after ≡ before) × (refusals ≡ 0) × (most ≡ 0)
+AllSearchAtMost (step ∷ steps) before replies after refusals most =
+    (reply : List Text) × (between : Watched) × (given : List Text) ×
+    (mine : ℕ) × (others : ℕ) × (own : ℕ) × (rest : ℕ) ×
+    RepliesTo step before reply between × SearchesAtMost step before.inputs mine own ×
+    AllSearchAtMost steps between given after others rest × (replies ≡ reply ++ given) ×
+    (refusals ≡ mine + others) × (most ≡ own + rest)
 
--- the commands of a script, answered so, took no more steps of search than their edits cost
+-- the commands of a script, answered so, took no more steps of search, and passed no more bytes, than
+-- their edits cost
 pub record SearchesTouched (steps : List Step) (replies : List Text) (after : Watched)
     (begun spent : StepCounts) : Type 0 where
   pub most : ℕ
-  pub is_most : AllSearchAtMost spent.refused steps new_watched replies after most
-  pub few : AddsAtMost most begun spent
+  pub refusals : ℕ
+  pub is_most : AllSearchAtMost steps new_watched replies after refusals most
+  pub few : Adds most most refusals begun spent
 
 -- ---- runs
 

@@ -32,8 +32,8 @@ pub record Writer : Type 0 where
 abbrev pub writer : {W : Type 0} → (W → Option Text) → (W → ℕ) → W → Writer
 writer contents failures w = record { contents = contents w; failures = failures w }
 
--- standard output, standard error, how often a source could not be opened or read, and the steps
--- that were counted
+-- standard output, standard error, how often a source could not be opened or read, and the work
+-- that was counted
 pub record Devices : Type 0 where
   pub out : Writer
   pub messages : Writer
@@ -114,7 +114,7 @@ begun _ n file = []
 abbrev pub file_at : List File → ℕ → File
 file_at files k = get_or files k (record { name = []; lines = []; ending = missing })
 
--- ---- runs; the steps of each are no more than the search of the files costs, and `given l`
+-- ---- runs; the work of each is no more than the search of the files costs, and `given l`
 -- says that readers that had l left were returned in the run
 
 module _ (es : List Expression) (options : Options) (sources : List Source)

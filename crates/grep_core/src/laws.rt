@@ -4,8 +4,8 @@ ghost use Rattle.grep_core.specs.Laws.{HasOneAnswer, MeansOne, MemorySavesSteps,
 use crate::Options;
 use re_syntax::Syntax;
 
-/// All expressions and files have one output, one list of messages and one status, and the search
-/// of them has one cost.
+/// All expressions and files have one output, one list of messages and one status, and where no
+/// memory is refused the search of them has one cost.
 #[tactic(auto, using(crate::proofs::lemmas::LawsHold::has_one_answer))]
 pub fn has_one_answer(_options: Options)
     ensures { HasOneAnswer _options }

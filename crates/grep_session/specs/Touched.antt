@@ -1,6 +1,7 @@
--- How many steps an edit takes at most: only what it touches is searched.
+-- How many steps an edit takes, and how many bytes it passes, at most: only what it touches is
+-- searched.
 use Rattle.std.specs.Prelude.{◌≡◌, ℕ, ◌+◌, ◌*◌, ◌<◌, ◌≤◌, false, List, [], All, ◌∷◌, ◌⊎◌, length}
-use Rattle.std.specs.Prelude.{Result, Ok, Err, Bool, get_or, MatchBool, ⊤}
+use Rattle.std.specs.Prelude.{Result, Ok, Err, get_or, MatchBool, ⊤}
 use Rattle.std.specs.List.{flat_map}
 use Rattle.re_syntax.specs.Bytes.{Text}
 use Rattle.re_syntax.specs.Expression.{Expression}
@@ -8,13 +9,13 @@ use Rattle.re_syntax.specs.Holds.{Matches}
 use Rattle.re_syntax.specs.Lines.{HasNoNewline, list_of}
 use Rattle.re_syntax.specs.Parts.{AreParts}
 use Rattle.re_syntax.specs.Spelled.{IsMeant}
-use Rattle.grep_core.specs.Meters.{Steps}
-use Rattle.re_search.specs.Searching.{AddsAtMost}
+use Rattle.grep_core.specs.Meters.{Steps, Adds}
+use Rattle.re_search.specs.Searching.{searches_for}
 use Rattle.grep_core.specs.declared.options.Flag.{Flag}
 use Rattle.grep_core.specs.declared.options.Flag.TheVariants.{IgnoreCase, OnlyMatching, LineRegexp}
 use Rattle.grep_core.specs.declared.options.Options.{Options}
 use Rattle.grep_core.specs.Choose.{IfHolds, Chosen}
-use Rattle.grep_core.specs.Cost.{search_cost, searches_for}
+use Rattle.grep_core.specs.Cost.{search_cost}
 use Rattle.grep_core.specs.Files.{Inputs, AreMeant, Matched}
 use Rattle.re_syntax.specs.Profile.{most_patterns}
 use Rattle.grep_session.specs.declared.fault.EditFault.{EditFault}
@@ -77,48 +78,51 @@ abbrev pub pairs_cost : ℕ → List Text → ℕ
 pairs_cost patterns [] = 0
 pairs_cost patterns (line ∷ lines) = search_cost patterns line + pairs_cost patterns lines
 
--- `refused` says whether memory that saves steps was refused
-module _ (es : List Expression) (options : Options) (refused : Bool) where
+module _ (es : List Expression) (options : Options) where
   -- the cost of a line's parts under `-o`: all patterns search once for each part and once more,
-  -- but at most four times, unless memory was refused
-  abbrev pub PartsCostOf : Text → ℕ → Type 0
-  PartsCostOf line cost =
+  -- but at most four times, unless memory for the line's list of ends was refused; `refusals` says
+  -- how often it was
+  abbrev pub PartsCostOf : Text → ℕ → ℕ → Type 0
+  PartsCostOf line refusals cost =
       MatchBool options.only_matching
       ((parts : List (ℕ × ℕ)) × AreParts es line options.line_regexp parts ×
-      (cost ≡ searches_for refused (length parts + 1) * search_cost (length es) line))
-      (cost ≡ 0)
+      (cost ≡ searches_for refusals (length parts + 1) * search_cost (length es) line))
+      ((refusals ≡ 0) × (cost ≡ 0))
 
-  abbrev pub PartsCost : List Text → ℕ → Type 0
-  PartsCost [] cost = cost ≡ 0
-  PartsCost (line ∷ lines) cost =
-      (own : ℕ) × (rest : ℕ) × PartsCostOf line own × PartsCost lines rest × (cost ≡ own + rest)
+  -- the sums of the lines' refusals and costs
+  abbrev pub PartsCost : List Text → ℕ → ℕ → Type 0
+  PartsCost [] refusals cost = (refusals ≡ 0) × (cost ≡ 0)
+  PartsCost (line ∷ lines) refusals cost =
+      (mine : ℕ) × (others : ℕ) × (own : ℕ) × (rest : ℕ) × PartsCostOf line mine own ×
+      PartsCost lines others rest × (refusals ≡ mine + others) × (cost ≡ own + rest)
 
 -- the cost of an accepted edit, with the patterns and the options that it leaves
-pub record CostsAccepted (refused : Bool) (edit : Edit) (old new : Inputs) (cost : ℕ) : Type 0 where
+pub record CostsAccepted (refusals : ℕ) (edit : Edit) (old new : Inputs) (cost : ℕ) : Type 0 where
   pub es : List Expression
   pub are_meant : AreMeant new.syntax new.options new.patterns es
   pub touched : Touched
   pub are_touched : Touches edit old touched
   pub parts : ℕ
-  pub are_parts : PartsCost es new.options refused touched.lines parts
+  pub are_parts : PartsCost es new.options touched.lines refusals parts
   pub is_sum : cost ≡ pairs_cost touched.patterns touched.paired + parts
 
 -- a refused edit costs nothing
-abbrev pub CostsAs : Bool → Edit → Inputs → Result Inputs EditFault → ℕ → Type 0
-CostsAs refused edit old (Ok new) cost = CostsAccepted refused edit old new cost
-CostsAs refused edit old (Err fault) cost = cost ≡ 0
+abbrev pub CostsAs : ℕ → Edit → Inputs → Result Inputs EditFault → ℕ → Type 0
+CostsAs refusals edit old (Ok new) cost = CostsAccepted refusals edit old new cost
+CostsAs refusals edit old (Err fault) cost = (refusals ≡ 0) × (cost ≡ 0)
 
--- the cost of an edit of these inputs, if memory that saves steps was refused or not
-abbrev pub Costs : Bool → Edit → Inputs → ℕ → Type 0
-Costs refused edit old cost =
+-- the cost of an edit of these inputs, where memory for a line's list of ends was refused so often
+abbrev pub Costs : ℕ → Edit → Inputs → ℕ → Type 0
+Costs refusals edit old cost =
     (outcome : Result Inputs EditFault) × Applies edit old outcome ×
-    CostsAs refused edit old outcome cost
+    CostsAs refusals edit old outcome cost
 
--- the steps of an edit: none, or no more than its cost
+-- the steps of an edit, and the bytes that it passes: none, or no more than its cost
 pub record TakesSteps (edit : Edit) (old : Inputs) (begun ended : Steps) : Type 0 where
   pub most : ℕ
-  pub is_most : (most ≡ 0) ⊎ Costs ended.refused edit old most
-  pub few : AddsAtMost most begun ended
+  pub refusals : ℕ
+  pub is_most : ((most ≡ 0) × (refusals ≡ 0)) ⊎ Costs refusals edit old most
+  pub few : Adds most most refusals begun ended
 
 -- the options on which nothing that is kept depends
 abbrev pub is_of_output : Flag → Type 0

@@ -2,8 +2,8 @@
 ghost use Rattle.grep_session.specs.Headline.{AcceptedEditsDecide};
 ghost use Rattle.grep_session.specs.Laws.{EditsAreDetermined, MemorySavesEditSteps};
 
-/// An edit has one outcome for its inputs, up to what is reported of a refused pattern, and one
-/// cost.
+/// An edit has one outcome for its inputs, up to what is reported of a refused pattern, and one cost
+/// where no memory is refused.
 #[tactic(auto, using(crate::proofs::lemmas::EditLaws::edits_are_determined))]
 pub fn edits_are_determined()
     ensures { EditsAreDetermined }

@@ -149,9 +149,10 @@ fn run_request<F: Files, W: CountedWrite, N: CountedWrite>(
 /// nothing more is reported. Where a growth is refused, `grep: out of memory` is reported and the
 /// status is 2. No write is tried again, and neither device is flushed.
 ///
-/// The steps that the meter counts are at most those of one search of each line for each pattern,
-/// and where parts are written, of one more for each part of the line and one for its end; before
-/// the files are searched none is counted.
+/// The meter counts at most as many steps, and at most as many passed bytes, as one search of each
+/// line for each pattern costs. Where parts are written, a line costs one search more for each of
+/// its parts and one for its end. These are at most four, unless memory for that line's list of ends
+/// was refused. Before the files are searched nothing is counted.
 pub fn run_grep<F: Files, W: CountedWrite, M: CountedWrite>(
     alloc: Global,
     words: &[String],

@@ -21,7 +21,7 @@ use std::alloc::{AllocError, Global};
 /// How many patterns may be looked for one after another; one pass for more of them is quicker.
 const FEW: usize = 7;
 
-/// From how many bytes on each string of a choice is looked for in one pass.
+/// From how many bytes on each string is one pass for several quicker than one for each.
 const LONG: usize = 5;
 
 /// How many bytes the patterns may have that one pass looks for. They have at most one beginning
@@ -39,8 +39,8 @@ pub struct OwnedSearchers {
 }
 
 /// The matchers of a search for the patterns, which are the lines of `texts`: one for each; or one
-/// for all, where each is read as strings, they are many or one choice of long strings, and `texts`
-/// has less than 2^32 - 1 bytes.
+/// for all, where each is read as strings, they are many or the strings are long, and `texts` has less
+/// than 2^32 - 1 bytes.
 ///
 /// # Errors
 ///
@@ -126,12 +126,12 @@ fn read_strings(alloc: Global, texts: &[u8], syntax: Syntax, fold: bool) -> Opti
 }
 
 /// Whether one pass for the strings is quicker than a matcher for each pattern: the patterns are many,
-/// or there is one, a choice of long strings.
+/// or the strings are several long ones.
 fn are_quicker(texts: &[u8], strings: &[u8]) -> bool {
-    if has_more_than(1, texts) || !has_more_than(1, strings) {
-        return has_more_than(FEW, texts);
+    if has_more_than(FEW, texts) {
+        return true;
     }
-    !split_file(strings).any(|string| string.len() < LONG)
+    has_more_than(1, strings) && !split_file(strings).any(|string| string.len() < LONG)
 }
 
 /// How many bytes the strings of a pattern may have.

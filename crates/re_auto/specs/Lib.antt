@@ -1,5 +1,5 @@
 -- the definitions that the contract of the whole command, or of the session, rests on
-pub mod Meters
+pub use Rattle.re_meter.specs.Meters
 pub mod Searching
 -- what the public laws say of the definitions
 pub mod Laws

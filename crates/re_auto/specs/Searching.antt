@@ -1,10 +1,10 @@
--- What a search of a line finds, and how many steps it takes.
-use Rattle.std.specs.Prelude.{◌≡◌, ℕ, ◌+◌, ◌-◌, ◌^◌, ◌≤◌, ◌↔◌, Bool, List, min, Option, MatchOption, All, Any, IsTrue, map}
+-- What a search of a line finds, and how much work it takes.
+use Rattle.std.specs.Prelude.{◌≡◌, ℕ, zero, suc, ◌↔◌, Bool, List, min, Option, MatchOption, All, Any, IsTrue, map}
 use Rattle.re_syntax.specs.Bytes.{Text}
 use Rattle.re_syntax.specs.Expression.{Expression}
 use Rattle.re_syntax.specs.Holds.{Matches}
 use Rattle.re_syntax.specs.Parts.{IsFound, IsPart}
-use Rattle.re_auto.specs.Meters.{Steps}
+pub use Rattle.re_meter.specs.Meters.{AddsAtMost}
 use Rattle.re_syntax.specs.declared.span.Span.{Span}
 
 -- the span is the next part of the line for these expressions (XBD 9.1); None says that there is
@@ -40,10 +40,8 @@ pub record SameMatchers {M : Type 0} (expression : M → Expression) (whole : M 
   pub same_wholes : map whole new ≡ map whole old
   pub same_rooms : map room new ≡ map room old
 
--- at most `most` steps were counted, and no count fell; each count stops at the greatest u64; what
--- was refused stays so
-pub record AddsAtMost (most : ℕ) (old new : Steps) : Type 0 where
-  pub built : min old.built (2 ^ 64 - 1) ≤ new.built
-  pub reused : min old.reused (2 ^ 64 - 1) ≤ new.reused
-  pub sum : new.built + new.reused ≤ old.built + old.reused + most
-  pub refused : IsTrue old.refused → IsTrue new.refused
+-- how many searches of a line its parts cost, by how often they are asked for: no more than four,
+-- unless memory for their ends was refused
+abbrev pub searches_for : ℕ → ℕ → ℕ
+searches_for zero times = min times 4
+searches_for (suc refusals) times = times

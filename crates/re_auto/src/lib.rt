@@ -6,7 +6,6 @@ mod beginnings;
 pub mod bits;
 mod build;
 mod laws;
-mod meter;
 mod mode;
 mod ranges;
 mod step;
@@ -14,8 +13,8 @@ mod tables;
 
 pub use build::BuildFault;
 pub use laws::{fronts_decide, least_starts_are_enough, positions_decide};
-pub use meter::{Meter, fresh_meter};
 pub use mode::Mode;
+pub use re_meter::{Meter, fresh_meter};
 pub use step::automaton::Automaton;
 pub use step::starts::Starts;
 pub use step::state_set::StateSet;

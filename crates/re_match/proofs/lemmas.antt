@@ -8,3 +8,5 @@ pub mod SetAround
 pub mod StepSums
 pub mod PartsWithin
 pub mod LaterParts
+pub mod SweptLines
+pub mod LookLaws

@@ -3,3 +3,4 @@ pub mod Simulated
 pub mod CachedMatchers
 pub mod Matchers
 pub mod NextParts
+pub mod Sweeping

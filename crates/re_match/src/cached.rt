@@ -7,17 +7,17 @@ ghost use Rattle.re_syntax.specs.Expression.{expression_of};
 ghost use Rattle.re_syntax.specs.Holds.{Matches};
 ghost use Rattle.re_syntax.specs.Lines.{lines_of};
 ghost use Rattle.re_needle.specs.Working.Needles.{IsNeeded};
-ghost use Rattle.re_auto.specs.Searching.{FindsPart, AddsAtMost};
-ghost use Rattle.re_needle.specs.Working.Blocks.{IsBlock, PassesUnmatched, CountsMatched};
+ghost use Rattle.re_auto.specs.Searching.{FindsPart};
+ghost use Rattle.re_meter.specs.Meters.{AddsAtMost, AddsUpTo};
+ghost use Rattle.re_needle.specs.Working.Blocks.{IsBlock};
 ghost use Rattle.re_needle.specs.Working.Blocks.{FindsMatched, next_cost};
 ghost use Rattle.re_steps.specs.Working.Stages.{Searches, mode_for};
 ghost use Rattle.re_ends.specs.Working.GreatestEnds.{AddsEnds, FoundPast};
 ghost use Rattle.re_match.specs.Working.CachedMatchers.{AnswersLine};
 
 use crate::line_match::LineMatch;
-use crate::looks::Uncounted;
 use crate::simulated::Simulated;
-use crate::sweeps::{Sweeps, count_by_sweeps, next_by_sweeps};
+use crate::sweeps::{Sweep, Sweeps, count_by_sweeps, next_by_sweeps};
 use re_auto::Meter;
 use re_steps::{LineSearch, Outcome, Table};
 use re_syntax::Span;
@@ -127,7 +127,7 @@ impl Cached {
         self.simulated.needed()
     }
 
-    // Whether the line is matched, for a line of which that is not known without a step.
+    // Whether the line is matched, by steps alone.
     #[inline(always)]
     fn searched(&mut self, line: &[u8], meter: &mut Meter) -> bool
         ensures searches { Searches (expression_of self.old.tree) (mode_for self.old.whole) line.now
@@ -167,7 +167,7 @@ impl Cached {
             self.old.cache self.new.cache meter.old meter.new result }
         ensures same_most { self.new.most ≡ self.old.most }
     {
-        if let Some(reported) = self.simulated.settled(line) {
+        if let Some(reported) = self.simulated.settled(line, meter) {
             return reported;
         }
         self.searched(line, meter)
@@ -196,6 +196,17 @@ impl LineMatch for Cached {
         self.search(line, meter)
     }
 
+    fn is_match_by_steps(&mut self, line: &[u8], meter: &mut Meter) -> bool
+        ensures reported { IsTrue result ↔
+            Matches (expression_of self.old.tree) line.now self.old.whole }
+        ensures same_expression { expression_of self.new.tree ≡ expression_of self.old.tree }
+        ensures same_whole { self.new.whole ≡ self.old.whole }
+        ensures steps { AddsUpTo (length line.now + 1) 0 meter.old meter.new }
+        ensures same_most { self.new.most ≡ self.old.most }
+    {
+        self.searched(line, meter)
+    }
+
     fn find(&mut self, line: &[u8], from: usize, meter: &mut Meter) -> Option<Span>
         requires { from ≤ length line.now }
         ensures reported { FindsPart (expression_of self.old.tree ∷ []) line.now self.old.whole from
@@ -208,17 +219,19 @@ impl LineMatch for Cached {
         self.simulated.find(line, from, meter)
     }
 
-    fn add_ends(&mut self, line: &[u8], ends: &mut [usize], meter: &mut Meter)
-        requires { length ends.old ≡ length line.now }
+    fn add_ends(&mut self, line: &[u8], ends: &mut [usize], spare: &mut [usize], meter: &mut Meter)
+        requires ends { length ends.old ≡ length line.now }
+        requires spare { length spare.old ≡ length line.now }
         ensures added { AddsEnds
             (FoundPast (expression_of self.old.tree ∷ []) line.now self.old.whole) line.now ends.old
             ends.new }
+        ensures same_spare { length spare.new ≡ length spare.old }
         ensures same_expression { expression_of self.new.tree ≡ expression_of self.old.tree }
         ensures same_whole { self.new.whole ≡ self.old.whole }
         ensures steps { AddsAtMost (length line.now + 1) meter.old meter.new }
         ensures same { self.new ≡ self.old }
     {
-        self.simulated.add_ends(line, ends, meter);
+        self.simulated.add_ends(line, ends, spare, meter);
     }
 
     fn next_matched(&mut self, block: &[u8], meter: &mut Meter) -> Option<Span>
@@ -236,18 +249,11 @@ impl LineMatch for Cached {
     }
 
     fn count_matched(&mut self, block: &[u8], meter: &mut Meter) -> u64 {
-        let Some(count) = self.simulated.known_count(block) else {
+        let Some(count) = self.simulated.known_count(block, meter) else {
             return count_by_sweeps(self, block, meter);
         };
         meter.add_built(block.len() as u64);
         count
-    }
-
-    fn first_candidate(&self, block: &[u8], asked: Uncounted) -> usize
-        requires { IsBlock block.now }
-        ensures { PassesUnmatched (expression_of self.now.tree) self.now.whole block.now result }
-    {
-        self.simulated.first_candidate(block, asked)
     }
 }
 
@@ -260,11 +266,15 @@ impl Sweeps for Cached {
 
     ghost room = { λ c. c.most };
 
-    fn sweep(&self, block: &[u8], meter: &mut Meter) -> usize {
+    fn sweep(&self, block: &[u8], meter: &mut Meter) -> Sweep {
         self.simulated.sweep(block, meter)
     }
 
     fn search(&mut self, line: &[u8], meter: &mut Meter) -> bool {
         Cached::search(self, line, meter)
+    }
+
+    fn search_by_steps(&mut self, line: &[u8], meter: &mut Meter) -> bool {
+        self.is_match_by_steps(line, meter)
     }
 }

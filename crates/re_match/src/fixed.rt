@@ -1,22 +1,28 @@
 //! Search for one fixed string (XCU grep, option `-F`).
 ghost use Rattle.std.specs.Prelude.{◌≡◌, ◌+◌, ◌-◌, ◌≤◌, ◌↔◌, [], ◌∷◌, true, false, IsTrue, IfOk};
-ghost use Rattle.std.specs.Prelude.{IfSome, ◌<◌, length};
+ghost use Rattle.std.specs.Prelude.{IfSome, ◌<◌, ◌⊎◌, length, drop};
 ghost use Rattle.re_syntax.specs.Holds.{Matches};
 ghost use Rattle.re_syntax.specs.Lines.{lines_of, HasNoNewline};
-ghost use Rattle.re_auto.specs.Meters.{many_built};
+ghost use Rattle.re_meter.specs.Meters.{Steps, AddsAtMost, AddsUpTo, many_built, many_passed};
 ghost use Rattle.re_match.specs.Working.Literals.{literal_expression, IsPartOfLines, part_cost};
-ghost use Rattle.re_auto.specs.Searching.{FindsPart, AddsAtMost};
+ghost use Rattle.re_match.specs.Working.Literals.{LooksFor, CountsLook};
+ghost use Rattle.re_auto.specs.Searching.{FindsPart};
 ghost use Rattle.re_needle.specs.Working.Blocks.{IsBlock, PassesUnmatched, CountsMatched};
 ghost use Rattle.re_needle.specs.Working.Blocks.{FindsMatched, FindsNext, next_cost};
+ghost use Rattle.re_needle.specs.Working.Blocks.{LooksOnce, StopsInLine};
+ghost use Rattle.re_needle.specs.Working.Runs.{look_cost};
 ghost use Rattle.re_ends.specs.Working.GreatestEnds.{AddsEnds, FoundPast};
 
-use crate::front_ends::{Occurs, add_line, add_occurrences, bytes_to_part};
+use crate::front_ends::{add_line, bytes_to_part};
 use crate::line_match::LineMatch;
-use crate::looks::Uncounted;
-use crate::sweeps::{Sweeps, count_by_sweeps, next_by_sweeps};
+use crate::sweeps::{Sweep, Sweeps, count_by_sweeps, next_by_sweeps};
 use memchr::memmem::Finder;
 use re_auto::Meter;
-use re_needle::{bytes_to, count_by, first_line_with, has_no_newline, next_line_with};
+use re_needle::{
+    Swept, bytes_to, count_by, find_text, first_line_with, has_no_newline, next_line_with,
+    step_to_text,
+};
+use re_strings::add_occurrences;
 use re_syntax::Span;
 use std::alloc::{AllocError, Global};
 use std::marker::Model;
@@ -54,11 +60,20 @@ impl Fixed {
         line == self.finder.needle()
     }
 
-    // Whether the string occurs in the line.
-    fn stands_in(&self, line: &[u8]) -> bool
-        ensures { IsTrue result ↔ Matches (literal_expression self.now) line.now false }
+    // Whether the string occurs in the line, which is looked over once.
+    fn stands_in(&self, line: &[u8], meter: &mut Meter) -> bool
+        ensures reported { IsTrue result ↔ Matches (literal_expression self.now) line.now false }
+        ensures looked { LooksOnce self.now.text line.now meter.old meter.new }
     {
-        self.finder.find(line).is_some()
+        find_text(&self.finder, line, meter).is_some()
+    }
+
+    // The same by steps.
+    fn stands_by_steps(&self, line: &[u8], meter: &mut Meter) -> bool
+        ensures reported { IsTrue result ↔ Matches (literal_expression self.now) line.now false }
+        ensures steps { AddsUpTo (length line.now + 1) 0 meter.old meter.new }
+    {
+        step_to_text(&self.finder, line, meter).is_some()
     }
 
     // The matched part if the whole line has to be the string.
@@ -75,50 +90,65 @@ impl Fixed {
     }
 
     // The first occurrence of the string at `from` or later. An empty string makes no part.
-    fn occurrence(&self, line: &[u8], from: usize) -> Option<Span>
+    fn occurrence(&self, line: &[u8], from: usize, meter: &mut Meter) -> Option<Span>
         requires { from ≤ length line.now }
-        ensures { FindsPart (literal_expression self.now ∷ []) line.now false from result }
+        ensures reported { FindsPart (literal_expression self.now ∷ []) line.now false from result }
+        ensures within { IfSome result (λ part. (from ≤ part.end) × (part.end ≤ length line.now)) }
+        ensures looked { (meter.new ≡ meter.old)
+            ⊎ LooksOnce self.now.text (drop from line.now) meter.old meter.new }
     {
         let length = self.finder.needle().len();
         if length == 0 {
             return None;
         }
-        let start = from + self.finder.find(&line[from..])?;
+        let Some(place) = find_text(&self.finder, &line[from..], meter) else {
+            return None;
+        };
+        let start = from + place;
         Some(Span {
             start,
             end: start + length,
         })
     }
 
-    // The first line of a block that has the string, which has no newline.
-    fn next_line(&self, block: &[u8]) -> Option<Span>
+    // The first line of a block that has the string, which has no newline. The block is looked over
+    // once.
+    fn next_line(&self, block: &[u8], meter: &mut Meter) -> Option<Span>
         requires block { IsBlock block.now }
         requires part { self.now.whole ≡ false }
         requires one_line { HasNoNewline self.now.text }
         ensures reported { FindsMatched (literal_expression self.now) self.now.whole
             (lines_of block.now) result }
         ensures within { IfSome result (λ at. (at.start ≤ at.end) × (at.end < length block.now)) }
+        ensures looked { LooksOnce self.now.text block.now meter.old meter.new }
+        ensures steps { AddsUpTo 0 (next_cost block.now result) meter.old meter.new }
     {
-        next_line_with(&self.finder, block)
+        next_line_with(&self.finder, block, meter)
     }
 
-    // How many lines of a block have the string, which is not empty and has no newline.
-    fn count_lines(&self, block: &[u8]) -> u64
+    // How many lines of a block have the string, which is not empty and has no newline. Each byte is
+    // passed at most once.
+    fn count_lines(&self, block: &[u8], meter: &mut Meter) -> u64
         requires block { IsBlock block.now }
         requires part { IsPartOfLines self.now }
         requires some { 1 ≤ length self.now.text }
-        ensures { CountsMatched (literal_expression self.now) self.now.whole (lines_of block.now)
-            result }
+        ensures counted { CountsMatched (literal_expression self.now) self.now.whole
+            (lines_of block.now) result }
+        ensures steps { AddsUpTo 0 (length block.now) meter.old meter.new }
     {
-        count_by(&self.finder, block)
+        count_by(&self.finder, block, meter)
     }
 
-    // Where in a block the first line begins that may be matched: no line before it is matched.
-    fn candidate(&self, block: &[u8]) -> usize
+    // Looks for the first line of a block that has the string.
+    fn candidate(&self, block: &[u8], meter: &mut Meter) -> Swept
         requires { IsBlock block.now }
-        ensures { PassesUnmatched (literal_expression self.now) self.now.whole block.now result }
+        ensures passes { PassesUnmatched (literal_expression self.now) self.now.whole block.now
+            result.start }
+        ensures stops { StopsInLine block.now result }
+        ensures within { IfSome result.place (λ at. at ≤ length block.now) }
+        ensures counted { meter.new ≡ many_passed (look_cost block.now result.place) meter.old }
     {
-        first_line_with(&self.finder, block)
+        first_line_with(&self.finder, block, meter)
     }
 
     // Whether the string is empty.
@@ -139,29 +169,35 @@ impl Fixed {
     }
 
     // The next part.
-    fn part(&self, line: &[u8], from: usize) -> Option<Span>
+    fn part(&self, line: &[u8], from: usize, meter: &mut Meter) -> Option<Span>
         requires { from ≤ length line.now }
         ensures reported { FindsPart (literal_expression self.now ∷ []) line.now self.now.whole from result }
         ensures within { IfSome result
             (λ part. (from ≤ part.end) × (part.end ≤ length line.now)) }
+        ensures looked { LooksFor self.now (drop from line.now) meter.old meter.new }
     {
         if self.whole {
             return self.whole_line(line, from);
         }
-        self.occurrence(line, from)
+        self.occurrence(line, from, meter)
     }
 
     // Gives each place the greatest end of the parts that begin there.
-    fn put_ends(&self, line: &[u8], ends: &mut [usize])
-        requires { length ends.old ≡ length line.now }
-        ensures { AddsEnds (FoundPast (literal_expression self.now ∷ []) line.now self.now.whole) line.now
-            ends.old ends.new }
+    fn put_ends(&self, line: &[u8], ends: &mut [usize], spare: &mut [usize])
+        requires ends { length ends.old ≡ length line.now }
+        requires spare { length spare.old ≡ length line.now }
+        ensures added { AddsEnds (FoundPast (literal_expression self.now ∷ []) line.now self.now.whole)
+            line.now ends.old ends.new }
+        ensures same_spare { length spare.new ≡ length spare.old }
     {
         if self.whole {
             add_line(self.is_line(line), line, ends);
             return;
         }
-        add_occurrences(self, line, ends);
+        if self.is_empty() {
+            return;
+        }
+        add_occurrences(self.finder.needle(), line, ends, spare);
     }
 
     // Whether the line is matched.
@@ -171,13 +207,15 @@ impl Fixed {
             Matches (literal_expression self.old) line.now self.old.whole }
         ensures steps { AddsAtMost (length line.now + 1) meter.old meter.new }
         ensures same { self.new ≡ self.old }
-        ensures counted { meter.new ≡ many_built (length line.now + 1) meter.old }
+        ensures counted { CountsLook self.old line.now (length line.now + 1) meter.old meter.new }
     {
-        meter.add_built(line.len() as u64 + 1);
         if self.whole {
+            meter.add_built(line.len() as u64 + 1);
             return self.is_line(line);
         }
-        self.stands_in(line)
+        let found = self.stands_in(line, meter);
+        meter.add_built(line.len() as u64 + 1);
+        found
     }
 }
 
@@ -197,9 +235,24 @@ impl LineMatch for Fixed {
         ensures same_whole { self.new.whole ≡ self.old.whole }
         ensures steps { AddsAtMost (length line.now + 1) meter.old meter.new }
         ensures same { self.new ≡ self.old }
-        ensures counted { meter.new ≡ many_built (length line.now + 1) meter.old }
+        ensures counted { CountsLook self.old line.now (length line.now + 1) meter.old meter.new }
     {
         self.search(line, meter)
+    }
+
+    fn is_match_by_steps(&mut self, line: &[u8], meter: &mut Meter) -> bool
+        ensures reported { IsTrue result ↔
+            Matches (literal_expression self.old) line.now self.old.whole }
+        ensures same_expression { literal_expression self.new ≡ literal_expression self.old }
+        ensures same_whole { self.new.whole ≡ self.old.whole }
+        ensures steps { AddsUpTo (length line.now + 1) 0 meter.old meter.new }
+        ensures same { self.new ≡ self.old }
+    {
+        if self.whole {
+            meter.add_built(line.len() as u64 + 1);
+            return self.is_line(line);
+        }
+        self.stands_by_steps(line, meter)
     }
 
     fn find(&mut self, line: &[u8], from: usize, meter: &mut Meter) -> Option<Span>
@@ -210,24 +263,27 @@ impl LineMatch for Fixed {
         ensures same_whole { self.new.whole ≡ self.old.whole }
         ensures steps { AddsAtMost (length line.now - from + 1) meter.old meter.new }
         ensures same { self.new ≡ self.old }
-        ensures counted { meter.new ≡ many_built (part_cost line.now from result) meter.old }
+        ensures counted { CountsLook self.old (drop from line.now) (part_cost line.now from result)
+            meter.old meter.new }
     {
-        let found = self.part(line, from);
+        let found = self.part(line, from, meter);
         meter.add_built(bytes_to_part(line, from, found));
         found
     }
 
-    fn add_ends(&mut self, line: &[u8], ends: &mut [usize], meter: &mut Meter)
-        requires { length ends.old ≡ length line.now }
+    fn add_ends(&mut self, line: &[u8], ends: &mut [usize], spare: &mut [usize], meter: &mut Meter)
+        requires ends { length ends.old ≡ length line.now }
+        requires spare { length spare.old ≡ length line.now }
         ensures added { AddsEnds (FoundPast (literal_expression self.old ∷ []) line.now self.old.whole) line.now
             ends.old ends.new }
+        ensures same_spare { length spare.new ≡ length spare.old }
         ensures same_expression { literal_expression self.new ≡ literal_expression self.old }
         ensures same_whole { self.new.whole ≡ self.old.whole }
         ensures steps { AddsAtMost (length line.now + 1) meter.old meter.new }
         ensures same { self.new ≡ self.old }
     {
         meter.add_built(line.len() as u64 + 1);
-        self.put_ends(line, ends);
+        self.put_ends(line, ends, spare);
     }
 
     fn next_matched(&mut self, block: &[u8], meter: &mut Meter) -> Option<Span>
@@ -240,12 +296,12 @@ impl LineMatch for Fixed {
         ensures same_whole { self.new.whole ≡ self.old.whole }
         ensures steps { AddsAtMost (next_cost block.now result) meter.old meter.new }
         ensures counted { IsPartOfLines self.old →
-            meter.new ≡ many_built (next_cost block.now result) meter.old }
+            CountsLook self.old block.now (next_cost block.now result) meter.old meter.new }
     {
         if !self.is_part() {
             return next_by_sweeps(self, block, meter);
         }
-        let found = self.next_line(block);
+        let found = self.next_line(block, meter);
         meter.add_built(bytes_to(block, found));
         found
     }
@@ -258,20 +314,15 @@ impl LineMatch for Fixed {
         ensures same_whole { self.new.whole ≡ self.old.whole }
         ensures steps { AddsAtMost (length block.now) meter.old meter.new }
         ensures counted { IsPartOfLines self.old → 1 ≤ length self.old.text →
-            meter.new ≡ many_built (length block.now) meter.old }
+            (passed : Steps) × AddsUpTo 0 (length block.now) meter.old passed
+            × (meter.new ≡ many_built (length block.now) passed) }
     {
         if !self.is_part() || self.is_empty() {
             return count_by_sweeps(self, block, meter);
         }
+        let count = self.count_lines(block, meter);
         meter.add_built(block.len() as u64);
-        self.count_lines(block)
-    }
-
-    fn first_candidate(&self, block: &[u8], _: Uncounted) -> usize
-        requires { IsBlock block.now }
-        ensures { PassesUnmatched (literal_expression self.now) self.now.whole block.now result }
-    {
-        self.candidate(block)
+        count
     }
 }
 
@@ -284,23 +335,17 @@ impl Sweeps for Fixed {
 
     ghost room = { λ f. 0 };
 
-    fn sweep(&self, block: &[u8], meter: &mut Meter) -> usize {
-        let passed = self.candidate(block);
-        meter.add_built(passed as u64);
-        passed
+    fn sweep(&self, block: &[u8], meter: &mut Meter) -> Sweep {
+        let swept = self.candidate(block, meter);
+        meter.add_built(swept.start as u64);
+        Sweep::seen(block, swept)
     }
 
     fn search(&mut self, line: &[u8], meter: &mut Meter) -> bool {
         Fixed::search(self, line, meter)
     }
-}
 
-impl Occurs for Fixed {
-    ghost use Rattle.re_match.specs.Working.Literals.{literal_expression};
-
-    ghost expression = { λ f. literal_expression f };
-
-    fn occurrence(&self, line: &[u8], from: usize) -> Option<Span> {
-        Fixed::occurrence(self, line, from)
+    fn search_by_steps(&mut self, line: &[u8], meter: &mut Meter) -> bool {
+        self.is_match_by_steps(line, meter)
     }
 }

@@ -5,18 +5,21 @@ ghost use Rattle.re_strings.specs.Working.Branches.{AreAscending, HaveSame};
 ghost use Rattle.re_strings.specs.Working.FixedSets.{IsString};
 ghost use Rattle.re_syntax.specs.Holds.{Matches};
 ghost use Rattle.re_syntax.specs.Lines.{lines_of};
-ghost use Rattle.re_auto.specs.Meters.{many_built};
+ghost use Rattle.re_meter.specs.Meters.{Steps, AddsAtMost, AddsUpTo, many_built};
 ghost use Rattle.re_match.specs.Working.Literals.{any_literal, part_cost};
+ghost use Rattle.re_match.specs.Working.Literals.{LooksForAny, CountsAny, LooksForPart, ReachesPart};
+ghost use Rattle.re_match.specs.Working.Sweeping.{StopsAt};
+ghost use Rattle.re_match.specs.declared.sweeps.Stop.TheVariants.{Matched};
 ghost use Rattle.re_strings.specs.Working.Keys.{keys};
-ghost use Rattle.re_auto.specs.Searching.{FindsPart, AddsAtMost};
+ghost use Rattle.re_auto.specs.Searching.{FindsPart};
 ghost use Rattle.re_needle.specs.Working.Blocks.{IsBlock, IsLineFrom, PassesUnmatched};
 ghost use Rattle.re_needle.specs.Working.Blocks.{FindsMatched, next_cost};
 ghost use Rattle.re_ends.specs.Working.GreatestEnds.{AddsEnds, FoundPast};
 
-use crate::front_ends::{Occurs, add_line, add_occurrences, bytes_to_part};
+use crate::front_ends::{add_line, bytes_to_part};
 use crate::line_match::LineMatch;
-use crate::looks::{Looks, Uncounted};
-use crate::sweeps::{Sweeps, next_by_sweeps};
+use crate::looks::Looks;
+use crate::sweeps::{Sweep, Sweeps, next_by_sweeps};
 use re_auto::Meter;
 use re_needle::{LookCost, bytes_to, line_end, line_start};
 use re_strings::{Table, table_of};
@@ -109,55 +112,76 @@ impl FixedSet {
         self.table.is_line(line)
     }
 
-    /// Whether some string occurs in the line, whether or not the whole line has to be one. No step
-    /// is counted.
-    pub fn stands_in(&self, line: &[u8], _: Uncounted) -> bool
-        ensures { IsTrue result ↔ Matches (any_literal self.now) line.now false }
+    /// Whether some string occurs in the line, whether or not the whole line has to be one. The line
+    /// is looked over up to where the first string ends.
+    pub fn stands_in(&self, line: &[u8], meter: &mut Meter) -> bool
+        ensures reported { IsTrue result ↔ Matches (any_literal self.now) line.now false }
+        ensures looked { LooksForAny self.now line.now meter.old meter.new }
     {
         if self.has_empty {
             return true;
         }
-        self.table.stands_in(line)
+        self.table.first_end(line, meter).is_some()
     }
 
-    /// Where the first line with some string begins in a block of whole lines, whether or not the
-    /// whole line has to be one; the end of the block if no line has one. No step is counted.
-    pub fn first_line(&self, block: &[u8], _: Uncounted) -> usize
-        requires { IsBlock block.now }
-        ensures passes { PassesUnmatched (any_literal self.now) false block.now result }
-        ensures found { (end : ℕ) → IsLineFrom block.now result end →
-            Matches (any_literal self.now) (slice_range block.now result end) false }
+    // The same by steps.
+    fn stands_by_steps(&self, line: &[u8], meter: &mut Meter) -> bool
+        ensures reported { IsTrue result ↔ Matches (any_literal self.now) line.now false }
+        ensures steps { AddsUpTo (length line.now + 1) 0 meter.old meter.new }
     {
         if self.has_empty {
-            return 0;
+            return true;
         }
-        match self.table.find(block, 0) {
-            Some(span) => line_start(&block[..span.start]),
-            None => block.len(),
-        }
+        self.table.first_end_by_steps(line, meter).is_some()
     }
 
-    // The first line of a block that has some string.
-    fn next_line(&self, block: &[u8]) -> Option<Span>
+    /// Looks for the first line with some string in a block of whole lines, whether or not the whole
+    /// line has to be one.
+    pub fn first_line(&self, block: &[u8], meter: &mut Meter) -> Sweep
+        requires { IsBlock block.now }
+        ensures passes { PassesUnmatched (any_literal self.now) false block.now result.start }
+        ensures stops { StopsAt (any_literal self.now) false block.now result }
+        ensures found { (end : ℕ) → IsLineFrom block.now result.start end →
+            Matches (any_literal self.now) (slice_range block.now result.start end) false }
+        ensures unknown { result.stop ≡ Matched → ⊥ }
+        ensures looked { LooksForAny self.now block.now meter.old meter.new }
+        ensures steps { AddsUpTo 0 result.reached meter.old meter.new }
+    {
+        if self.has_empty {
+            return Sweep::none();
+        }
+        let Some(end) = self.table.first_end(block, meter) else {
+            return Sweep::to(block.len(), block.len());
+        };
+        Sweep::to(line_start(&block[..end]), end)
+    }
+
+    // The first line of a block that has some string. The block is looked over once.
+    fn next_line(&self, block: &[u8], meter: &mut Meter) -> Option<Span>
         requires block { IsBlock block.now }
         requires part { self.now.whole ≡ false }
         ensures reported { FindsMatched (any_literal self.now) self.now.whole (lines_of block.now)
             result }
         ensures within { IfSome result (λ at. (at.start ≤ at.end) × (at.end < length block.now)) }
+        ensures looked { LooksForAny self.now block.now meter.old meter.new }
+        ensures steps { AddsUpTo 0 (next_cost block.now result) meter.old meter.new }
     {
-        let start = self.first_line(block, Uncounted);
+        let start = self.first_line(block, meter).start;
         let Some(end) = line_end(block, start) else {
             return None;
         };
         Some(Span { start, end })
     }
 
-    // Where in a block the first line begins that may be matched: no line before it is matched.
-    fn candidate(&self, block: &[u8]) -> usize
+    // Looks for the first line of a block that may be matched. No line before it is.
+    fn candidate(&self, block: &[u8], meter: &mut Meter) -> Sweep
         requires { IsBlock block.now }
-        ensures { PassesUnmatched (any_literal self.now) self.now.whole block.now result }
+        ensures passes { PassesUnmatched (any_literal self.now) self.now.whole block.now
+            result.start }
+        ensures stops { StopsAt (any_literal self.now) self.now.whole block.now result }
+        ensures steps { AddsUpTo 0 result.reached meter.old meter.new }
     {
-        self.first_line(block, Uncounted)
+        self.first_line(block, meter)
     }
 
     // The matched part if the whole line has to be one of the strings.
@@ -175,24 +199,26 @@ impl FixedSet {
 
     // The first string at `from` or later, and of those that begin there the longest. An empty
     // string makes no part.
-    fn occurrence(&self, line: &[u8], from: usize) -> Option<Span>
+    fn occurrence(&self, line: &[u8], from: usize, meter: &mut Meter) -> Option<Span>
         requires { from ≤ length line.now }
-        ensures { FindsPart (any_literal self.now ∷ []) line.now false from result }
+        ensures reported { FindsPart (any_literal self.now ∷ []) line.now false from result }
+        ensures reached { ReachesPart self.now line.now from result meter.old meter.new }
     {
-        self.table.find(line, from)
+        self.table.find(line, from, meter)
     }
 
     // The next part.
-    fn part(&self, line: &[u8], from: usize) -> Option<Span>
+    fn part(&self, line: &[u8], from: usize, meter: &mut Meter) -> Option<Span>
         requires { from ≤ length line.now }
         ensures reported { FindsPart (any_literal self.now ∷ []) line.now self.now.whole from result }
         ensures within { IfSome result
             (λ part. (from ≤ part.end) × (part.end ≤ length line.now)) }
+        ensures looked { LooksForPart self.now line.now from result meter.old meter.new }
     {
         if self.whole {
             return self.whole_line(line, from);
         }
-        self.occurrence(line, from)
+        self.occurrence(line, from, meter)
     }
 
     // Gives each place the greatest end of the parts that begin there.
@@ -205,7 +231,7 @@ impl FixedSet {
             add_line(self.is_line(line), line, ends);
             return;
         }
-        add_occurrences(self, line, ends);
+        self.table.add_ends(line, ends);
     }
 
     // Whether the line is matched.
@@ -214,13 +240,15 @@ impl FixedSet {
         ensures reported { IsTrue result ↔ Matches (any_literal self.old) line.now self.old.whole }
         ensures steps { AddsAtMost (length line.now + 1) meter.old meter.new }
         ensures same { self.new ≡ self.old }
-        ensures counted { meter.new ≡ many_built (length line.now + 1) meter.old }
+        ensures counted { CountsAny self.old line.now (length line.now + 1) meter.old meter.new }
     {
-        meter.add_built(line.len() as u64 + 1);
         if self.whole {
+            meter.add_built(line.len() as u64 + 1);
             return self.is_line(line);
         }
-        self.stands_in(line, Uncounted)
+        let found = self.stands_in(line, meter);
+        meter.add_built(line.len() as u64 + 1);
+        found
     }
 }
 
@@ -265,9 +293,23 @@ impl LineMatch for FixedSet {
         ensures same_whole { self.new.whole ≡ self.old.whole }
         ensures steps { AddsAtMost (length line.now + 1) meter.old meter.new }
         ensures same { self.new ≡ self.old }
-        ensures counted { meter.new ≡ many_built (length line.now + 1) meter.old }
+        ensures counted { CountsAny self.old line.now (length line.now + 1) meter.old meter.new }
     {
         self.search(line, meter)
+    }
+
+    fn is_match_by_steps(&mut self, line: &[u8], meter: &mut Meter) -> bool
+        ensures reported { IsTrue result ↔ Matches (any_literal self.old) line.now self.old.whole }
+        ensures same_expression { any_literal self.new ≡ any_literal self.old }
+        ensures same_whole { self.new.whole ≡ self.old.whole }
+        ensures steps { AddsUpTo (length line.now + 1) 0 meter.old meter.new }
+        ensures same { self.new ≡ self.old }
+    {
+        if self.whole {
+            meter.add_built(line.len() as u64 + 1);
+            return self.is_line(line);
+        }
+        self.stands_by_steps(line, meter)
     }
 
     fn find(&mut self, line: &[u8], from: usize, meter: &mut Meter) -> Option<Span>
@@ -277,17 +319,20 @@ impl LineMatch for FixedSet {
         ensures same_whole { self.new.whole ≡ self.old.whole }
         ensures steps { AddsAtMost (length line.now - from + 1) meter.old meter.new }
         ensures same { self.new ≡ self.old }
-        ensures counted { meter.new ≡ many_built (part_cost line.now from result) meter.old }
+        ensures counted { (looked : Steps)
+            × LooksForPart self.old line.now from result meter.old looked
+            × (meter.new ≡ many_built (part_cost line.now from result) looked) }
     {
-        let found = self.part(line, from);
+        let found = self.part(line, from, meter);
         meter.add_built(bytes_to_part(line, from, found));
         found
     }
 
-    fn add_ends(&mut self, line: &[u8], ends: &mut [usize], meter: &mut Meter)
-        requires { length ends.old ≡ length line.now }
+    fn add_ends(&mut self, line: &[u8], ends: &mut [usize], spare: &mut [usize], meter: &mut Meter)
+        requires ends { length ends.old ≡ length line.now }
         ensures added { AddsEnds (FoundPast (any_literal self.old ∷ []) line.now self.old.whole) line.now
             ends.old ends.new }
+        ensures same_spare { length spare.new ≡ length spare.old }
         ensures same_expression { any_literal self.new ≡ any_literal self.old }
         ensures same_whole { self.new.whole ≡ self.old.whole }
         ensures steps { AddsAtMost (length line.now + 1) meter.old meter.new }
@@ -307,21 +352,14 @@ impl LineMatch for FixedSet {
         ensures same_whole { self.new.whole ≡ self.old.whole }
         ensures steps { AddsAtMost (next_cost block.now result) meter.old meter.new }
         ensures counted { self.old.whole ≡ false →
-            meter.new ≡ many_built (next_cost block.now result) meter.old }
+            CountsAny self.old block.now (next_cost block.now result) meter.old meter.new }
     {
         if self.whole {
             return next_by_sweeps(self, block, meter);
         }
-        let found = self.next_line(block);
+        let found = self.next_line(block, meter);
         meter.add_built(bytes_to(block, found));
         found
-    }
-
-    fn first_candidate(&self, block: &[u8], _: Uncounted) -> usize
-        requires { IsBlock block.now }
-        ensures { PassesUnmatched (any_literal self.now) self.now.whole block.now result }
-    {
-        self.candidate(block)
     }
 }
 
@@ -334,27 +372,21 @@ impl Sweeps for FixedSet {
 
     ghost room = { λ f. 0 };
 
-    fn sweep(&self, block: &[u8], meter: &mut Meter) -> usize {
+    fn sweep(&self, block: &[u8], meter: &mut Meter) -> Sweep {
         if !self.looks.is_due() {
-            return 0;
+            return Sweep::none();
         }
-        let passed = self.candidate(block);
-        self.looks.note(passed);
-        meter.add_built(passed as u64);
-        passed
+        let sweep = self.candidate(block, meter);
+        self.looks.note(sweep.start);
+        meter.add_built(sweep.start as u64);
+        sweep
     }
 
     fn search(&mut self, line: &[u8], meter: &mut Meter) -> bool {
         FixedSet::search(self, line, meter)
     }
-}
 
-impl Occurs for FixedSet {
-    ghost use Rattle.re_match.specs.Working.Literals.{any_literal};
-
-    ghost expression = { λ f. any_literal f };
-
-    fn occurrence(&self, line: &[u8], from: usize) -> Option<Span> {
-        FixedSet::occurrence(self, line, from)
+    fn search_by_steps(&mut self, line: &[u8], meter: &mut Meter) -> bool {
+        self.is_match_by_steps(line, meter)
     }
 }

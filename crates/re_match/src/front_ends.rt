@@ -1,8 +1,6 @@
-//! Greatest ends that are found from the front: those of strings, and that of a whole line.
-ghost use Rattle.std.specs.Prelude.{◌≡◌, ℕ, ◌+◌, ◌-◌, ◌≤◌, ◌<◌, [], ◌∷◌, false, IsTrue, IfSome, length};
-ghost use Rattle.re_syntax.specs.Expression.{Expression};
-ghost use Rattle.re_auto.specs.Searching.{FindsPart};
-ghost use Rattle.re_ends.specs.Working.GreatestEnds.{AddsEnds, FoundPast};
+//! The end of a whole line as a part, and what a search for a part answers for.
+ghost use Rattle.std.specs.Prelude.{◌≡◌, ℕ, ◌+◌, ◌-◌, ◌≤◌, ◌<◌, IsTrue, IfSome, length};
+ghost use Rattle.re_ends.specs.Working.GreatestEnds.{AddsEnds};
 ghost use Rattle.re_match.specs.Working.Literals.{part_cost};
 
 use re_syntax::Span;
@@ -18,31 +16,6 @@ pub fn bytes_to_part(line: &[u8], from: usize, found: Option<Span>) -> u64
     match found {
         Some(part) => (part.end - from) as u64,
         None => (line.len() - from) as u64 + 1,
-    }
-}
-
-/// What finds parts of a line without counting steps.
-pub trait Occurs {
-    /// The expression whose parts they are.
-    ghost expression: { Self → Expression };
-
-    /// The part that begins earliest at `from` or later, and of those that begin there the longest.
-    fn occurrence(&self, line: &[u8], from: usize) -> Option<Span>
-        requires { from ≤ length line.now }
-        ensures { FindsPart (expression self.now ∷ []) line.now false from result };
-}
-
-/// Gives each place of the line the greatest end of the parts that begin there, if it is greater
-/// than the end that the place has.
-pub fn add_occurrences<S: Occurs>(strings: &S, line: &[u8], ends: &mut [usize])
-    requires { length ends.old ≡ length line.now }
-    ensures { AddsEnds (FoundPast (S.expression strings.now ∷ []) line.now false) line.now ends.old
-        ends.new }
-{
-    let mut from = 0;
-    'occurrences: while let Some(span) = strings.occurrence(line, from) {
-        ends[span.start] = ends[span.start].max(span.end);
-        from = span.start + 1;
     }
 }
 

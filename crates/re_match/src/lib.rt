@@ -1,5 +1,5 @@
 //! One matcher: what decides whether a line is matched by an expression, and finds its matched
-//! parts, in counted steps.
+//! parts, in counted work.
 #![tactic(auto)]
 
 mod cached;
@@ -17,6 +17,7 @@ pub use cached::Cached;
 pub use fixed::Fixed;
 pub use fixed_set::FixedSet;
 pub use line_match::LineMatch;
-pub use looks::{Looks, Uncounted};
+pub use looks::Looks;
 pub use matcher::{Matcher, spelled_tree};
 pub use simulated::Simulated;
+pub use sweeps::{Stop, Sweep};

@@ -4,11 +4,11 @@ ghost use Rattle.re_syntax.specs.Expression.{Expression};
 ghost use Rattle.re_syntax.specs.Holds.{Matches};
 ghost use Rattle.re_syntax.specs.Lines.{lines_of};
 ghost use Rattle.re_auto.specs.Searching.{FindsPart, AddsAtMost};
-ghost use Rattle.re_needle.specs.Working.Blocks.{IsBlock, PassesUnmatched, CountsMatched};
+ghost use Rattle.re_meter.specs.Meters.{AddsUpTo};
+ghost use Rattle.re_needle.specs.Working.Blocks.{IsBlock, CountsMatched};
 ghost use Rattle.re_needle.specs.Working.Blocks.{FindsMatched, next_cost};
 ghost use Rattle.re_ends.specs.Working.GreatestEnds.{AddsEnds, FoundPast};
 
-use crate::looks::Uncounted;
 use re_auto::Meter;
 use re_needle::line_end;
 use re_syntax::Span;
@@ -25,7 +25,8 @@ pub trait LineMatch {
     /// How many entries its cache may have, which no search changes; 0 without a cache.
     ghost room: { Self → ℕ };
 
-    /// Whether the line is matched, in at most one step for each of its bytes and one more.
+    /// Whether the line is matched. A search of it takes at most one step for each of its bytes and
+    /// one more, and passes at most as many bytes.
     fn is_match(&mut self, line: &[u8], meter: &mut Meter) -> bool
         ensures reported { IsTrue result ↔ Matches (expression self.old) line.now (whole self.old) }
         ensures same_expression { expression self.new ≡ expression self.old }
@@ -33,8 +34,18 @@ pub trait LineMatch {
         ensures same_room { room self.new ≡ room self.old }
         ensures steps { AddsAtMost (length line.now + 1) meter.old meter.new };
 
+    /// The same by steps alone: no byte is passed. It is for a line that is likely to be matched, or
+    /// that was looked over already.
+    fn is_match_by_steps(&mut self, line: &[u8], meter: &mut Meter) -> bool
+        ensures reported { IsTrue result ↔ Matches (expression self.old) line.now (whole self.old) }
+        ensures same_expression { expression self.new ≡ expression self.old }
+        ensures same_whole { whole self.new ≡ whole self.old }
+        ensures same_room { room self.new ≡ room self.old }
+        ensures steps { AddsUpTo (length line.now + 1) 0 meter.old meter.new };
+
     /// The part that begins earliest at `from` or later, and of those that begin there the
-    /// longest (XBD 9.1), in at most one step for each byte from `from` on and one more.
+    /// longest (XBD 9.1). It takes at most one step for each byte from `from` on and one more, and
+    /// passes at most as many bytes.
     fn find(&mut self, line: &[u8], from: usize, meter: &mut Meter) -> Option<Span>
         requires { from ≤ length line.now }
         ensures reported { FindsPart (expression self.old ∷ []) line.now (whole self.old) from result }
@@ -45,19 +56,23 @@ pub trait LineMatch {
 
     /// Gives each place of the line the greatest end of the matched stretches that begin there and
     /// are not empty, if it is greater than the end that the place has. It takes at most one step
-    /// for each byte and one more.
-    fn add_ends(&mut self, line: &[u8], ends: &mut [usize], meter: &mut Meter)
-        requires { length ends.old ≡ length line.now }
+    /// for each byte and one more, and passes at most as many bytes. `spare` is room for what it works
+    /// with.
+    fn add_ends(&mut self, line: &[u8], ends: &mut [usize], spare: &mut [usize], meter: &mut Meter)
+        requires ends { length ends.old ≡ length line.now }
+        requires spare { length spare.old ≡ length line.now }
         ensures added { AddsEnds (FoundPast (expression self.old ∷ []) line.now (whole self.old))
             line.now ends.old ends.new }
+        ensures same_spare { length spare.new ≡ length spare.old }
         ensures same_expression { expression self.new ≡ expression self.old }
         ensures same_whole { whole self.new ≡ whole self.old }
         ensures same_room { room self.new ≡ room self.old }
         ensures steps { AddsAtMost (length line.now + 1) meter.old meter.new };
 
     /// The first line of a block of whole lines that is matched, by its place without its newline.
-    /// It takes at most one step for each byte up to that newline and one for the newline. If no
-    /// line is matched, it takes at most one step for each byte of the block.
+    /// It takes at most one step for each byte up to that newline and one for the newline, and passes
+    /// at most as many bytes. If no line is matched, it takes at most one step for each byte of the
+    /// block, and passes each at most once.
     fn next_matched(&mut self, block: &[u8], meter: &mut Meter) -> Option<Span>
         requires { IsBlock block.now }
         ensures reported { FindsMatched (expression self.old) (whole self.old) (lines_of block.now)
@@ -81,8 +96,8 @@ pub trait LineMatch {
         }
     }
 
-    /// How many lines of a block of whole lines are matched, in at most one step for each of its
-    /// bytes.
+    /// How many lines of a block of whole lines are matched. It takes at most one step for each byte
+    /// of the block, and passes each at most once.
     fn count_matched(&mut self, block: &[u8], meter: &mut Meter) -> u64
         requires { IsBlock block.now }
         ensures reported { CountsMatched (expression self.old) (whole self.old) (lines_of block.now)
@@ -101,15 +116,5 @@ pub trait LineMatch {
             count += 1;
             rest = &rest[at.end + 1..];
         }
-    }
-
-    /// Where in a block of whole lines the first line begins that may be matched: no line before it
-    /// is matched. It takes no step: who asks for it counts the bytes that it passes. If only a search
-    /// can say that, it is the first line.
-    fn first_candidate(&self, block: &[u8], _: Uncounted) -> usize
-        requires { IsBlock block.now }
-        ensures { PassesUnmatched (expression self.now) (whole self.now) block.now result }
-    {
-        0
     }
 }

@@ -3,11 +3,6 @@
 use re_needle::LookCost;
 use std::cell::Cell;
 
-/// What a look that takes no step is asked with. `re_search` doesn't pass it on, so that nothing above
-/// can search bytes without a meter.
-#[derive(Clone, Copy)]
-pub struct Uncounted;
-
 /// What was seen of looks so far. After a look that passed too little to pay, lines are searched
 /// without one: at first one line, then twice the number each time, up to a limit that the cost
 /// sets.
@@ -58,7 +53,6 @@ impl Looks {
 fn worth_a_look(cost: LookCost) -> usize {
     match cost {
         LookCost::Low => 1,
-        LookCost::Middle => 512,
         LookCost::High => 512,
     }
 }
@@ -68,7 +62,6 @@ fn worth_a_look(cost: LookCost) -> usize {
 fn most_rest(cost: LookCost) -> u32 {
     match cost {
         LookCost::Low => 1_024,
-        LookCost::Middle => 16,
         LookCost::High => 64,
     }
 }

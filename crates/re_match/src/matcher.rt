@@ -12,16 +12,15 @@ ghost use Rattle.re_match.specs.Reading.{IsSmallFor, IsReadable, IsOutOfMemory, 
 ghost use Rattle.re_match.specs.Reading.{IsRefusedFor};
 ghost use Rattle.re_match.specs.Working.Matchers.{matched_expression, wants_whole, is_fixed};
 ghost use Rattle.re_match.specs.Working.Matchers.{room_of, entries_of, CountsSteps, IsBuildFault};
-ghost use Rattle.re_auto.specs.Searching.{FindsPart, AddsAtMost};
+ghost use Rattle.re_auto.specs.Searching.{FindsPart};
+ghost use Rattle.re_meter.specs.Meters.{AddsAtMost, AddsUpTo};
 ghost use Rattle.re_ends.specs.Working.GreatestEnds.{AddsEnds, FoundPast};
-ghost use Rattle.re_needle.specs.Working.Blocks.{IsBlock, PassesUnmatched, CountsMatched};
-ghost use Rattle.re_needle.specs.Working.Blocks.{FindsMatched, next_cost};
+ghost use Rattle.re_needle.specs.Working.Blocks.{IsBlock, FindsMatched, next_cost};
 
 use crate::cached::Cached;
 use crate::fixed::Fixed;
 use crate::fixed_set::FixedSet;
 use crate::line_match::LineMatch;
-use crate::looks::Uncounted;
 use crate::simulated::Simulated;
 use re_auto::{BuildFault, Meter};
 use re_syntax::{
@@ -133,6 +132,22 @@ impl LineMatch for Matcher {
         }
     }
 
+    fn is_match_by_steps(&mut self, line: &[u8], meter: &mut Meter) -> bool
+        ensures reported { IsTrue result ↔
+            Matches (matched_expression self.old) line.now (wants_whole self.old) }
+        ensures same_expression { matched_expression self.new ≡ matched_expression self.old }
+        ensures same_whole { wants_whole self.new ≡ wants_whole self.old }
+        ensures steps { AddsUpTo (length line.now + 1) 0 meter.old meter.new }
+        ensures same_room { room_of self.new ≡ room_of self.old }
+    {
+        match self {
+            Matcher::Fixed(fixed) => fixed.is_match_by_steps(line, meter),
+            Matcher::FixedSet(set) => set.is_match_by_steps(line, meter),
+            Matcher::Simulated(simulated) => simulated.is_match_by_steps(line, meter),
+            Matcher::Cached(cached) => cached.is_match_by_steps(line, meter),
+        }
+    }
+
     fn find(&mut self, line: &[u8], from: usize, meter: &mut Meter) -> Option<Span>
         requires { from ≤ length line.now }
         ensures reported { FindsPart (matched_expression self.old ∷ []) line.now (wants_whole self.old)
@@ -151,11 +166,13 @@ impl LineMatch for Matcher {
         }
     }
 
-    fn add_ends(&mut self, line: &[u8], ends: &mut [usize], meter: &mut Meter)
-        requires { length ends.old ≡ length line.now }
+    fn add_ends(&mut self, line: &[u8], ends: &mut [usize], spare: &mut [usize], meter: &mut Meter)
+        requires ends { length ends.old ≡ length line.now }
+        requires spare { length spare.old ≡ length line.now }
         ensures added { AddsEnds
             (FoundPast (matched_expression self.old ∷ []) line.now (wants_whole self.old)) line.now
             ends.old ends.new }
+        ensures same_spare { length spare.new ≡ length spare.old }
         ensures same_expression { matched_expression self.new ≡ matched_expression self.old }
         ensures same_whole { wants_whole self.new ≡ wants_whole self.old }
         ensures steps { AddsAtMost (length line.now + 1) meter.old meter.new }
@@ -163,10 +180,10 @@ impl LineMatch for Matcher {
         ensures same_room { room_of self.new ≡ room_of self.old }
     {
         match self {
-            Matcher::Fixed(fixed) => fixed.add_ends(line, ends, meter),
-            Matcher::FixedSet(set) => set.add_ends(line, ends, meter),
-            Matcher::Simulated(simulated) => simulated.add_ends(line, ends, meter),
-            Matcher::Cached(cached) => cached.add_ends(line, ends, meter),
+            Matcher::Fixed(fixed) => fixed.add_ends(line, ends, spare, meter),
+            Matcher::FixedSet(set) => set.add_ends(line, ends, spare, meter),
+            Matcher::Simulated(simulated) => simulated.add_ends(line, ends, spare, meter),
+            Matcher::Cached(cached) => cached.add_ends(line, ends, spare, meter),
         }
     }
 
@@ -195,19 +212,6 @@ impl LineMatch for Matcher {
             Matcher::FixedSet(set) => set.count_matched(block, meter),
             Matcher::Simulated(simulated) => simulated.count_matched(block, meter),
             Matcher::Cached(cached) => cached.count_matched(block, meter),
-        }
-    }
-
-    fn first_candidate(&self, block: &[u8], asked: Uncounted) -> usize
-        requires { IsBlock block.now }
-        ensures { PassesUnmatched (matched_expression self.now) (wants_whole self.now) block.now
-            result }
-    {
-        match self {
-            Matcher::Fixed(fixed) => fixed.first_candidate(block, asked),
-            Matcher::FixedSet(set) => set.first_candidate(block, asked),
-            Matcher::Simulated(simulated) => simulated.first_candidate(block, asked),
-            Matcher::Cached(cached) => cached.first_candidate(block, asked),
         }
     }
 }

@@ -1,17 +1,22 @@
 //! What is known of lines, parts and blocks by what each match contains.
-ghost use Rattle.std.specs.Prelude.{◌≡◌, ◌≤◌, IfOk, IfSome, IsTrue, length};
+ghost use Rattle.std.specs.Prelude.{◌≡◌, ℕ, ◌+◌, ◌≤◌, IfOk, IfSome, IfNone, IsTrue, Some, length};
+ghost use Rattle.std.specs.Prelude.{slice_range};
 ghost use Rattle.re_syntax.specs.Expression.{Expression, expression_of};
-ghost use Rattle.re_syntax.specs.Lines.{lines_of};
-ghost use Rattle.re_auto.specs.Searching.{AddsAtMost};
-ghost use Rattle.re_needle.specs.Working.Needles.{IsNeeded, IsNeedleOf, IsNeedleFor};
+ghost use Rattle.re_syntax.specs.Lines.{lines_of, HasNoNewline};
+ghost use Rattle.re_meter.specs.Meters.{AddsUpTo};
+ghost use Rattle.re_needle.specs.Working.Needles.{IsNeeded, IsNeedleOf, IsNeedleFor, run_of};
 ghost use Rattle.re_needle.specs.Working.Needles.{IsSettled};
+ghost use Rattle.re_needle.specs.Working.Runs.{FindsRun};
+ghost use Rattle.re_match.specs.Working.Sweeping.{StopsAt, LooksOver};
 ghost use Rattle.re_match.specs.Working.NextParts.{IsSaid};
 ghost use Rattle.re_needle.specs.Working.Blocks.{IsBlock, PassesUnmatched, CountsMatched};
 
 use crate::looks::Looks;
+use crate::sweeps::Sweep;
 use re_auto::{Automaton, Meter};
 use re_needle::{
-    LookCost, Needle, RunFinder, count_lines_with, first_line_beginning_with, first_line_with_run,
+    LookCost, Needle, RunFinder, Swept, count_lines_with, first_line_beginning_with,
+    first_line_with_run, has_no_newline,
 };
 use re_steps::{Tried, try_place};
 use re_syntax::{Span, Tree};
@@ -58,57 +63,67 @@ impl Prefilter {
         }
     }
 
-    /// Whether the line is matched, if that is known without a step. A run that is common is looked
-    /// for over blocks alone.
+    /// Whether the line is matched, if one look over it says so. A run that is common is looked for
+    /// over blocks alone.
     #[inline(always)]
-    pub fn settled(&self, line: &[u8], whole: bool) -> Option<bool>
-        ensures { (e : Expression) → IsNeedleFor e self.now.needle →
+    pub fn settled(&self, line: &[u8], whole: bool, meter: &mut Meter) -> Option<bool>
+        ensures settled { (e : Expression) → IsNeedleFor e self.now.needle →
             IfSome result (λ reported. IsSettled e whole line.now reported) }
+        ensures looked { (e : Expression) → IsNeedleFor e self.now.needle →
+            LooksOver e line.now meter.old meter.new }
     {
-        if let Some(needle) = &self.needle {
-            if whole && needle.is_first {
-                if needle.finder.begins(line) {
-                    return None;
-                }
-                return Some(false);
-            }
-            if needle.is_common {
+        let Some(needle) = &self.needle else {
+            return None;
+        };
+        if whole && needle.is_first {
+            if needle.finder.begins(line, meter) {
                 return None;
             }
-            if needle.finder.find(line).is_none() {
-                return Some(false);
-            }
-            if needle.is_all && !whole {
-                return Some(true);
-            }
+            return Some(false);
+        }
+        if needle.is_common {
+            return None;
+        }
+        if needle.finder.find(line, meter).is_none() {
+            return Some(false);
+        }
+        if needle.is_all && !whole {
+            return Some(true);
         }
         None
     }
 
-    /// Where in a block of whole lines the first line begins that may be matched: no line before it
-    /// is matched.
-    pub fn first_line(&self, block: &[u8], whole: bool) -> usize
+    // Looks for the first line of a block of whole lines that may be matched. No line before it is.
+    fn first_line(&self, block: &[u8], whole: bool, meter: &mut Meter) -> Sweep
         requires { IsBlock block.now }
-        ensures { (e : Expression) → IsNeedleFor e self.now.needle →
-            PassesUnmatched e whole block.now result }
+        ensures passes { (e : Expression) → IsNeedleFor e self.now.needle →
+            PassesUnmatched e whole block.now result.start }
+        ensures stops { (e : Expression) → IsNeedleFor e self.now.needle →
+            StopsAt e whole block.now result }
+        ensures steps { AddsUpTo 0 result.reached meter.old meter.new }
     {
-        match &self.needle {
-            Some(needle) => {
-                if whole && needle.is_first {
-                    return first_line_beginning_with(&needle.finder, block);
-                }
-                first_line_with_run(&needle.finder, block)
-            }
-            None => 0,
+        let Some(needle) = &self.needle else {
+            return Sweep::none();
+        };
+        if whole && needle.is_first {
+            let swept = first_line_beginning_with(&needle.finder, block, meter);
+            return Sweep::seen(block, swept);
         }
+        let swept = first_line_with_run(&needle.finder, block, meter);
+        if needle.is_all && !whole && has_run(&needle.finder, block, swept) {
+            return Sweep::matched(block, swept);
+        }
+        Sweep::seen(block, swept)
     }
 
     /// How many lines of a block of whole lines are matched, if it is enough to count those with a
-    /// string.
-    pub fn count(&self, block: &[u8], whole: bool) -> Option<u64>
+    /// string. Then each byte is passed at most once, else none.
+    pub fn count(&self, block: &[u8], whole: bool, meter: &mut Meter) -> Option<u64>
         requires { IsBlock block.now }
-        ensures { (e : Expression) → IsNeedleFor e self.now.needle →
+        ensures counted { (e : Expression) → IsNeedleFor e self.now.needle →
             IfSome result (λ count. CountsMatched e whole (lines_of block.now) count) }
+        ensures none { IfNone result (meter.new ≡ meter.old) }
+        ensures steps { AddsUpTo 0 (length block.now) meter.old meter.new }
     {
         let Some(needle) = &self.needle else {
             return None;
@@ -117,7 +132,7 @@ impl Prefilter {
             return None;
         }
         match &needle.finder {
-            RunFinder::Text(finder) => count_lines_with(finder, block),
+            RunFinder::Text(finder) => count_lines_with(finder, block, meter),
             RunFinder::Sets(_) => None,
         }
     }
@@ -142,7 +157,7 @@ impl Prefilter {
         if needle.is_first && !needle.is_all {
             return first_tried(needle, automaton, line, from, meter);
         }
-        let Some(place) = needle.finder.find(&line[from..]) else {
+        let Some(place) = needle.finder.find(&line[from..], meter) else {
             return NextPart::Known(None);
         };
         if !needle.is_all {
@@ -153,22 +168,24 @@ impl Prefilter {
         NextPart::Known(Some(Span { start, end }))
     }
 
-    /// How many bytes of a block of whole lines are passed: whole lines, none of which is matched.
-    /// Each of these bytes is a step. None are passed if a look isn't worth while.
+    /// Passes whole lines of a block of whole lines, none of which is matched. Each of their bytes is
+    /// a step. None are passed if a look isn't worth while.
     #[inline(always)]
-    pub fn sweep(&self, block: &[u8], whole: bool, meter: &mut Meter) -> usize
+    pub fn sweep(&self, block: &[u8], whole: bool, meter: &mut Meter) -> Sweep
         requires { IsBlock block.now }
         ensures passes { (e : Expression) → IsNeedleFor e self.now.needle →
-            PassesUnmatched e whole block.now result }
-        ensures steps { AddsAtMost result meter.old meter.new }
+            PassesUnmatched e whole block.now result.start }
+        ensures stops { (e : Expression) → IsNeedleFor e self.now.needle →
+            StopsAt e whole block.now result }
+        ensures steps { AddsUpTo result.start result.reached meter.old meter.new }
     {
         if !self.looks.is_due() {
-            return 0;
+            return Sweep::none();
         }
-        let passed = self.first_line(block, whole);
-        self.looks.note(passed);
-        meter.add_built(passed as u64);
-        passed
+        let sweep = self.first_line(block, whole, meter);
+        self.looks.note(sweep.start);
+        meter.add_built(sweep.start as u64);
+        sweep
     }
 }
 
@@ -189,7 +206,7 @@ fn first_tried(
 {
     let mut place = from;
     'places: while place < line.len() {
-        let Some(passed) = needle.finder.find(&line[place..]) else {
+        let Some(passed) = needle.finder.find(&line[place..], meter) else {
             return NextPart::Known(None);
         };
         let start = place + passed;
@@ -200,6 +217,18 @@ fn first_tried(
         }
     }
     NextPart::Known(None)
+}
+
+// Whether the run that a look found is in one line. A run of sets may go over a newline.
+fn has_run(finder: &RunFinder, block: &[u8], swept: Swept) -> bool
+    requires { FindsRun block.now (run_of finder.now) swept.place }
+    ensures { IsTrue result → (at : ℕ) × (swept.place ≡ Some at)
+        × HasNoNewline (slice_range block.now at (at + length (run_of finder.now))) }
+{
+    let Some(at) = swept.place else {
+        return false;
+    };
+    has_no_newline(&block[at..at + finder.len()])
 }
 
 // What it costs to look for the needle.

@@ -1,6 +1,6 @@
 //! Search by stepping an automaton over the line.
 ghost use Rattle.std.specs.Prelude.{◌≡◌, ◌+◌, ◌-◌, ◌≤◌, ◌↔◌, [], ◌∷◌, true, false, IsTrue, IfOk};
-ghost use Rattle.std.specs.Prelude.{IfErr, IfSome, length};
+ghost use Rattle.std.specs.Prelude.{IfErr, IfSome, IfNone, length};
 ghost use Rattle.re_syntax.specs.Expression.{expression_of};
 ghost use Rattle.re_syntax.specs.Holds.{Matches, positions};
 ghost use Rattle.re_syntax.specs.Lines.{lines_of};
@@ -13,17 +13,17 @@ ghost use Rattle.re_steps.specs.Working.Simulations.{AreSetsFor, AreStartsFor};
 ghost use Rattle.re_steps.specs.Working.Stages.{Cache, Searches, FinishesFrom};
 ghost use Rattle.re_needle.specs.Working.Needles.{IsSettled};
 ghost use Rattle.re_steps.specs.Working.Stages.{mode_for};
-ghost use Rattle.re_auto.specs.Searching.{FindsPart, AddsAtMost};
-ghost use Rattle.re_needle.specs.Working.Blocks.{IsBlock, PassesUnmatched, CountsMatched};
-ghost use Rattle.re_auto.specs.Meters.{many_built};
+ghost use Rattle.re_auto.specs.Searching.{FindsPart};
+ghost use Rattle.re_needle.specs.Working.Blocks.{IsBlock, CountsMatched};
+ghost use Rattle.re_meter.specs.Meters.{AddsAtMost, AddsUpTo, many_built};
+ghost use Rattle.re_match.specs.Working.Sweeping.{LooksOver};
 ghost use Rattle.re_ends.specs.Working.GreatestEnds.{AddsEnds, FoundPast};
 ghost use Rattle.re_ends.specs.Working.EndPairs.{AreEndsFor};
 
 use crate::front_ends::add_line;
 use crate::line_match::LineMatch;
-use crate::looks::Uncounted;
 use crate::prefilter::{NextPart, Prefilter};
-use crate::sweeps::{Sweeps, count_by_sweeps, next_by_sweeps};
+use crate::sweeps::{Sweep, Sweeps, count_by_sweeps, next_by_sweeps};
 use re_auto::{Automaton, BuildFault, Meter, Mode, StateSet};
 use re_ends::EndPair;
 use re_steps::{SetPair, StartPair};
@@ -129,13 +129,14 @@ impl Simulated {
         Mode::Search
     }
 
-    /// What is known of the line without a step.
+    /// What one look over the line says of it.
     #[inline(always)]
-    pub(crate) fn settled(&self, line: &[u8]) -> Option<bool>
-        ensures { IfSome result
+    pub(crate) fn settled(&self, line: &[u8], meter: &mut Meter) -> Option<bool>
+        ensures settled { IfSome result
             (λ reported. IsSettled (expression_of self.now.tree) self.now.whole line.now reported) }
+        ensures looked { LooksOver (expression_of self.now.tree) line.now meter.old meter.new }
     {
-        self.prefilter.settled(line, self.whole)
+        self.prefilter.settled(line, self.whole, meter)
     }
 
     /// Whether the line is matched, by steps alone.
@@ -169,13 +170,16 @@ impl Simulated {
             .search_from(&self.automaton, mode, set, line, from, meter)
     }
 
-    // How many lines of a block of whole lines are matched, if that is known without a search.
-    pub(crate) fn known_count(&self, block: &[u8]) -> Option<u64>
+    // How many lines of a block of whole lines are matched, if looks alone say so. Then each byte is
+    // passed at most once, else none.
+    pub(crate) fn known_count(&self, block: &[u8], meter: &mut Meter) -> Option<u64>
         requires { IsBlock block.now }
-        ensures { IfSome result (λ count. CountsMatched (expression_of self.now.tree)
+        ensures counted { IfSome result (λ count. CountsMatched (expression_of self.now.tree)
             self.now.whole (lines_of block.now) count) }
+        ensures none { IfNone result (meter.new ≡ meter.old) }
+        ensures steps { AddsUpTo 0 (length block.now) meter.old meter.new }
     {
-        self.prefilter.count(block, self.whole)
+        self.prefilter.count(block, self.whole, meter)
     }
 
     // Whether the line is matched.
@@ -186,7 +190,7 @@ impl Simulated {
         ensures steps { AddsAtMost (length line.now + 1) meter.old meter.new }
         ensures same { self.new ≡ self.old }
     {
-        if let Some(reported) = self.settled(line) {
+        if let Some(reported) = self.settled(line, meter) {
             return reported;
         }
         self.step_over(line, meter)
@@ -274,6 +278,17 @@ impl LineMatch for Simulated {
         self.search(line, meter)
     }
 
+    fn is_match_by_steps(&mut self, line: &[u8], meter: &mut Meter) -> bool
+        ensures reported { IsTrue result ↔
+            Matches (expression_of self.old.tree) line.now self.old.whole }
+        ensures same_expression { expression_of self.new.tree ≡ expression_of self.old.tree }
+        ensures same_whole { self.new.whole ≡ self.old.whole }
+        ensures steps { AddsUpTo (length line.now + 1) 0 meter.old meter.new }
+        ensures same { self.new ≡ self.old }
+    {
+        self.step_over(line, meter)
+    }
+
     fn find(&mut self, line: &[u8], from: usize, meter: &mut Meter) -> Option<Span>
         requires { from ≤ length line.now }
         ensures reported { FindsPart (expression_of self.old.tree ∷ []) line.now self.old.whole from
@@ -289,11 +304,12 @@ impl LineMatch for Simulated {
         self.part(line, from, meter)
     }
 
-    fn add_ends(&mut self, line: &[u8], ends: &mut [usize], meter: &mut Meter)
+    fn add_ends(&mut self, line: &[u8], ends: &mut [usize], spare: &mut [usize], meter: &mut Meter)
         requires { length ends.old ≡ length line.now }
         ensures added { AddsEnds
             (FoundPast (expression_of self.old.tree ∷ []) line.now self.old.whole) line.now ends.old
             ends.new }
+        ensures same_spare { length spare.new ≡ length spare.old }
         ensures same_expression { expression_of self.new.tree ≡ expression_of self.old.tree }
         ensures same_whole { self.new.whole ≡ self.old.whole }
         ensures steps { AddsAtMost (length line.now + 1) meter.old meter.new }
@@ -312,18 +328,11 @@ impl LineMatch for Simulated {
     }
 
     fn count_matched(&mut self, block: &[u8], meter: &mut Meter) -> u64 {
-        let Some(count) = self.known_count(block) else {
+        let Some(count) = self.known_count(block, meter) else {
             return count_by_sweeps(self, block, meter);
         };
         meter.add_built(block.len() as u64);
         count
-    }
-
-    fn first_candidate(&self, block: &[u8], _: Uncounted) -> usize
-        requires { IsBlock block.now }
-        ensures { PassesUnmatched (expression_of self.now.tree) self.now.whole block.now result }
-    {
-        self.prefilter.first_line(block, self.whole)
     }
 }
 
@@ -336,11 +345,15 @@ impl Sweeps for Simulated {
 
     ghost room = { λ s. 0 };
 
-    fn sweep(&self, block: &[u8], meter: &mut Meter) -> usize {
+    fn sweep(&self, block: &[u8], meter: &mut Meter) -> Sweep {
         self.prefilter.sweep(block, self.whole, meter)
     }
 
     fn search(&mut self, line: &[u8], meter: &mut Meter) -> bool {
         Simulated::search(self, line, meter)
+    }
+
+    fn search_by_steps(&mut self, line: &[u8], meter: &mut Meter) -> bool {
+        self.is_match_by_steps(line, meter)
     }
 }

@@ -4,13 +4,95 @@ ghost use Rattle.std.specs.Prelude.{Bool, ℕ, ◌≡◌, ◌+◌, ◌<◌, ◌�
 ghost use Rattle.re_syntax.specs.Expression.{Expression};
 ghost use Rattle.re_syntax.specs.Holds.{Matches};
 ghost use Rattle.re_syntax.specs.Lines.{lines_of};
-ghost use Rattle.re_auto.specs.Searching.{AddsAtMost};
+ghost use Rattle.re_meter.specs.Meters.{AddsAtMost, AddsUpTo};
+ghost use Rattle.re_match.specs.declared.sweeps.Stop.TheVariants.{Unseen, Seen, Matched};
+ghost use Rattle.re_needle.specs.Working.Runs.{look_cost};
+ghost use Rattle.re_match.specs.Working.Sweeping.{StopsAt, left_for};
 ghost use Rattle.re_needle.specs.Working.Blocks.{IsBlock, PassesUnmatched, CountsMatched};
 ghost use Rattle.re_needle.specs.Working.Blocks.{FindsMatched, next_cost};
 
 use re_auto::Meter;
-use re_needle::line_end;
+use re_needle::{Swept, bytes_over, line_end};
 use re_syntax::Span;
+
+/// What a sweep says of the line at which it stopped.
+#[derive(Clone, Copy, Drop)]
+pub enum Stop {
+    /// Nothing: the line was not looked over.
+    Unseen,
+    /// It may be matched.
+    Seen,
+    /// It is matched.
+    Matched,
+}
+
+/// Where a sweep over a block of whole lines stopped.
+#[derive(Clone, Copy, Drop)]
+pub struct Sweep {
+    /// Where the line begins at which it stopped; the end of the block if it passed all lines.
+    pub start: usize,
+    /// Up to where the block was looked over: `start`, or a place of that line or the end of its
+    /// newline.
+    pub reached: usize,
+    /// What is said of that line.
+    pub stop: Stop,
+}
+
+impl Sweep {
+    /// No line was passed, and none looked over.
+    pub fn none() -> Sweep
+        ensures { result ≡ record { start = 0; reached = 0; stop = Unseen } }
+    {
+        Sweep {
+            start: 0,
+            reached: 0,
+            stop: Stop::Unseen,
+        }
+    }
+
+    /// A look stopped at `reached`, in the line that begins at `start`, which may be matched.
+    pub fn to(start: usize, reached: usize) -> Sweep
+        ensures { result ≡ record { start = start; reached = reached; stop = Seen } }
+    {
+        Sweep {
+            start,
+            reached,
+            stop: Stop::Seen,
+        }
+    }
+
+    /// A look stopped in a line that may be matched.
+    pub fn seen(block: &[u8], swept: Swept) -> Sweep
+        requires { IfSome swept.place (λ at. at ≤ length block.now) }
+        ensures { result ≡ record {
+          start = swept.start;
+          reached = look_cost block.now swept.place;
+          stop = Seen;
+        } }
+    {
+        Sweep {
+            start: swept.start,
+            reached: bytes_over(block, swept.place),
+            stop: Stop::Seen,
+        }
+    }
+
+    /// A look stopped in a line that is matched.
+    pub fn matched(block: &[u8], swept: Swept) -> Sweep
+        requires { IfSome swept.place (λ at. at ≤ length block.now) }
+        ensures { result ≡ record {
+          start = swept.start;
+          reached = look_cost block.now swept.place;
+          stop = Matched;
+        } }
+    {
+        Sweep {
+            start: swept.start,
+            reached: bytes_over(block, swept.place),
+            stop: Stop::Matched,
+        }
+    }
+}
 
 /// A matcher that looks over a block for something that each matched line has.
 pub trait Sweeps {
@@ -23,24 +105,55 @@ pub trait Sweeps {
     /// How many entries its cache may have; 0 without a cache.
     ghost room: { Self → ℕ };
 
-    /// How many bytes of a block of whole lines are passed: whole lines, none of which is matched.
-    /// It takes at most one step for each of these bytes.
-    fn sweep(&self, block: &[u8], meter: &mut Meter) -> usize
+    /// Passes whole lines of a block of whole lines, none of which is matched. It takes at most one
+    /// step for each of their bytes, and passes each byte that it looks over once.
+    fn sweep(&self, block: &[u8], meter: &mut Meter) -> Sweep
         requires { IsBlock block.now }
-        ensures passes { PassesUnmatched (expression self.now) (whole self.now) block.now result }
-        ensures steps { AddsAtMost result meter.old meter.new };
+        ensures passes { PassesUnmatched (expression self.now) (whole self.now) block.now
+            result.start }
+        ensures stops { StopsAt (expression self.now) (whole self.now) block.now result }
+        ensures steps { AddsUpTo result.start result.reached meter.old meter.new };
 
-    /// Whether the line is matched, in at most one step for each of its bytes and one more.
+    /// Whether the line is matched. A search of it takes at most one step for each of its bytes and
+    /// one more, and passes at most as many bytes.
     fn search(&mut self, line: &[u8], meter: &mut Meter) -> bool
         ensures reported { IsTrue result ↔ Matches (expression self.old) line.now (whole self.old) }
         ensures same_expression { expression self.new ≡ expression self.old }
         ensures same_whole { whole self.new ≡ whole self.old }
         ensures same_room { room self.new ≡ room self.old }
         ensures steps { AddsAtMost (length line.now + 1) meter.old meter.new };
+
+    /// The same by steps alone: no byte is passed.
+    fn search_by_steps(&mut self, line: &[u8], meter: &mut Meter) -> bool
+        ensures reported { IsTrue result ↔ Matches (expression self.old) line.now (whole self.old) }
+        ensures same_expression { expression self.new ≡ expression self.old }
+        ensures same_whole { whole self.new ≡ whole self.old }
+        ensures same_room { room self.new ≡ room self.old }
+        ensures steps { AddsUpTo (length line.now + 1) 0 meter.old meter.new };
+}
+
+// Whether the line is matched at which a sweep stopped. A line that it looked over is not looked over
+// again.
+#[inline(always)]
+fn is_matched_after<M: Sweeps>(matcher: &mut M, stop: Stop, line: &[u8], meter: &mut Meter) -> bool
+    requires { stop ≡ Matched → Matches (M.expression matcher.old) line.now (M.whole matcher.old) }
+    ensures reported { IsTrue result ↔
+        Matches (M.expression matcher.old) line.now (M.whole matcher.old) }
+    ensures same_expression { M.expression matcher.new ≡ M.expression matcher.old }
+    ensures same_whole { M.whole matcher.new ≡ M.whole matcher.old }
+    ensures same_room { M.room matcher.new ≡ M.room matcher.old }
+    ensures steps { AddsUpTo (length line.now + 1) (left_for stop (length line.now + 1)) meter.old
+        meter.new }
+{
+    match stop {
+        Stop::Unseen => matcher.search(line, meter),
+        Stop::Seen => matcher.search_by_steps(line, meter),
+        Stop::Matched => true,
+    }
 }
 
 /// The first line of a block of whole lines that is matched, like `LineMatch::next_matched`. Each
-/// line at which a sweep stops is searched.
+/// line at which a sweep stops is searched, if the sweep doesn't say that it is matched.
 pub fn next_by_sweeps<M: Sweeps>(matcher: &mut M, block: &[u8], meter: &mut Meter) -> Option<Span>
     requires { IsBlock block.now }
     ensures reported { FindsMatched (M.expression matcher.old) (M.whole matcher.old)
@@ -53,11 +166,12 @@ pub fn next_by_sweeps<M: Sweeps>(matcher: &mut M, block: &[u8], meter: &mut Mete
 {
     let mut start = 0;
     'lines: loop {
-        let from = start + matcher.sweep(&block[start..], meter);
+        let sweep = matcher.sweep(&block[start..], meter);
+        let from = start + sweep.start;
         let Some(end) = line_end(block, from) else {
             return None;
         };
-        if matcher.search(&block[from..end], meter) {
+        if is_matched_after(matcher, sweep.stop, &block[from..end], meter) {
             return Some(Span { start: from, end });
         }
         start = end + 1;

@@ -10,3 +10,4 @@ pub mod CountedBlocks
 pub mod NextLines
 pub mod NibbleLanes
 pub mod NewlineLaws
+pub mod Looks

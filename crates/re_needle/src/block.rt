@@ -1,62 +1,106 @@
 //! Blocks of whole lines: finding one, passing over the first ones, and counting them, at once.
 ghost use Rattle.std.specs.Prelude.{◌≡◌, ◌+◌, ◌<◌, ◌≤◌, ◌↔◌, ◌++◌, ◌∷◌, IsTrue, IfSome};
-ghost use Rattle.std.specs.Prelude.{MatchOption, length, take, drop, ⊤};
+ghost use Rattle.std.specs.Prelude.{MatchOption, length, take, drop, ⊤, None, IfNone};
 ghost use Rattle.re_syntax.specs.Lines.{newline, lines_of, HasNoNewline};
 ghost use Rattle.re_needle.specs.Working.Blocks.{IsBlock, LineBegins, Lacks, PassesAll};
 ghost use Rattle.re_needle.specs.Working.Blocks.{StandsIn, HoldsOfMany, IsLineFrom, FindsNext};
-ghost use Rattle.re_needle.specs.Working.Blocks.{next_cost};
+ghost use Rattle.re_needle.specs.Working.Blocks.{next_cost, StopsInLine, LooksOnce};
+ghost use Rattle.re_meter.specs.Meters.{many_passed, AddsUpTo};
 ghost use Rattle.re_needle.specs.Working.Needles.{run_of};
-ghost use Rattle.re_needle.specs.Working.Runs.{BeginsWithout, LacksRun};
+ghost use Rattle.re_needle.specs.Working.Runs.{BeginsWithout, LacksRun, FindsRun, look_cost};
 
 use crate::newline::first_newline;
 use crate::run_finder::RunFinder;
+use crate::text_finder::find_text;
 use memchr::memmem::Finder;
 use memchr::memrchr;
+use re_meter::Meter;
 use re_syntax::Span;
 
-/// Where the first line with the string begins in a block of whole lines; the end of the block if
-/// no line has it.
-pub fn first_line_with(finder: &Finder<'_>, block: &[u8]) -> usize
+/// Where a look over a block of whole lines stopped.
+#[derive(Clone, Copy, Drop)]
+pub struct Swept {
+    /// Where the line begins in which it stopped; the end of the block if it found nothing.
+    pub start: usize,
+    /// The place in the block of what it found.
+    pub place: Option<usize>,
+}
+
+/// Looks for the first line with the string in a block of whole lines.
+pub fn first_line_with(finder: &Finder<'_>, block: &[u8], meter: &mut Meter) -> Swept
     requires { IsBlock block.now }
-    ensures { PassesAll (Lacks finder.now) block.now result }
+    ensures passes { PassesAll (Lacks finder.now) block.now result.start }
+    ensures within { IfSome result.place (λ at. at ≤ length block.now) }
+    ensures stops { StopsInLine block.now result }
+    ensures counted { meter.new ≡ many_passed (look_cost block.now result.place) meter.old }
 {
-    match finder.find(block) {
-        Some(at) => line_start(&block[..at]),
-        None => block.len(),
+    let Some(at) = find_text(finder, block, meter) else {
+        return nothing_in(block);
+    };
+    Swept {
+        start: line_start(&block[..at]),
+        place: Some(at),
     }
 }
 
-/// Where the first line with the run begins in a block of whole lines; the end of the block if no
-/// line has it.
-pub fn first_line_with_run(finder: &RunFinder, block: &[u8]) -> usize
+/// Looks for the first line with the run in a block of whole lines.
+pub fn first_line_with_run(finder: &RunFinder, block: &[u8], meter: &mut Meter) -> Swept
     requires { IsBlock block.now }
-    ensures { PassesAll (LacksRun (run_of finder.now)) block.now result }
+    ensures passes { PassesAll (LacksRun (run_of finder.now)) block.now result.start }
+    ensures found { FindsRun block.now (run_of finder.now) result.place }
+    ensures low { IfSome result.place (λ at. result.start ≤ at) }
+    ensures stops { StopsInLine block.now result }
+    ensures counted { meter.new ≡ many_passed (look_cost block.now result.place) meter.old }
 {
-    match finder.find(block) {
-        Some(place) => line_start(&block[..place]),
-        None => block.len(),
+    let Some(at) = finder.find(block, meter) else {
+        return nothing_in(block);
+    };
+    Swept {
+        start: line_start(&block[..at]),
+        place: Some(at),
     }
 }
 
-/// Where the first line that begins with the run begins in a block of whole lines; the end of the
-/// block if there is none.
+// A look over a block that found nothing.
+#[inline(always)]
+fn nothing_in(block: &[u8]) -> Swept
+    ensures start { result.start ≡ length block.now }
+    ensures place { result.place ≡ None }
+{
+    Swept {
+        start: block.len(),
+        place: None,
+    }
+}
+
+/// Looks for the first line that begins with the run in a block of whole lines. Each byte is passed at
+/// most once.
 // After a run inside a line, the search goes on at the next line.
 #[inline(never)]
-pub fn first_line_beginning_with(finder: &RunFinder, block: &[u8]) -> usize
+pub fn first_line_beginning_with(finder: &RunFinder, block: &[u8], meter: &mut Meter) -> Swept
     requires { IsBlock block.now }
-    ensures { PassesAll (BeginsWithout (run_of finder.now)) block.now result }
+    ensures passes { PassesAll (BeginsWithout (run_of finder.now)) block.now result.start }
+    ensures within { IfSome result.place (λ at. at ≤ length block.now) }
+    ensures stops { StopsInLine block.now result }
+    ensures counted { AddsUpTo 0 (look_cost block.now result.place) meter.old meter.new }
 {
     let mut start = 0;
     'lines: loop {
-        let Some(place) = finder.find(&block[start..]) else {
-            return block.len();
+        let Some(place) = finder.find(&block[start..], meter) else {
+            return nothing_in(block);
         };
         let at = start + place;
         if line_begins(block, at) {
-            return at;
+            return Swept {
+                start: at,
+                place: Some(at),
+            };
         }
         let Some(length) = first_newline(&block[at..]) else {
-            return start;
+            return Swept {
+                start: line_start(&block[..at]),
+                place: Some(at),
+            };
         };
         start = at + length + 1;
     }
@@ -95,14 +139,16 @@ fn last_newline(bytes: &[u8]) -> Option<usize>
 }
 
 /// The first line of a block of whole lines that has the string, by its place without its newline.
-/// The string has no newline.
-pub fn next_line_with(finder: &Finder<'_>, block: &[u8]) -> Option<Span>
+/// The string has no newline, and is looked for once.
+pub fn next_line_with(finder: &Finder<'_>, block: &[u8], meter: &mut Meter) -> Option<Span>
     requires block { IsBlock block.now }
     requires one_line { HasNoNewline finder.now }
     ensures reported { FindsNext (StandsIn finder.now) (lines_of block.now) result }
     ensures within { IfSome result (λ at. (at.start ≤ at.end) × (at.end < length block.now)) }
+    ensures looked { LooksOnce finder.now block.now meter.old meter.new }
+    ensures steps { AddsUpTo 0 (next_cost block.now result) meter.old meter.new }
 {
-    let Some(at) = finder.find(block) else {
+    let Some(at) = find_text(finder, block, meter) else {
         return None;
     };
     let start = line_start(&block[..at]);
@@ -125,28 +171,32 @@ pub fn bytes_to(block: &[u8], found: Option<Span>) -> u64
 }
 
 /// How many lines of a block of whole lines have the string. `None` if the string is empty or has a
-/// newline.
-pub fn count_lines_with(finder: &Finder<'_>, block: &[u8]) -> Option<u64>
+/// newline: then no byte is passed. Else each is passed at most once.
+pub fn count_lines_with(finder: &Finder<'_>, block: &[u8], meter: &mut Meter) -> Option<u64>
     requires { IsBlock block.now }
-    ensures { IfSome result (λ n. HoldsOfMany (StandsIn finder.now) (lines_of block.now) n) }
+    ensures counted { IfSome result
+        (λ n. HoldsOfMany (StandsIn finder.now) (lines_of block.now) n) }
+    ensures none { IfNone result (meter.new ≡ meter.old) }
+    ensures steps { AddsUpTo 0 (length block.now) meter.old meter.new }
 {
     if finder.needle().is_empty() || first_newline(finder.needle()).is_some() {
         return None;
     }
-    Some(count_by(finder, block))
+    Some(count_by(finder, block, meter))
 }
 
 /// The same for a string that is not empty and has no newline.
-pub fn count_by(finder: &Finder<'_>, block: &[u8]) -> u64
+pub fn count_by(finder: &Finder<'_>, block: &[u8], meter: &mut Meter) -> u64
     requires block { IsBlock block.now }
     requires some { 1 ≤ length finder.now }
     requires one_line { HasNoNewline finder.now }
-    ensures { HoldsOfMany (StandsIn finder.now) (lines_of block.now) result }
+    ensures counted { HoldsOfMany (StandsIn finder.now) (lines_of block.now) result }
+    ensures steps { AddsUpTo 0 (length block.now) meter.old meter.new }
 {
     let mut count: u64 = 0;
     let mut rest = block;
     'lines: loop {
-        let Some(at) = finder.find(rest) else {
+        let Some(at) = find_text(finder, rest, meter) else {
             return count;
         };
         let Some(length) = first_newline(&rest[at..]) else {

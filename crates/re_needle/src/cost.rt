@@ -6,8 +6,6 @@
 pub enum LookCost {
     /// Nothing, or one string or run, is looked for.
     Low,
-    /// Several matchers look in turn.
-    Middle,
     /// Many strings are looked for at once, or a run of sets that have most bytes. It may cost as
     /// much as a search of the lines.
     High,

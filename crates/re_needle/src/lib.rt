@@ -16,12 +16,14 @@ mod probes;
 mod run_finder;
 mod set_finder;
 mod survey;
+mod text_finder;
 
 pub use block::{
-    bytes_to, count_by, count_lines_with, first_line_beginning_with, first_line_with,
+    Swept, bytes_to, count_by, count_lines_with, first_line_beginning_with, first_line_with,
     first_line_with_run, has_no_newline, line_end, line_start, next_line_with,
 };
 pub use cost::LookCost;
 pub use needle::{Needle, one_byte};
 pub use newline::first_newline;
 pub use run_finder::RunFinder;
+pub use text_finder::{bytes_over, find_text, step_to_text};

@@ -1,11 +1,14 @@
 //! Search for a run that every match contains.
-ghost use Rattle.std.specs.Prelude.{◌≡◌, ◌↔◌, IsTrue, IfSome, length, map};
+ghost use Rattle.std.specs.Prelude.{◌≡◌, ◌↔◌, IsTrue, IfSome, length, map, min};
+ghost use Rattle.re_meter.specs.Meters.{many_passed};
 ghost use Rattle.re_syntax.specs.Bytes.{only};
 ghost use Rattle.re_needle.specs.Working.Needles.{run_of};
-ghost use Rattle.re_needle.specs.Working.Runs.{FindsRun, RunStandsAt};
+ghost use Rattle.re_needle.specs.Working.Runs.{FindsRun, RunStandsAt, look_cost};
 
 use crate::set_finder::SetFinder;
+use crate::text_finder::find_text;
 use memchr::memmem::Finder;
+use re_meter::Meter;
 
 /// Looks for a string or a run of sets of bytes.
 #[derive(Drop)]
@@ -17,22 +20,28 @@ pub enum RunFinder {
 }
 
 impl RunFinder {
-    /// The first place of the line where the run is.
+    /// The first place of the line where the run is. The bytes up to there are passed; all if it is
+    /// nowhere.
     #[inline]
-    pub fn find(&self, line: &[u8]) -> Option<usize>
-        ensures { FindsRun line.now (run_of self.now) result }
+    pub fn find(&self, line: &[u8], meter: &mut Meter) -> Option<usize>
+        ensures found { FindsRun line.now (run_of self.now) result }
+        ensures counted { meter.new ≡ many_passed (look_cost line.now result) meter.old }
     {
         match self {
-            RunFinder::Text(finder) => finder.find(line),
-            RunFinder::Sets(finder) => finder.find(line),
+            RunFinder::Text(finder) => find_text(finder, line, meter),
+            RunFinder::Sets(finder) => finder.find(line, meter),
         }
     }
 
-    /// Whether the line begins with the run.
+    /// Whether the line begins with the run. As many bytes are passed as it has, or all bytes of the
+    /// line if these are fewer.
     #[inline]
-    pub fn begins(&self, line: &[u8]) -> bool
-        ensures { IsTrue result ↔ RunStandsAt line.now (run_of self.now) 0 }
+    pub fn begins(&self, line: &[u8], meter: &mut Meter) -> bool
+        ensures reported { IsTrue result ↔ RunStandsAt line.now (run_of self.now) 0 }
+        ensures counted { meter.new ≡
+            many_passed (min (length (run_of self.now)) (length line.now)) meter.old }
     {
+        meter.add_passed(self.len().min(line.len()));
         match self {
             RunFinder::Text(finder) => line.starts_with(finder.needle()),
             RunFinder::Sets(finder) => finder.begins(line),

@@ -3,13 +3,16 @@ ghost use Rattle.std.specs.Prelude.{◌≡◌, ◌+◌, ◌<◌, ◌≤◌, ◌�
 ghost use Rattle.memchr.specs.Find.{IsFirst};
 ghost use Rattle.memchr.specs.Lanes.{Marks};
 ghost use Rattle.re_syntax.specs.Sets.{members};
-ghost use Rattle.re_needle.specs.Working.Runs.{FindsRun, IsProbeOf, RunStandsAt, set_at};
+ghost use Rattle.re_needle.specs.Working.Runs.{FindsRun, IsProbeOf, RunStandsAt, look_cost, set_at};
+ghost use Rattle.re_meter.specs.Meters.{many_passed};
 
 use crate::alike::Alike;
 use crate::lanes::{lowest, without};
 use crate::nibbles::Nibbles;
 use crate::probes::{Probe, Probes, Tried};
 use crate::survey::{Survey, share_with};
+use crate::text_finder::bytes_over;
+use re_meter::Meter;
 use re_syntax::ByteSet;
 use std::marker::Model;
 
@@ -96,9 +99,22 @@ impl SetFinder {
         self.sets.len()
     }
 
-    /// The first place of the line where the run is.
-    pub fn find(&self, line: &[u8]) -> Option<usize>
-        ensures { FindsRun line.now (map members self.now) result }
+    /// The first place of the line where the run is. The bytes up to there are passed; all if it is
+    /// nowhere.
+    pub fn find(&self, line: &[u8], meter: &mut Meter) -> Option<usize>
+        ensures found { FindsRun line.now (map members self.now) result }
+        ensures counted { meter.new ≡ many_passed (look_cost line.now result) meter.old }
+    {
+        let found = self.first_place(line);
+        meter.add_passed(bytes_over(line, found));
+        found
+    }
+
+    // The first place of the line where the run is.
+    #[inline(always)]
+    fn first_place(&self, line: &[u8]) -> Option<usize>
+        ensures found { FindsRun line.now (map members self.now) result }
+        ensures within { IfSome result (λ place. place ≤ length line.now) }
     {
         match self.probes.tried {
             Tried::TwoBits => self.find_by::<2, true>(line),

@@ -6,7 +6,6 @@ pub use Rattle.re_match.proofs.lemmas.LiteralLaws
 pub mod PartOfBoth
 pub mod WithPartsMatchers
 pub mod OneMatcherMore
-pub mod LeastPasses
 pub mod KeptMatchers
 pub mod OneMatcher
 pub mod SearchedBlocks

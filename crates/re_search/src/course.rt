@@ -10,12 +10,13 @@ use re_auto::Meter;
 use re_syntax::Span;
 use std::alloc::Global;
 
-/// How the search for the parts of one line goes: up to which sum of steps each part is searched for
-/// by itself, and what is known of the line.
+/// How the search for the parts of one line goes: up to which sum of steps, and which number of passed
+/// bytes, each part is searched for by itself, and what is known of the line.
 #[derive(Drop)]
 pub struct Course {
     pub(crate) alloc: Global,
     pub(crate) limit: u128,
+    pub(crate) byte_limit: u128,
     pub(crate) known: Known,
 }
 
@@ -32,8 +33,9 @@ pub enum Known {
 
 impl Course {
     /// Nothing is known of the line, and no part is searched yet. By itself each part is searched for
-    /// as long as no more steps are taken than `count` matchers take to search the line twice.
-    /// Searches that each read one byte beyond their part don't take more. No memory is taken.
+    /// as long as no more steps are taken, and no more bytes passed, than `count` matchers may need to
+    /// search the line twice. Searches that each read one byte beyond their part don't need more. No
+    /// memory is taken.
     pub fn new(alloc: Global, count: usize, line: &[u8], meter: &Meter) -> Course
         ensures right { (sought : Sought) → IsCourseOf sought line.now result }
         ensures steps { HasTaken (count * (length line.now + 1)) meter.now 0 result meter.now }
@@ -42,21 +44,31 @@ impl Course {
         Course {
             alloc,
             limit: sum(meter).saturating_add(2 * cost),
+            byte_limit: (meter.passed() as u128).saturating_add(2 * cost),
             known: Known::Nothing,
         }
     }
 
-    /// Whether nothing is known of the line, and more steps were taken than the limit.
+    /// Whether nothing is known of the line, and a limit is passed.
     pub(crate) fn is_pass_due(&self, meter: &Meter) -> bool
         ensures due { result ≡ true → self.now.known ≡ Nothing }
         ensures not_due { result ≡ false → self.now.known ≡ Nothing →
-            meter.now.built + meter.now.reused ≤ self.now.limit }
+            (meter.now.built + meter.now.reused ≤ self.now.limit)
+            × (meter.now.passed ≤ self.now.byte_limit) }
     {
         match self.known {
-            Known::Nothing => self.limit < sum(meter),
+            Known::Nothing => self.is_passed(meter),
             Known::Ends(_) => false,
             Known::Refused => false,
         }
+    }
+
+    // Whether more steps were taken, or more bytes passed, than the limits.
+    fn is_passed(&self, meter: &Meter) -> bool
+        ensures { result ≡ false → (meter.now.built + meter.now.reused ≤ self.now.limit)
+            × (meter.now.passed ≤ self.now.byte_limit) }
+    {
+        (self.limit < sum(meter)) | (self.byte_limit < meter.passed() as u128)
     }
 }
 

@@ -1,20 +1,23 @@
 //! Strings that the matches of several matchers need.
-ghost use Rattle.std.specs.Prelude.{◌≡◌, ◌+◌, ◌*◌, ◌++◌, ◌↔◌, [], ◌∷◌, Bool, false, IsTrue, IfOk};
+ghost use Rattle.std.specs.Prelude.{◌≡◌, ◌+◌, ◌-◌, ◌*◌, ◌≤◌, ◌++◌, ◌↔◌, [], ◌∷◌, Bool, false};
+ghost use Rattle.std.specs.Prelude.{IsTrue, IfOk, if◌then◌else◌};
 ghost use Rattle.std.specs.Prelude.{IfSome, All, Any, MatchOption, length, map, None, Some};
 ghost use Rattle.std.specs.Option.{ForSome};
 ghost use Rattle.re_syntax.specs.Expression.{Expression};
 ghost use Rattle.re_syntax.specs.Holds.{Matches};
 ghost use Rattle.re_syntax.specs.Lines.{lines_of, newline, HasNoNewline};
-ghost use Rattle.re_auto.specs.Searching.{AddsAtMost, AllAnswer, SameMatchers, DecidesMatchOfAll};
-ghost use Rattle.re_needle.specs.Working.Blocks.{IsBlock, PassesUnmatched};
-ghost use Rattle.re_search.specs.Working.Filters.{AreNeeded, NeedsOneOf};
+ghost use Rattle.re_auto.specs.Searching.{AllAnswer, SameMatchers, DecidesMatchOfAll};
+ghost use Rattle.re_meter.specs.Meters.{AddsUpTo};
+ghost use Rattle.re_needle.specs.Working.Blocks.{IsBlock};
+ghost use Rattle.re_search.specs.Working.Blocks.{StopsNear};
+ghost use Rattle.re_search.specs.Working.Filters.{AreNeeded, NeedsOneOf, PassesByFilter};
 ghost use Rattle.re_match.specs.Working.Literals.{Literals, any_literal};
 ghost use Rattle.re_needle.specs.Working.Needles.{IsNeeded};
 ghost use Rattle.re_match.specs.Working.Matchers.{matched_expression};
 
 use memchr::memchr;
 use re_auto::Meter;
-use re_match::{FixedSet, LineMatch, Looks, Matcher, Uncounted};
+use re_match::{FixedSet, LineMatch, Looks, Matcher, Sweep};
 use re_needle::LookCost;
 use std::alloc::{AllocError, Global};
 use std::cell::Cell;
@@ -49,7 +52,7 @@ impl Filter {
         Filter {
             strings: None,
             likely: Cell::new(0),
-            looks: Looks::new(LookCost::Middle),
+            looks: Looks::new(LookCost::High),
         }
     }
 
@@ -71,74 +74,76 @@ impl Filter {
         self.strings.is_none()
     }
 
-    // Whether no string occurs in the line. That takes a step for each of its bytes and one more;
-    // else it takes none, since the matchers are asked then.
+    // Whether no string occurs in the line, which is looked over once. If so, it counts a step for each
+    // of its bytes and one more; else none, since the matchers are asked then.
     pub(crate) fn rules_out(&self, line: &[u8], meter: &mut Meter) -> bool
         ensures reported { IsTrue result → (strings : Literals) × (self.now ≡ Some strings)
             × (¬ Matches (any_literal strings) line.now false) }
-        ensures steps { AddsAtMost (length line.now + 1) meter.old meter.new }
-        ensures none { result ≡ false → meter.new ≡ meter.old }
+        ensures steps { AddsUpTo (length line.now + 1) (length line.now) meter.old meter.new }
+        ensures none { result ≡ false → AddsUpTo 0 (length line.now) meter.old meter.new }
     {
         let Some(strings) = &self.strings else {
             return false;
         };
-        if strings.stands_in(line, Uncounted) {
+        if strings.stands_in(line, meter) {
             return false;
         }
         meter.add_built(line.len() as u64 + 1);
         true
     }
 
-    // Where the first line with some string begins in a block of whole lines; the end of the block
-    // if no line has one. `None` if no strings are known. No step is counted.
-    pub(crate) fn first_line(&self, block: &[u8]) -> Option<usize>
+    // Passes the lines of a block of whole lines before the first with some string, if it is worth
+    // while to look ahead now, and strings are known.
+    pub(crate) fn sweep(&self, block: &[u8], meter: &mut Meter) -> Sweep
         requires { IsBlock block.now }
-        ensures { IfSome result (λ place. (strings : Literals) × (self.now ≡ Some strings)
-            × PassesUnmatched (any_literal strings) false block.now place) }
+        ensures passes { PassesByFilter self.now block.now result.start }
+        ensures stops { StopsNear block.now result }
+        ensures steps { AddsUpTo result.start result.reached meter.old meter.new }
     {
-        match &self.strings {
-            Some(strings) => Some(strings.first_line(block, Uncounted)),
-            None => None,
+        let Some(strings) = &self.strings else {
+            return Sweep::none();
+        };
+        if !self.looks.is_due() {
+            return Sweep::none();
         }
-    }
-
-    // Whether it is worth while to look ahead in a block now.
-    pub(crate) fn is_look_due(&self) -> bool {
-        self.looks.is_due()
-    }
-
-    // A look passed `bytes` bytes.
-    pub(crate) fn note_look(&self, bytes: usize) {
-        self.looks.note(bytes);
+        let sweep = strings.first_line(block, meter);
+        self.looks.note(sweep.start);
+        meter.add_built(sweep.start as u64);
+        sweep
     }
 
     // Whether some matcher matches the line, like `several::is_matched`. The one that matched last
-    // and those after it are asked first.
+    // and those after it are asked first. The first that is asked takes steps alone, since it is
+    // likely to match: so what the filter passed to find its strings in the line comes in place of
+    // what that matcher would pass.
     pub(crate) fn is_matched<M: LineMatch>(
         &self,
         matchers: &mut [M],
         line: &[u8],
         meter: &mut Meter,
     ) -> bool
-        requires { (whole : Bool) × AllAnswer whole (map M.whole matchers.old) }
+        requires some { 1 ≤ length matchers.old }
+        requires alike { (whole : Bool) × AllAnswer whole (map M.whole matchers.old) }
         ensures reported { DecidesMatchOfAll (map M.expression matchers.old) (map M.whole matchers.old)
             line.now result }
         ensures same_matchers { SameMatchers M.expression M.whole M.room matchers.old matchers.new }
-        ensures steps { AddsAtMost (length matchers.old * (length line.now + 1)) meter.old
-            meter.new }
+        ensures steps { AddsUpTo (length matchers.old * (length line.now + 1))
+            ((length matchers.old - 1) * (length line.now + 1)) meter.old meter.new }
     {
-        let first = self.likely.get().min(matchers.len());
+        let first = self.likely.get().min(matchers.len() - 1);
         let (before, rest) = matchers.split_at_mut(first);
-        if self.is_matched_from(first, rest, line, meter) {
+        if self.is_matched_from(first, 1, rest, line, meter) {
             return true;
         }
-        self.is_matched_from(0, before, line, meter)
+        self.is_matched_from(0, 0, before, line, meter)
     }
 
-    // Whether one of these matchers matches the line. `first` is the number of the first of them.
+    // Whether one of these matchers matches the line. `first` is the number of the first of them, and
+    // `stepped` says how many of them, at most one, take steps alone.
     fn is_matched_from<M: LineMatch>(
         &self,
         first: usize,
+        stepped: usize,
         matchers: &mut [M],
         line: &[u8],
         meter: &mut Meter,
@@ -147,17 +152,34 @@ impl Filter {
         ensures reported { DecidesMatchOfAll (map M.expression matchers.old) (map M.whole matchers.old)
             line.now result }
         ensures same_matchers { SameMatchers M.expression M.whole M.room matchers.old matchers.new }
-        ensures steps { AddsAtMost (length matchers.old * (length line.now + 1)) meter.old
-            meter.new }
+        ensures steps { AddsUpTo (length matchers.old * (length line.now + 1))
+            ((length matchers.old - stepped) * (length line.now + 1)) meter.old meter.new }
     {
         for (place, matcher) in matchers.iter_mut().enumerate() {
-            if matcher.is_match(line, meter) {
+            if is_match(matcher, place < stepped, line, meter) {
                 self.likely.set(first.saturating_add(place));
                 return true;
             }
         }
         false
     }
+}
+
+// Whether the matcher matches the line, by steps alone if that is asked for.
+#[inline(always)]
+fn is_match<M: LineMatch>(matcher: &mut M, by_steps: bool, line: &[u8], meter: &mut Meter) -> bool
+    ensures reported { IsTrue result ↔
+        Matches (M.expression matcher.old) line.now (M.whole matcher.old) }
+    ensures same_expression { M.expression matcher.new ≡ M.expression matcher.old }
+    ensures same_whole { M.whole matcher.new ≡ M.whole matcher.old }
+    ensures same_room { M.room matcher.new ≡ M.room matcher.old }
+    ensures steps { AddsUpTo (length line.now + 1) (if by_steps then 0 else length line.now + 1)
+        meter.old meter.new }
+{
+    if by_steps {
+        return matcher.is_match_by_steps(line, meter);
+    }
+    matcher.is_match(line, meter)
 }
 
 /// Strings of which each line that some matcher matches has one. There are none if a matcher is not

@@ -1,28 +1,22 @@
 //! Several matchers over one line (XCU grep: a line is selected where any of the patterns matches
 //! it).
 ghost use Rattle.std.specs.Prelude.{ℕ, Bool, List, ◌≡◌, ◌+◌, ◌-◌, ◌*◌, ◌≤◌, ◌++◌, length};
-ghost use Rattle.std.specs.Prelude.{map, ⊤};
+ghost use Rattle.std.specs.Prelude.{map};
 ghost use Rattle.re_syntax.specs.Bytes.{Text};
 ghost use Rattle.re_syntax.specs.Expression.{Expression};
 ghost use Rattle.re_auto.specs.Searching.{FindsPart, FindsPartOfAll, DecidesMatchOfAll, AllAnswer};
 ghost use Rattle.re_auto.specs.Searching.{AddsAtMost, SameMatchers};
-ghost use Rattle.re_needle.specs.Working.Blocks.{IsBlock, PassesAll};
-ghost use Rattle.re_search.specs.Working.Blocks.{PassesUnmatchedByAll};
 
 use re_auto::Meter;
-use re_match::{LineMatch, Uncounted};
-use re_needle::line_start;
+use re_match::LineMatch;
 use re_syntax::Span;
-
-// How far several matchers look ahead in a block, in bytes. Their answers are not kept, so each is
-// asked about the same lines again after the line of the least answer.
-const LOOK_AHEAD: usize = 4096;
 
 /// The next part of the line: of all stretches that are not empty, begin at `from` or later and are
 /// matched by some matcher, the one that begins earliest, and of those that begin there the longest
 /// (XBD 9.1). All matchers have to agree on whether the whole line has to be matched. Called with 0
 /// and then with the end of each part, it returns all parts of the line. It takes at most one step
-/// for each matcher and byte from `from` on, and one more for each matcher.
+/// for each matcher and byte from `from` on, and one more for each matcher, and passes at most as many
+/// bytes.
 pub fn parts<M: LineMatch>(
     matchers: &mut [M],
     line: &[u8],
@@ -82,33 +76,4 @@ pub fn is_matched<M: LineMatch>(matchers: &mut [M], line: &[u8], meter: &mut Met
         }
     }
     false
-}
-
-/// The first of the lines that some matcher may match, or the end of the block's first lines if
-/// there is none among them. Each matcher is asked only about the lines before the answers of the
-/// matchers before it.
-pub fn least_candidate<M: LineMatch>(matchers: &[M], block: &[u8]) -> usize
-    requires { IsBlock block.now }
-    ensures { PassesUnmatchedByAll (map M.expression matchers.now) (map M.whole matchers.now)
-        block.now result }
-{
-    let mut end = first_lines(block);
-    for matcher in matchers {
-        if end == 0 {
-            return 0;
-        }
-        end = matcher.first_candidate(&block[..end], Uncounted);
-    }
-    end
-}
-
-// Where the lines end that are whole within the first `LOOK_AHEAD` bytes of a block.
-fn first_lines(block: &[u8]) -> usize
-    requires { IsBlock block.now }
-    ensures { PassesAll (λ _. ⊤) block.now result }
-{
-    if block.len() <= LOOK_AHEAD {
-        return block.len();
-    }
-    line_start(&block[..LOOK_AHEAD])
 }

@@ -5,9 +5,10 @@ ghost use Rattle.re_syntax.specs.Bytes.{Text};
 ghost use Rattle.re_syntax.specs.Expression.{Expression, expression_of};
 ghost use Rattle.re_auto.specs.declared.build.BuildFault.TheVariants.{Memory};
 ghost use Rattle.re_auto.specs.declared.mode.Mode.TheVariants.{Search};
-ghost use Rattle.re_auto.specs.Meters.{many_built};
+ghost use Rattle.re_meter.specs.Meters.{many_built};
 ghost use Rattle.re_auto.specs.Working.StartSets.{place_of};
-ghost use Rattle.re_auto.specs.Searching.{FindsPart, AddsAtMost};
+ghost use Rattle.re_auto.specs.Searching.{FindsPart};
+ghost use Rattle.re_meter.specs.Meters.{AddsUpTo};
 ghost use Rattle.re_steps.specs.Working.Simulations.{AreStartsFor, IsBestSpan, Carries};
 ghost use Rattle.re_syntax.specs.Working.BestStretches.{better_span};
 
@@ -47,7 +48,7 @@ impl StartPair {
         requires within { from ≤ length line.now }
         ensures made { AreStartsFor (expression_of automaton.now) self.new }
         ensures reported { FindsPart (expression_of automaton.now ∷ []) line.now false from result }
-        ensures steps { AddsAtMost (length line.now - from) meter.old meter.new }
+        ensures steps { AddsUpTo (length line.now - from) 0 meter.old meter.new }
     {
         self.current.start(from);
         let mut best = None;
@@ -57,7 +58,7 @@ impl StartPair {
                 return best;
             }
             best = self.step(automaton, line, place, best, meter);
-            place = self.skip(automaton, line, place + 1, best);
+            place = self.skip(automaton, line, place + 1, best, meter);
         }
         best
     }
@@ -104,13 +105,14 @@ impl StartPair {
     }
 
     // If nothing is carried and no stretch was found, passes the bytes from `place` on that none
-    // can begin with. Returns the place after them.
+    // can begin with, each of which counts as a step. Returns the place after them.
     fn skip(
         &mut self,
         automaton: &Automaton,
         line: &[u8],
         place: usize,
         best: Option<Span>,
+        meter: &mut Meter,
     ) -> usize
         requires made { AreStartsFor (expression_of automaton.now) self.old }
         requires inside { 0 < place }
@@ -122,11 +124,13 @@ impl StartPair {
         ensures carries { (from : ℕ) →
             Carries (expression_of automaton.now) from line.now place self.old.current best
             → Carries (expression_of automaton.now) from line.now result self.new.current best }
+        ensures counted { place < result → meter.new ≡ many_built (result - place) meter.old }
+        ensures none { result ≡ place → meter.new ≡ meter.old }
     {
         if best.is_some() || !self.current.is_spent(place - 1) {
             return place;
         }
-        let next = automaton.next_beginning(line, place);
+        let next = automaton.next_beginning(line, place, meter);
         self.current.start(next);
         next
     }

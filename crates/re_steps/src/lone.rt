@@ -6,7 +6,7 @@ ghost use Rattle.re_syntax.specs.Holds.{positions};
 ghost use Rattle.re_auto.specs.Working.Bits.{InWord};
 ghost use Rattle.re_auto.specs.Working.Positions.{part_of, is_begin, is_end};
 ghost use Rattle.re_auto.specs.Working.Tables.{HasOneWord};
-ghost use Rattle.re_steps.specs.Working.Lone.{IsFollowed, IsTried};
+ghost use Rattle.re_steps.specs.Working.Lone.{CountsTry, IsFollowed, IsTried};
 
 use re_auto::{Automaton, Meter, bits};
 
@@ -44,7 +44,10 @@ pub fn try_place(
 ) -> Tried
     requires within { start < length line.now }
     requires some { 1 ≤ patience }
-    ensures { IsTried (expression_of automaton.now) line.now start patience meter.old meter.new result }
+    ensures tried { IsTried (expression_of automaton.now) line.now start patience meter.old
+        meter.new result }
+    ensures counted { CountsTry (expression_of automaton.now) line.now start patience meter.old
+        meter.new }
 {
     if !automaton.has_one_word() {
         return Tried::Open;
@@ -125,7 +128,8 @@ fn advanced(automaton: &Automaton, word: u64, byte: u8) -> u64
 #[inline(always)]
 fn last_end(automaton: &Automaton, line: &[u8], word: u64, place: usize, last: usize) -> usize
     requires one { HasOneWord (expression_of automaton.now) }
-    ensures { ((result ≡ place) × ((q : ℕ) × InWord word q
+    ensures some { (word ≡ 0 → ⊥) → (q : ℕ) × InWord word q }
+    ensures last { ((result ≡ place) × ((q : ℕ) × InWord word q
         × (part_of (expression_of automaton.now) 0).last (is_end line.now place) q))
         ⊎ ((result ≡ last) × ((q : ℕ) → InWord word q →
         (part_of (expression_of automaton.now) 0).last (is_end line.now place) q → ⊥)) }
@@ -141,7 +145,8 @@ fn last_end(automaton: &Automaton, line: &[u8], word: u64, place: usize, last: u
 #[inline(always)]
 fn is_stopped(line: &[u8], start: usize, patience: usize, place: usize, last: usize) -> bool
     requires { start ≤ place }
-    ensures over { IsTrue result → (place ≡ length line.now) ⊎ (last ≡ start) }
+    ensures over { IsTrue result → (place ≡ length line.now)
+        ⊎ ((last ≡ start) × (start + patience ≤ place)) }
     ensures on { result ≡ false → (place ≡ length line.now → ⊥)
         × (last ≡ start → place < start + patience) }
 {

@@ -1,5 +1,4 @@
-//! When it is worth while to keep pairs, and to pass bytes without a step. No contract depends on
-//! it.
+//! When it is worth while to keep pairs, and to pass many bytes at once. No contract depends on it.
 
 use re_auto::StateSet;
 
@@ -108,7 +107,7 @@ impl Pace {
         self.reused = 0;
     }
 
-    /// Whether bytes that no stretch can begin with are passed without a step.
+    /// Whether bytes that no stretch can begin with are passed many at once.
     pub fn passes(&self) -> bool {
         self.passing
     }

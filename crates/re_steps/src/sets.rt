@@ -3,7 +3,7 @@ ghost use Rattle.std.specs.Prelude.{◌≡◌, ◌<◌, ◌≤◌, [], IfOk, IfE
 ghost use Rattle.re_syntax.specs.Expression.{expression_of};
 ghost use Rattle.re_auto.specs.declared.build.BuildFault.TheVariants.{Memory};
 ghost use Rattle.re_auto.specs.declared.mode.Mode.TheVariants.{Search, Whole};
-ghost use Rattle.re_auto.specs.Meters.{many_built};
+ghost use Rattle.re_meter.specs.Meters.{many_built};
 ghost use Rattle.re_auto.specs.Working.StateSets.{IsMadeFor, IsNextSet};
 ghost use Rattle.re_steps.specs.Working.Simulations.{AreSetsFor};
 ghost use Rattle.re_steps.specs.Working.Stages.{Cache, Searches, FinishesFrom, GoesFrom};
@@ -31,8 +31,8 @@ impl SetPair {
     }
 
     /// Whether the line is matched: some stretch of it in mode `Search`, all of it in mode `Whole`.
-    /// It ends once that is known. In mode `Search` it takes no step over bytes that no stretch can
-    /// begin with while none is on its way.
+    /// It ends once that is known. In mode `Search` it goes over many bytes at once that no stretch
+    /// can begin with while none is on its way; each counts as a step.
     pub fn search(
         &mut self,
         automaton: &Automaton,
@@ -151,11 +151,8 @@ impl SetPair {
         ensures goes { GoesFrom (expression_of automaton.now) Search line.now place self.old.current
             meter.old result self.new.current meter.new }
     {
-        if self.current.is_nowhere() {
-            let next = automaton.next_beginning(line, place);
-            if next > place {
-                return next;
-            }
+        if self.current.is_nowhere() && !automaton.begins(line[place]) {
+            return automaton.next_beginning(line, place, meter);
         }
         self.advance(automaton, Mode::Search, line[place], meter);
         place + 1

@@ -2,7 +2,7 @@
 ghost use Rattle.std.specs.Prelude.{◌≡◌, ℕ, ◌-◌, ◌*◌, ◌<◌, ◌≤◌, true, false, Some, IsTrue};
 ghost use Rattle.std.specs.Prelude.{IfSome, IfNone, length, slice_get, slice_index};
 ghost use Rattle.re_auto.specs.declared.step.state_set.StateSet.{StateSet as Set};
-ghost use Rattle.re_auto.specs.Meters.{Steps, many_built};
+ghost use Rattle.re_meter.specs.Meters.{Steps, many_built};
 ghost use Rattle.re_auto.specs.Working.StateSets.{IsNextSet};
 ghost use Rattle.re_steps.specs.Working.Pairs.{unknown};
 ghost use Rattle.re_steps.specs.Working.Stages.{Stage, EndsInside, HoldsNoOther, IsPlain};
@@ -116,7 +116,7 @@ impl Table {
         }
         let byte = asked.line[walk.place];
         match self.step(asked, walk, byte, meter) {
-            Some(cell) => self.arrive(asked, walk.place + 1, cell),
+            Some(cell) => self.arrive(asked, walk.place + 1, cell, meter),
             None => Went::Alone(walk.place + 1),
         }
     }
@@ -216,14 +216,15 @@ impl Table {
         Some(cell)
     }
 
-    // Where the search goes on after this cell led to this place.
+    // Where the search goes on after this cell led to this place. Bytes that it skips count as built
+    // steps.
     #[inline(always)]
-    fn arrive(&mut self, asked: &LineSearch, place: usize, cell: u32) -> Went
+    fn arrive(&mut self, asked: &LineSearch, place: usize, cell: u32, meter: &mut Meter) -> Went
         requires right { IsRightFor asked.now self.old }
         requires within { (1 ≤ place) × (place ≤ length asked.now.line.now) }
         requires known { cell < unknown }
         requires row { IsRow self.old (row_under cell) }
-        ensures leads { LeadsOn asked.now self.old place cell self.new result }
+        ensures leads { LeadsOn asked.now self.old meter.old place cell self.new meter.new result }
         ensures right { IsRightFor asked.now self.new }
         ensures keeps { Keeps self.old self.new }
     {
@@ -245,7 +246,7 @@ impl Table {
         if asked.mode == Mode::Whole {
             return Went::Reported(false);
         }
-        let next = asked.automaton.next_beginning(asked.line, place);
+        let next = asked.automaton.next_beginning(asked.line, place, meter);
         self.pace.note_pass(next - place);
         Went::To(Spot {
             place: next,

@@ -2,8 +2,11 @@ pub mod KeyLaws
 pub mod SetSteps
 pub mod SetTries
 pub mod SetSearch
+pub mod SetReached
 pub mod SetLeaps
 pub mod SetBranches
 pub mod SetLinks
 pub mod SetTable
 pub mod SetSorted
+pub mod SetEnds
+pub mod OverlapLaws

@@ -1,3 +1,5 @@
 pub mod Keys
 pub mod FixedSets
 pub mod Branches
+pub mod Reached
+pub mod Overlaps

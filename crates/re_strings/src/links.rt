@@ -4,20 +4,20 @@ ghost use Rattle.std.specs.Prelude.{slice_index};
 ghost use Rattle.re_strings.specs.Working.FixedSets.{IsTrie, IsTrieOf, AreStarts, AreStartsOf};
 ghost use Rattle.re_strings.specs.Working.FixedSets.{AreFallbacks, AreFallbacksOf, AreOwn};
 ghost use Rattle.re_strings.specs.Working.FixedSets.{AreLinked, AreLinkedFor, Labels, StandsFor};
-ghost use Rattle.re_strings.specs.Working.FixedSets.{StepsOn, longer_ending};
+ghost use Rattle.re_strings.specs.Working.FixedSets.{StepsOn, own_or};
 
 use crate::keys::key_of;
 use crate::table::step;
 use crate::trie::Trie;
 use std::alloc::{AllocError, Global};
 
-/// For each node its fallback, and the length of the longest string that it ends with.
+/// For each node its fallback, and the longest string that it ends with.
 #[derive(Drop)]
 pub struct Links {
     /// For each node the longest other one that it ends with; any value for the root.
     pub fails: Vec<u32>,
-    /// The length of the longest string that each node ends with, 0 if there is none.
-    pub ends: Vec<u32>,
+    /// The longest string, not the empty one, that each node ends with; the root if there is none.
+    pub outputs: Vec<u32>,
 }
 
 /// The child of the root for each byte as strings are compared, the root if there is none.
@@ -84,17 +84,17 @@ pub fn links_of(
     requires starts { AreStarts trie.now.first.items starts.now }
     requires owns { length owns.now ≡ length trie.now.bytes.items }
     ensures linked { IfOk result
-        (λ links. AreLinked (length trie.now.bytes.items) links.fails.items links.ends.items) }
+        (λ links. AreLinked (length trie.now.bytes.items) links.fails.items links.outputs.items) }
     ensures right { IfOk result
         (λ links. (all : Labels) → IsTrieOf all trie.now.first.items trie.now.bytes.items →
         AreStartsOf false all starts.now → AreOwn all owns.now
-        → AreLinkedFor all links.fails.items links.ends.items) }
+        → AreLinkedFor all links.fails.items links.outputs.items) }
 {
     let mut fails = Vec::with_capacity(alloc, trie.bytes.len())?;
     push_number(&mut fails, 0)?;
-    let mut ends = Vec::with_capacity(alloc, trie.bytes.len())?;
-    push_number(&mut ends, 0)?;
-    let mut links = Links { fails, ends };
+    let mut outputs = Vec::with_capacity(alloc, trie.bytes.len())?;
+    push_number(&mut outputs, 0)?;
+    let mut links = Links { fails, outputs };
     'nodes: for node in 0..trie.bytes.len() {
         link_children(trie, starts, owns, node, &mut links)?;
     }
@@ -115,23 +115,23 @@ fn link_children(
     requires owns { length owns.now ≡ length trie.now.bytes.items }
     requires within { node < length trie.now.bytes.items }
     requires linked { AreLinked (slice_index trie.now.first.items node) links.old.fails.items
-        links.old.ends.items }
+        links.old.outputs.items }
     ensures linked { IfOk result
         (λ _.
         AreLinked (slice_index trie.now.first.items (node + 1)) links.new.fails.items
-        links.new.ends.items) }
+        links.new.outputs.items) }
     ensures right { IfOk result
         (λ _. (all : Labels) → IsTrieOf all trie.now.first.items trie.now.bytes.items →
         AreStartsOf false all starts.now → AreOwn all owns.now
-        → AreLinkedFor all links.old.fails.items links.old.ends.items →
-        AreLinkedFor all links.new.fails.items links.new.ends.items) }
+        → AreLinkedFor all links.old.fails.items links.old.outputs.items →
+        AreLinkedFor all links.new.fails.items links.new.outputs.items) }
 {
     let end = trie.first[node + 1] as usize;
     'children: while links.fails.len() < end {
         let child = links.fails.len();
         let fail = fallback(trie, starts, &links.fails, node, trie.bytes[child]);
-        let length = longer_end(owns[child], links.ends[fail]);
-        add_link(links, fail, length)?;
+        let output = output_of(owns[child], child, links.outputs[fail]);
+        add_link(links, fail, output)?;
     }
     Ok(())
 }
@@ -155,21 +155,20 @@ fn fallback(trie: &Trie, starts: &[u32], fails: &[u32], node: usize, byte: u8) -
     step(trie, starts, fails, fails[node] as usize, byte)
 }
 
-// The length of a node that is a string; for other nodes that of the string that its fallback ends
-// with.
-fn longer_end(own: u32, end: u32) -> u32
-    ensures { result ≡ longer_ending own end }
+// The node itself if it is a string, which has a length; else what its fallback ends with.
+fn output_of(own: u32, node: usize, output: u32) -> usize
+    ensures { result ≡ own_or own node output }
 {
-    if own > 0 { own } else { end }
+    if own > 0 { node } else { output as usize }
 }
 
-fn add_link(links: &mut Links, fail: usize, end: u32) -> Result<(), AllocError>
+fn add_link(links: &mut Links, fail: usize, output: usize) -> Result<(), AllocError>
     ensures { IfOk result
         (λ _. (links.new.fails.items ≡ links.old.fails.items ++ fail ∷ []) ×
-        (links.new.ends.items ≡ links.old.ends.items ++ end ∷ [])) }
+        (links.new.outputs.items ≡ links.old.outputs.items ++ output ∷ [])) }
 {
     push_number(&mut links.fails, fail)?;
-    links.ends.push(end)?;
+    push_number(&mut links.outputs, output)?;
     Ok(())
 }
 

@@ -46,7 +46,7 @@ pub fn table_of(alloc: Global, strings: &[&[u8]], fold: bool) -> Result<Table, A
         starts,
         fails: links.fails,
         depths,
-        ends: links.ends,
+        outputs: links.outputs,
         leaps,
         fronts,
         fold,

@@ -1,17 +1,21 @@
 //! The steps over a line for many fixed strings.
 ghost use Rattle.std.specs.Prelude.{◌≡◌, ℕ, ◌+◌, ◌<◌, ◌≤◌, ◌↔◌, [], ◌∷◌, ◌++◌, IsTrue, Some};
-ghost use Rattle.std.specs.Prelude.{length, slice_index};
+ghost use Rattle.std.specs.Prelude.{IfSome, length, slice_index};
 ghost use Rattle.re_syntax.specs.Bytes.{Text};
 ghost use Rattle.re_strings.specs.Working.FixedSets.{IsTrie, IsTrieOf, IsTable, IsTableOf, IsString};
 ghost use Rattle.re_strings.specs.Working.FixedSets.{AreFallbacks, AreFallbacksOf, AreStarts};
-ghost use Rattle.re_strings.specs.Working.FixedSets.{Labels, Steps, StepsOn, Occurs, NoneBetween};
-ghost use Rattle.re_strings.specs.Working.FixedSets.{StandsSince, IsBestOccurrence, better_ending};
+ghost use Rattle.re_strings.specs.Working.FixedSets.{Labels, Steps, StepsOn, Occurs, NoneBetween, EndsIn};
+ghost use Rattle.re_strings.specs.Working.FixedSets.{StandsSince, StandsAtNode, IsBestOccurrence};
+ghost use Rattle.re_strings.specs.Working.FixedSets.{better_ending};
+ghost use Rattle.re_strings.specs.Working.Reached.{Reaches, IsSettled, EndsFirst, end_cost};
+ghost use Rattle.re_meter.specs.Meters.{many_built, many_passed};
 ghost use Rattle.re_strings.specs.Working.Keys.{keys};
 ghost use Rattle.re_syntax.specs.declared.span.Span.{Span};
 
 use crate::keys::key_of;
 use crate::leaps::Leaps;
 use crate::trie::Trie;
+use re_meter::Meter;
 use re_syntax::Span;
 
 /// What is known of each node of a tree of beginnings.
@@ -25,8 +29,8 @@ pub struct Table {
     pub fails: Vec<u32>,
     /// The length of each node.
     pub depths: Vec<u32>,
-    /// The length of the longest string that each node ends with, 0 if there is none.
-    pub ends: Vec<u32>,
+    /// The longest string, not the empty one, that each node ends with; the root if there is none.
+    pub outputs: Vec<u32>,
     /// How far a search may leap at the root.
     pub leaps: Leaps,
     /// The same by the two bytes where it stands, with which some string may begin.
@@ -36,25 +40,55 @@ pub struct Table {
 }
 
 impl Table {
-    /// Whether some string occurs in the line.
-    pub fn stands_in(&self, line: &[u8]) -> bool
+    /// The place at which a string, not the empty one, ends first in the line. The bytes up to there
+    /// are passed; all if no string occurs.
+    pub fn first_end(&self, line: &[u8], meter: &mut Meter) -> Option<usize>
         requires { IsTable self.now }
-        ensures { (all : Labels) → IsTableOf all self.now →
-            IsTrue result ↔ ((i j : ℕ) × Occurs all.strings 0 (keys self.now.fold line.now) i j) }
+        ensures ends { (all : Labels) → IsTableOf all self.now →
+            EndsFirst all.strings (keys self.now.fold line.now) result }
+        ensures within { IfSome result (λ end. (1 ≤ end) × (end ≤ length line.now)) }
+        ensures counted { meter.new ≡ many_passed (end_cost line.now result) meter.old }
+    {
+        let end = self.ended(line);
+        meter.add_passed(end.unwrap_or(line.len()));
+        end
+    }
+
+    /// The same, where the bytes are steps.
+    pub fn first_end_by_steps(&self, line: &[u8], meter: &mut Meter) -> Option<usize>
+        requires { IsTable self.now }
+        ensures ends { (all : Labels) → IsTableOf all self.now →
+            EndsFirst all.strings (keys self.now.fold line.now) result }
+        ensures within { IfSome result (λ end. (1 ≤ end) × (end ≤ length line.now)) }
+        ensures counted { meter.new ≡ many_built (end_cost line.now result) meter.old }
+    {
+        let end = self.ended(line);
+        meter.add_built(end.unwrap_or(line.len()) as u64);
+        end
+    }
+
+    // The place at which a string ends first in the line.
+    #[inline(always)]
+    fn ended(&self, line: &[u8]) -> Option<usize>
+        requires { IsTable self.now }
+        ensures ends { (all : Labels) → IsTableOf all self.now →
+            EndsFirst all.strings (keys self.now.fold line.now) result }
+        ensures within { IfSome result (λ end. (1 ≤ end) × (end ≤ length line.now)) }
     {
         if self.fold {
-            return self.stands_by(line, true);
+            return self.ended_by(line, true);
         }
-        self.stands_by(line, false)
+        self.ended_by(line, false)
     }
 
     // The same with a `fold` that the compiler knows, so that there is a loop for each case.
     #[inline(always)]
-    fn stands_by(&self, line: &[u8], fold: bool) -> bool
+    fn ended_by(&self, line: &[u8], fold: bool) -> Option<usize>
         requires table { IsTable self.now }
         requires alike { fold ≡ self.now.fold }
-        ensures { (all : Labels) → IsTableOf all self.now →
-            IsTrue result ↔ ((i j : ℕ) × Occurs all.strings 0 (keys self.now.fold line.now) i j) }
+        ensures ends { (all : Labels) → IsTableOf all self.now →
+            EndsFirst all.strings (keys self.now.fold line.now) result }
+        ensures within { IfSome result (λ end. (1 ≤ end) × (end ≤ length line.now)) }
     {
         let mut place = 0;
         let mut node = 0;
@@ -62,37 +96,41 @@ impl Table {
             let (beyond, into) = self.pass(line, place, node, fold);
             place = beyond;
             node = into;
-            if self.ends[node] > 0 {
-                return true;
+            if self.outputs[node] > 0 {
+                return Some(place);
             }
         }
-        false
+        None
     }
 
     /// Of the strings in the line that begin at `from` or later, the one that begins first, and of
-    /// those that begin there the longest.
-    pub fn find(&self, line: &[u8], from: usize) -> Option<Span>
+    /// those that begin there the longest. Counts the bytes up to where no other string can go on.
+    pub fn find(&self, line: &[u8], from: usize, meter: &mut Meter) -> Option<Span>
         requires table { IsTable self.now }
         requires within { from ≤ length line.now }
-        ensures { (all : Labels) → IsTableOf all self.now →
+        ensures best { (all : Labels) → IsTableOf all self.now →
             IsBestOccurrence all.strings from (keys self.now.fold line.now) (length line.now)
             result }
+        ensures reached { Reaches (IsSettled self.now line.now from result) line.now from meter.old
+            meter.new }
     {
         if self.fold {
-            return self.find_by(line, from, true);
+            return self.find_by(line, from, meter, true);
         }
-        self.find_by(line, from, false)
+        self.find_by(line, from, meter, false)
     }
 
     // The same with a `fold` that the compiler knows.
     #[inline(always)]
-    fn find_by(&self, line: &[u8], from: usize, fold: bool) -> Option<Span>
+    fn find_by(&self, line: &[u8], from: usize, meter: &mut Meter, fold: bool) -> Option<Span>
         requires table { IsTable self.now }
         requires within { from ≤ length line.now }
         requires alike { fold ≡ self.now.fold }
-        ensures { (all : Labels) → IsTableOf all self.now →
+        ensures best { (all : Labels) → IsTableOf all self.now →
             IsBestOccurrence all.strings from (keys self.now.fold line.now) (length line.now)
             result }
+        ensures reached { Reaches (IsSettled self.now line.now from result) line.now from meter.old
+            meter.new }
     {
         let mut place = from;
         let mut node = 0;
@@ -102,10 +140,12 @@ impl Table {
             place = beyond;
             node = into;
             if begins_before(best, place.saturating_sub(self.depths[node] as usize)) {
+                meter.add_passed(place - from);
                 return best;
             }
-            best = better(best, place, self.ends[node] as usize);
+            best = better(best, place, self.ending(node));
         }
+        meter.add_passed(place - from);
         best
     }
 
@@ -123,7 +163,18 @@ impl Table {
             };
             node = child;
         }
-        self.ends[node] as usize == line.len()
+        self.ending(node) == line.len()
+    }
+
+    // The length of the longest string that the node ends with, 0 if there is none.
+    #[inline(always)]
+    fn ending(&self, node: usize) -> usize
+        requires table { IsTable self.now }
+        requires in_trie { node < length self.now.trie.bytes.items }
+        ensures { (all : Labels) → IsTableOf all self.now →
+            EndsIn all.strings (all.label node) result }
+    {
+        self.depths[self.outputs[node] as usize] as usize
     }
 
     // Goes over the byte at `place`. If no string has begun, it first passes the bytes where none
@@ -142,6 +193,9 @@ impl Table {
         ensures between { (all : Labels) → IsTableOf all self.now → (from : ℕ) → from ≤ place →
             StandsSince all from (keys self.now.fold line.now) place node
             → NoneBetween all.strings from (keys self.now.fold line.now) place result.0 }
+        ensures begun { (all : Labels) → IsTableOf all self.now → (from : ℕ) → 0 < node →
+            StandsAtNode all from (keys self.now.fold line.now) place node
+            → StandsAtNode all from (keys self.now.fold line.now) result.0 result.1 }
     {
         let start = self.next_start(line, place, node, fold);
         if start == line.len() {
@@ -160,6 +214,7 @@ impl Table {
         requires within { place < length line.now }
         requires alike { fold ≡ self.now.fold }
         ensures within { (place ≤ result) × (result ≤ length line.now) }
+        ensures begun { 0 < node → result ≡ place }
         ensures stands { (all : Labels) → IsTableOf all self.now → (from : ℕ) → from ≤ place →
             StandsSince all from (keys self.now.fold line.now) place node
             → StandsSince all from (keys self.now.fold line.now) result node }

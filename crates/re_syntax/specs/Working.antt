@@ -14,3 +14,4 @@ pub mod ExtendedSteps
 pub mod StandardIntervals
 pub mod StandardBasic
 pub mod StandardExtended
+pub mod PutEnds

@@ -31,9 +31,10 @@ static EXACT: [Exact; 7] = [
     (b"x", false, b"a\nbx\nx", Some((2, 4)), 5, 2, 7),
     (b"x", false, b"xxx", Some((0, 3)), 4, 1, 4),
     (b"z", false, b"a\nbx\nx", None, 7, 0, 7),
-    (b"", false, b"\nx", Some((0, 0)), 1, 2, 3),
+    // A look finds the empty text at each line's beginning, and steps go up to there.
+    (b"", false, b"\nx", Some((0, 0)), 1, 2, 1),
     // A text with a newline is on no line.
-    (b"b\nc", false, b"ab\ncd", None, 6, 0, 6),
+    (b"b\nc", false, b"ab\ncd", None, 5, 0, 5),
     (b"x", true, b"ax\nx\nxx", Some((3, 4)), 5, 1, 8),
     (b"", true, b"a\n\nb", Some((2, 2)), 3, 1, 5),
 ];

@@ -62,7 +62,8 @@ static ROWS: [Row; 16] = [
         3,
     ),
     (b"a*", false, b"b", 300, true, 4096, (0, 0, 0, 0), 0),
-    (b"a*$", false, b"b", 300, true, 4096, (1, 0, 0, 1), 1),
+    // After the first byte, no stretch is on its way, and no byte can begin one.
+    (b"a*$", false, b"b", 300, true, 4096, (300, 0, 299, 1), 1),
     (
         b"[ab]+$",
         false,
@@ -73,7 +74,16 @@ static ROWS: [Row; 16] = [
         (2, 998, 0, 1000),
         2,
     ),
-    (b"[bc][^a]", false, b"a", 1000, false, 4096, (1, 0, 0, 1), 1),
+    (
+        b"[bc][^a]",
+        false,
+        b"a",
+        1000,
+        false,
+        4096,
+        (1000, 0, 999, 1),
+        1,
+    ),
     (
         b"[a-z]{3}[0-9]",
         false,

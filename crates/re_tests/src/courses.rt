@@ -1,4 +1,4 @@
-//! All parts of a line, in at most four searches of it.
+//! All parts of a line, in at most four searches of it, by steps and by passed bytes.
 ghost use Rattle.std.specs.Prelude.{false, map};
 ghost use Rattle.re_search.specs.Searching.{AllAnswer};
 ghost use Rattle.re_search.specs.Working.Matchers.{wants_whole};
@@ -15,7 +15,7 @@ use std::test::Fail;
 // and how many parts it has.
 type Row = (&'static [u8], &'static [u8], usize, u64);
 
-static ROWS: [Row; 12] = [
+static ROWS: [Row; 15] = [
     // Each search goes on to the line's end.
     (b"a|a*[bc]", b"a", 200, 200),
     (b"a*[bc]|a", b"a", 200, 200),
@@ -30,6 +30,10 @@ static ROWS: [Row; 12] = [
     (b"a|a*$", b"a", 100, 1),
     // Parts that end where others would begin.
     (b"ab|b\nba*c", b"ab", 90, 90),
+    // A string, or what a string is needed for, that is nowhere or at the end alone.
+    (b",\nzzz", b"a,", 200, 200),
+    (b"a\nz[a-z]*q", b"a", 200, 200),
+    (b"a\n[zk]b*\naaaab", b"a", 200, 200),
     // No part, and parts of one byte.
     (b"b\naa*c", b"a", 100, 0),
     (b"[ab]\n[ab]*c", b"ab", 100, 200),
@@ -86,6 +90,8 @@ fn assert_parts(rt: &impl Abort, alloc: Global, row: &Row) -> Result<(), Fail> {
     let search = (matchers.len() as u64).saturating_mul(line.len() as u64 + 1);
     let most = search.saturating_mul(4);
     assert!(rt; steps <= most, "{texts:?}");
+    assert!(rt; meter.passed() <= most, "{texts:?}");
+    assert_eq!(rt; meter.refused(), 0, "{texts:?}");
     Ok(())
 }
 

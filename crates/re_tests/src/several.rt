@@ -137,8 +137,8 @@ fn several_texts_have_their_parts(rt: HostRuntime) -> Result<(), Fail> {
     Ok(())
 }
 
-// For a text, whether the whole line has to be matched, a line and a place: the part, and the
-// steps.
+// For a text, whether the whole line has to be matched, a line and a place: the part, the steps, and
+// the bytes that are passed.
 type Search = (
     &'static [u8],
     bool,
@@ -146,18 +146,19 @@ type Search = (
     usize,
     Option<(usize, usize)>,
     u64,
+    u64,
 );
 
 static SEARCHES: [Search; 9] = [
-    (b"aa", false, b"aaa", 0, Some((0, 2)), 2),
-    (b"aa", false, b"aaa", 1, Some((1, 3)), 2),
-    (b"aa", false, b"aaa", 2, None, 2),
-    (b"aa", false, b"aaa", 3, None, 1),
-    (b"abc", false, b"ab", 0, None, 3),
-    (b"", false, b"x", 0, None, 2),
-    (b"aa", true, b"aa", 0, Some((0, 2)), 2),
-    (b"aa", true, b"aa", 1, None, 2),
-    (b"", true, b"", 0, None, 1),
+    (b"aa", false, b"aaa", 0, Some((0, 2)), 2, 1),
+    (b"aa", false, b"aaa", 1, Some((1, 3)), 2, 1),
+    (b"aa", false, b"aaa", 2, None, 2, 1),
+    (b"aa", false, b"aaa", 3, None, 1, 0),
+    (b"abc", false, b"ab", 0, None, 3, 2),
+    (b"", false, b"x", 0, None, 2, 0),
+    (b"aa", true, b"aa", 0, Some((0, 2)), 2, 0),
+    (b"aa", true, b"aa", 1, None, 2, 0),
+    (b"", true, b"", 0, None, 1, 0),
 ];
 
 fn searches() -> &'static [Search] {
@@ -165,7 +166,7 @@ fn searches() -> &'static [Search] {
 }
 
 fn assert_search(rt: &impl Abort, alloc: Global, row: &Search) -> Result<(), Fail> {
-    let (text, whole, line, from, expected, steps) = *row;
+    let (text, whole, line, from, expected, steps, passed) = *row;
     assert!(rt; from <= line.len(), "{line:?}");
     let mut matcher = Fixed::new(alloc, text, whole)?;
     let mut meter = fresh_meter();
@@ -176,6 +177,7 @@ fn assert_search(rt: &impl Abort, alloc: Global, row: &Search) -> Result<(), Fai
         "{text:?} on {line:?} from {from}"
     );
     assert_steps(rt, &meter, steps, 0, line);
+    assert_eq!(rt; meter.passed(), passed, "{text:?} on {line:?} from {from}");
     Ok(())
 }
 

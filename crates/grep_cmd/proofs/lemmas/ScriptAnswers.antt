@@ -8,8 +8,7 @@ use Rattle.re_syntax.specs.Lines.{newline, joined}
 use Rattle.grep_core.specs.declared.status.Status.{Status}
 use Rattle.grep_core.specs.declared.status.Status.TheVariants as status
 use Rattle.grep_core.specs.Files.{Inputs}
-use Rattle.grep_core.specs.Meters.{Steps as StepCounts}
-use Rattle.grep_core.specs.Searching.{AddsAtMost}
+use Rattle.grep_core.specs.Meters.{Adds, Steps as StepCounts}
 use Rattle.grep_core.specs.Output.{written}
 use Rattle.grep_core.specs.Row.{output_line}
 use Rattle.grep_core.specs.Written.{GoesOut, Writes}
@@ -151,15 +150,16 @@ module _ {R W : Type 0} (remaining : R → Option Text) (failures : R → ℕ) (
 
   -- a command for which its line is enough
   pub does_alone : (step : Step) (reply : List Text) → HasHanded remaining failures reader now handed → IsStep (line_command line) [] step → RepliesTo step before reply after
-      → (most : ℕ) → SearchesAtMost spent.refused step before.inputs most → AddsAtMost most begun spent
+      → (most refusals : ℕ) → SearchesAtMost step before.inputs refusals most → Adds most most refusals begun spent
       → DoesStep remaining failures reader handed line now begun spent before after reply
-  does_alone step reply h is replies most is_most few = record {
+  does_alone step reply h is replies most refusals is_most few = record {
     taken = [];
     step = step;
     has_handed = subst (HasHanded remaining failures reader now) (sym (append-nil handed)) h;
     is_step = is;
     replies_to = replies;
     most = most;
+    refusals = refusals;
     is_most = is_most;
     few = few;
   }

@@ -15,7 +15,7 @@ use Rattle.grep_core.specs.Working.Handed.{AreHanded}
 use Rattle.grep_core.specs.Reading.{IsOneLineAndFew}
 use Rattle.grep_io.specs.declared.input.lines.Stage.{Stage}
 use Rattle.grep_io.specs.declared.input.lines.Stage.TheVariants.{Open, Ended, Failed}
-use Rattle.grep_core.proofs.lemmas.CostLaws.{adds_none}
+use Rattle.re_meter.proofs.lemmas.Adding.{adds_none}
 use Rattle.grep_core.proofs.lemmas.HandedLemmas.{begins_with}
 use Rattle.grep_core.proofs.lemmas.NumberedLemmas.{has_handed_none}
 use Rattle.grep_core.proofs.lemmas.RowLemmas.{goes_nowhere, goes_on, stops_later}
@@ -192,7 +192,7 @@ module _ {R W : Type 0} (remaining : R → Option Text) (failures : R → ℕ) (
       Wants = WantsLines remaining failures reader (s.handed ++ line ∷ []) line next spent last inputs after
 
       works : (then : Watched) (reply : List Text) → (d : DoesStep remaining failures reader (s.handed ++ line ∷ []) line next spent last inputs then reply) → SearchesTouched (s.steps ++ d.step ∷ []) (s.replies ++ reply) then begun last
-      works then reply d = work_push s.steps d.step inputs then s.replies reply begun spent last d.most s.work d.replies_to d.is_most d.few
+      works then reply d = work_push s.steps d.step inputs then s.replies reply begun spent last d.refusals d.most s.work d.replies_to d.is_most d.few
 
       -- without a step
       idles : last ≡ spent → SearchesTouched s.steps s.replies inputs begun last
@@ -231,7 +231,7 @@ module _ {R W : Type 0} (remaining : R → Option Text) (failures : R → ℕ) (
       }
 
       works_truncated : last ≡ spent → SearchesTouched (s.steps ++ is_truncated ∷ []) (s.replies ++ truncated ∷ []) inputs begun last
-      works_truncated idle = work_push s.steps is_truncated inputs inputs s.replies (truncated ∷ []) begun last last 0 (idles idle) (refl, refl) refl (adds_none 0 last)
+      works_truncated idle = work_push s.steps is_truncated inputs inputs s.replies (truncated ∷ []) begun last last 0 0 (idles idle) (refl, refl) (refl, refl) (adds_none 0 0 last)
 
       reads_all : (taken : List Text) (kind : Ending) → StandsAs remaining failures reader next ((s.handed ++ line ∷ []) ++ taken) kind
           → ReadsScript (remaining reader) (remaining next.lines.reader) (failures reader) (failures next.lines.reader) (script_of (s.handed ++ line ∷ taken) kind)

@@ -1,17 +1,15 @@
 -- The steps of a script, the replies to them and what they search, one more at a time.
-use Rattle.std.proofs.Common.{◌≡◌, ℕ, ◌+◌, ◌≤◌, Bool, IsTrue, true, false, ◌||◌, if◌then◌else◌, List, [], ◌∷◌, ◌++◌, inl, inr, refl, sym, ap, ◌∙◌, subst, append_assoc, append-nil, arith}
+use Rattle.std.proofs.Common.{◌≡◌, ℕ, ◌+◌, true, false, ◌||◌, if◌then◌else◌, List, [], ◌∷◌, ◌++◌, inl, refl, sym, ap, ◌∙◌, subst, append_assoc, append-nil, arith}
 use Rattle.std.proofs.lemmas.Bool.{or_right}
 use Rattle.std.proofs.lemmas.List.Folds.{list_any-append}
 use Rattle.std.specs.List.{list_any}
 use Rattle.re_syntax.specs.Bytes.{Text}
-use Rattle.grep_core.specs.Files.{Ending, Inputs}
-use Rattle.grep_core.specs.Meters.{Steps as StepCounts}
-use Rattle.grep_core.specs.Searching.{AddsAtMost}
-use Rattle.grep_core.proofs.lemmas.CostLaws.{adds_both, adds_none, adds_within}
-use Rattle.grep_session.proofs.lemmas.EditLaws.{Costs-later}
+use Rattle.re_meter.proofs.lemmas.Adding.{adds_none, all_both}
+use Rattle.grep_core.specs.Files.{Ending}
+use Rattle.grep_core.specs.Meters.{Adds, Steps as StepCounts}
 use Rattle.grep_live.specs.Marks.{Watched, new_watched}
 use Rattle.grep_cmd.specs.declared.script.ScriptEnd.TheVariants.{Clean, Refused}
-use Rattle.grep_cmd.specs.Script.{Step, IsStep, does, reports, reports_changes, reports_page, is_bad, is_truncated, line_command, Steps}
+use Rattle.grep_cmd.specs.Script.{Step, IsStep, line_command, Steps}
 use Rattle.grep_cmd.specs.Replies.{RepliesTo, Replies, SearchesAtMost, AllSearchAtMost, SearchesTouched, is_refusal, end_for}
 use Rattle.grep_cmd.specs.Working.Answered.{AreDone}
 
@@ -40,66 +38,53 @@ replies_push [] step before between after replies reply (none, same) h =
 replies_push (s ∷ steps) step before between after replies reply (own, mid, rest, first, others, cut) h =
     (own, mid, rest ++ reply, first, replies_push steps step mid between after rest reply others h, ap (λ rs. rs ++ reply) cut ∙ append_assoc own rest reply)
 
--- the sum with one more command
-most_push : (refused : Bool) (steps : List Step) (step : Step) (before between after : Watched) (replies reply : List Text) (most own : ℕ) → AllSearchAtMost refused steps before replies between most → RepliesTo step between reply after
-    → SearchesAtMost refused step between.inputs own → AllSearchAtMost refused (steps ++ step ∷ []) before (replies ++ reply) after (most + own)
-most_push refused [] step before between after replies reply most own (none, same, zero) h cost = (
+-- the sums with one more command
+most_push : (steps : List Step) (step : Step) (before between after : Watched) (replies reply : List Text) (refusals mine most own : ℕ) → AllSearchAtMost steps before replies between refusals most → RepliesTo step between reply after
+    → SearchesAtMost step between.inputs mine own → AllSearchAtMost (steps ++ step ∷ []) before (replies ++ reply) after (refusals + mine) (most + own)
+most_push [] step before between after replies reply refusals mine most own (none, same, no_refusal, zero) h cost = (
   reply,
   after,
   [],
+  mine,
+  0,
   own,
   0,
   subst (λ i. RepliesTo step i reply after) same h,
-  subst (λ (i : Watched). SearchesAtMost refused step i.inputs own) same cost,
-  (refl, refl, refl),
+  subst (λ (i : Watched). SearchesAtMost step i.inputs mine own) same cost,
+  (refl, refl, refl, refl),
   ap (λ rs. rs ++ reply) none ∙ sym (append-nil reply),
+  omega (arith, no_refusal),
   omega (arith, zero),
 )
-most_push refused (s ∷ steps) step before between after replies reply most own (first, mid, rest, one, others, given, cost, more, cut, sum) h last = (
+most_push (s ∷ steps) step before between after replies reply refusals mine most own (first, mid, rest, here, there, one, others, given, cost, more, cut, times, sum) h last = (
   first,
   mid,
   rest ++ reply,
+  here,
+  there + mine,
   one,
   others + own,
   given,
   cost,
-  most_push refused steps step mid between after rest reply others own more h last,
+  most_push steps step mid between after rest reply there mine others own more h last,
   ap (λ rs. rs ++ reply) cut ∙ append_assoc first rest reply,
+  omega (arith, times),
   omega (arith, sum),
 )
 
--- a command costs no less where memory was refused
-step_later : (before after : Bool) → (IsTrue before → IsTrue after) → (step : Step) (inputs : Inputs) (own : ℕ) → SearchesAtMost before step inputs own → (more : ℕ) × SearchesAtMost after step inputs more × (own ≤ more)
-step_later before after later (does edit) inputs own (inl none) = (own, inl none, omega arith)
-step_later before after later (does edit) inputs own (inr costs) = let more = Costs-later before after later edit inputs own costs in (more.0, inr more.1, more.2)
-step_later before after later reports inputs own none = (own, none, omega arith)
-step_later before after later reports_changes inputs own none = (own, none, omega arith)
-step_later before after later (reports_page first count) inputs own none = (own, none, omega arith)
-step_later before after later is_bad inputs own none = (own, none, omega arith)
-step_later before after later is_truncated inputs own none = (own, none, omega arith)
-
--- nor do some commands
-all_later : (before after : Bool) → (IsTrue before → IsTrue after) → (steps : List Step) (first last : Watched) (replies : List Text) (most : ℕ) → AllSearchAtMost before steps first replies last most → (more : ℕ) × AllSearchAtMost after steps first replies last more × (most ≤ more)
-all_later before after later [] first last replies most none = (most, none, omega arith)
-all_later before after later (step ∷ steps) first last replies most (reply, between, rest, own, others, given, cost, all, cut, sum) =
-    let mine = step_later before after later step first.inputs own cost in
-    let more = all_later before after later steps between last rest others all in
-    (mine.0 + more.0, (reply, between, rest, mine.0, more.0, given, mine.1, more.1, cut, refl), omega (arith, sum, mine.2, more.2))
-
 -- nothing was searched for no command
 pub work_none : (steps : StepCounts) → SearchesTouched [] [] new_watched steps steps
-work_none steps = record { most = 0; is_most = (refl, refl, refl); few = adds_none 0 steps }
+work_none steps = record { most = 0; refusals = 0; is_most = (refl, refl, refl, refl); few = adds_none 0 0 steps }
 
 -- one more command searches no more than it costs
-pub work_push : (steps : List Step) (step : Step) (between after : Watched) (replies reply : List Text) (begun spent last : StepCounts) (own : ℕ) → SearchesTouched steps replies between begun spent
-    → RepliesTo step between reply after → SearchesAtMost last.refused step between.inputs own → AddsAtMost own spent last → SearchesTouched (steps ++ step ∷ []) (replies ++ reply) after begun last
-work_push steps step between after replies reply begun spent last own w h cost few =
-    let before = all_later spent.refused last.refused few.refused steps new_watched between replies w.most w.is_most in
-    record {
-      most = before.0 + own;
-      is_most = most_push last.refused steps step new_watched between after replies reply before.0 own before.1 h cost;
-      few = adds_both before.0 own begun spent last (adds_within w.most before.0 begun spent before.2 w.few) few;
-    }
+pub work_push : (steps : List Step) (step : Step) (between after : Watched) (replies reply : List Text) (begun spent last : StepCounts) (mine own : ℕ) → SearchesTouched steps replies between begun spent
+    → RepliesTo step between reply after → SearchesAtMost step between.inputs mine own → Adds own own mine spent last → SearchesTouched (steps ++ step ∷ []) (replies ++ reply) after begun last
+work_push steps step between after replies reply begun spent last mine own w h cost few = record {
+  most = w.most + own;
+  refusals = w.refusals + mine;
+  is_most = most_push steps step new_watched between after replies reply w.refusals mine w.most own w.is_most h cost;
+  few = all_both w.most own w.most own w.refusals mine begun spent last w.few few;
+}
 
 -- a reply that refuses nothing
 pub end_kept : (replies reply : List Text) → list_any is_refusal reply ≡ false → end_for (replies ++ reply) ≡ end_for replies

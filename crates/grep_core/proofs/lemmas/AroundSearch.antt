@@ -29,7 +29,7 @@ use Rattle.grep_core.specs.Working.Searched.{leaves_early, BreaksSource, StopsSo
 use Rattle.grep_core.specs.Working.Given.{SearchGives}
 use Rattle.grep_core.specs.Working.ShownLines.{ShowStops}
 use Rattle.grep_core.proofs.lemmas.AroundLemmas.{Tracks, tracks_none, tracks_line, tracks_passed, tracked_groups, tracks_further}
-use Rattle.grep_core.proofs.lemmas.CostLaws.{searched_no_line, searched_more_lines}
+use Rattle.grep_core.proofs.lemmas.CostLaws.{unsearched_lines, searched_more_lines}
 use Rattle.grep_core.proofs.lemmas.ChooseLaws.{EachGives-one}
 use Rattle.grep_core.proofs.lemmas.FileOutput.{file_is, chosen_line, chosen_count}
 use Rattle.grep_core.proofs.lemmas.BlockLines.{last_of-many}
@@ -105,7 +105,7 @@ module _ {R : Type 0} (remaining : R → Option Text) (failures : R → ℕ) (es
     are_chosen = refl;
     counted = refl;
     few = omega arith;
-    steps = searched_no_line es options (length es) steps;
+    steps = unsearched_lines es options (length es) [] steps;
   }
 
   -- some lines were passed, which wait if any does

@@ -1,6 +1,6 @@
 -- The laws of the definitions: one output, one list of messages, one status, one cost of the
 -- search, and one meaning of the patterns.
-use Rattle.std.proofs.Common.{◌≡◌, arith, Bool, true, false, [], ◌∷◌, refl, sym, ap, ◌∙◌, if◌then◌else◌}
+use Rattle.std.proofs.Common.{◌≡◌, Bool, [], ◌∷◌, refl, sym, ap, ◌∙◌, if◌then◌else◌}
 use Rattle.re_syntax.specs.declared.syntax.Syntax.{Syntax}
 use Rattle.re_syntax.specs.Bytes.{Text}
 use Rattle.re_syntax.specs.Expression.{Expression}
@@ -12,7 +12,7 @@ use Rattle.grep_core.specs.Output.{Out}
 use Rattle.grep_core.specs.Messages.{Messages, StatusOf}
 use Rattle.grep_core.specs.Cost.{FilesCost}
 use Rattle.grep_core.specs.Laws.{IsOne, HasOneAnswer, MeansOne, MemorySavesSteps}
-use Rattle.grep_core.proofs.lemmas.CostLaws.{files_cost, files_later, FilesCost-determined}
+use Rattle.grep_core.proofs.lemmas.CostLaws.{files_cost, fewest_files, FilesCost-determined}
 use Rattle.grep_core.proofs.lemmas.Determined.{Out-determined, Messages-determined, StatusOf-determined}
 use Rattle.grep_core.proofs.lemmas.Exist.{Out-exist, Messages-exist, StatusOf-exist}
 
@@ -26,15 +26,12 @@ has_one_answer options = record {
   one_output = (λ es files. is_one (Out es options files) (Out-exist es options files) (Out-determined es options files));
   one_list_of_messages = (λ es files. is_one (Messages es options files) (Messages-exist es options files) (Messages-determined es options files));
   one_status = (λ es files. is_one (StatusOf es options files) (StatusOf-exist es options files) (StatusOf-determined es options files));
-  one_cost = (λ es refused matchers files. is_one (FilesCost es options refused matchers files) (files_cost es options matchers refused files) (FilesCost-determined es options matchers refused files));
+  one_cost = (λ es matchers files. is_one (FilesCost es options matchers files 0) (files_cost es options matchers files) (FilesCost-determined es options matchers files));
 }
 
 -- memory saves steps
 pub memory_saves_steps : (options : Options) → MemorySavesSteps options
-memory_saves_steps options es matchers files few most p q =
-    let later = files_later es options matchers false true (λ h. refl) files few p in
-    let same = FilesCost-determined es options matchers true files later.0 most later.1 q in
-    omega (arith, later.2, same)
+memory_saves_steps options es matchers files refusals few most p q = fewest_files es options matchers files 0 refusals few most refl p q
 
 -- a pattern means at most one expression
 pub IsMeant-determined : (syntax : Syntax) (fold : Bool) (text : Text) (d e : Expression) → IsMeant syntax fold text d → IsMeant syntax fold text e → d ≡ e

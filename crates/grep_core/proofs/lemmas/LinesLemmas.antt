@@ -29,7 +29,7 @@ use Rattle.grep_core.specs.Working.Searched.{leaves_early, summary_as, BreaksSou
 use Rattle.re_syntax.proofs.lemmas.SomeOfJoined.{Any-left}
 use Rattle.grep_core.proofs.lemmas.Verdicts.{decided_yes, decided_no, picked}
 use Rattle.grep_core.proofs.lemmas.Decided.{dec_fault_met}
-use Rattle.grep_core.proofs.lemmas.CostLaws.{searched_no_line, searched_one_line, searched_more_lines, searched_first_lines}
+use Rattle.grep_core.proofs.lemmas.CostLaws.{unsearched_lines, searched_one_line, searched_more_lines, searched_first_lines}
 use Rattle.grep_core.proofs.lemmas.WriterLaws.{TakesAll-nothing, TakesAll-more, TakesFront-more, TakesFront-longer}
 use Rattle.grep_core.proofs.lemmas.OneLineLemmas.{line_passed, line_counted}
 use Rattle.grep_core.proofs.lemmas.CountedLines.{many_within}
@@ -360,7 +360,7 @@ module _ {R : Type 0} (remaining : R → Option Text) (failures : R → ℕ) (es
     wrote = writes_none es options many shown name of w;
     few = omega arith;
     none_early = λ _. refl;
-    steps = searched_no_line es options (length es) steps;
+    steps = unsearched_lines es options (length es) [] steps;
   }
 
   -- the source begins with the lines that were handed out

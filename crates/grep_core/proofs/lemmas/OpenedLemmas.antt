@@ -27,7 +27,7 @@ use Rattle.grep_core.specs.Working.Groups.{rows_after}
 use Rattle.grep_core.specs.Working.OneLine.{IsPlain, LineRowsOf}
 use Rattle.grep_core.specs.Working.Searched.{CountsSource, BreaksSource, StopsSource, SearchesSource}
 use Rattle.grep_core.proofs.lemmas.Verdicts.{decided_yes, decided_no}
-use Rattle.grep_core.proofs.lemmas.CostLaws.{searched_no_line, searched_first_lines}
+use Rattle.grep_core.proofs.lemmas.CostLaws.{unsearched_lines}
 use Rattle.grep_core.proofs.lemmas.WriterLaws.{TakesAll-nothing}
 use Rattle.grep_io.proofs.lemmas.WindowLemmas.{none_in_nothing}
 use Rattle.grep_core.proofs.lemmas.Readings.{IsReadingOf-exists}
@@ -149,7 +149,7 @@ module _ (es : List Expression) (options : Options) (many shown : Bool) (source 
         rows = [];
         are_rows = rows_begun es options many (form options) 0 (file_of source.name some.0) [] (no_rows (form options) (first_lines 0 (file_of source.name some.0)) refl);
         wrote = subst (TakesAll w w) (sym (rows_after-none (form options) shown)) (TakesAll-nothing w);
-        steps = searched_first_lines es options (length es) [] (file_of source.name some.0).lines steps steps (searched_no_line es options (length es) steps);
+        steps = unsearched_lines es options (length es) (file_of source.name some.0).lines steps;
       }
     where
       no_lines : (text : List Text) → [] ≡ take 0 text
@@ -176,7 +176,7 @@ module _ (es : List Expression) (options : Options) (many shown : Bool) (source 
     rows = [];
     are_rows = output_all es options many source.name [] Missing (form options) [] [] (rows_none es options many source.name (form options)) refl;
     wrote = subst (TakesAll w w) (sym (rows_after-none (form options) shown)) (TakesAll-nothing w);
-    steps = searched_no_line es options (length es) steps;
+    steps = unsearched_lines es options (length es) [] steps;
   }
 
 -- where no lines are shown around selected ones, it makes no difference whether an earlier source

@@ -7,7 +7,7 @@ use Rattle.re_syntax.specs.Parts.{IsFound, IsPart, ArePartsFrom, AreParts}
 use Rattle.re_syntax.proofs.lemmas.PartsLaws.{IsPart-unique}
 use Rattle.re_syntax.proofs.lemmas.PartsExist.{AreParts-exist}
 use Rattle.re_search.specs.Meters.{Steps}
-use Rattle.re_search.specs.Searching.{FindsPart}
+use Rattle.re_search.specs.Searching.{FindsPart, searches_for}
 use Rattle.re_syntax.specs.declared.span.Span.{Span}
 use Rattle.grep_core.specs.declared.options.Options.{Options}
 use Rattle.grep_io.specs.Counted.{one_more}
@@ -15,9 +15,9 @@ use Rattle.grep_core.specs.Output.{parts, form, head_of}
 use Rattle.grep_core.specs.Run.{Writer, TakesAll, TakesFront}
 use Rattle.grep_io.specs.Working.Handed.{file_so_far}
 use Rattle.grep_core.specs.Working.OneLine.{RowsOfSelected, WritesSelected, BreaksSelected}
-use Rattle.grep_core.specs.Cost.{search_cost, searches_for, PartsAsked, AsksParts}
+use Rattle.grep_core.specs.Cost.{search_cost, PartsAsked, AsksParts}
 use Rattle.re_search.specs.declared.course.Course.{Course}
-use Rattle.re_search.specs.Working.Courses.{HasTaken}
+use Rattle.re_search.specs.Working.Courses.{HasTaken, refusals}
 use Rattle.re_search.proofs.lemmas.CourseLaws.{few_searches}
 use Rattle.grep_core.proofs.lemmas.CostLaws.{adds_for_more, more_searches}
 use Rattle.grep_core.proofs.lemmas.WriterLaws.{TakesAll-nothing, TakesAll-more, TakesFront-more, TakesFront-longer}
@@ -111,10 +111,11 @@ module _ (es : List Expression) (options : Options) (many : Bool) (name : Text) 
   -- the parts were asked for once more than there are before a place
   pub parts_asked : form options ≡ parts → (from : ℕ) (old now : Writer) (begun after : Steps) (course : Course) (matchers : ℕ) → (s : PartsSoFar from old now) → HasTaken (search_cost matchers line) begun (length s.done + 1) course after → AsksParts es options matchers line begun after
   parts_asked asked from old now begun after course matchers s taken = record {
-    times = searches_for after.refused (length (s.done ++ s.left) + 1);
-    are_times = subst (λ shape. PartsAsked es options after.refused shape line (searches_for after.refused (length (s.done ++ s.left) + 1))) (sym asked) (s.done ++ s.left, s.are_parts, refl);
+    times = searches_for (refusals course.known) (length (s.done ++ s.left) + 1);
+    refusals = refusals course.known;
+    are_times = subst (λ shape. PartsAsked es options shape line (refusals course.known) (searches_for (refusals course.known) (length (s.done ++ s.left) + 1))) (sym asked) (s.done ++ s.left, s.are_parts, refl);
     few =
-        adds_for_more (searches_for after.refused (length s.done + 1)) (searches_for after.refused (length (s.done ++ s.left) + 1)) (search_cost matchers line) begun after
-        (more_searches after.refused (length s.done + 1) (length (s.done ++ s.left) + 1) (omega (arith, length-append s.done s.left)))
-        (few_searches (search_cost matchers line) begun (length s.done + 1) course after taken after.refused (λ is. is));
+        adds_for_more (searches_for (refusals course.known) (length s.done + 1)) (searches_for (refusals course.known) (length (s.done ++ s.left) + 1)) (search_cost matchers line) (refusals course.known) begun after
+        (more_searches (refusals course.known) (length s.done + 1) (length (s.done ++ s.left) + 1) (omega (arith, length-append s.done s.left)))
+        (few_searches (search_cost matchers line) begun (length s.done + 1) course after taken);
   }

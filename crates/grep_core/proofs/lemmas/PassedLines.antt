@@ -17,7 +17,7 @@ use Rattle.grep_io.specs.Reading.{most_lines}
 use Rattle.grep_io.specs.Working.Numbered.{Numbered, AreAhead, HasHanded, PassesNext}
 use Rattle.grep_core.specs.Working.Passed.{AddsCounted}
 use Rattle.grep_core.specs.Working.Stretches.{IsNextOf}
-use Rattle.grep_core.proofs.lemmas.CostLaws.{searched_no_line, searched_bytes}
+use Rattle.grep_core.proofs.lemmas.CostLaws.{unsearched_lines, searched_bytes}
 use Rattle.grep_core.proofs.lemmas.CountedLines.{many_others}
 use Rattle.grep_io.proofs.lemmas.PassedLemmas.{HasHanded-pass}
 
@@ -46,7 +46,7 @@ counted_block es options now ready rest count matched block is found counted few
 pub counted_none : {R : Type 0} (remaining : R → Option Text) (failures : R → ℕ) (es : List Expression) (options : Options) (reader : R) (handed : List Text) (now : Numbered R) (steps : Steps) (selected : ℕ) → selected < 2 ^ 64 → HasHanded remaining failures reader now handed
     → AddsCounted remaining failures es options reader handed now steps steps selected selected
 counted_none remaining failures es options reader handed now steps selected small h =
-    (0, record { passed = []; selected = refl; handed_too = subst (HasHanded remaining failures reader now) (sym (append-nil handed)) h; steps = searched_no_line es options (length es) steps }, omega (arith, small))
+    (0, record { passed = []; selected = refl; handed_too = subst (HasHanded remaining failures reader now) (sym (append-nil handed)) h; steps = unsearched_lines es options (length es) [] steps }, omega (arith, small))
 
 -- each byte of a block was a step of each matcher at most
 pub block_spent : (es : List Expression) (options : Options) (ready : Text) (old new : Steps) → IsBlock ready → AddsAtMost (length es * length ready) old new → SearchesLines es options (length es) (lines_of ready) old new

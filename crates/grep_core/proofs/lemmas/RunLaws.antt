@@ -24,7 +24,7 @@ use Rattle.grep_core.specs.Cost.{SearchesLines, SearchesFiles}
 use Rattle.grep_core.specs.Working.Groups.{GroupedAs, rows_after}
 use Rattle.grep_core.specs.Working.Searched.{is_fault, status_by, SourceGives, CountsSource, FinishesSource, BreaksSource, BreaksMessage, StopsSource}
 use Rattle.re_syntax.proofs.lemmas.SomeOfJoined.{Any-left, Any-right, Any-append-cases, Any-single, none_more}
-use Rattle.grep_core.proofs.lemmas.CostLaws.{searched_without_steps, searched_one_file, searched_up_to}
+use Rattle.grep_core.proofs.lemmas.CostLaws.{searched_without_steps, searched_up_to}
 use Rattle.grep_core.proofs.lemmas.Decided.{dec_stops}
 use Rattle.grep_core.proofs.lemmas.Verdicts.{decided_no}
 use Rattle.grep_core.proofs.lemmas.MoreFiles.{GroupedAs-append, GroupedAs-front, grouped_out}
@@ -156,7 +156,7 @@ module _ (es : List Expression) (options : Options) (many : Bool) where
           left = s.left ++ f.failures.left;
           are_left = LeftMet-append es options before (source ∷ []) s.readings (f.reading ∷ []) s.left f.failures.left s.are_readings s.goes_on s.are_left (LeftMet-one es options source f.reading f.failures.left f.failures.are_left);
           gave_back = join s.left f.failures.left s.gave_back f.failures.gave_back;
-          steps = subst (λ fs. SearchesFiles es options (length es) fs old.steps new.steps) (sym all) (searched_one_file es options (length es) files file old.steps mid.steps new.steps s.steps f.steps);
+          steps = subst (λ fs. SearchesFiles es options (length es) fs old.steps new.steps) (sym all) (searched_up_to es options (length es) files file [] old.steps mid.steps new.steps s.steps f.steps);
         }
 
     module _ (after : List Source) (is_many : many ≡ nat_le 2 (length (before ++ source ∷ after))) (r : Reading) (is_reading : IsReadingOf source r) where

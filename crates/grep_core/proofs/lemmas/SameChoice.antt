@@ -23,6 +23,7 @@ use Rattle.grep_core.specs.Output.{Form, nothing, names, counts, parts, lines, a
 use Rattle.grep_io.specs.Reading.{Source, Reading, file_of}
 use Rattle.grep_core.specs.Run.{Devices, FailuresMet, LeftMet, Finishes, BreaksOff, StopsAfter, RunGives}
 use Rattle.grep_core.specs.Working.SameChoice.{IsSameChoice, ServesForOthers}
+use Rattle.grep_core.proofs.lemmas.CostLaws.{cost_within}
 
 -- ---- what holds of some element
 
@@ -203,39 +204,39 @@ module _ (options : Options) where
         let file = file_of source.name r in
         (h.0, h.1, h.2, for_stops file (λ a. a) (LeftMet-same sources readings h.1) h.3, h.4)
 
-    -- ---- steps
+    -- ---- work
 
-    PartsAsked-same : (refused : Bool) (shape : Form) (line : Text) (times : ℕ) → PartsAsked ds options refused shape line times → PartsAsked es options refused shape line times
-    PartsAsked-same refused parts line times h = (h.0, ArePartsFrom-same ds es same options line options.line_regexp 0 h.0 h.1, h.2)
-    PartsAsked-same refused nothing line times h = h
-    PartsAsked-same refused names line times h = h
-    PartsAsked-same refused counts line times h = h
-    PartsAsked-same refused lines line times h = h
-    PartsAsked-same refused (around context) line times h = h
+    PartsAsked-same : (shape : Form) (line : Text) (refusals times : ℕ) → PartsAsked ds options shape line refusals times → PartsAsked es options shape line refusals times
+    PartsAsked-same parts line refusals times h = (h.0, ArePartsFrom-same ds es same options line options.line_regexp 0 h.0 h.1, h.2)
+    PartsAsked-same nothing line refusals times h = h
+    PartsAsked-same names line refusals times h = h
+    PartsAsked-same counts line refusals times h = h
+    PartsAsked-same lines line refusals times h = h
+    PartsAsked-same (around context) line refusals times h = h
 
     -- fewer matchers cost no more
     module _ (few most : ℕ) (fewer : few ≤ most) where
       line_cost : (times : ℕ) (line : Text) → (times + 1) * search_cost few line ≤ (times + 1) * search_cost most line
       line_cost times line = mul-le-mul_left (times + 1) (mul-le-mul_right (length line + 1) fewer)
 
-      LinesCost-same : (refused : Bool) (text : List Text) (cost : ℕ) → LinesCost ds options refused few text cost → (more : ℕ) × LinesCost es options refused most text more × (cost ≤ more)
-      LinesCost-same refused [] cost h = (0, refl, omega (arith, h))
-      LinesCost-same refused (line ∷ text) cost h =
-          let rest = LinesCost-same refused text h.1 h.3 in
-          let own = line_cost h.0 line in
-          ((h.0 + 1) * search_cost most line + rest.0, (h.0, rest.0, PartsAsked-same refused (form options) line h.0 h.2, rest.1, refl), omega (arith, h.4, own, rest.2))
+      LinesCost-same : (text : List Text) (refusals cost : ℕ) → LinesCost ds options few text refusals cost → (more : ℕ) × LinesCost es options most text refusals more × (cost ≤ more)
+      LinesCost-same [] refusals cost h = (0, (h.0, refl), omega (arith, h.1))
+      LinesCost-same (line ∷ text) refusals cost h =
+          let rest = LinesCost-same text h.1 h.3 h.5 in
+          let own = line_cost h.2 line in
+          ((h.2 + 1) * search_cost most line + rest.0, (h.0, h.1, h.2, rest.0, PartsAsked-same (form options) line h.0 h.2 h.4, rest.1, h.6, refl), omega (arith, h.7, own, rest.2))
 
-      FilesCost-same : (refused : Bool) (files : List File) (cost : ℕ) → FilesCost ds options refused few files cost → (more : ℕ) × FilesCost es options refused most files more × (cost ≤ more)
-      FilesCost-same refused [] cost h = (0, refl, omega (arith, h))
-      FilesCost-same refused (file ∷ files) cost h =
-          let own = LinesCost-same refused file.lines h.0 h.2 in
-          let rest = FilesCost-same refused files h.1 h.3 in
-          (own.0 + rest.0, (own.0, rest.0, own.1, rest.1, refl), omega (arith, h.4, own.2, rest.2))
+      FilesCost-same : (files : List File) (refusals cost : ℕ) → FilesCost ds options few files refusals cost → (more : ℕ) × FilesCost es options most files refusals more × (cost ≤ more)
+      FilesCost-same [] refusals cost h = (0, (h.0, refl), omega (arith, h.1))
+      FilesCost-same (file ∷ files) refusals cost h =
+          let own = LinesCost-same file.lines h.0 h.2 h.4 in
+          let rest = FilesCost-same files h.1 h.3 h.5 in
+          (own.0 + rest.0, (h.0, h.1, own.0, rest.0, own.1, rest.1, h.6, refl), omega (arith, h.7, own.2, rest.2))
 
       SearchesFiles-same : (files : List File) (old new : Steps) → SearchesFiles ds options few files old new → SearchesFiles es options most files old new
       SearchesFiles-same files old new s =
-          let c = FilesCost-same new.refused files s.cost s.is_cost in
-          record { cost = c.0; is_cost = c.1; few = record { built = s.few.built; reused = s.few.reused; sum = omega (arith, c.2, s.few.sum); refused = s.few.refused } }
+          let c = FilesCost-same files s.refusals s.cost s.is_cost in
+          record { cost = c.0; refusals = s.refusals; is_cost = c.1; few = cost_within s.cost c.0 s.refusals old new c.2 s.few }
 
     -- ---- runs
 

@@ -173,7 +173,7 @@ bare_if false bare none is e = absurd (false≢true e)
 pub divided_kept : {old new : Sought} {stretch : Stretch} {before all : List Text} → new ≡ old → IsDivided old stretch before all → IsDivided new stretch before all
 divided_kept {old} {new} {stretch} {before} {all} same d = subst (λ s. IsDivided s stretch before all) (sym same) d
 
--- its search took a step for each of its bytes and each expression
+-- its search took at most a step for each of its bytes and each expression, and passed no more bytes
 pub stretch_spent : {s : Sought} {stretch : Stretch} {before all : List Text} (es ds : List Expression) (old new : Steps) → ds ≡ es → IsDivided s stretch before all → AddsAtMost (length ds * stretch.bytes) old new → AddsAtMost (length es * length (terminated all)) old new
 stretch_spent {s} {stretch} {before} {all} es ds old new same d few = subst (λ n. AddsAtMost (length es * n) old new) d.width (subst (λ fs. AddsAtMost (length fs * stretch.bytes) old new) same few)
 

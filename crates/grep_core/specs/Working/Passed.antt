@@ -27,7 +27,7 @@ Waits passed old new recent held =
 module _ {R : Type 0} (remaining : R → Option Text) (failures : R → ℕ) (es : List Expression)
     (options : Options) where
   -- after the lines that were handed out some were passed, as if they had been handed out; `count`
-  -- of them are selected, and the steps are no more than their search costs
+  -- of them are selected, and what was counted is no more than their search costs
   pub record PassesCounted (reader : R) (handed : List Text) (now : Numbered R)
       (began ended : Steps) (count : ℕ) : Type 0 where
     pub passed : List Text

@@ -68,8 +68,8 @@ reported_of silent end name = if silent then [] else message (ending_of end) nam
 abbrev pub status_by : Bool → Bool → Status
 status_by some faulty = if faulty then Error else if some then Selected else NoneSelected
 
--- `began` and `ended` are the steps that were counted before and after the search; there are no
--- more than that of the file's lines costs.
+-- `began` and `ended` are what was counted before and after the search, which is no more than that
+-- of the file's lines costs.
 -- `shown` says whether an earlier source has a selected line.
 -- `given l` says that readers that had l left were returned in the search of the source
 module _ (es : List Expression) (options : Options) (many shown : Bool) (source : Source)

@@ -102,8 +102,10 @@ fn search_source<S: Sources, M: LineMatch, W: CountedWrite, N: CountedWrite>(
 /// what is left unread may be anything that agrees with what is known of the source. A source of
 /// more than `u64::MAX` lines is broken after that number of lines.
 ///
-/// The steps that the meter counts are at most those of one search of each line by each matcher,
-/// and where parts are written, of one more for each part of the line and one for its end.
+/// The meter counts at most as many steps, and at most as many passed bytes, as one search of each
+/// line by each matcher costs. Where parts are written, a line costs one search more for each of its
+/// parts and one for its end. These are at most four, unless memory for that line's list of ends was
+/// refused.
 ///
 /// What a buffering writer holds is sent before a read, which may wait, and before a message; what
 /// it holds at the end is left to the caller.
@@ -148,8 +150,8 @@ pub fn search_all<S: Sources, M: LineMatch, W: CountedWrite, N: CountedWrite>(
 /// without any of them is matched by no matcher. It is asked before the matchers, which spares most
 /// of the work where there are many matchers and few lines that they match.
 ///
-/// The output, the messages, the status and the bound on the steps are the same as without a
-/// filter.
+/// The output, the messages, the status and the bounds on steps and passed bytes are the same as
+/// without a filter.
 pub fn search_filtered<S: Sources, M: LineMatch, W: CountedWrite, N: CountedWrite>(
     request: &SearchRequest,
     sources: &mut S,

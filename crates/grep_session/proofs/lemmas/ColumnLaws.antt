@@ -11,9 +11,9 @@ use Rattle.re_syntax.specs.Lines.{newline, terminated}
 use Rattle.re_syntax.specs.declared.span.Span.{Span}
 use Rattle.re_search.specs.Searching.{AddsAtMost}
 use Rattle.grep_core.specs.Cost.{search_cost}
-use Rattle.grep_core.specs.Meters.{Steps}
+use Rattle.grep_core.specs.Meters.{Steps, Adds}
 use Rattle.grep_core.specs.declared.options.Options.{Options}
-use Rattle.grep_core.proofs.lemmas.CostLaws.{adds_both}
+use Rattle.re_meter.proofs.lemmas.Adding.{all_both}
 use Rattle.line_chunks.specs.Working.Finds.{FoundIn, finds_at, is_paired, numbers_at, AreBelow}
 use Rattle.line_chunks.specs.Working.Chunks.{KeptLine, no_line, line_text, seen}
 use Rattle.line_chunks.proofs.lemmas.PairLaws.{lt_no}
@@ -112,22 +112,22 @@ module _ (change : Change) (changed es : List Expression) (options : Options) wh
   abbrev pub n : ℕ
   n = searched_for change changed
 
-  both_costs : (refused : Bool) (texts : List Text) (p : ℕ) → CostOfEach (NewPartsCost change changed es options refused) texts p → CostOfEach (ChangeCost change changed es options refused) texts (n * length (terminated texts) + p)
-  both_costs refused [] p c = omega (arith, c)
-  both_costs refused (text ∷ texts) p c =
+  both_costs : (texts : List Text) (r p : ℕ) → CostOfEach (NewPartsCost change changed es options) texts r p → CostOfEach (ChangeCost change changed es options) texts r (n * length (terminated texts) + p)
+  both_costs [] r p c = (c.0, omega (arith, c.1))
+  both_costs (text ∷ texts) r p c =
       let long : length (terminated (text ∷ texts)) ≡ length text + 1 + length (terminated texts) = omega (arith, length-append text (newline ∷ terminated texts)) in
       let bytes : n * length (terminated (text ∷ texts)) ≡ search_cost n text + n * length (terminated texts) = ap (λ k. n * k) long ∙ spread (length text + 1) (length (terminated texts)) in
-      (search_cost n text + c.0, n * length (terminated texts) + c.1, (c.0, c.2, refl), both_costs refused texts c.1 c.3, omega (arith, bytes, c.4))
+      (c.0, c.1, search_cost n text + c.2, n * length (terminated texts) + c.3, (c.2, c.4, refl), both_costs texts c.1 c.3 c.5, c.6, omega (arith, bytes, c.7))
     where
       spread : (a b : ℕ) → n * (a + b) ≡ n * a + n * b
       spread a b = omega arith
 
   pub chunk_steps : (texts : List Text) (begun mid ended : Steps) → AddsAtMost (n * length (terminated texts)) begun mid → SearchesEach (NewPartsCost change changed es options) texts mid ended → SearchesEach (ChangeCost change changed es options) texts begun ended
-  chunk_steps texts begun mid ended few parts = record {
-    at_most = λ refused later.
-        let p = parts.at_most refused later in
-        (n * length (terminated texts) + p.0, both_costs refused texts p.0 p.1, adds_both (n * length (terminated texts)) p.0 begun mid ended few p.2);
-  }
+  chunk_steps texts begun mid ended few parts =
+      let p = parts.at_most in
+      let bytes = n * length (terminated texts) in
+      let refusals : 0 + p.0 ≡ p.0 = omega arith in
+      record { at_most = (p.0, bytes + p.1, both_costs texts p.0 p.1 p.2, subst (λ k. Adds (bytes + p.1) (bytes + p.1) k begun ended) refusals (all_both bytes p.1 bytes p.1 0 p.0 begun mid ended few p.3)) }
 
   -- the same before the search for parts
   pub chunk_begun : (texts : List Text) (begun ended : Steps) → AddsAtMost (n * length (terminated texts)) begun ended → SearchesEach (ChangeCost change changed es options) texts begun ended

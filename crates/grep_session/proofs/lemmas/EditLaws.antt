@@ -1,5 +1,5 @@
--- The laws of the definitions: an edit has one outcome for its inputs, and one cost, which is no less where memory is refused.
-use Rattle.std.proofs.Common.{◌≡◌, ℕ, ◌+◌, ◌*◌, ◌<◌, ◌≤◌, IsTrue, Bool, true, false, List, [], ◌∷◌, length, Result, Ok, Err, MatchBool, take, get_or, length-take, refl, sym, ap, subst, ◌∙◌, arith}
+-- The laws of the definitions: an edit has one outcome for its inputs, and one cost where no memory is refused, which is the least.
+use Rattle.std.proofs.Common.{◌≡◌, ℕ, ◌+◌, ◌*◌, ◌<◌, ◌≤◌, Bool, true, false, List, [], ◌∷◌, length, Result, Ok, Err, MatchBool, take, get_or, length-take, refl, sym, ap, subst, ◌∙◌, arith}
 use Rattle.re_syntax.specs.declared.fault.PatternFault.{PatternFault}
 use Rattle.re_syntax.specs.declared.syntax.Syntax.{Syntax}
 use Rattle.re_syntax.specs.Bytes.{Text}
@@ -12,7 +12,8 @@ use Rattle.re_syntax.proofs.lemmas.PartsLaws.{ArePartsFrom-unique}
 use Rattle.re_search.specs.Reading.{IsReadable}
 use Rattle.grep_core.specs.declared.options.Options.{Options}
 use Rattle.grep_core.specs.Choose.{Chosen}
-use Rattle.grep_core.specs.Cost.{search_cost, searches_for}
+use Rattle.re_search.specs.Searching.{searches_for}
+use Rattle.grep_core.specs.Cost.{search_cost}
 use Rattle.grep_core.proofs.lemmas.CostLaws.{refused_searches}
 use Rattle.std.proofs.Math.Nat.{mul-le-mul_right}
 use Rattle.grep_core.specs.Files.{Inputs, Matched}
@@ -92,84 +93,60 @@ Touches-once (SetContext context) old a b p q = same_value p q
 Touches-once (AddMissing name) old a b p q = same_value p q
 Touches-once (DropFile k) old a b p q = same_value p q
 
-module _ (es : List Expression) (options : Options) (refused : Bool) where
-  PartsCostOf-once : (line : Text) (a b : ℕ) → PartsCostOf es options refused line a → PartsCostOf es options refused line b → a ≡ b
-  PartsCostOf-once line a b p q = by_flag options.only_matching p q
+-- parts cost least where no memory is refused
+module _ (es : List Expression) (options : Options) where
+  PartsCostOf-least : (line : Text) (refusals few most : ℕ) → PartsCostOf es options line 0 few → PartsCostOf es options line refusals most → few ≤ most
+  PartsCostOf-least line refusals few most p q = by_flag options.only_matching p q
     where
-      Cost : Bool → ℕ → Type 0
-      Cost asked n = MatchBool asked ((parts : List (ℕ × ℕ)) × AreParts es line options.line_regexp parts × (n ≡ searches_for refused (length parts + 1) * search_cost (length es) line)) (n ≡ 0)
+      Cost : ℕ → Bool → ℕ → Type 0
+      Cost r asked n = MatchBool asked ((parts : List (ℕ × ℕ)) × AreParts es line options.line_regexp parts × (n ≡ searches_for r (length parts + 1) * search_cost (length es) line)) ((r ≡ 0) × (n ≡ 0))
 
-      by_flag : (asked : Bool) → Cost asked a → Cost asked b → a ≡ b
-      by_flag true p q = p.2 ∙ ap (λ ps. searches_for refused (length ps + 1) * search_cost (length es) line) (ArePartsFrom-unique es line options.line_regexp p.0 q.0 0 p.1 q.1) ∙ sym q.2
-      by_flag false p q = same_value p q
+      by_flag : (asked : Bool) → Cost 0 asked few → Cost refusals asked most → few ≤ most
+      by_flag true p q =
+          let n = search_cost (length es) line in
+          let times = length p.0 + 1 in
+          let least : searches_for 0 times * n ≤ searches_for refusals times * n = mul-le-mul_right n (refused_searches refusals times) in
+          let same : most ≡ searches_for refusals times * n = q.2 ∙ ap (λ ps. searches_for refusals (length ps + 1) * n) (ArePartsFrom-unique es line options.line_regexp q.0 p.0 0 q.1 p.1) in
+          subst (λ m. few ≤ m) (sym same) (subst (λ m. m ≤ searches_for refusals times * n) (sym p.2) least)
+      by_flag false p q = omega (arith, p.1)
 
-  PartsCost-once : (lines : List Text) (a b : ℕ) → PartsCost es options refused lines a → PartsCost es options refused lines b → a ≡ b
-  PartsCost-once [] a b p q = same_value p q
-  PartsCost-once (line ∷ lines) a b p q =
-      let own : p.0 ≡ q.0 = PartsCostOf-once line p.0 q.0 p.2 q.2 in
-      let rest : p.1 ≡ q.1 = PartsCost-once lines p.1 q.1 p.3 q.3 in
-      p.4 ∙ (λ i. own i + rest i) ∙ sym q.4
+  PartsCost-least : (lines : List Text) (refusals few most : ℕ) → PartsCost es options lines 0 few → PartsCost es options lines refusals most → few ≤ most
+  PartsCost-least [] refusals few most p q = omega (arith, p.1)
+  PartsCost-least (line ∷ lines) refusals few most p q =
+      let mine : p.0 ≡ 0 = omega (arith, p.6) in
+      let others : p.1 ≡ 0 = omega (arith, p.6) in
+      let own : p.2 ≤ q.2 = PartsCostOf-least line q.0 p.2 q.2 (subst (λ n. PartsCostOf es options line n p.2) mine p.4) q.4 in
+      let rest : p.3 ≤ q.3 = PartsCost-least lines q.1 p.3 q.3 (subst (λ n. PartsCost es options lines n p.3) others p.5) q.5 in
+      omega (arith, p.7, q.7, own, rest)
 
-accepted_once : (refused : Bool) (edit : Edit) (old new : Inputs) (a b : ℕ) → CostsAccepted refused edit old new a → CostsAccepted refused edit old new b → a ≡ b
-accepted_once refused edit old new a b p q =
+accepted_least : (refusals : ℕ) (edit : Edit) (old new : Inputs) (few most : ℕ) → CostsAccepted 0 edit old new few → CostsAccepted refusals edit old new most → few ≤ most
+accepted_least refusals edit old new few most p q =
     let es : p.es ≡ q.es = means_one new.syntax new.options new.patterns p.es q.es p.are_meant q.are_meant in
     let touched : p.touched ≡ q.touched = Touches-once edit old p.touched q.touched p.are_touched q.are_touched in
-    let mine : PartsCost q.es new.options refused q.touched.lines p.parts = subst (λ t. PartsCost q.es new.options refused t.lines p.parts) touched (subst (λ es. PartsCost es new.options refused p.touched.lines p.parts) es p.are_parts) in
-    let parts : p.parts ≡ q.parts = PartsCost-once q.es new.options refused q.touched.lines p.parts q.parts mine q.are_parts in
-    p.is_sum ∙ (λ i. pairs_cost (touched i).patterns (touched i).paired + parts i) ∙ sym q.is_sum
-
--- an edit has one cost
-pub Costs-once : (refused : Bool) (edit : Edit) (old : Inputs) (a b : ℕ) → Costs refused edit old a → Costs refused edit old b → a ≡ b
-Costs-once refused edit old a b p q = by_outcome p.0 q.0 (Applies-once edit old p.0 q.0 p.1 q.1) p.2 q.2
-  where
-    by_outcome : (o r : Result Inputs EditFault) → AreAlike o r → CostsAs refused edit old o a → CostsAs refused edit old r b → a ≡ b
-    by_outcome (Ok m) (Ok n) same c d = accepted_once refused edit old n a b (subst (λ x. CostsAccepted refused edit old x a) same c) d
-    by_outcome (Ok m) (Err g) none c d = absurd none
-    by_outcome (Err f) (Ok n) none c d = absurd none
-    by_outcome (Err f) (Err g) same c d = same_value c d
-
--- ---- where memory is refused
-
-module _ (es : List Expression) (options : Options) (before after : Bool) (later : IsTrue before → IsTrue after) where
-  PartsCostOf-later : (line : Text) (cost : ℕ) → PartsCostOf es options before line cost → (more : ℕ) × PartsCostOf es options after line more × (cost ≤ more)
-  PartsCostOf-later line cost p = by_flag options.only_matching p
-    where
-      Cost : Bool → Bool → ℕ → Type 0
-      Cost refused asked n = MatchBool asked ((parts : List (ℕ × ℕ)) × AreParts es line options.line_regexp parts × (n ≡ searches_for refused (length parts + 1) * search_cost (length es) line)) (n ≡ 0)
-
-      by_flag : (asked : Bool) → Cost before asked cost → (more : ℕ) × Cost after asked more × (cost ≤ more)
-      by_flag true p =
-          let n = search_cost (length es) line in
-          let more : searches_for before (length p.0 + 1) * n ≤ searches_for after (length p.0 + 1) * n = mul-le-mul_right n (refused_searches before after (length p.0 + 1) later) in
-          (searches_for after (length p.0 + 1) * n, (p.0, p.1, refl), subst (λ c. c ≤ searches_for after (length p.0 + 1) * n) (sym p.2) more)
-      by_flag false p = (0, refl, omega (arith, p))
-
-  PartsCost-later : (lines : List Text) (cost : ℕ) → PartsCost es options before lines cost → (more : ℕ) × PartsCost es options after lines more × (cost ≤ more)
-  PartsCost-later [] cost p = (0, refl, omega (arith, p))
-  PartsCost-later (line ∷ lines) cost p =
-      let own = PartsCostOf-later line p.0 p.2 in
-      let rest = PartsCost-later lines p.1 p.3 in
-      (own.0 + rest.0, (own.0, rest.0, own.1, rest.1, refl), omega (arith, p.4, own.2, rest.2))
-
--- an edit costs no less where memory that saves steps was refused
-pub Costs-later : (before after : Bool) → (IsTrue before → IsTrue after) → (edit : Edit) (old : Inputs) (cost : ℕ) → Costs before edit old cost → (more : ℕ) × Costs after edit old more × (cost ≤ more)
-Costs-later before after later edit old cost p = by_outcome p.0 p.1 p.2
-  where
-    by_outcome : (o : Result Inputs EditFault) → Applies edit old o → CostsAs before edit old o cost → (more : ℕ) × Costs after edit old more × (cost ≤ more)
-    by_outcome (Ok new) applies c =
-        let parts = PartsCost-later c.es new.options before after later c.touched.lines c.parts c.are_parts in
-        let pairs = pairs_cost c.touched.patterns c.touched.paired in
-        (pairs + parts.0, (Ok new, applies, record { es = c.es; are_meant = c.are_meant; touched = c.touched; are_touched = c.are_touched; parts = parts.0; are_parts = parts.1; is_sum = refl }), omega (arith, c.is_sum, parts.2))
-    by_outcome (Err fault) applies c = (0, (Err fault, applies, refl), omega (arith, c))
+    let mine : PartsCost q.es new.options q.touched.lines 0 p.parts = subst (λ t. PartsCost q.es new.options t.lines 0 p.parts) touched (subst (λ es. PartsCost es new.options p.touched.lines 0 p.parts) es p.are_parts) in
+    let parts : p.parts ≤ q.parts = PartsCost-least q.es new.options q.touched.lines refusals p.parts q.parts mine q.are_parts in
+    let pairs : pairs_cost p.touched.patterns p.touched.paired ≡ pairs_cost q.touched.patterns q.touched.paired = ap (λ t. pairs_cost t.patterns t.paired) touched in
+    omega (arith, p.is_sum, q.is_sum, pairs, parts)
 
 -- ---- laws
 
+-- an edit costs least where no memory is refused
 pub memory_saves_edit_steps : MemorySavesEditSteps
-memory_saves_edit_steps edit old few most p q =
-    let later = Costs-later false true (λ h. refl) edit old few p in
-    let same = Costs-once true edit old later.0 most later.1 q in
-    omega (arith, later.2, same)
+memory_saves_edit_steps edit old refusals few most p q = by_outcome p.0 q.0 (Applies-once edit old p.0 q.0 p.1 q.1) p.2 q.2
+  where
+    by_outcome : (o r : Result Inputs EditFault) → AreAlike o r → CostsAs 0 edit old o few → CostsAs refusals edit old r most → few ≤ most
+    by_outcome (Ok m) (Ok n) same c d = accepted_least refusals edit old n few most (subst (λ x. CostsAccepted 0 edit old x few) same c) d
+    by_outcome (Ok m) (Err g) none c d = absurd none
+    by_outcome (Err f) (Ok n) none c d = absurd none
+    by_outcome (Err f) (Err g) same c d = omega (arith, c.1)
+
+-- so it has one cost
+costs_once : (edit : Edit) (old : Inputs) (a b : ℕ) → Costs 0 edit old a → Costs 0 edit old b → a ≡ b
+costs_once edit old a b p q =
+    let there = memory_saves_edit_steps edit old 0 a b p q in
+    let back = memory_saves_edit_steps edit old 0 b a q p in
+    omega (arith, there, back)
 
 -- one outcome and one cost
 pub edits_are_determined : EditsAreDetermined
-edits_are_determined edit old = record { one_outcome = Applies-once edit old; one_cost = λ refused. Costs-once refused edit old }
+edits_are_determined edit old = record { one_outcome = Applies-once edit old; one_cost = costs_once edit old }

@@ -7,16 +7,17 @@ use Rattle.re_syntax.specs.Holds.{Matches}
 use Rattle.re_syntax.specs.Parts.{IsFound, IsPart, ArePartsFrom, AreParts}
 use Rattle.re_syntax.proofs.lemmas.PartsLaws.{IsPart-unique}
 use Rattle.re_syntax.proofs.lemmas.PartsExist.{AreParts-exist}
-use Rattle.re_search.specs.Searching.{AddsAtMost}
+use Rattle.re_search.specs.Searching.{searches_for}
 use Rattle.re_syntax.specs.declared.span.Span.{Span}
-use Rattle.grep_core.specs.Meters.{Steps}
+use Rattle.grep_core.specs.Meters.{Steps, Adds}
 use Rattle.grep_core.specs.declared.options.Options.{Options}
 use Rattle.grep_core.specs.Choose.{IfHolds}
 use Rattle.re_search.specs.declared.course.Course.{Course}
-use Rattle.re_search.specs.Working.Courses.{HasTaken}
+use Rattle.re_search.specs.Working.Courses.{HasTaken, refusals}
 use Rattle.re_search.proofs.lemmas.CourseLaws.{few_searches}
-use Rattle.grep_core.specs.Cost.{search_cost, searches_for}
-use Rattle.grep_core.proofs.lemmas.CostLaws.{adds_for_more, adds_none, more_searches}
+use Rattle.grep_core.specs.Cost.{search_cost}
+use Rattle.grep_core.proofs.lemmas.CostLaws.{adds_for_more, more_searches}
+use Rattle.re_meter.proofs.lemmas.Adding.{adds_none}
 use Rattle.grep_session.specs.Working.Kept.{AreMatching, AddsMatching, span_places}
 use Rattle.grep_session.specs.Touched.{PartsCostOf}
 use Rattle.grep_session.specs.Working.Changed.{SearchesOne}
@@ -98,19 +99,21 @@ module _ (es : List Expression) (options : Options) (line : Text) where
   -- the parts cost what the searches for them took
   pub spans_cost : options.only_matching ≡ true → (from : ℕ) (spans : List Span) (begun after : Steps) (course : Course) (matchers : ℕ) → matchers ≡ length es → SpansSoFar from spans → HasTaken (search_cost matchers line) begun (length spans + 1) course after
       → SearchesOne (PartsCostOf es options) line begun after
-  spans_cost asked from spans begun after course matchers many s taken = record {
-    at_most = λ refused later.
-        let all = map span_places spans ++ s.left in
-        let own = searches_for refused (length all + 1) * search_cost (length es) line in
-        let enough : length spans + 1 ≤ length all + 1 = omega (arith, length-append (map span_places spans) s.left, length-map spans span_places) in
-        let cost : MatchBool true ((parts : List (ℕ × ℕ)) × AreParts es line options.line_regexp parts × (own ≡ searches_for refused (length parts + 1) * search_cost (length es) line)) (own ≡ 0) = (all, s.are_parts, refl) in (
+  spans_cost asked from spans begun after course matchers many s taken =
+      let all = map span_places spans ++ s.left in
+      let own = refusals course.known in
+      let cost = searches_for own (length all + 1) * search_cost (length es) line in
+      let enough : length spans + 1 ≤ length all + 1 = omega (arith, length-append (map span_places spans) s.left, length-map spans span_places) in
+      let is : MatchBool true ((parts : List (ℕ × ℕ)) × AreParts es line options.line_regexp parts × (cost ≡ searches_for own (length parts + 1) * search_cost (length es) line)) ((own ≡ 0) × (cost ≡ 0)) = (all, s.are_parts, refl) in
+      record {
+        at_most = (
           own,
-          subst (λ b. MatchBool b ((parts : List (ℕ × ℕ)) × AreParts es line options.line_regexp parts × (own ≡ searches_for refused (length parts + 1) * search_cost (length es) line)) (own ≡ 0)) (sym asked) cost,
-          subst (λ n. AddsAtMost (searches_for refused (length all + 1) * search_cost n line) begun after) many
-              (adds_for_more (searches_for refused (length spans + 1)) (searches_for refused (length all + 1)) (search_cost matchers line) begun after (more_searches refused (length spans + 1) (length all + 1) enough)
-              (few_searches (search_cost matchers line) begun (length spans + 1) course after taken refused later)),
+          cost,
+          subst (λ b. MatchBool b ((parts : List (ℕ × ℕ)) × AreParts es line options.line_regexp parts × (cost ≡ searches_for own (length parts + 1) * search_cost (length es) line)) ((own ≡ 0) × (cost ≡ 0))) (sym asked) is,
+          subst (λ n. Adds (searches_for own (length all + 1) * search_cost n line) (searches_for own (length all + 1) * search_cost n line) own begun after) many
+              (adds_for_more _ _ (search_cost matchers line) own begun after (more_searches own (length spans + 1) (length all + 1) enough) (few_searches (search_cost matchers line) begun (length spans + 1) course after taken)),
         );
-  }
+      }
 
   -- one part more was asked for
   pub spans_more : (spans pushed : List Span) (span : Span) (cost : ℕ) (begun after : Steps) (course : Course) → pushed ≡ spans ++ span ∷ [] → HasTaken cost begun (length spans + 1) course after → HasTaken cost begun (length pushed) course after
@@ -119,13 +122,18 @@ module _ (es : List Expression) (options : Options) (line : Text) where
   -- where parts are not asked for they cost nothing
   pub unasked_parts : options.only_matching ≡ false → (steps : Steps) → SearchesOne (PartsCostOf es options) line steps steps
   unasked_parts unasked steps = record {
-    at_most = λ refused later. (0, subst (λ b. MatchBool b ((parts : List (ℕ × ℕ)) × AreParts es line options.line_regexp parts × (0 ≡ searches_for refused (length parts + 1) * search_cost (length es) line)) (◌≡◌ {A = ℕ} 0 0)) (sym unasked) refl, adds_none 0 steps);
+    at_most = (
+      0,
+      0,
+      subst (λ b. MatchBool b ((parts : List (ℕ × ℕ)) × AreParts es line options.line_regexp parts × (0 ≡ searches_for 0 (length parts + 1) * search_cost (length es) line)) ((◌≡◌ {A = ℕ} 0 0) × (◌≡◌ {A = ℕ} 0 0))) (sym unasked) (refl, refl),
+      adds_none 0 0 steps,
+    );
   }
 
-  -- a line's parts have a cost
-  pub parts_cost_exists : (refused : Bool) → (own : ℕ) × PartsCostOf es options refused line own
-  parts_cost_exists refused = by_flag options.only_matching
+  -- a line's parts have a cost where no memory is refused
+  pub parts_cost_exists : (own : ℕ) × PartsCostOf es options line 0 own
+  parts_cost_exists = by_flag options.only_matching
     where
-      by_flag : (asked : Bool) → (own : ℕ) × MatchBool asked ((parts : List (ℕ × ℕ)) × AreParts es line options.line_regexp parts × (own ≡ searches_for refused (length parts + 1) * search_cost (length es) line)) (own ≡ 0)
-      by_flag true = let ps = AreParts-exist es line options.line_regexp in (searches_for refused (length ps.0 + 1) * search_cost (length es) line, (ps.0, ps.1, refl))
-      by_flag false = (0, refl)
+      by_flag : (asked : Bool) → (own : ℕ) × MatchBool asked ((parts : List (ℕ × ℕ)) × AreParts es line options.line_regexp parts × (own ≡ searches_for 0 (length parts + 1) * search_cost (length es) line)) ((◌≡◌ {A = ℕ} 0 0) × (own ≡ 0))
+      by_flag true = let ps = AreParts-exist es line options.line_regexp in (searches_for 0 (length ps.0 + 1) * search_cost (length es) line, (ps.0, ps.1, refl))
+      by_flag false = (0, (refl, refl))

@@ -111,7 +111,7 @@ module _ (list : Text) (old : Inputs) (few : most_patterns < length old.patterns
   pub takes_new : (first : ℕ) (es changed : List Expression) (begun ended : Steps) → All (IsReadable old.syntax old.options.ignore_case) (list_of list) → AreMeant old.syntax old.options (old.patterns ++ list_of list) es → AreMeant old.syntax old.options (list_of list) changed
       → length changed ≡ length (list_of list) → SearchesEach (ChangeCost (Added first) changed es old.options) (all_lines old) begun ended → TakesSteps (AddPatterns list) old begun ended
   takes_new first es changed begun ended readable meant new many s =
-      let spent = s.at_most ended.refused (λ is. is) in
-      let sum = CostOfEach-sum (Added first) changed es old.options ended.refused (all_lines old) spent.0 spent.1 in
-      takes_touched (AddPatterns list) old (with_patterns (old.patterns ++ list_of list) old) es (record { patterns = length (list_of list); paired = all_lines old; lines = sum.0 }) spent.0 sum.1 begun ended (inr (few, inl (readable, refl))) (changed, new, sum.0, sum.2, refl) meant sum.3
-      (sum.4 ∙ ap (λ n. pairs_cost n (all_lines old) + sum.1) many) spent.2
+      let spent = s.at_most in
+      let sum = CostOfEach-sum (Added first) changed es old.options (all_lines old) spent.0 spent.1 spent.2 in
+      takes_touched (AddPatterns list) old (with_patterns (old.patterns ++ list_of list) old) es (record { patterns = length (list_of list); paired = all_lines old; lines = sum.0 }) spent.0 spent.1 sum.1 begun ended (inr (few, inl (readable, refl))) (changed, new, sum.0, sum.2, refl) meant sum.3
+      (sum.4 ∙ ap (λ n. pairs_cost n (all_lines old) + sum.1) many) spent.3

@@ -6,17 +6,16 @@ use Rattle.std.proofs.lemmas.Bool.Decides.{nat_tests}
 use Rattle.re_syntax.specs.Bytes.{Text}
 use Rattle.re_syntax.specs.Expression.{Expression}
 use Rattle.re_syntax.specs.declared.span.Span.{Span}
-use Rattle.grep_core.specs.Meters.{Steps}
-use Rattle.re_search.specs.Searching.{AddsAtMost}
+use Rattle.grep_core.specs.Meters.{Steps, Adds}
 use Rattle.grep_core.specs.declared.options.Options.{Options}
-use Rattle.grep_core.proofs.lemmas.CostLaws.{adds_within}
+use Rattle.grep_core.proofs.lemmas.CostLaws.{cost_within}
 use Rattle.line_chunks.specs.Working.Finds.{is_paired, numbers_at}
 use Rattle.line_chunks.specs.Working.Chunks.{KeptLine, no_line}
 use Rattle.line_chunks.proofs.lemmas.PairLaws.{numbers_at-append}
 use Rattle.grep_session.specs.declared.change.Change.{Change}
 use Rattle.grep_session.specs.declared.change.Change.TheVariants.{Added}
 use Rattle.grep_session.specs.Touched.{PartsCostOf}
-use Rattle.grep_session.specs.Working.Changed.{HasNewParts, NewPartsCost, SearchesOne}
+use Rattle.grep_session.specs.Working.Changed.{HasNewParts, NewPartsCost, SearchesOne, TakesAtMost}
 use Rattle.grep_session.specs.Working.Columns.{Grows, has_new_parts, ArePartsAgain, CostsParts}
 use Rattle.grep_session.proofs.lemmas.ColumnLemmas.{front_and_rest}
 use Rattle.grep_session.proofs.lemmas.StepLemmas.{NewPartsCost-exists}
@@ -48,7 +47,8 @@ added_marks items change first size n old new (Ok marks) is counted grows marked
 pub costs_search : (matched anew : Bool) (es : List Expression) (options : Options) (line : Text) (begun ended : Steps) → matched ≡ true → anew ≡ true → SearchesOne (PartsCostOf es options) line begun ended → CostsParts matched anew es options line begun ended
 costs_search matched anew es options line begun ended m a s =
     let both : matched && anew ≡ true = ap (λ b. b && anew) m ∙ a in
-    record { at_most = λ refused later. let own = s.at_most refused later in (own.0, subst (λ b. MatchBool b (PartsCostOf es options refused line own.0) (own.0 ≡ 0)) (sym both) own.1, own.2) }
+    let own = s.at_most in
+    record { at_most = (own.0, own.1, subst (λ b. MatchBool b (PartsCostOf es options line own.0 own.1) ((own.0 ≡ 0) × (own.1 ≡ 0))) (sym both) own.2, own.3) }
 
 -- the parts of a line by what its marks stand for
 pub parts_by : (matched paired anew fresh : Bool) (es : List Expression) (options : Options) (line : KeptLine) (spans : List Span) → matched ≡ paired → (paired ≡ true → anew ≡ fresh) → ArePartsAgain matched anew es options line spans → ArePartsAgain paired fresh es options line spans
@@ -58,15 +58,17 @@ parts_by matched true anew fresh es options line spans m a are = subst (λ b. Ar
 -- the steps for its parts
 pub costs_one : (change : Change) (changed es : List Expression) (options : Options) (line : Text) (matched paired anew fresh : Bool) (begun ended : Steps) → matched ≡ paired → (paired ≡ true → anew ≡ fresh) → Decides fresh (HasNewParts change changed options line)
     → CostsParts matched anew es options line begun ended → SearchesOne (NewPartsCost change changed es options) line begun ended
-costs_one change changed es options line matched paired anew fresh begun ended m a d s = record { at_most = λ refused later. let own = s.at_most refused later in by_marks refused own.0 own.2 matched anew m a own.1 }
+costs_one change changed es options line matched paired anew fresh begun ended m a d s = record { at_most = by_marks s.at_most.0 s.at_most.1 s.at_most.3 matched anew m a s.at_most.2 }
   where
-    none : (refused : Bool) (own : ℕ) → AddsAtMost own begun ended → own ≡ 0 → (cost : ℕ) × NewPartsCost change changed es options refused line cost × AddsAtMost cost begun ended
-    none refused own few nothing = let cost = NewPartsCost-exists change changed es options refused line in (cost.0, cost.1, adds_within own cost.0 begun ended (omega (arith, nothing)) few)
+    none : (refusals own : ℕ) → Adds own own refusals begun ended → (refusals ≡ 0) × (own ≡ 0) → TakesAtMost (NewPartsCost change changed es options line) begun ended
+    none refusals own few nothing =
+        let cost = NewPartsCost-exists change changed es options line in
+        (0, cost.0, cost.1, cost_within own cost.0 0 begun ended (omega (arith, nothing.1)) (subst (λ k. Adds own own k begun ended) nothing.0 few))
 
-    by_marks : (refused : Bool) (own : ℕ) → AddsAtMost own begun ended → (b f : Bool) → b ≡ paired → (paired ≡ true → f ≡ fresh) → MatchBool (b && f) (PartsCostOf es options refused line own) (own ≡ 0) → (cost : ℕ) × NewPartsCost change changed es options refused line cost × AddsAtMost cost begun ended
-    by_marks refused own few false f m a nothing = none refused own few nothing
-    by_marks refused own few true false m a nothing = none refused own few nothing
-    by_marks refused own few true true m a is_own = (own, inl (d.0 (sym (a (sym m))), is_own), few)
+    by_marks : (refusals own : ℕ) → Adds own own refusals begun ended → (b f : Bool) → b ≡ paired → (paired ≡ true → f ≡ fresh) → MatchBool (b && f) (PartsCostOf es options line refusals own) ((refusals ≡ 0) × (own ≡ 0)) → TakesAtMost (NewPartsCost change changed es options line) begun ended
+    by_marks refusals own few false f m a nothing = none refusals own few nothing
+    by_marks refusals own few true false m a nothing = none refusals own few nothing
+    by_marks refusals own few true true m a is_own = (refusals, own, inl (d.0 (sym (a (sym m))), is_own), few)
 
 -- one more text
 pub take-suc' : (texts : List Text) (k : ℕ) (text : Text) → k < length texts → get_or texts k [] ≡ text → take (k + 1) texts ≡ take k texts ++ text ∷ []

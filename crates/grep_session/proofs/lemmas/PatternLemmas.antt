@@ -53,12 +53,12 @@ pub takes_drop : (p : ℕ) (old : Inputs) (es before : List Expression) (e : Exp
 takes_drop p old es before e begun ended within meant h s =
     let same : e ≡ h.0 = ap (λ (l : List Expression). get_or l 0 e) h.4 in
     let is : e ≡ get_or before p e = subst (λ d. d ≡ get_or before p d) (sym same) h.2 in
-    let spent = s.at_most ended.refused (λ is. is) in
-    let sum = CostOfEach-sum (Dropped p) (e ∷ []) es old.options ended.refused (all_lines old) spent.0 spent.1 in
+    let spent = s.at_most in
+    let sum = CostOfEach-sum (Dropped p) (e ∷ []) es old.options (all_lines old) spent.0 spent.1 spent.2 in
     let one = AllZip-at (λ text e. IsMeant old.syntax old.options.ignore_case text e) old.patterns before p [] e meant within in
     let chosen = Chosen-as (Matched (e ∷ []) old.options) (λ line. Matches e line old.options.line_regexp) (λ line m. Any-single (λ e. Matches e line old.options.line_regexp) e m) (λ line m. Any-first (λ e. Matches e line old.options.line_regexp) e [] m) (all_lines old) sum.0 sum.2 in
-    takes_touched (DropPattern p) old (with_patterns (remove old.patterns p) old) es (parts_alone sum.0) spent.0 sum.1 begun ended (inl (within, refl)) (e, subst (IsMeant old.syntax old.options.ignore_case (get_or old.patterns p [])) (sym is) one, sum.0, chosen, refl)
-    (subst (AreMeant old.syntax old.options (remove old.patterns p)) (sym h.3) (AllZip-remove (λ text e. IsMeant old.syntax old.options.ignore_case text e) old.patterns before p meant)) sum.3 (sum.4 ∙ ap (λ n. n + sum.1) (pairs_cost-none (all_lines old))) spent.2
+    takes_touched (DropPattern p) old (with_patterns (remove old.patterns p) old) es (parts_alone sum.0) spent.0 spent.1 sum.1 begun ended (inl (within, refl)) (e, subst (IsMeant old.syntax old.options.ignore_case (get_or old.patterns p [])) (sym is) one, sum.0, chosen, refl)
+    (subst (AreMeant old.syntax old.options (remove old.patterns p)) (sym h.3) (AllZip-remove (λ text e. IsMeant old.syntax old.options.ignore_case text e) old.patterns before p meant)) sum.3 (sum.4 ∙ ap (λ n. n + sum.1) (pairs_cost-none (all_lines old))) spent.3
 
 -- an element that was removed is put back
 insert_first : {X : Type 0} (xs : List X) (y : X) → insert xs 0 y ≡ y ∷ xs

@@ -1,11 +1,10 @@
 -- What becomes of what is kept when patterns change, and how many steps that takes.
-use Rattle.std.specs.Prelude.{◌≡◌, ℕ, ◌+◌, ◌<◌, ◌≤◌, Bool, IsTrue, ⊤, List, [], ◌∷◌, length, take, drop, get_or}
+use Rattle.std.specs.Prelude.{◌≡◌, ℕ, ◌+◌, ◌<◌, ◌≤◌, ⊤, List, [], ◌∷◌, length, take, drop, get_or}
 use Rattle.std.specs.Prelude.{All, IfSome}
 use Rattle.std.specs.List.{remove}
 use Rattle.re_syntax.specs.Bytes.{Text}
 use Rattle.re_syntax.specs.Expression.{Expression}
-use Rattle.re_search.specs.Searching.{AddsAtMost}
-use Rattle.grep_core.specs.Meters.{Steps}
+use Rattle.grep_core.specs.Meters.{Steps, Adds}
 use Rattle.grep_core.specs.declared.options.Options.{Options}
 use Rattle.grep_core.specs.Choose.{IfHolds}
 use Rattle.grep_core.specs.Cost.{search_cost}
@@ -56,43 +55,42 @@ HasNewParts (Added first) changed options line = Matched changed options line
 HasNewParts (Dropped p) changed options line = Matched changed options line
 HasNewParts _ changed options line = ⊤
 
--- the cost of the search for a line's parts, if memory that saves steps was refused or not
-abbrev pub NewPartsCost : Change → List Expression → List Expression → Options → Bool → Text → ℕ →
+-- the cost of the search for a line's parts, where memory for its list of ends was refused so often
+abbrev pub NewPartsCost : Change → List Expression → List Expression → Options → Text → ℕ → ℕ →
     Type 0
-NewPartsCost change changed es options refused line cost =
-    IfHolds (HasNewParts change changed options line) (PartsCostOf es options refused line cost)
-    (cost ≡ 0)
+NewPartsCost change changed es options line refusals cost =
+    IfHolds (HasNewParts change changed options line) (PartsCostOf es options line refusals cost)
+    ((refusals ≡ 0) × (cost ≡ 0))
 
 -- the cost of a line: its search by the new expressions, and that for its parts
-abbrev pub ChangeCost : Change → List Expression → List Expression → Options → Bool → Text → ℕ →
+abbrev pub ChangeCost : Change → List Expression → List Expression → Options → Text → ℕ → ℕ →
     Type 0
-ChangeCost change changed es options refused line cost =
-    (own : ℕ) × NewPartsCost change changed es options refused line own
+ChangeCost change changed es options line refusals cost =
+    (own : ℕ) × NewPartsCost change changed es options line refusals own
     × (cost ≡ search_cost (searched_for change changed) line + own)
 
 -- the cost of a line that is searched anew
-abbrev pub CostAnew : List Expression → Options → Bool → Text → ℕ → Type 0
-CostAnew es options refused line cost = ChangeCost Anew es es options refused line cost
+abbrev pub CostAnew : List Expression → Options → Text → ℕ → ℕ → Type 0
+CostAnew es options line refusals cost = ChangeCost Anew es es options line refusals cost
 
--- the sum of the lines' costs
-abbrev pub CostOfEach : (Text → ℕ → Type 0) → List Text → ℕ → Type 0
-CostOfEach C [] cost = cost ≡ 0
-CostOfEach C (line ∷ lines) cost =
-    (own : ℕ) × (rest : ℕ) × C line own × CostOfEach C lines rest × (cost ≡ own + rest)
+-- the sums of the lines' refusals and costs
+abbrev pub CostOfEach : (Text → ℕ → ℕ → Type 0) → List Text → ℕ → ℕ → Type 0
+CostOfEach C [] refusals cost = (refusals ≡ 0) × (cost ≡ 0)
+CostOfEach C (line ∷ lines) refusals cost =
+    (mine : ℕ) × (others : ℕ) × (own : ℕ) × (rest : ℕ) × C line mine own ×
+    CostOfEach C lines others rest × (refusals ≡ mine + others) × (cost ≡ own + rest)
 
--- No more steps were taken than a cost that is greater where memory that saves steps was refused. The
--- bound holds for whoever says that it was: so later refusals change nothing.
-abbrev pub TakesAtMost : (Bool → ℕ → Type 0) → Steps → Steps → Type 0
+-- no more steps were taken, and no more bytes passed, than a cost with as many refusals as there were
+abbrev pub TakesAtMost : (ℕ → ℕ → Type 0) → Steps → Steps → Type 0
 TakesAtMost Cost begun ended =
-    (refused : Bool) → (IsTrue ended.refused → IsTrue refused) →
-    (cost : ℕ) × Cost refused cost × AddsAtMost cost begun ended
+    (refusals : ℕ) × (cost : ℕ) × Cost refusals cost × Adds cost cost refusals begun ended
 
 -- no more steps were taken than the lines cost
-pub record SearchesEach (C : Bool → Text → ℕ → Type 0) (lines : List Text)
+pub record SearchesEach (C : Text → ℕ → ℕ → Type 0) (lines : List Text)
     (begun ended : Steps) : Type 0 where
-  pub at_most : TakesAtMost (λ refused. CostOfEach (C refused) lines) begun ended
+  pub at_most : TakesAtMost (CostOfEach C lines) begun ended
 
 -- no more steps were taken than the line costs
-pub record SearchesOne (C : Bool → Text → ℕ → Type 0) (line : Text)
+pub record SearchesOne (C : Text → ℕ → ℕ → Type 0) (line : Text)
     (begun ended : Steps) : Type 0 where
-  pub at_most : TakesAtMost (λ refused. C refused line) begun ended
+  pub at_most : TakesAtMost (C line) begun ended

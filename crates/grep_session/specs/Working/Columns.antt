@@ -133,5 +133,6 @@ next_line_cost texts from (Some next) = length (terminated (slice_range texts fr
 pub record CostsParts (matched anew : Bool) (es : List Expression) (options : Options) (line : Text)
     (begun ended : Steps) : Type 0 where
   pub at_most : TakesAtMost
-      (λ refused own.
-      MatchBool (matched && anew) (PartsCostOf es options refused line own) (own ≡ 0)) begun ended
+      (λ refusals own.
+      MatchBool (matched && anew) (PartsCostOf es options line refusals own)
+      ((refusals ≡ 0) × (own ≡ 0))) begun ended

@@ -1,13 +1,13 @@
 //! The position automaton of an expression, and the steps of sets of its positions.
-ghost use Rattle.std.specs.Prelude.{◌≡◌, ℕ, suc, Bool, true, false, ◌<◌, ◌≤◌, ◌↔◌, Some, IsTrue};
-ghost use Rattle.std.specs.Prelude.{IfOk, IfErr, vec_len, length, slice_get, slice_index};
+ghost use Rattle.std.specs.Prelude.{◌≡◌, ℕ, suc, ◌-◌, Bool, true, false, ◌<◌, ◌≤◌, ◌↔◌, Some};
+ghost use Rattle.std.specs.Prelude.{IsTrue, IfOk, IfErr, vec_len, length, slice_get, slice_index};
 ghost use Rattle.re_syntax.specs.Bytes.{Text};
 ghost use Rattle.re_syntax.specs.Expression.{expression_of};
 ghost use Rattle.re_syntax.specs.Holds.{Holds, positions};
 ghost use Rattle.re_syntax.specs.Profile.{most_positions};
 ghost use Rattle.re_auto.specs.declared.mode.Mode.TheVariants.{Search};
 ghost use Rattle.re_auto.specs.Working.Bits.{Has, Are};
-ghost use Rattle.re_auto.specs.Meters.{many_built};
+ghost use Rattle.re_meter.specs.Meters.{many_built};
 ghost use Rattle.re_auto.specs.Working.Positions.{part_of, is_begin, is_end};
 ghost use Rattle.re_auto.specs.Working.Stepping.{MayBegin, IsNext};
 ghost use Rattle.re_auto.specs.Working.Tables.{most_words, words_for, CanBegin, IsRefused};
@@ -19,10 +19,10 @@ mod one_word;
 use crate::bits;
 use crate::build::BuildFault;
 use crate::build::filling::build_tables;
-use crate::meter::Meter;
 use crate::mode::Mode;
 use crate::step::state_set::StateSet;
 use crate::tables::Tables;
+use re_meter::Meter;
 use re_syntax::Tree;
 use std::alloc::{AllocError, Global};
 use std::marker::Model;
@@ -116,7 +116,7 @@ impl Automaton {
     }
 
     /// Whether a stretch inside a line can begin with this byte. Where none can, a set that is
-    /// nowhere stays so in mode `Search`, and the byte may be skipped without a step.
+    /// nowhere stays so in mode `Search`, so the step over the byte needs no work.
     #[inline(always)]
     pub fn begins(&self, byte: u8) -> bool
         ensures can { IsTrue result ↔ CanBegin (part_of (expression_of self.now) 0) byte }
@@ -129,17 +129,24 @@ impl Automaton {
     }
 
     /// The first place, `place` or later, with whose byte a stretch inside a line can begin, or the
-    /// line's end where there is none.
+    /// line's end where there is none. Each byte before it counts as a built step: while no stretch
+    /// is on its way, such a byte takes a set to itself.
     #[inline]
-    pub fn next_beginning(&self, line: &[u8], place: usize) -> usize
+    pub fn next_beginning(&self, line: &[u8], place: usize, meter: &mut Meter) -> usize
         requires { place ≤ length line.now }
         ensures within { (place ≤ result) × (result ≤ length line.now) }
         ensures passed { (k : ℕ) → place ≤ k → k < result →
             ¬ CanBegin (part_of (expression_of self.now) 0) (slice_index line.now k) }
         ensures stops { result < length line.now →
             CanBegin (part_of (expression_of self.now) 0) (slice_index line.now result) }
+        ensures counted { place < result → meter.new ≡ many_built (result - place) meter.old }
+        ensures none { result ≡ place → meter.new ≡ meter.old }
     {
-        self.tables.beginnings.next_in(line, place)
+        let next = self.tables.beginnings.next_in(line, place);
+        if next > place {
+            meter.add_built((next - place) as u64);
+        }
+        next
     }
 
     /// The class of each of the 256 bytes: bytes of one class are taken by the same positions.

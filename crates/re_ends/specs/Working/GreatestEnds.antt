@@ -5,6 +5,7 @@ use Rattle.re_syntax.specs.Bytes.{Text}
 use Rattle.re_syntax.specs.Expression.{Expression}
 use Rattle.re_syntax.specs.Holds.{Holds}
 use Rattle.re_syntax.specs.Parts.{IsFound}
+pub use Rattle.re_syntax.specs.Working.PutEnds.{AddsEnds}
 use Rattle.re_auto.specs.Working.Positions.{Part, is_end, ByteAt}
 
 -- A stretch that takes the byte at place p with position q can take n bytes more and end there.
@@ -40,11 +41,3 @@ MatchesPast e line i m =
 -- some expression has a part that begins at i, wherever the search began, and ends after m
 abbrev pub FoundPast : List Expression → Text → Bool → ℕ → ℕ → Type 0
 FoundPast es line whole i m = (j : ℕ) × (m < j) × IsFound es line whole 0 i j
-
--- each place of the line has the greatest of the end that it had and those of the matched stretches
--- that begin there
-abbrev pub AddsEnds : (ℕ → ℕ → Type 0) → Text → List ℕ → List ℕ → Type 0
-AddsEnds Past line old new =
-    (length new ≡ length line) ×
-    ((i m : ℕ) → i < length line →
-    (m < slice_index new i) ↔ ((m < slice_index old i) ⊎ Past i m))

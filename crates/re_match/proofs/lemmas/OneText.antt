@@ -1,5 +1,5 @@
 -- What is matched of a line by one text, by where a search for the text finds it.
-use Rattle.std.proofs.Common.{◌≡◌, ℕ, ◌+◌, ◌-◌, ◌<◌, ◌≤◌, true, false, IsTrue, [], ◌∷◌, ◌++◌, length, map, drop, Option, None, Some, ◌↔◌, refl, sym, ap, ◌∙◌, arith, zero-add, length-append, length-drop}
+use Rattle.std.proofs.Common.{◌≡◌, ℕ, ◌+◌, ◌-◌, ◌<◌, ◌≤◌, true, false, IsTrue, [], ◌∷◌, ◌++◌, length, map, drop, Option, None, Some, ◌↔◌, refl, sym, ap, subst, ◌∙◌, arith, zero-add, length-append, length-drop}
 use Rattle.std.specs.Bool.{Decides}
 use Rattle.std.specs.Option.{is_some}
 use Rattle.std.specs.Str.{bytes_eq}
@@ -16,6 +16,7 @@ use Rattle.re_syntax.proofs.lemmas.Decisions.{Any-first}
 use Rattle.re_syntax.proofs.lemmas.FixedStrings.{stands-holds, holds-stands, stands-matches, matches-stands}
 use Rattle.memchr.specs.Find.{OccursAt, FindsNeedle}
 use Rattle.re_syntax.proofs.lemmas.SomeOfJoined.{Any-single}
+use Rattle.re_ends.specs.Working.GreatestEnds.{FoundPast}
 use Rattle.re_needle.proofs.lemmas.Occurrences.{occurs-stands, stands-occurs}
 
 -- the place after a text at a place
@@ -75,6 +76,13 @@ module _ (text line : Text) where
             | yes e ↦ omega arith
             | no e ↦ absurd (finds.0.before (i - from) (omega arith) (omega arith) (found-occurs from i j f).0)
           ]
+
+  -- the occurrences of a text that is not empty are the stretches found
+  pub past_found : 0 < length text → (i m : ℕ) → i < length line → ((m < i + length text) × OccursAt line text i) ↔ FoundPast (sequence (map byte text) ∷ []) line false i m
+  past_found some i m lt = (
+    λ (past, o). (let same : 0 + i ≡ i = omega arith in (i + length text, past, subst (λ k. IsFound (sequence (map byte text) ∷ []) line false 0 k (k + length text)) same (occurs-found 0 i some o))),
+    λ (j, past, f). (let same : i - 0 ≡ i = omega arith in let o = found-occurs 0 i j f in (omega (arith, past, o.1), subst (OccursAt line text) same o.0)),
+  )
 
   -- a text matches the line where a search for it finds it
   pub finds-decides : (r : Option ℕ) → FindsNeedle line text 0 r → IsTrue (is_some r) ↔ Matches (sequence (map byte text)) line false

@@ -1,19 +1,24 @@
--- The line of a block around the first of many strings.
-use Rattle.std.proofs.Common.{◌≡◌, ◌≢◌, ℕ, ◌+◌, ◌-◌, ◌<◌, ◌≤◌, Bool, true, false, inl, inr, List, [], ◌∷◌, ◌++◌, All, Some, length, map, take, drop, get_or, slice_range, refl, sym, ap, ◌∙◌, subst, arith, length-drop, length-take, take-append-drop}
+-- The line of a block in which the first of many strings ends.
+use Rattle.std.proofs.Common.{◌≡◌, ◌≢◌, ℕ, suc, ◌+◌, ◌-◌, ◌<◌, ◌≤◌, Bool, true, false, inl, inr, List, [], ◌∷◌, ◌++◌, All, Some, length, map, take, drop, get_or, slice_range, refl, sym, ap, ◌∙◌, subst, arith, length-drop, length-take, length-append, take-append-drop}
+use Rattle.std.specs.Prelude.{⊤}
 use Rattle.std.proofs.Math.Decide.{dec_le}
 use Rattle.std.proofs.lemmas.Bool.{eqb-true, eq-eqb}
-use Rattle.std.proofs.lemmas.List.{get_or-append-add, get_or-drop, get_or-take, length-map, map-append}
+use Rattle.std.proofs.lemmas.List.{get_or-append-add, get_or_append_left, get_or-drop, get_or-map, get_or-take, length-map, map-append}
 use Rattle.std.proofs.lemmas.List.Elements.{All-head}
 use Rattle.re_syntax.specs.Bytes.{Text}
 use Rattle.re_syntax.specs.Holds.{Matches}
-use Rattle.re_syntax.specs.Lines.{newline, HasNoNewline}
+use Rattle.re_syntax.specs.Lines.{newline, terminated, HasNoNewline}
 use Rattle.re_syntax.proofs.lemmas.Decisions.{Any-cases, Any-none}
 use Rattle.re_syntax.proofs.lemmas.LinesLaws.{all_head, all_tail, none_before, none_in_empty, rest_has_none}
-use Rattle.re_syntax.specs.declared.span.Span.{Span}
-use Rattle.re_needle.specs.Working.Blocks.{IsLineFrom}
-use Rattle.re_strings.specs.Working.FixedSets.{IsString, Occurs, IsBestOccurrence}
-use Rattle.re_match.specs.Working.Literals.{Literals, any_literal}
+use Rattle.re_needle.specs.Working.Blocks.{IsLineFrom, PassesAll}
+use Rattle.re_needle.proofs.lemmas.BlockLemmas.{passed_within}
+use Rattle.re_needle.proofs.lemmas.Looks.{place_in_line}
+use Rattle.re_strings.specs.Working.FixedSets.{IsString, Occurs}
 use Rattle.re_strings.specs.Working.Keys.{key, keys}
+use Rattle.re_strings.specs.Working.Reached.{EndsFirst}
+use Rattle.re_match.specs.Working.Literals.{Literals, any_literal}
+use Rattle.re_match.specs.Working.Sweeping.{StopsAt}
+use Rattle.re_match.specs.declared.sweeps.Stop.TheVariants.{Unseen, Seen, Matched}
 use Rattle.re_match.proofs.lemmas.SetBlocks.{piece_before, piece_after}
 use Rattle.re_strings.proofs.lemmas.KeyLaws.{key_newline}
 use Rattle.re_match.proofs.lemmas.SetMatches.{occurs_decides}
@@ -49,14 +54,6 @@ module _ (fold : Bool) (front line more : Text) where
       map-append (key fold) front (line ++ newline ∷ more)
       ∙ ap (λ l. keys fold front ++ l) (map-append (key fold) line (newline ∷ more) ∙ ap (λ b. keys fold line ++ b ∷ keys fold more) (newline_key fold))
 
-  -- the newline after the line
-  ended : get_or (keys fold bytes) (length front + length line) 0 ≡ newline
-  ended =
-      let place : length front + length line ≡ length (keys fold front) + (length (keys fold line) + 0) = omega (arith, length-map front (key fold), length-map line (key fold)) in
-      ap (λ l. get_or l (length front + length line) 0) keyed ∙ ap (λ n. get_or (keys fold front ++ (keys fold line ++ newline ∷ keys fold more)) n 0) place
-      ∙ get_or-append-add (keys fold front) (keys fold line ++ newline ∷ keys fold more) (length (keys fold line) + 0) 0
-      ∙ get_or-append-add (keys fold line) (newline ∷ keys fold more) 0 0
-
   -- what is between two places of the line
   piece_of : (i j : ℕ) → j ≤ length line → drop (length front + i) (take (length front + j) (keys fold bytes)) ≡ drop i (take j (keys fold line))
   piece_of i j within =
@@ -66,54 +63,91 @@ module _ (fold : Bool) (front line more : Text) where
       ∙ piece_after (keys fold front) (keys fold line ++ newline ∷ keys fold more) i j
       ∙ piece_before (keys fold line) (newline ∷ keys fold more) i j (omega (arith, within, length-map line (key fold)))
 
--- a string without newlines that begins in the line ends in it
-module _ (l : Literals) (none_empty : IsString (map (keys l.fold) l.texts) [] → ⊥) (free : All HasNoNewline l.texts) (front line more : Text) where
-  matched_around : (i j : ℕ) → i ≤ length line → Occurs (map (keys l.fold) l.texts) 0 (keys l.fold (front ++ (line ++ newline ∷ more))) (length front + i) (length front + j) → Matches (any_literal l) line false
-  matched_around i j near (low, some, within, is) =
-      elim (dec_le j (length line)) [
-        | yes inside ↦
-            let o : Occurs (map (keys l.fold) l.texts) 0 (keys l.fold line) i j =
-            (omega arith, omega (arith, some), omega (arith, inside, length-map line (key l.fold)), subst (IsString (map (keys l.fold) l.texts)) (piece_of l.fold front line more i j inside) is) in
-            (occurs_decides l line true none_empty ((λ e. (i, j, o)), (λ e. refl))).0 refl
-        | no far ↦
-            let bytes = keys l.fold (front ++ (line ++ newline ∷ more)) in
-            let from = length front + i in
-            let to = length front + j in
-            let none : HasNoNewline (drop from (take to bytes)) = string_free l.fold l.texts _ free is in
-            let place : from + (length line - i) ≡ length front + length line = omega (arith, near) in
-            let below : from + (length line - i) < to = omega (arith, near, far) in
-            let short : length line - i < length (drop from (take to bytes)) = omega (arith, length-drop from (take to bytes), length-take to bytes, within, far, near) in
-            let byte : get_or (drop from (take to bytes)) (length line - i) 0 ≡ newline =
-            get_or-drop from (take to bytes) (length line - i) 0 ∙ get_or-take to bytes (from + (length line - i)) 0 below ∙ ap (λ n. get_or bytes n 0) place ∙ ended l.fold front line more in
-            absurd (none (length line - i) 0 short byte)
-      ]
-
--- the line around the first string has it
-pub set_around : (l : Literals) → (IsString (map (keys l.fold) l.texts) [] → ⊥) → All HasNoNewline l.texts → (block : Text) (span : Span) (start end : ℕ) → IsBestOccurrence (map (keys l.fold) l.texts) 0 (keys l.fold block) (length block) (Some span)
-    → start ≤ span.start → HasNoNewline (drop start (take span.start block)) → IsLineFrom block start end → Matches (any_literal l) (slice_range block start end) false
-unfolding IsBestOccurrence
-set_around l none_empty free block span start end (o, inside, early, long) low none cut =
-    let line = slice_range block start end in
-    let more = drop (end + 1) block in
-    let begin : start ≤ end = cut.0 in
-    let below : end < length block = cut.1 in
-    let some : span.start < span.end = o.1 in
-    let size : length line ≡ end - start = omega (arith, length-take (end - start) (drop start block), length-drop start block, below) in
-    let front : length (take start block) ≡ start = omega (arith, length-take start block, begin, below) in
-    let whole : take start block ++ (line ++ newline ∷ more) ≡ block = ap (λ l. take start block ++ l) (sym cut.3) ∙ take-append-drop start block in
-    let from : length (take start block) + (span.start - start) ≡ span.start = omega (arith, front, low) in
-    let to : length (take start block) + (span.end - start) ≡ span.end = omega (arith, front, low, some) in
-    let there : Occurs (map (keys l.fold) l.texts) 0 (keys l.fold (take start block ++ (line ++ newline ∷ more))) (length (take start block) + (span.start - start)) (length (take start block) + (span.end - start)) =
-    subst (λ b. Occurs (map (keys l.fold) l.texts) 0 (keys l.fold b) (length (take start block) + (span.start - start)) (length (take start block) + (span.end - start))) (sym whole)
-    (subst (λ i. Occurs (map (keys l.fold) l.texts) 0 (keys l.fold block) i (length (take start block) + (span.end - start))) (sym from) (subst (λ j. Occurs (map (keys l.fold) l.texts) 0 (keys l.fold block) span.start j) (sym to) o)) in
-    elim (dec_le (span.start - start) (length line)) [
-      | yes near ↦ matched_around l none_empty free (take start block) line more (span.start - start) (span.end - start) near there
+-- whole lines end with a newline
+ends_whole : (lines : List Text) (k : ℕ) → k + 1 ≡ length (terminated lines) → get_or (terminated lines) k 0 ≡ newline
+ends_whole [] k e = absurd (omega (arith, e))
+ends_whole (t ∷ ts) k e =
+    let long : length (terminated (t ∷ ts)) ≡ length t + 1 + length (terminated ts) = omega (arith, length-append t (newline ∷ terminated ts)) in
+    let later = ends_whole ts (k - (length t + 1)) in
+    elim (dec_le k (length t)) [
+      | yes low ↦
+          (let at : k ≡ length t + 0 = omega (arith, low, long, e) in
+          ap (λ n. get_or (terminated (t ∷ ts)) n 0) at ∙ get_or-append-add t (newline ∷ terminated ts) 0 0)
       | no far ↦
-          (let before : start + length line < span.start = omega (arith, far, low) in
-          let short : length line < length (drop start (take span.start block)) = omega (arith, length-drop start (take span.start block), length-take span.start block, inside, some, far) in
-          let end_is : length line ≡ length line + 0 = omega arith in
-          let byte : get_or (drop start (take span.start block)) (length line) 0 ≡ newline =
-          get_or-drop start (take span.start block) (length line) 0 ∙ get_or-take span.start block (start + length line) 0 before ∙ sym (get_or-drop start block (length line) 0) ∙ ap (λ l. get_or l (length line) 0) cut.3
-          ∙ ap (λ n. get_or (line ++ newline ∷ more) n 0) end_is ∙ get_or-append-add line (newline ∷ more) 0 0 in
-          absurd (none (length line) 0 short byte))
+          (let at : k ≡ length t + suc (k - (length t + 1)) = omega (arith, far) in
+          ap (λ n. get_or (terminated (t ∷ ts)) n 0) at ∙ get_or-append-add t (newline ∷ terminated ts) (suc (k - (length t + 1))) 0 ∙ later (omega (arith, far, long, e)))
     ]
+
+-- before a line of a text there is a newline
+newline_before : (bytes : Text) (start k : ℕ) → PassesAll (λ _. ⊤) bytes start → k + 1 ≡ start → get_or bytes k 0 ≡ newline
+newline_before bytes start k (lines, rest, free, any, is, counted) e =
+    let near : k < length (terminated lines) = omega (arith, e, counted) in
+    ap (λ l. get_or l k 0) is ∙ get_or_append_left (terminated lines) rest 0 k near ∙ ends_whole lines k (e ∙ counted)
+
+module _ (l : Literals) (none_empty : IsString (map (keys l.fold) l.texts) [] → ⊥) (free : All HasNoNewline l.texts) (block : Text) where
+  abbrev strings : List Text
+  strings = map (keys l.fold) l.texts
+
+  -- no string goes over a newline
+  over_newline : (i j n : ℕ) → i ≤ n → n < j → j ≤ length block → get_or block n 0 ≡ newline → IsString strings (drop i (take j (keys l.fold block))) → ⊥
+  over_newline i j n low high within at is =
+      let bytes = keys l.fold block in
+      let size : length bytes ≡ length block = length-map block (key l.fold) in
+      let place : i + (n - i) ≡ n = omega (arith, low) in
+      let below : i + (n - i) < j = omega (arith, low, high) in
+      let short : n - i < length (drop i (take j bytes)) = omega (arith, length-drop i (take j bytes), length-take j bytes, size, within, low, high) in
+      let here : get_or bytes n 0 ≡ newline = get_or-map (key l.fold) block n 0 0 (omega (arith, high, within)) ∙ ap (key l.fold) at ∙ newline_key l.fold in
+      string_free l.fold l.texts _ free is (n - i) 0 short (get_or-drop i (take j bytes) (n - i) 0 ∙ get_or-take j bytes (i + (n - i)) 0 below ∙ ap (λ n. get_or bytes n 0) place ∙ here)
+
+  module _ (start stop : ℕ) (fits : stop ≤ length block) (front : PassesAll (λ _. ⊤) (take stop block) start) where
+    start_low : start ≤ stop
+    start_low = omega (arith, passed_within (λ _. ⊤) (take stop block) start front, length-take stop block)
+
+    -- a string that ends there begins in the same line
+    begins_in_line : (i : ℕ) → Occurs strings 0 (keys l.fold block) i stop → start ≤ i
+    begins_in_line i (low, some, within, is) = elim (dec_le start i) [
+      | yes after ↦ after
+      | no before ↦
+          (let last : start - 1 + 1 ≡ start = omega (arith, before) in
+          let high : start - 1 < stop = omega (arith, before, start_low) in
+          absurd (over_newline i stop (start - 1) (omega (arith, before)) high fits (sym (get_or-take stop block (start - 1) 0 high) ∙ newline_before (take stop block) start (start - 1) front last) is))
+    ]
+
+    -- the line around the first end has a string
+    pub set_around : (end : ℕ) → EndsFirst strings (keys l.fold block) (Some stop) → HasNoNewline (drop start (take stop block)) → IsLineFrom block start end → Matches (any_literal l) (slice_range block start end) false
+    set_around end ((i, o), first) none cut =
+        let line = slice_range block start end in
+        let more = drop (end + 1) block in
+        let begin : start ≤ end = cut.0 in
+        let below : end < length block = cut.1 in
+        let low : start ≤ i = begins_in_line i o in
+        let some : i < stop = o.1 in
+        let near : stop ≤ end = place_in_line block start stop end fits start_low none cut in
+        let size : length line ≡ end - start = omega (arith, length-take (end - start) (drop start block), length-drop start block, below) in
+        let long : length (take start block) ≡ start = omega (arith, length-take start block, begin, below) in
+        let whole : take start block ++ (line ++ newline ∷ more) ≡ block = ap (λ l. take start block ++ l) (sym cut.3) ∙ take-append-drop start block in
+        let from : length (take start block) + (i - start) ≡ i = omega (arith, long, low) in
+        let to : length (take start block) + (stop - start) ≡ stop = omega (arith, long, start_low) in
+        let inside : stop - start ≤ length line = omega (arith, size, near) in
+        let bytes = keys l.fold (take start block ++ (line ++ newline ∷ more)) in
+        let piece : drop i (take stop (keys l.fold block)) ≡ drop (i - start) (take (stop - start) (keys l.fold line)) =
+        ap (λ b. drop i (take stop (keys l.fold b))) (sym whole) ∙ ap (λ n. drop n (take stop bytes)) (sym from) ∙ ap (λ n. drop (length (take start block) + (i - start)) (take n bytes)) (sym to)
+        ∙ piece_of l.fold (take start block) line more (i - start) (stop - start) inside in
+        let there : Occurs strings 0 (keys l.fold line) (i - start) (stop - start) =
+        (omega arith, omega (arith, low, some), omega (arith, inside, length-map line (key l.fold)), subst (IsString strings) piece o.3) in
+        (occurs_decides l line true none_empty ((λ e. (i - start, stop - start, there)), (λ e. refl))).0 refl
+
+    -- and the search stopped in it
+    pub stops_around : HasNoNewline (drop start (take stop block)) → StopsAt (any_literal l) false block (record { start = start; reached = stop; stop = Seen })
+    stops_around none = record {
+      within = fits;
+      near = λ end cut. let near = place_in_line block start stop end fits start_low none cut in omega (arith, near);
+      unseen = λ no. absurd (other no);
+      matched = λ no. absurd (another no);
+    }
+      where
+        other : Seen ≡ Unseen → ⊥
+        other same = cc
+
+        another : Seen ≡ Matched → ⊥
+        another same = cc

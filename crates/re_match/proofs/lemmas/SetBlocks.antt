@@ -7,8 +7,8 @@ use Rattle.std.specs.Prelude.{⊤}
 use Rattle.std.proofs.lemmas.Bool.{false≢true}
 use Rattle.std.proofs.lemmas.List.{length-map, map-append, take-append-le}
 use Rattle.re_syntax.specs.Holds.{Matches}
-use Rattle.re_syntax.specs.declared.span.Span.{Span}
-use Rattle.re_strings.specs.Working.FixedSets.{IsString, Occurs, IsBestOccurrence}
+use Rattle.re_strings.specs.Working.FixedSets.{IsString, Occurs}
+use Rattle.re_strings.specs.Working.Reached.{EndsFirst}
 use Rattle.re_match.specs.Working.Literals.{Literals, any_literal}
 use Rattle.re_strings.specs.Working.Keys.{key, keys}
 use Rattle.re_needle.proofs.lemmas.BlockLemmas.{passes_free_block, passes_free_front}
@@ -30,41 +30,41 @@ piece_after (x ∷ front) line i j =
     ap (λ n. drop n (take (suc (length front) + j) (x ∷ (front ++ line)))) from
     ∙ ap (λ n. drop (suc (length front + i)) (take n (x ∷ (front ++ line)))) to ∙ piece_after front line i j
 
--- ---- where a string begins
+-- ---- where a string ends
 
 module _ (strings : List Text) (fold : Bool) where
-  abbrev pub StringBegins : Text → ℕ → Type 0
-  StringBegins bytes k = (j : ℕ) × Occurs strings 0 (keys fold bytes) k j
+  abbrev pub StringEnds : Text → ℕ → Type 0
+  StringEnds bytes k = (i : ℕ) × Occurs strings 0 (keys fold bytes) i k
 
   size : (bytes : Text) → length (keys fold bytes) ≡ length bytes
   size bytes = length-map bytes (key fold)
 
-  pub begins_within : (line : Text) (k : ℕ) → StringBegins line k → k ≤ length line
-  begins_within line k (j, (low, some, within, is)) = omega (arith, some, within, size line)
+  pub ends_within : (line : Text) (k : ℕ) → StringEnds line k → k ≤ length line
+  ends_within line k (i, (low, some, within, is)) = omega (arith, within, size line)
 
-  pub begins_before : (line after : Text) (k : ℕ) → StringBegins line k → StringBegins (line ++ after) k
-  begins_before line after k (j, (low, some, within, is)) =
+  pub ends_before : (line after : Text) (k : ℕ) → StringEnds line k → StringEnds (line ++ after) k
+  ends_before line after k (i, (low, some, within, is)) =
       let joined : keys fold (line ++ after) ≡ keys fold line ++ keys fold after = map-append (key fold) line after in (
-        j,
+        i,
         (
           low,
           some,
           omega (arith, within, ap length joined, length-append (keys fold line) (keys fold after)),
-          subst (IsString strings) (sym (ap (λ l. drop k (take j l)) joined ∙ piece_before (keys fold line) (keys fold after) k j within)) is,
+          subst (IsString strings) (sym (ap (λ l. drop i (take k l)) joined ∙ piece_before (keys fold line) (keys fold after) i k within)) is,
         ),
       )
 
-  pub begins_after : (front line : Text) (k : ℕ) → StringBegins line k → StringBegins (front ++ line) (length front + k)
-  begins_after front line k (j, (low, some, within, is)) =
+  pub ends_after : (front line : Text) (k : ℕ) → StringEnds line k → StringEnds (front ++ line) (length front + k)
+  ends_after front line k (i, (low, some, within, is)) =
       let joined : keys fold (front ++ line) ≡ keys fold front ++ keys fold line = map-append (key fold) front line in
-      let from : length front + k ≡ length (keys fold front) + k = ap (λ n. n + k) (sym (size front)) in
-      let to : length front + j ≡ length (keys fold front) + j = ap (λ n. n + j) (sym (size front)) in
-      let piece : drop (length front + k) (take (length front + j) (keys fold (front ++ line))) ≡ drop k (take j (keys fold line)) =
-      ap (λ l. drop (length front + k) (take (length front + j) l)) joined
-      ∙ ap (λ n. drop n (take (length front + j) (keys fold front ++ keys fold line))) from
-      ∙ ap (λ n. drop (length (keys fold front) + k) (take n (keys fold front ++ keys fold line))) to
-      ∙ piece_after (keys fold front) (keys fold line) k j in (
-        length front + j,
+      let from : length front + i ≡ length (keys fold front) + i = ap (λ n. n + i) (sym (size front)) in
+      let to : length front + k ≡ length (keys fold front) + k = ap (λ n. n + k) (sym (size front)) in
+      let piece : drop (length front + i) (take (length front + k) (keys fold (front ++ line))) ≡ drop i (take k (keys fold line)) =
+      ap (λ l. drop (length front + i) (take (length front + k) l)) joined
+      ∙ ap (λ n. drop n (take (length front + k) (keys fold front ++ keys fold line))) from
+      ∙ ap (λ n. drop (length (keys fold front) + i) (take n (keys fold front ++ keys fold line))) to
+      ∙ piece_after (keys fold front) (keys fold line) i k in (
+        length front + i,
         (
           omega arith,
           omega (arith, some),
@@ -79,33 +79,26 @@ module _ (l : Literals) (none_empty : IsString (map (keys l.fold) l.texts) [] �
   abbrev strings : List Text
   strings = map (keys l.fold) l.texts
 
-  -- a line in which none begins is not matched
-  unmatched : (line : Text) → ((k : ℕ) → ¬ StringBegins strings l.fold line k) → ¬ Matches (any_literal l) line false
+  -- a line in which none ends is not matched
+  unmatched : (line : Text) → ((k : ℕ) → ¬ StringEnds strings l.fold line k) → ¬ Matches (any_literal l) line false
   unmatched line free m =
-      false≢true ((occurs_decides l line false none_empty ((λ h. absurd (false≢true h)), (λ (i, j, o). absurd (free i (j, o))))).1 m)
+      false≢true ((occurs_decides l line false none_empty ((λ h. absurd (false≢true h)), (λ (i, j, o). absurd (free j (i, o))))).1 m)
 
   -- where none is in the block, it is passed as a whole
-  pub passes_set_block : (block : Text) → IsBlock block → IsBestOccurrence strings 0 (keys l.fold block) (length block) None → PassesUnmatched (any_literal l) false block (length block)
-  unfolding IsBestOccurrence
+  pub passes_set_block : (block : Text) → IsBlock block → EndsFirst strings (keys l.fold block) None → PassesUnmatched (any_literal l) false block (length block)
   passes_set_block block whole none =
       let (lines, rest, free, all, is, counted) =
-      passes_free_block (StringBegins strings l.fold) (begins_within strings l.fold) (begins_before strings l.fold) (begins_after strings l.fold) block whole
-      (λ k below (j, o). none k j (let inside = o.2 in omega (arith, inside, length-map block (key l.fold))) o) in
+      passes_free_block (StringEnds strings l.fold) (ends_within strings l.fold) (ends_before strings l.fold) (ends_after strings l.fold) block whole
+      (λ k below (i, o). none i k o) in
       (lines, rest, free, λ i d below. unmatched _ (all i d below), is, counted)
 
-  -- where one is, the lines before the one in which the first begins are passed
-  pub passes_set_front : (block : Text) (span : Span) (count : ℕ) → IsBestOccurrence strings 0 (keys l.fold block) (length block) (Some span)
-      → (span.start ≤ length block) × (PassesAll (λ _. ⊤) (take span.start block) count → PassesUnmatched (any_literal l) false block count)
-  unfolding IsBestOccurrence
-  passes_set_front block span count (o, inside, early, long) =
-      let start : span.start ≤ length block = let some = o.1 in omega (arith, some, inside) in (
-        start,
-        λ front.
-            let (lines, rest, free, all, is, counted) =
-            passes_free_front (StringBegins strings l.fold) (begins_within strings l.fold) (begins_before strings l.fold) (begins_after strings l.fold) block span.start count start
-            (λ k below (j, p). let first = early k j (let within = p.2 in omega (arith, within, length-map block (key l.fold))) p in omega (arith, first, below)) front in
-            (lines, rest, free, λ i d below. unmatched _ (all i d below), is, counted),
-      )
+  -- where one is, the lines before the one in which the first ends are passed
+  pub passes_set_front : (block : Text) (end count : ℕ) → end ≤ length block → EndsFirst strings (keys l.fold block) (Some end) → PassesAll (λ _. ⊤) (take end block) count → PassesUnmatched (any_literal l) false block count
+  passes_set_front block end count inside (there, first) front =
+      let (lines, rest, free, all, is, counted) =
+      passes_free_front (StringEnds strings l.fold) (ends_within strings l.fold) (ends_before strings l.fold) (ends_after strings l.fold) block end count inside
+      (λ k below (i, o). first i k below o) front in
+      (lines, rest, free, λ i d below. unmatched _ (all i d below), is, counted)
 
 -- lines of which no part is matched aren't matched as a whole
 pub passes_whole_too : (e : Expression) (whole : Bool) (block : Text) (count : ℕ) → PassesUnmatched e false block count → PassesUnmatched e whole block count

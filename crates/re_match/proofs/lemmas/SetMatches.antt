@@ -1,8 +1,9 @@
 -- What a choice of fixed strings matches: the lines that have one of them, as strings are compared.
-use Rattle.std.proofs.Common.{◌≡◌, ◌↔◌, ℕ, ◌+◌, ◌-◌, ◌≤◌, inl, inr, Bool, true, false, IsTrue, List, [], ◌∷◌, ◌++◌, length, map, take, drop, Option, Some, None, refl, sym, ap, subst, ◌∙◌, arith, length-append, length-drop}
+use Rattle.std.proofs.Common.{◌≡◌, ◌↔◌, ℕ, ◌+◌, ◌-◌, ◌<◌, ◌≤◌, inl, inr, Bool, true, false, IsTrue, List, [], ◌∷◌, ◌++◌, length, map, take, drop, Option, Some, None, refl, sym, ap, subst, ◌∙◌, arith, length-append, length-drop}
+use Rattle.std.specs.Option.{is_some}
 use Rattle.std.proofs.lemmas.List.{drop-append-le, take-append-drop, length-take-le, length-map}
 use Rattle.std.proofs.Math.ListN.{drop_of_length-le}
-use Rattle.std.proofs.lemmas.Bool.{cases_lt}
+use Rattle.std.proofs.lemmas.Bool.{cases_lt, false≢true}
 use Rattle.re_syntax.specs.Bytes.{Text}
 use Rattle.re_syntax.specs.Expression.{alt, byte, sequence}
 use Rattle.re_syntax.specs.Holds.{Holds, Matches}
@@ -12,6 +13,8 @@ use Rattle.re_syntax.proofs.lemmas.FixedStrings.{stands-holds, holds-stands}
 use Rattle.re_syntax.proofs.lemmas.HoldsDecided.{Holds-le}
 use Rattle.re_syntax.specs.declared.span.Span.{Span}
 use Rattle.re_strings.specs.Working.FixedSets.{IsString, Occurs, IsBestOccurrence}
+use Rattle.re_strings.specs.Working.Reached.{EndsFirst}
+use Rattle.re_ends.specs.Working.GreatestEnds.{FoundPast}
 use Rattle.re_match.specs.Working.Literals.{Literals, any_literal}
 use Rattle.re_strings.specs.Working.Keys.{key, keys}
 use Rattle.re_auto.specs.Searching.{FindsPart}
@@ -102,29 +105,40 @@ module _ (l : Literals) (line : Text) where
         (λ m. reported.1 (subst (IsString (map (keys l.fold) l.texts)) whole (any_stands 0 (length line) (omega arith) (omega arith) m))),
       )
 
+  -- the place where one ends first says so
+  pub ends_decide : (end : Option ℕ) → (IsString (map (keys l.fold) l.texts) [] → ⊥) → EndsFirst (map (keys l.fold) l.texts) (keys l.fold line) end → IsTrue (is_some end) ↔ Matches (any_literal l) line false
+  ends_decide None none free = occurs_decides false none ((λ h. absurd (false≢true h)), (λ (i, j, o). absurd (free i j o)))
+  ends_decide (Some k) none ((i, o), first) = occurs_decides true none ((λ _. (i, k, o)), (λ _. refl))
+
+  -- a stretch that is found is a string
+  occurs_there : (from i j : ℕ) → IsFound (any_literal l ∷ []) line false from i j → Occurs (map (keys l.fold) l.texts) from (keys l.fold line) i j
+  occurs_there from i j f =
+      let some = f.not_empty in
+      let within = f.on_line in
+      (f.begins, some, omega (arith, within, size), any_stands i j (omega (arith, some)) within (Any-single (λ e. Holds line e i j) (any_literal l) f.holds))
+
+  -- and a string is found
+  found_there : (from i j : ℕ) → Occurs (map (keys l.fold) l.texts) from (keys l.fold line) i j → IsFound (any_literal l ∷ []) line false from i j
+  found_there from i j o =
+      let some = o.1 in
+      let within : j ≤ length line = let w = o.2 in omega (arith, w, size) in
+      record { begins = o.0; not_empty = some; on_line = within; is_whole = tt; holds = Any-first (λ e. Holds line e i j) (any_literal l) [] (stands_any i j (omega (arith, some)) within o.3) }
+
+  -- the strings of the line are the stretches found
+  pub strings_found : (i m : ℕ) → i < length line → ((j : ℕ) × (m < j) × Occurs (map (keys l.fold) l.texts) 0 (keys l.fold line) i j) ↔ FoundPast (any_literal l ∷ []) line false i m
+  strings_found i m lt = (λ (j, past, o). (j, past, found_there 0 i j o), λ (j, past, f). (j, past, occurs_there 0 i j f))
+
   -- the best of the strings in the line is the part
   pub best_is_part : (from : ℕ) (best : Option Span) → IsBestOccurrence (map (keys l.fold) l.texts) from (keys l.fold line) (length line) best → FindsPart (any_literal l ∷ []) line false from best
   unfolding IsBestOccurrence
   best_is_part from best b = go best b
     where
-      occurs : (i j : ℕ) → IsFound (any_literal l ∷ []) line false from i j → Occurs (map (keys l.fold) l.texts) from (keys l.fold line) i j
-      occurs i j f =
-          let some = f.not_empty in
-          let within = f.on_line in
-          (f.begins, some, omega (arith, within, size), any_stands i j (omega (arith, some)) within (Any-single (λ e. Holds line e i j) (any_literal l) f.holds))
-
-      found : (i j : ℕ) → Occurs (map (keys l.fold) l.texts) from (keys l.fold line) i j → IsFound (any_literal l ∷ []) line false from i j
-      found i j o =
-          let some = o.1 in
-          let within : j ≤ length line = let w = o.2 in omega (arith, w, size) in
-          record { begins = o.0; not_empty = some; on_line = within; is_whole = tt; holds = Any-first (λ e. Holds line e i j) (any_literal l) [] (stands_any i j (omega (arith, some)) within o.3) }
-
       go : (best : Option Span) → IsBestOccurrence (map (keys l.fold) l.texts) from (keys l.fold line) (length line) best → FindsPart (any_literal l ∷ []) line false from best
-      go None none = λ i j f. none i j f.on_line (occurs i j f)
+      go None none = λ i j f. none i j f.on_line (occurs_there from i j f)
       go (Some span) (o, within, early, long) = record {
-        found = found span.start span.end o;
-        earliest = λ k m f. early k m f.on_line (occurs k m f);
-        longest = λ m f. long m f.on_line (occurs span.start m f);
+        found = found_there from span.start span.end o;
+        earliest = λ k m f. early k m f.on_line (occurs_there from k m f);
+        longest = λ m f. long m f.on_line (occurs_there from span.start m f);
       }
 
 -- a text of no length is empty

@@ -5,6 +5,7 @@ use Rattle.re_syntax.specs.Expression.{Expression}
 use Rattle.re_auto.specs.Meters.{Steps}
 use Rattle.re_steps.specs.Working.Stages.{Cache, Searches, mode_for}
 use Rattle.re_needle.specs.Working.Needles.{IsSettled}
+use Rattle.re_match.specs.Working.Sweeping.{LooksOver}
 use Rattle.re_syntax.specs.declared.tree.Tree.{Tree}
 
 -- the expression's tree, whether the whole line has to be matched (XCU grep, option -x), the cache,
@@ -15,14 +16,17 @@ pub record CachedMatcher : Type 0 where
   pub cache : Cache
   pub most : ℕ
 
--- the answer was known without a step, or a search found it
+-- the answer was known without a step
 pub record SaysAtOnce (e : Expression) (whole : Bool) (line : Text) (old new : Cache)
     (before after : Steps) (answer : Bool) : Type 0 where
   pub settled : IsSettled e whole line answer
   pub cache : new ≡ old
   pub steps : after ≡ before
 
-abbrev pub AnswersLine : Expression → Bool → Text → Cache → Cache → Steps → Steps → Bool → Type 0
-AnswersLine e whole line old new before after answer =
-    SaysAtOnce e whole line old new before after answer ⊎
-    Searches e (mode_for whole) line old new before after answer
+-- the line was looked over once or not at all, and then the answer was known, or a search found it
+pub record AnswersLine (e : Expression) (whole : Bool) (line : Text) (old new : Cache)
+    (before after : Steps) (answer : Bool) : Type 0 where
+  pub looked : Steps
+  pub looks : LooksOver e line before looked
+  pub answers : SaysAtOnce e whole line old new looked after answer ⊎
+      Searches e (mode_for whole) line old new looked after answer

@@ -1,11 +1,16 @@
 -- Fixed strings as matchers (XCU grep, options -F and -i).
-use Rattle.std.specs.Prelude.{◌≡◌, ℕ, ◌+◌, ◌-◌, Bool, false, List, Option, Some, None, length, map}
+use Rattle.std.specs.Prelude.{◌≡◌, ℕ, ◌+◌, ◌-◌, ◌≤◌, ◌⊎◌, Bool, true, false, List, Option, Some, None, length, map, take, drop}
 use Rattle.std.specs.Prelude.{if◌then◌else◌}
 use Rattle.re_syntax.specs.Bytes.{Text}
 use Rattle.re_syntax.specs.Expression.{Expression, byte, sequence, alt}
 use Rattle.re_syntax.specs.declared.span.Span.{Span}
 use Rattle.re_syntax.specs.Holds.{folded}
 use Rattle.re_syntax.specs.Lines.{HasNoNewline}
+use Rattle.re_meter.specs.Meters.{Steps, many_built, many_passed}
+use Rattle.re_strings.specs.Working.FixedSets.{IsFront}
+use Rattle.re_strings.specs.Working.Keys.{keys}
+use Rattle.re_strings.specs.Working.Reached.{EndsFirst, end_cost}
+use Rattle.re_needle.specs.Working.Blocks.{LooksOnce}
 
 -- the string that is looked for, and whether the whole line has to be it
 pub record Literal : Type 0 where
@@ -41,3 +46,48 @@ any_literal literals = alt (map (literal_meaning literals.fold) literals.texts)
 abbrev pub part_cost : Text → ℕ → Option Span → ℕ
 part_cost line from None = length line - from + 1
 part_cost line from (Some part) = part.end - from
+
+-- some bytes were looked over for the string, once or not at all
+abbrev pub LooksFor : Literal → Text → Steps → Steps → Type 0
+LooksFor literal bytes old new = (new ≡ old) ⊎ LooksOnce literal.text bytes old new
+
+-- and so many steps were counted
+pub record CountsLook (literal : Literal) (bytes : Text) (steps : ℕ) (old new : Steps) : Type 0 where
+  pub looked : Steps
+  pub looks : LooksFor literal bytes old looked
+  pub counted : new ≡ many_built steps looked
+
+-- the strings as they are compared
+abbrev pub keyed : Literals → List Text
+keyed literals = map (keys literals.fold) literals.texts
+
+-- some bytes were looked over for the strings, up to where the first of them ends, or not at all
+abbrev pub LooksForAny : Literals → Text → Steps → Steps → Type 0
+LooksForAny literals bytes old new =
+    (new ≡ old)
+    ⊎ ((end : Option ℕ) × EndsFirst (keyed literals) (keys literals.fold bytes) end
+    × (new ≡ many_passed (end_cost bytes end) old))
+
+-- and so many steps were counted
+pub record CountsAny (literals : Literals) (bytes : Text) (steps : ℕ) (old new : Steps) : Type 0 where
+  pub looked : Steps
+  pub looks : LooksForAny literals bytes old looked
+  pub counted : new ≡ many_built steps looked
+
+-- the search for a part went from a place up to another, and passed the bytes up to there: the line
+-- ends there, or no string that begins where the part does, or before, can go on
+pub record ReachesPart (literals : Literals) (line : Text) (from : ℕ) (found : Option Span)
+    (old new : Steps) : Type 0 where
+  pub place : ℕ
+  pub low : from ≤ place
+  pub within : place ≤ length line
+  pub passed : new ≡ many_passed (place - from) old
+  pub over : (place ≡ length line)
+      ⊎ ((s : Span) × (found ≡ Some s)
+      × ((i : ℕ) → from ≤ i → i ≤ s.start →
+      ¬ IsFront (keyed literals) (drop i (take place (keys literals.fold line)))))
+
+-- or nothing was looked over, since the whole line has to be a string
+abbrev pub LooksForPart : Literals → Text → ℕ → Option Span → Steps → Steps → Type 0
+LooksForPart literals line from found old new =
+    ((literals.whole ≡ true) × (new ≡ old)) ⊎ ReachesPart literals line from found old new

@@ -13,7 +13,7 @@ use Rattle.re_needle.specs.Working.Blocks.{IsBlock, LineBegins, PassesAll, Passe
 use Rattle.re_needle.specs.Working.Needles.{RunBegins}
 use Rattle.re_needle.specs.Working.Runs.{RunStandsAt, FindsRun, BeginsWithout}
 use Rattle.re_needle.proofs.lemmas.RunLaws.{run_before, run_after, run_rest, nowhere}
-use Rattle.re_needle.proofs.lemmas.BlockLemmas.{passes_none, passes_after, passes_block}
+use Rattle.re_needle.proofs.lemmas.BlockLemmas.{passes_none, passes_after, passes_block, passes_longer, passed_within}
 
 -- ---- where lines begin
 
@@ -126,6 +126,13 @@ module _ (run : List Bytes) (block : Text) where
     -- a line begins there
     pub passed_to_line : LineBegins block (start + place) → PassesAll (BeginsWithout run) block (start + place)
     passed_to_line begins = begun_without (start + place) (passes_begun block (start + place) place_within begins) none_before
+
+    -- the line that has it begins there
+    pub passed_to_begin : (count : ℕ) → PassesAll (λ _. ⊤) (take (start + place) block) count → PassesAll (BeginsWithout run) block count
+    passed_to_begin count front =
+        let few = passed_within (λ _. ⊤) (take (start + place) block) count front in
+        let low : count ≤ start + place = omega (arith, few, length-take (start + place) block) in
+        begun_without count (passes_longer (λ _. ⊤) block (start + place) count front) (λ k below. none_before k (omega (arith, below, low)))
 
     -- or none does, and the search goes on after its line
     pub passed_line : (LineBegins block (start + place) → ⊥) → (k : ℕ) → k < length (drop (start + place) block) → HasNoNewline (take k (drop (start + place) block))

@@ -152,3 +152,8 @@ passes_block block (lines, free, is) = (lines, [], free, λ i d h. tt, is ∙ sy
 -- lines that are passed end within the block
 pub passed_within : (Holds : Text → Type 0) (block : Text) (count : ℕ) → PassesAll Holds block count → count ≤ length block
 passed_within Holds block count (lines, rest, free, any, is, counted) = omega (arith, counted, ap length is, length-append (terminated lines) rest)
+
+-- the first lines of the first bytes are those of all
+pub passes_longer : (Holds : Text → Type 0) (block : Text) (at count : ℕ) → PassesAll Holds (take at block) count → PassesAll Holds block count
+passes_longer Holds block at count (lines, rest, free, all, is, counted) =
+    (lines, rest ++ drop at block, free, all, sym (take-append-drop at block) ∙ ap (λ l. l ++ drop at block) is ∙ append_assoc (terminated lines) rest (drop at block), counted)

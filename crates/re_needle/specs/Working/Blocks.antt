@@ -4,8 +4,11 @@ use Rattle.re_syntax.specs.Bytes.{Text}
 use Rattle.re_syntax.specs.Expression.{Expression}
 use Rattle.re_syntax.specs.Holds.{Matches}
 use Rattle.re_syntax.specs.Lines.{newline, terminated, HasNoNewline}
-use Rattle.memchr.specs.Find.{OccursAt}
+use Rattle.memchr.specs.Find.{OccursAt, FindsNeedle}
 use Rattle.re_syntax.specs.declared.span.Span.{Span}
+use Rattle.re_meter.specs.Meters.{Steps, many_passed}
+use Rattle.re_needle.specs.declared.block.Swept.{Swept}
+use Rattle.re_needle.specs.Working.Runs.{look_cost}
 
 -- a newline ends each line of the text
 abbrev pub IsBlock : Text → Type 0
@@ -84,3 +87,16 @@ lines_cost (line ∷ lines) = length line + 1 + lines_cost lines
 abbrev pub next_cost : Text → Option Span → ℕ
 next_cost block None = length block
 next_cost block (Some place) = place.end + 1
+
+-- ---- looks over a block
+
+-- the line in which a look stopped, by its beginning, goes on to the place that was found
+abbrev pub StopsInLine : Text → Swept → Type 0
+StopsInLine block swept =
+    (end : ℕ) → IsLineFrom block swept.start end → look_cost block swept.place ≤ end + 1
+
+-- the string was looked for once, from the first byte on
+abbrev pub LooksOnce : Text → Text → Steps → Steps → Type 0
+LooksOnce text bytes old new =
+    (found : Option ℕ) × FindsNeedle bytes text 0 found ×
+    (new ≡ many_passed (look_cost bytes found) old)

@@ -1,5 +1,5 @@
 -- Runs of sets of bytes: where a run is in a line, and tests that its bytes pass.
-use Rattle.std.specs.Prelude.{◌≡◌, ◌≢◌, ◌==◌, if◌then◌else◌, ℕ, ◌+◌, ◌/◌, ◌%◌, ◌<◌, ◌≤◌, IsTrue, List, Option, length, bit_and, get_or, slice_index}
+use Rattle.std.specs.Prelude.{◌≡◌, ◌≢◌, ◌==◌, if◌then◌else◌, ℕ, ◌+◌, ◌/◌, ◌%◌, ◌<◌, ◌≤◌, IsTrue, List, Option, Some, None, min, length, bit_and, get_or, slice_index}
 use Rattle.re_syntax.specs.Bytes.{Bytes, Text, nothing}
 use Rattle.memchr.specs.Find.{IsFirst}
 use Rattle.re_needle.specs.declared.alike.Alike.{Alike}
@@ -23,6 +23,12 @@ FindsRun line run r = IsFirst (λ k. RunStandsAt line run k) 0 (length line + 1)
 -- the run is nowhere in the line
 abbrev pub LacksRun : List Bytes → Text → Type 0
 LacksRun run line = (k : ℕ) → ¬ RunStandsAt line run k
+
+-- how many bytes a look passes that begins at the first byte: those up to the place of what it
+-- finds, with the byte there; all if it finds nothing
+abbrev pub look_cost : Text → Option ℕ → ℕ
+look_cost line None = length line
+look_cost line (Some k) = min (k + 1) (length line)
 
 -- the line does not begin with the run
 abbrev pub BeginsWithout : List Bytes → Text → Type 0

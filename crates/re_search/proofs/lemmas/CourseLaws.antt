@@ -1,22 +1,23 @@
 -- The search for the parts of one line: the ends of its parts, and the steps.
 use Rattle.std.proofs.Common.{◌≡◌, ℕ, ◌+◌, ◌-◌, ◌*◌, ◌<◌, ◌≤◌, min, inl, inr, Bool, true, false, List, [], ◌∷◌, ◌++◌, length, take, get_or, if◌then◌else◌, refl, sym, ap, ◌∙◌, subst, arith}
-use Rattle.std.specs.Prelude.{◌↔◌, slice_index, IsTrue}
-use Rattle.std.proofs.lemmas.Bool.{cases_lt, false≢true}
+use Rattle.std.specs.Prelude.{◌↔◌, slice_index}
+use Rattle.std.proofs.lemmas.Bool.{cases_lt}
 use Rattle.std.proofs.Math.Nat.{mul-le-mul_left, mul-le-mul_right}
 use Rattle.std.proofs.Math.ListN.{replicate}
 use Rattle.std.proofs.lemmas.List.{get_or-replicate, get_or_past, length-replicate}
 use Rattle.re_syntax.specs.Bytes.{Text}
 use Rattle.re_syntax.specs.Expression.{Expression}
 use Rattle.re_syntax.specs.Parts.{IsFound, IsPart}
-use Rattle.re_auto.specs.Meters.{Steps, with_refusal}
-use Rattle.re_auto.specs.Searching.{AddsAtMost, AllAnswer}
+use Rattle.re_meter.specs.Meters.{Steps, CountsAtMost, Adds, AddsAtMost, refused_more, with_refusal, counted}
+use Rattle.re_meter.proofs.lemmas.Adding.{counts_none, counts_within, counts_both}
+use Rattle.re_auto.specs.Searching.{AllAnswer, searches_for}
 use Rattle.re_ends.specs.Working.GreatestEnds.{FoundPast, AddsEnds}
 use Rattle.re_ends.proofs.lemmas.FoundEnds.{adds_both_ends, both_past}
 use Rattle.re_search.specs.declared.course.Course.{Course}
 use Rattle.re_search.specs.declared.course.Known.{Known}
 use Rattle.re_search.specs.declared.course.Known.TheVariants.{Nothing, Ends, Refused}
 use Rattle.re_search.specs.Working.Sought.{Sought}
-use Rattle.re_search.specs.Working.Courses.{AreEnds, HasTaken, IsReady, passes, passes_before}
+use Rattle.re_search.specs.Working.Courses.{AreEnds, AreLimits, HasTaken, IsReady, passes, passes_before, refusals}
 use Rattle.re_search.proofs.lemmas.OneMatcherMore.{answer_of}
 
 module _ (sought : Sought) (line : Text) (ends : List ℕ) (from start : ℕ) (are : AreEnds sought line ends) (passed : (i : ℕ) → from ≤ i → i < start → get_or ends i 0 ≡ 0) where
@@ -74,56 +75,72 @@ ends_more es wholes line i e w whole old mid new h at next all first more =
     subst (λ fs. AddsEnds (FoundPast fs line whole) line old new) (sym next)
     (adds_both_ends (FoundPast (take i es) line whole) (FoundPast (e ∷ []) line whole) (FoundPast (take i es ++ e ∷ []) line whole) line old mid new (both_past (take i es) (e ∷ []) line whole) first (subst (λ v. AddsEnds (FoundPast (e ∷ []) line v) line mid new) answer more))
 
--- at most so many steps are at most more
-within : (a b cost : ℕ) (old new : Steps) → a ≤ b → AddsAtMost (a * cost) old new → AddsAtMost (b * cost) old new
-within a b cost old new le few = let more = mul-le-mul_right cost le in record { built = few.built; reused = few.reused; sum = omega (arith, few.sum, more); refused = few.refused }
+-- at most so much is at most more
+within : (a b cost : ℕ) (old new : Steps) → a ≤ b → CountsAtMost (a * cost) (a * cost) old new → CountsAtMost (b * cost) (b * cost) old new
+within a b cost old new le few = let more = mul-le-mul_right cost le in counts_within (a * cost) (b * cost) (a * cost) (b * cost) old new more more few
 
 -- and one search more
-one_more : (a cost most : ℕ) (old mid new : Steps) → most ≤ cost → AddsAtMost (a * cost) old mid → AddsAtMost most mid new → AddsAtMost ((a + 1) * cost) old new
-one_more a cost most old mid new le few next = let sum : (a + 1) * cost ≡ a * cost + cost = omega arith in record { built = omega (arith, few.built, next.built); reused = omega (arith, few.reused, next.reused); sum = omega (arith, few.sum, next.sum, le, sum); refused = λ h. next.refused (few.refused h) }
+one_more : (a cost most : ℕ) (old mid new : Steps) → most ≤ cost → CountsAtMost (a * cost) (a * cost) old mid → CountsAtMost most most mid new → CountsAtMost ((a + 1) * cost) ((a + 1) * cost) old new
+one_more a cost most old mid new le few next =
+    let sum : a * cost + most ≤ (a + 1) * cost = omega (arith, le) in
+    counts_within (a * cost + most) ((a + 1) * cost) (a * cost + most) ((a + 1) * cost) old new sum sum (counts_both (a * cost) most (a * cost) most old mid new few next)
 
 module _ (cost : ℕ) (first : Steps) (times : ℕ) (course : Course) (now : Steps) where
   -- the pass isn't due: the next part can be searched
-  pub not_due : (course.known ≡ Nothing → now.built + now.reused ≤ course.limit) → HasTaken cost first times course now → IsReady cost first times course now
-  not_due cheap taken = record { limit = taken.limit; few = go course.known cheap taken.few; refused = taken.refused }
+  pub not_due : (course.known ≡ Nothing → (now.built + now.reused ≤ course.limit) × (now.passed ≤ course.byte_limit)) → HasTaken cost first times course now → IsReady cost first times course now
+  not_due cheap taken = record { limits = taken.limits; few = record { counts = go course.known cheap taken.few.counts; refused = taken.few.refused } }
     where
-      least : (t : ℕ) → AddsAtMost (min t 3 * cost) first now → now.built + now.reused ≤ course.limit → AddsAtMost (min t 2 * cost) first now
+      least : (t : ℕ) → CountsAtMost (min t 3 * cost) (min t 3 * cost) first now → (now.built + now.reused ≤ course.limit) × (now.passed ≤ course.byte_limit) → CountsAtMost (min t 2 * cost) (min t 2 * cost) first now
       least t few spent =
           elim (cases_lt t 2) [
-            | inl lt ↦ let same : min t 3 ≡ min t 2 = omega (arith, lt) in subst (λ k. AddsAtMost (k * cost) first now) same few
+            | inl lt ↦ let same : min t 3 ≡ min t 2 = omega (arith, lt) in subst (λ k. CountsAtMost (k * cost) (k * cost) first now) same few
             | inr ge ↦
                 let two : min t 2 * cost ≡ 2 * cost = (let is : min t 2 ≡ 2 = omega (arith, ge) in ap (λ k. k * cost) is) in
-                record { built = few.built; reused = few.reused; sum = omega (arith, spent, taken.limit, two); refused = few.refused }
+                record { built = few.built; reused = few.reused; passed = few.passed; sum = omega (arith, spent.0, taken.limits.steps, two); bytes = omega (arith, spent.1, taken.limits.bytes, two) }
           ]
 
-      go : (known : Known) → (known ≡ Nothing → now.built + now.reused ≤ course.limit) → AddsAtMost (passes known times * cost) first now → AddsAtMost (passes_before known times * cost) first now
+      go : (known : Known) → (known ≡ Nothing → (now.built + now.reused ≤ course.limit) × (now.passed ≤ course.byte_limit)) → CountsAtMost (passes known times * cost) (passes known times * cost) first now → CountsAtMost (passes_before known times * cost) (passes_before known times * cost) first now
       go Nothing cheap few = least times few (cheap refl)
       go (Ends ends) cheap few = within (min times 4) (min (times + 1) 4) cost first now (omega arith) few
       go Refused cheap few = few
 
--- the pass was made
-pub learned : (cost : ℕ) (first : Steps) (times : ℕ) (old new : Course) (mid now : Steps) → old.known ≡ Nothing → new.limit ≡ old.limit → (ends : _) → new.known ≡ Ends ends → HasTaken cost first times old mid → AddsAtMost cost mid now → IsReady cost first times new now
-learned cost first times old new mid now nothing same ends is taken more = record {
-  limit = subst (λ n. n ≤ first.built + first.reused + 2 * cost) (sym same) taken.limit;
-  few =
-      subst (λ k. AddsAtMost (passes_before k times * cost) first now) (sym is)
-      (within (min times 3 + 1) (min (times + 1) 4) cost first now (omega arith) (one_more (min times 3) cost cost first mid now (omega arith) (subst (λ k. AddsAtMost (passes k times * cost) first mid) nothing taken.few) more));
-  refused = λ no. absurd (not_both ends (sym is ∙ no));
+-- the limits of a course that goes on
+same_limits : (cost : ℕ) (first : Steps) (old new : Course) → new.limit ≡ old.limit → new.byte_limit ≡ old.byte_limit → AreLimits cost first old → AreLimits cost first new
+same_limits cost first old new same alike are = record {
+  steps = subst (λ n. n ≤ first.built + first.reused + 2 * cost) (sym same) are.steps;
+  bytes = subst (λ n. n ≤ first.passed + 2 * cost) (sym alike) are.bytes;
 }
-  where
-    not_both : (ends : _) → Ends ends ≡ Refused → ⊥
-    not_both ends e = cc
+
+-- what was taken by a course that knows nothing yet
+taken_before : (cost : ℕ) (first : Steps) (times : ℕ) (old : Course) (mid : Steps) → old.known ≡ Nothing → HasTaken cost first times old mid → CountsAtMost (min times 3 * cost) (min times 3 * cost) first mid × (mid.refused ≡ first.refused)
+taken_before cost first times old mid nothing taken = (
+  subst (λ k. CountsAtMost (passes k times * cost) (passes k times * cost) first mid) nothing taken.few.counts,
+  subst (λ k. mid.refused ≡ refused_more (refusals k) first.refused) nothing taken.few.refused,
+)
+
+-- the pass was made
+pub learned : (cost : ℕ) (first : Steps) (times : ℕ) (old new : Course) (mid now : Steps) → old.known ≡ Nothing → new.limit ≡ old.limit → new.byte_limit ≡ old.byte_limit → (ends : _) → new.known ≡ Ends ends → HasTaken cost first times old mid → AddsAtMost cost mid now → IsReady cost first times new now
+learned cost first times old new mid now nothing same alike ends is taken more =
+    let before = taken_before cost first times old mid nothing taken in record {
+      limits = same_limits cost first old new same alike taken.limits;
+      few = subst (λ k. Adds (passes_before k times * cost) (passes_before k times * cost) (refusals k) first now) (sym is) (record {
+        counts = within (min times 3 + 1) (min (times + 1) 4) cost first now (omega arith) (one_more (min times 3) cost cost first mid now (omega arith) before.0 more.counts);
+        refused = more.refused ∙ before.1;
+      });
+    }
 
 -- memory for the pass was refused
-pub refused : (cost : ℕ) (first : Steps) (times : ℕ) (old new : Course) (mid now : Steps) → old.known ≡ Nothing → new.limit ≡ old.limit → new.known ≡ Refused → HasTaken cost first times old mid → now ≡ with_refusal mid → IsReady cost first times new now
-refused cost first times old new mid now nothing same is taken noted = record {
-  limit = subst (λ n. n ≤ first.built + first.reused + 2 * cost) (sym same) taken.limit;
-  few =
-      let few = subst (λ k. AddsAtMost (passes k times * cost) first mid) nothing taken.few in
-      let more : AddsAtMost (min times 3 * cost) first (with_refusal mid) = record { built = few.built; reused = few.reused; sum = few.sum; refused = λ h. refl } in
-      subst (λ k. AddsAtMost (passes_before k times * cost) first now) (sym is) (within (min times 3) times cost first now (omega arith) (subst (AddsAtMost (min times 3 * cost) first) (sym noted) more));
-  refused = λ h. subst (λ (s : Steps). IsTrue s.refused) (sym noted) refl;
-}
+pub refused : (cost : ℕ) (first : Steps) (times : ℕ) (old new : Course) (mid now : Steps) → old.known ≡ Nothing → new.limit ≡ old.limit → new.byte_limit ≡ old.byte_limit → new.known ≡ Refused → HasTaken cost first times old mid → now ≡ with_refusal mid → IsReady cost first times new now
+refused cost first times old new mid now nothing same alike is taken noted =
+    let before = taken_before cost first times old mid nothing taken in
+    let few = before.0 in
+    let more : CountsAtMost (min times 3 * cost) (min times 3 * cost) first (with_refusal mid) = record { built = few.built; reused = few.reused; passed = few.passed; sum = few.sum; bytes = few.bytes } in record {
+      limits = same_limits cost first old new same alike taken.limits;
+      few = subst (λ k. Adds (passes_before k times * cost) (passes_before k times * cost) (refusals k) first now) (sym is) (record {
+        counts = within (min times 3) times cost first now (omega arith) (subst (CountsAtMost (min times 3 * cost) (min times 3 * cost) first) (sym noted) more);
+        refused = ap (λ (s : Steps). s.refused) noted ∙ ap (counted 1) before.1;
+      });
+    }
 
 module _ (matchers place long : ℕ) (first : Steps) (times : ℕ) (course : Course) (mid now : Steps) (ready : IsReady (matchers * (long + 1)) first times course mid) (more : AddsAtMost (matchers * (long - place + 1)) mid now) where
   abbrev pub cost : ℕ
@@ -134,43 +151,39 @@ module _ (matchers place long : ℕ) (first : Steps) (times : ℕ) (course : Cou
 
   -- the next part was searched, since its end isn't known
   pub searched : ((ends : _) → course.known ≡ Ends ends → ⊥) → HasTaken cost first (times + 1) course now
-  searched unknown = record { limit = ready.limit; few = go course.known refl ready.few; refused = λ e. more.refused (ready.refused e) }
+  searched unknown = record { limits = ready.limits; few = record { counts = go course.known refl ready.few.counts; refused = more.refused ∙ ready.few.refused } }
     where
-      go : (known : Known) → course.known ≡ known → AddsAtMost (passes_before known times * cost) first mid → AddsAtMost (passes known (times + 1) * cost) first now
-      go Nothing is spent = within (min times 2 + 1) (min (times + 1) 3) cost first now (omega arith) (one_more (min times 2) cost _ first mid now few spent more)
+      go : (known : Known) → course.known ≡ known → CountsAtMost (passes_before known times * cost) (passes_before known times * cost) first mid → CountsAtMost (passes known (times + 1) * cost) (passes known (times + 1) * cost) first now
+      go Nothing is spent = within (min times 2 + 1) (min (times + 1) 3) cost first now (omega arith) (one_more (min times 2) cost _ first mid now few spent more.counts)
       go (Ends ends) is spent = absurd (unknown ends is)
-      go Refused is spent = one_more times cost _ first mid now few spent more
+      go Refused is spent = one_more times cost _ first mid now few spent more.counts
 
 -- the next part was known
 pub looked_up : (cost : ℕ) (first : Steps) (times : ℕ) (course : Course) (now : Steps) → (ends : _) → course.known ≡ Ends ends → IsReady cost first times course now → HasTaken cost first (times + 1) course now
-looked_up cost first times course now ends is ready = record { limit = ready.limit; few = subst (λ k. AddsAtMost (passes k (times + 1) * cost) first now) (sym is) (subst (λ k. AddsAtMost (passes_before k times * cost) first now) is ready.few); refused = ready.refused }
+looked_up cost first times course now ends is ready = record {
+  limits = ready.limits;
+  few = subst (λ k. Adds (passes k (times + 1) * cost) (passes k (times + 1) * cost) (refusals k) first now) (sym is) (subst (λ k. Adds (passes_before k times * cost) (passes_before k times * cost) (refusals k) first now) is ready.few);
+}
 
 -- a list of zeros has no other number
 pub zero_at : (n i : ℕ) → ◌≡◌ {A = ℕ} (get_or (replicate n 0) i 0) 0
 zero_at n i = elim (cases_lt i n) [ inl lt ↦ get_or-replicate n i 0 0 lt | inr ge ↦ get_or_past (replicate n 0) i 0 (let long = length-replicate {A = ℕ} n 0 in omega (arith, long, ge)) ]
 
 -- the first part was not asked for yet
-pub course_begins : (cost : ℕ) (course : Course) (now : Steps) → course.limit ≤ now.built + now.reused + 2 * cost → course.known ≡ Nothing → HasTaken cost now 0 course now
-course_begins cost course now limit nothing = record {
-  limit = limit;
-  few = record { built = omega arith; reused = omega arith; sum = omega arith; refused = λ h. h };
-  refused = λ no. absurd (not_both (sym nothing ∙ no));
+pub course_begins : (cost : ℕ) (course : Course) (now : Steps) → AreLimits cost now course → course.known ≡ Nothing → HasTaken cost now 0 course now
+course_begins cost course now limits nothing = record {
+  limits = limits;
+  few = record {
+    counts = counts_none (passes course.known 0 * cost) (passes course.known 0 * cost) now;
+    refused = subst (λ k. now.refused ≡ refused_more (refusals k) now.refused) (sym nothing) refl;
+  };
 }
-  where
-    not_both : Nothing ≡ Refused → ⊥
-    not_both e = cc
 
--- at most four searches of the line, unless memory was refused
-pub few_searches : (cost : ℕ) (first : Steps) (times : ℕ) (course : Course) (now : Steps) → HasTaken cost first times course now → (refused : Bool) → (IsTrue now.refused → IsTrue refused) → AddsAtMost ((if refused then times else min times 4) * cost) first now
-few_searches cost first times course now taken true later = within (passes course.known times) times cost first now (most course.known) taken.few
+-- at most four searches of the line, unless memory for its ends was refused
+pub few_searches : (cost : ℕ) (first : Steps) (times : ℕ) (course : Course) (now : Steps) → HasTaken cost first times course now → Adds (searches_for (refusals course.known) times * cost) (searches_for (refusals course.known) times * cost) (refusals course.known) first now
+few_searches cost first times course now taken = record { counts = go course.known taken.few.counts; refused = taken.few.refused }
   where
-    most : (known : Known) → passes known times ≤ times
-    most Nothing = omega arith
-    most (Ends ends) = omega arith
-    most Refused = omega arith
-few_searches cost first times course now taken false later = within (passes course.known times) (min times 4) cost first now (few course.known refl) taken.few
-  where
-    few : (known : Known) → course.known ≡ known → passes known times ≤ min times 4
-    few Nothing e = omega arith
-    few (Ends ends) e = omega arith
-    few Refused e = absurd (false≢true (later (taken.refused e)))
+    go : (known : Known) → CountsAtMost (passes known times * cost) (passes known times * cost) first now → CountsAtMost (searches_for (refusals known) times * cost) (searches_for (refusals known) times * cost) first now
+    go Nothing few = within (min times 3) (min times 4) cost first now (omega arith) few
+    go (Ends ends) few = few
+    go Refused few = few

@@ -1,14 +1,21 @@
 -- Strings that several expressions need.
 use Rattle.std.proofs.Common.{◌≡◌, ℕ, ◌+◌, ◌<◌, ◌≤◌, inl, inr, Bool, true, false, List, [], ◌∷◌, ◌++◌, Any, All, length, take, drop, get_or, refl, sym, ap, subst, ◌∙◌, arith}
+use Rattle.std.specs.Option.{ForSome}
+use Rattle.std.specs.Prelude.{Option, Some, None}
 use Rattle.std.proofs.lemmas.Bool.{cases_lt}
+use Rattle.re_needle.proofs.lemmas.BlockLemmas.{passes_none}
+use Rattle.re_match.specs.declared.sweeps.Sweep.{Sweep}
+use Rattle.re_match.specs.Working.Sweeping.{StopsAt}
+use Rattle.re_search.specs.Working.Blocks.{StopsNear}
+use Rattle.re_search.specs.Working.Sought.{PassesUnsought}
 use Rattle.std.proofs.lemmas.List.{get_or_default, drop-drop}
 use Rattle.re_syntax.specs.Bytes.{Text}
 use Rattle.re_syntax.specs.Expression.{Expression}
 use Rattle.re_syntax.specs.Holds.{Holds, Matches}
 use Rattle.re_syntax.proofs.lemmas.Decisions.{Any-first}
 use Rattle.re_match.specs.declared.matcher.Matcher.{Matcher}
-use Rattle.re_search.specs.Working.Filters.{AreNeeded, NeedsOneOf}
-use Rattle.re_match.specs.Working.Literals.{any_literal}
+use Rattle.re_search.specs.Working.Filters.{AreNeeded, NeedsOneOf, PassesByFilter}
+use Rattle.re_match.specs.Working.Literals.{Literals, any_literal}
 use Rattle.re_needle.specs.Working.Needles.{IsNeeded, StandsBetween}
 use Rattle.re_match.specs.Working.Matchers.{matched_expression}
 use Rattle.re_auto.specs.Searching.{SomeMatches}
@@ -48,3 +55,12 @@ texts_are_needed texts es each line whole none some = none (matched whole some)
     matched : (whole : Bool) → SomeMatches es line whole → Matches (any_literal (record { texts = texts; fold = false; whole = false })) line false
     matched false (p, e, lt, at, (i, j, within, h)) = string_of e (subst (NeedsOneOf texts) at (each p e lt)) i j within h
     matched true (p, e, lt, at, h) = string_of e (subst (NeedsOneOf texts) at (each p e lt)) 0 (length line) (omega arith) h
+
+-- lines without the strings of a filter are matched by none of the expressions that need them
+pub filter_passes : (filter : Option Literals) (es : List Expression) (whole : Bool) (block : Text) (count : ℕ) → ForSome filter (λ strings. AreNeeded strings es) → PassesByFilter filter block count → PassesUnsought (record { expressions = es; whole = whole }) block count
+filter_passes None es whole block count needed none = subst (PassesUnsought (record { expressions = es; whole = whole }) block) (sym none) (passes_none (λ line. ¬ SomeMatches es line whole) block)
+filter_passes (Some strings) es whole block count needed (lines, rest, free, none, is, counted) = (lines, rest, free, λ i d below some. needed strings refl (get_or lines i d) whole (none i d below) some, is, counted)
+
+-- where a sweep stopped
+pub stops_near : (e : Expression) (whole : Bool) (block : Text) (sweep : Sweep) → StopsAt e whole block sweep → StopsNear block sweep
+stops_near e whole block sweep stops = record { within = stops.within; near = stops.near; unseen = stops.unseen }

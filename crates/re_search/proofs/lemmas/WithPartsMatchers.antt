@@ -1,6 +1,6 @@
 -- Matchers that are asked in two parts: what is known of all of them, from what is known of each
 -- part.
-use Rattle.std.proofs.Common.{◌≡◌, ℕ, ◌+◌, ◌*◌, Bool, true, false, inl, inr, List, [], ◌∷◌, ◌++◌, map, refl, sym, ap, ◌∙◌, subst, arith}
+use Rattle.std.proofs.Common.{◌≡◌, ℕ, ◌+◌, ◌-◌, ◌*◌, ◌≤◌, Bool, true, false, inl, inr, List, [], ◌∷◌, ◌++◌, map, refl, sym, ap, ◌∙◌, subst, arith}
 use Rattle.std.proofs.lemmas.Bool.{false≢true}
 use Rattle.std.proofs.lemmas.List.{map-append}
 use Rattle.std.proofs.lemmas.List.Elements.{All-nil, All-cons, All-head, All-tail}
@@ -8,6 +8,9 @@ use Rattle.re_syntax.specs.Bytes.{Text}
 use Rattle.re_syntax.specs.Expression.{Expression}
 use Rattle.re_syntax.specs.Holds.{Matches}
 use Rattle.re_auto.specs.Meters.{Steps}
+use Rattle.std.proofs.Math.Nat.{mul-le-mul_right}
+use Rattle.re_meter.specs.Meters.{AddsUpTo}
+use Rattle.re_meter.proofs.lemmas.Adding.{adds_within, adds_both}
 use Rattle.re_auto.specs.Searching.{AddsAtMost, AllAnswer, SameMatchers, SomeMatches, DecidesMatchOfAll}
 use Rattle.re_syntax.proofs.lemmas.SomeOfJoined.{Any-left, Any-right, Any-append-cases}
 
@@ -57,9 +60,13 @@ same_joined {expression = expression} {whole = whole} {room = room} all before r
 }
 
 -- the steps over the second part alone
-pub steps_of_rest : (a b n : ℕ) (old new : Steps) → AddsAtMost (b * n) old new → AddsAtMost ((a + b) * n) old new
-steps_of_rest a b n old new x = record { built = x.built; reused = x.reused; sum = omega (arith, x.sum); refused = x.refused }
+pub steps_of_rest : (a b n : ℕ) (old new : Steps) → 1 ≤ b → AddsUpTo (b * n) ((b - 1) * n) old new → AddsUpTo ((a + b) * n) ((a + b - 1) * n) old new
+steps_of_rest a b n old new some x = adds_within (b * n) ((a + b) * n) ((b - 1) * n) ((a + b - 1) * n) old new (omega arith) (mul-le-mul_right n (omega (arith, some))) x
 
 -- those over the second part, and then over the first
-pub steps_joined : (a b n : ℕ) (old middle new : Steps) → AddsAtMost (b * n) old middle → AddsAtMost (a * n) middle new → AddsAtMost ((a + b) * n) old new
-steps_joined a b n old middle new x y = record { built = omega (arith, x.built, y.built); reused = omega (arith, x.reused, y.reused); sum = omega (arith, x.sum, y.sum); refused = λ h. y.refused (x.refused h) }
+pub steps_joined : (a b n : ℕ) (old middle new : Steps) → 1 ≤ b → AddsUpTo (b * n) ((b - 1) * n) old middle → AddsUpTo (a * n) ((a - 0) * n) middle new → AddsUpTo ((a + b) * n) ((a + b - 1) * n) old new
+steps_joined a b n old middle new some x y =
+    let whole : b - 1 + (a - 0) ≡ a + b - 1 = omega (arith, some) in
+    let sum : (b - 1) * n + (a - 0) * n ≡ (b - 1 + (a - 0)) * n = omega arith in
+    let same : (b - 1 + (a - 0)) * n ≡ (a + b - 1) * n = ap (λ k. k * n) whole in
+    adds_within (b * n + a * n) ((a + b) * n) ((b - 1) * n + (a - 0) * n) ((a + b - 1) * n) old new (omega arith) (omega (arith, sum, same)) (adds_both (b * n) (a * n) ((b - 1) * n) ((a - 0) * n) old middle new x y)

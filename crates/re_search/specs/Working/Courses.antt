@@ -1,8 +1,7 @@
--- The search for the parts of one line: what it knows of the line, and how many steps it took.
-use Rattle.std.specs.Prelude.{◌≡◌, ⊤, IsTrue, ℕ, ◌+◌, ◌*◌, ◌<◌, ◌≤◌, ◌↔◌, List, min, length, slice_index}
+-- The search for the parts of one line: what it knows of the line, and how much work it took.
+use Rattle.std.specs.Prelude.{◌≡◌, ⊤, ℕ, ◌+◌, ◌*◌, ◌<◌, ◌≤◌, ◌↔◌, List, min, length, slice_index}
 use Rattle.re_syntax.specs.Bytes.{Text}
-use Rattle.re_auto.specs.Meters.{Steps}
-use Rattle.re_auto.specs.Searching.{AddsAtMost}
+use Rattle.re_meter.specs.Meters.{Steps, Adds}
 use Rattle.re_ends.specs.Working.GreatestEnds.{FoundPast}
 use Rattle.re_search.specs.declared.course.Course.{Course}
 use Rattle.re_search.specs.declared.course.Known.{Known}
@@ -28,19 +27,30 @@ IsCourseOf sought line course = IsKnownOf sought line course.known
 
 -- How many searches of the whole line are as dear as this number of searches for a part: no more
 -- than three before the pass that finds all ends, which is one more. Where memory for the ends was
--- refused, each search for a part may be one, and the meter says so.
+-- refused, each search for a part may be one.
 abbrev pub passes : Known → ℕ → ℕ
 passes Nothing times = min times 3
 passes (Ends ends) times = min times 4
 passes Refused times = times
 
--- these steps were taken since the first part was asked for, by so many searches for a part, where
--- a search of the whole line takes `line_cost` steps
+-- how often memory for the ends was refused
+abbrev pub refusals : Known → ℕ
+refusals Nothing = 0
+refusals (Ends ends) = 0
+refusals Refused = 1
+
+-- each part is searched for by itself as long as no more steps are taken, and no more bytes passed,
+-- than by two searches of the whole line
+pub record AreLimits (line_cost : ℕ) (first : Steps) (course : Course) : Type 0 where
+  pub steps : course.limit ≤ first.built + first.reused + 2 * line_cost
+  pub bytes : course.byte_limit ≤ first.passed + 2 * line_cost
+
+-- this was counted since the first part was asked for, by so many searches for a part, where a search
+-- of the whole line takes `line_cost` steps and passes as many bytes, both at most
 pub record HasTaken (line_cost : ℕ) (first : Steps) (times : ℕ) (course : Course)
     (now : Steps) : Type 0 where
-  pub limit : course.limit ≤ first.built + first.reused + 2 * line_cost
-  pub few : AddsAtMost (passes course.known times * line_cost) first now
-  pub refused : course.known ≡ Refused → IsTrue now.refused
+  pub limits : AreLimits line_cost first course
+  pub few : Adds (passes course.known times * line_cost) (passes course.known times * line_cost) (refusals course.known) first now
 
 -- the same before the next search for a part, which may search the line once more if its ends
 -- aren't known
@@ -52,6 +62,5 @@ passes_before Refused times = times
 -- the next part can be searched in the same course
 pub record IsReady (line_cost : ℕ) (first : Steps) (times : ℕ) (course : Course)
     (now : Steps) : Type 0 where
-  pub limit : course.limit ≤ first.built + first.reused + 2 * line_cost
-  pub few : AddsAtMost (passes_before course.known times * line_cost) first now
-  pub refused : course.known ≡ Refused → IsTrue now.refused
+  pub limits : AreLimits line_cost first course
+  pub few : Adds (passes_before course.known times * line_cost) (passes_before course.known times * line_cost) (refusals course.known) first now

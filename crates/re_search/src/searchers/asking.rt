@@ -6,15 +6,16 @@ ghost use Rattle.re_auto.specs.Searching.{AddsAtMost, AllAnswer, SameMatchers};
 ghost use Rattle.re_search.specs.Working.Asking.{SameSearchers, asks_whole, expressions_by};
 ghost use Rattle.re_search.specs.Working.Asking.{sought_by};
 ghost use Rattle.re_needle.specs.Working.Blocks.{IsBlock, next_cost};
-ghost use Rattle.re_search.specs.Working.Blocks.{PassesUnmatchedByAll};
+ghost use Rattle.re_search.specs.Working.Blocks.{left_for_all};
+ghost use Rattle.re_meter.specs.Meters.{AddsUpTo};
 ghost use Rattle.re_search.specs.Working.Sought.{IsSought, FindsSought, CountsSought};
 ghost use Rattle.re_search.specs.Working.Filters.{AreNeeded};
 
 use crate::filter::Filter;
 use crate::searchers::Searchers;
-use crate::several::{is_matched, least_candidate};
+use crate::several::is_matched;
 use re_auto::Meter;
-use re_match::LineMatch;
+use re_match::{LineMatch, Stop};
 use re_needle::line_end;
 use re_syntax::Span;
 use std::alloc::Global;
@@ -42,8 +43,8 @@ impl<'a, 'f, M: LineMatch> Searchers<'a, 'f, M> {
         }
     }
 
-    /// Whether some matcher matches the line, in at most one step for each matcher and byte, and
-    /// one more for each matcher.
+    /// Whether some matcher matches the line. It takes at most one step for each matcher and byte, and
+    /// one more for each matcher, and passes at most as many bytes.
     pub fn is_matched(&mut self, line: &[u8], meter: &mut Meter) -> bool
         ensures reported { IsTrue result ↔ IsSought (sought_by M.expression self.old) line.now }
         ensures same { SameSearchers M.expression M.whole M.room self.old self.new }
@@ -56,8 +57,8 @@ impl<'a, 'f, M: LineMatch> Searchers<'a, 'f, M> {
 
     /// The first line of a block of whole lines that some matcher matches, by its place without its
     /// newline. It takes at most one step for each matcher and byte up to that newline, and one
-    /// more for each matcher. If no line is matched, it takes at most one step for each matcher and
-    /// byte of the block.
+    /// more for each matcher, and passes at most as many bytes. If no line is matched, it takes at
+    /// most one step for each matcher and byte of the block, and passes at most as many bytes.
     pub fn next_matched(&mut self, block: &[u8], meter: &mut Meter) -> Option<Span>
         requires { IsBlock block.now }
         ensures reported { FindsSought (sought_by M.expression self.old) (lines_of block.now) result }
@@ -71,8 +72,8 @@ impl<'a, 'f, M: LineMatch> Searchers<'a, 'f, M> {
         next_of(self.matchers, self.filter, self.whole, block, meter)
     }
 
-    /// How many lines of a block of whole lines some matcher matches, in at most one step for each
-    /// matcher and byte.
+    /// How many lines of a block of whole lines some matcher matches. It takes at most one step for
+    /// each matcher and byte, and passes at most as many bytes.
     pub fn count_matched(&mut self, block: &[u8], meter: &mut Meter) -> u64
         requires { IsBlock block.now }
         ensures reported { CountsSought (sought_by M.expression self.old) (lines_of block.now) result }
@@ -116,36 +117,30 @@ fn any_matches<M: LineMatch>(
     filter.is_matched(matchers, line, meter)
 }
 
-// How many bytes of a block are passed: whole lines, none of which some matcher matches. It takes
-// at most one step for each of these bytes.
-fn sweep<M: LineMatch>(matchers: &[M], filter: &Filter, block: &[u8], meter: &mut Meter) -> usize
-    requires block { IsBlock block.now }
-    requires needed { ForSome filter.now (λ strings. AreNeeded strings (map M.expression matchers.now)) }
-    ensures passes { PassesUnmatchedByAll (map M.expression matchers.now)
-        (map M.whole matchers.now) block.now result }
-    ensures steps { AddsAtMost result meter.old meter.new }
+// Whether some matcher matches the line at which a sweep stopped. If it was looked over, the strings
+// of the filter are not looked for again.
+#[inline(always)]
+fn is_matched_after<M: LineMatch>(
+    matchers: &mut [M],
+    filter: &Filter,
+    whole: bool,
+    stop: Stop,
+    line: &[u8],
+    meter: &mut Meter,
+) -> bool
+    requires some { 1 ≤ length matchers.old }
+    requires alike { AllAnswer whole (map M.whole matchers.old) }
+    requires needed { ForSome filter.now (λ strings. AreNeeded strings (map M.expression matchers.old)) }
+    ensures reported { IsTrue result ↔ IsSought
+        (record { expressions = map M.expression matchers.old; whole = whole }) line.now }
+    ensures same_matchers { SameMatchers M.expression M.whole M.room matchers.old matchers.new }
+    ensures steps { AddsUpTo (length matchers.old * (length line.now + 1))
+        (left_for_all stop (length matchers.old) (length line.now + 1)) meter.old meter.new }
 {
-    if !filter.is_look_due() {
-        return 0;
-    }
-    let passed = candidate(matchers, filter, block);
-    filter.note_look(passed);
-    meter.add_built(passed as u64);
-    passed
-}
-
-// Where in a block the first line begins that some matcher may match: no line before it is matched
-// by any.
-fn candidate<M: LineMatch>(matchers: &[M], filter: &Filter, block: &[u8]) -> usize
-    requires block { IsBlock block.now }
-    requires needed { ForSome filter.now
-        (λ strings. AreNeeded strings (map M.expression matchers.now)) }
-    ensures { PassesUnmatchedByAll (map M.expression matchers.now)
-        (map M.whole matchers.now) block.now result }
-{
-    match filter.first_line(block) {
-        Some(place) => place,
-        None => least_candidate(matchers, block),
+    match stop {
+        Stop::Unseen => any_matches(matchers, filter, whole, line, meter),
+        Stop::Seen => filter.is_matched(matchers, line, meter),
+        Stop::Matched => filter.is_matched(matchers, line, meter),
     }
 }
 
@@ -199,11 +194,13 @@ fn next_of_all<M: LineMatch>(
 {
     let mut start = 0;
     'lines: loop {
-        let from = start + sweep(matchers, filter, &block[start..], meter);
+        let sweep = filter.sweep(&block[start..], meter);
+        let from = start + sweep.start;
         let Some(end) = line_end(block, from) else {
             return None;
         };
-        if any_matches(matchers, filter, whole, &block[from..end], meter) {
+        let line = &block[from..end];
+        if is_matched_after(matchers, filter, whole, sweep.stop, line, meter) {
             return Some(Span { start: from, end });
         }
         start = end + 1;

@@ -132,12 +132,15 @@ fn learn<M: LineMatch>(
         HasTaken (length matchers.old * (length line.now + 1)) first times course.old meter.old
         → IsReady (length matchers.old * (length line.now + 1)) first times course.new meter.new }
 {
-    let Ok(mut ends) = vec![in course.alloc; 0usize; line.len()] else {
-        meter.note_refusal();
+    let Some(mut ends) = meter.zeros(course.alloc, line.len()) else {
         course.known = Known::Refused;
         return;
     };
-    add_all_ends(matchers, whole, line, &mut ends, meter);
+    let Some(mut spare) = meter.zeros(course.alloc, line.len()) else {
+        course.known = Known::Refused;
+        return;
+    };
+    add_all_ends(matchers, whole, line, &mut ends, &mut spare, meter);
     course.known = Known::Ends(ends);
 }
 
@@ -147,16 +150,18 @@ fn add_all_ends<M: LineMatch>(
     whole: bool,
     line: &[u8],
     ends: &mut [usize],
+    spare: &mut [usize],
     meter: &mut Meter,
 )
     requires alike { AllAnswer whole (map M.whole matchers.old) }
     requires room { length ends.old ≡ length line.now }
+    requires spare { length spare.old ≡ length line.now }
     ensures added { AddsEnds (FoundPast (map M.expression matchers.old) line.now whole) line.now
         ends.old ends.new }
     ensures same_matchers { SameMatchers M.expression M.whole M.room matchers.old matchers.new }
     ensures steps { AddsAtMost (length matchers.old * (length line.now + 1)) meter.old meter.new }
 {
     for matcher in matchers.iter_mut() {
-        matcher.add_ends(line, ends, meter);
+        matcher.add_ends(line, ends, spare, meter);
     }
 }

@@ -1,5 +1,5 @@
 -- Stretches that begin at one place, followed over a line by words of positions.
-use Rattle.std.proofs.Common.{◌≡◌, ℕ, zero, suc, ◌^◌, ◌<◌, ◌≤◌, ◌⊎◌, inl, inr, ◌↔◌, length, slice_index, refl, sym, ap, subst, arith}
+use Rattle.std.proofs.Common.{◌≡◌, ℕ, zero, suc, ◌+◌, ◌^◌, ◌<◌, ◌≤◌, ◌⊎◌, inl, inr, ◌↔◌, length, slice_index, refl, sym, ap, subst, arith}
 use Rattle.std.specs.Prelude.{bit_and}
 use Rattle.std.specs.Int.{bit_at}
 use Rattle.std.proofs.lemmas.Bool.{cases_lt}
@@ -16,11 +16,15 @@ use Rattle.re_auto.proofs.lemmas.Chains.{reaches_bounds}
 use Rattle.re_auto.proofs.lemmas.LeastStarts.{passes}
 use Rattle.re_auto.proofs.lemmas.Numbered.{part_numbered}
 use Rattle.re_auto.proofs.lemmas.PositionsDecide.{positions_decide}
-use Rattle.re_steps.specs.Working.Lone.{AreReached, IsLongest, HasNone, IsLastEnd}
+use Rattle.re_steps.specs.Working.Lone.{AreReached, GoesOnAt, IsLongest, HasNone, IsLastEnd}
 
 -- the word 0 has no number
 pub none_in_zero : (word q : ℕ) → word ≡ 0 → InWord word q → ⊥
 none_in_zero word q is h = let none : bit_at word q ≡ bit_at 0 q = ap (λ x. bit_at x q) is in omega (arith, h, none, bit_at-zero q)
+
+-- another word has one
+pub some_held : (word : ℕ) → word < 2 ^ 64 → (word ≡ 0 → ⊥) → (q : ℕ) × InWord word q
+some_held word fits some = let found = lowest word (omega (arith, some)) fits in (_, found.set)
 
 -- what two words have in common, if that is not 0
 pub some_in_both : (a b : ℕ) → a < 2 ^ 64 → (bit_and a b ≡ 0 → ⊥) → (q : ℕ) × InWord a q × InWord b q
@@ -100,6 +104,38 @@ module _ (e : Expression) (line : Text) (i : ℕ) where
             let (q, held, l) = (ended place word lt reached).0 (subst (Holds line e i) here h) in
             absurd (none q held l)
       ]
+
+  -- the stretches go on where a position is left and a matched one ended by then or may soon
+  pub goes_here : (patience place word last : ℕ) → (q : ℕ) × InWord word q → AreReached e line i place word → IsLastEnd e line i (suc place) last → (last ≡ i → place < i + patience)
+      → GoesOnAt e line i patience place
+  goes_here patience place word last (q, held) reached is soon = (
+    (q, (reached q).0 held),
+    elim (sides last is.low) [
+      | inl none ↦ inl (soon none)
+      | inr one ↦ inr (last, one, (let high = is.high in omega (arith, high)), is.holds one)
+    ],
+  )
+    where
+      sides : (last : ℕ) → i ≤ last → (last ≡ i) ⊎ (i < last)
+      sides last low = search arith
+
+  -- they don't where no position is left, or none has ended in time
+  pub stops_clear : (patience place word : ℕ) → word ≡ 0 → AreReached e line i place word → ¬ GoesOnAt e line i patience place
+  stops_clear patience place word clear reached ((q, r), rest) = none_in_zero word q clear ((reached q).1 r)
+
+  pub stops_late : (patience place last : ℕ) → IsLastEnd e line i (suc place) last → last ≡ i → i + patience ≤ place → ¬ GoesOnAt e line i patience place
+  stops_late patience place last is none late (reach, inl soon) = omega (arith, soon, late)
+  stops_late patience place last is none late (reach, inr (l, some, by, holds)) = let end = is.longest l (omega (arith, by)) holds in omega (arith, end, none, some)
+
+  -- up to a place, and over the byte there
+  pub goes_further : (patience place : ℕ) → ((k : ℕ) → i < k → k < place → GoesOnAt e line i patience k) → GoesOnAt e line i patience place → (k : ℕ) → i < k → k < suc place → GoesOnAt e line i patience k
+  goes_further patience place on here k low high = elim (sides k high) [
+    | inl early ↦ on k low early
+    | inr same ↦ subst (GoesOnAt e line i patience) (sym same) here
+  ]
+    where
+      sides : (k : ℕ) → k < suc place → (k < place) ⊎ (k ≡ place)
+      sides k lt = search arith
 
   -- once all ends are known, the last is that of the longest stretch
   pub longest_of : (last : ℕ) → IsLastEnd e line i (suc (length line)) last → i < last → IsLongest e line i last

@@ -7,18 +7,12 @@ use Rattle.re_syntax.specs.Expression.{Expression}
 use Rattle.re_syntax.specs.Holds.{Holds, Matches}
 use Rattle.re_auto.specs.declared.mode.Mode.TheVariants.{Search, Whole}
 use Rattle.re_auto.specs.declared.step.state_set.StateSet.{StateSet}
-use Rattle.re_auto.specs.Meters.{Steps}
 use Rattle.re_auto.specs.Working.Positions.{PartHolds, part_of, is_begin, is_end}
 use Rattle.re_auto.specs.Working.StateSets.{IsNowhere, StandsAt}
 use Rattle.re_auto.proofs.lemmas.Chains.{not_at_begin, not_at_end}
 use Rattle.re_auto.proofs.lemmas.LeastStarts.{passes}
 use Rattle.re_auto.proofs.lemmas.PositionsDecide.{positions_decide}
-use Rattle.re_auto.specs.Searching.{AddsAtMost}
 use Rattle.re_steps.specs.Working.Simulations.{EndsAt, NoneEndsBefore}
-
--- no step was taken yet
-pub no_step : (n : ℕ) (steps : Steps) → AddsAtMost n steps steps
-no_step n steps = record { built = omega arith; reused = omega arith; sum = omega arith; refused = λ h. h }
 
 -- what holds of no place before `next`, and not there, holds of none up to there
 pub none_more : (P : ℕ → Type 0) (place next : ℕ) → ((k : ℕ) → place ≤ k → k < next → ¬ P k) → ¬ P next → (k : ℕ) → place ≤ k → k < next + 1 → ¬ P k

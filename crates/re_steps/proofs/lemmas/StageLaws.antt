@@ -11,14 +11,15 @@ use Rattle.re_auto.specs.declared.mode.Mode.{Mode}
 use Rattle.re_auto.specs.declared.mode.Mode.TheVariants.{Search, Whole}
 use Rattle.re_auto.specs.declared.step.state_set.StateSet.{StateSet}
 use Rattle.re_auto.specs.Working.Bits.{Has}
-use Rattle.re_auto.specs.Meters.{Steps, many_built}
+use Rattle.re_meter.specs.Meters.{Steps, many_built}
 use Rattle.re_auto.specs.Working.Positions.{part_of, is_end}
 use Rattle.re_auto.specs.Working.StateSets.{IsSame, IsNowhere, IsNextSet, IsAccepting, StandsAt}
 use Rattle.re_auto.specs.Working.Stepping.{Accepts, IsAfter, IsNext}
 use Rattle.re_auto.specs.Working.Tables.{CanBegin}
+use Rattle.re_meter.proofs.lemmas.Adding.{adds_none, adds_within, adds_both, reused_adds, built_adds}
 use Rattle.re_auto.proofs.lemmas.Chains.{not_at_end}
 use Rattle.re_auto.proofs.lemmas.SetsByWords.{stands_next, matched_by, nowhere_stays}
-use Rattle.re_auto.specs.Searching.{AddsAtMost}
+use Rattle.re_meter.specs.Meters.{AddsUpTo}
 use Rattle.re_steps.specs.Working.Simulations.{EndsAt, NoneEndsBefore}
 use Rattle.re_steps.specs.Working.Stages.{Cache, Stage, AreAlike, IsHeld, HoldsNoOther, IsPlain, GoesOver, Goes, Finishes, Searches, IsReadied, mode_for}
 use Rattle.re_steps.proofs.lemmas.Passing.{none_at_first, matched_at, end_decides, whole_decides, nowhere_fails}
@@ -70,10 +71,40 @@ over_alike e mode c old new other is over = record {
         cache = subst (λ cache. HoldsNoOther e old.cache old.set c cache) (sym is.cache) b.cache;
         steps = is.steps ∙ b.steps;
       })
-      | inr p ↦ inr (record { search = p.search; nowhere = p.nowhere; never = p.never; same = alike_trans other new old is p.same })
+      | inr p ↦ inr (record {
+        search = p.search;
+        nowhere = p.nowhere;
+        never = p.never;
+        set = same_trans other.set new.set old.set is.set p.set;
+        cache = is.cache ∙ p.cache;
+        steps = is.steps ∙ p.steps;
+      })
     ])
   ];
 }
+
+-- the steps after n more that were built
+abbrev stepped : ℕ → Steps → Steps
+stepped zero steps = steps
+stepped (suc n) steps = many_built (suc n) steps
+
+stepped_more : (n : ℕ) (steps : Steps) → many_built 1 (stepped n steps) ≡ stepped (suc n) steps
+stepped_more zero steps = refl
+stepped_more (suc n) steps = ap (λ k. record { built = k; reused = steps.reused; passed = steps.passed; refused = steps.refused }) (omega arith)
+
+stepped_is : (n : ℕ) (old new : Steps) → (0 < n → new ≡ many_built n old) → (n ≡ 0 → new ≡ old) → new ≡ stepped n old
+stepped_is zero old new counted none = none refl
+stepped_is (suc n) old new counted none = counted (omega arith)
+
+-- bytes that are passed, where any are, count at most as many steps
+pub passed_adds : (place next : ℕ) (old new : Steps) → (place < next → new ≡ many_built (next - place) old) → (next ≡ place → new ≡ old) → place ≤ next → AddsUpTo (next - place) 0 old new
+passed_adds place next old new counted none le = elim (sides place next le) [
+  | inl same ↦ rw (none same) (adds_none (next - place) 0 old)
+  | inr some ↦ rw (counted some) (built_adds (next - place) 0 old)
+]
+  where
+    sides : (j n : ℕ) → j ≤ n → (n ≡ j) ⊎ (j < n)
+    sides j n le = search arith
 
 -- a cache without entries holds nothing
 pub nothing_held : (cache : Cache) (set : StateSet) (c : ℕ) → cache.entries ≡ [] → ¬ IsHeld cache set c
@@ -107,7 +138,7 @@ module _ (e : Expression) (mode : Mode) (line : Text) where
     | inl r ↦ stands_next e mode old.set new.set (slice_index line j) r.next line j (slice_get-get_or line j 0 lt) stands
     | inr rest ↦ elim rest [
       | inl b ↦ stands_next e mode old.set new.set (slice_index line j) b.next line j (slice_get-get_or line j 0 lt) stands
-      | inr p ↦ stands_same e mode line (suc j) old.set new.set p.same.set
+      | inr p ↦ stands_same e mode line (suc j) old.set new.set p.set
           (subst (λ m. StandsAt e m line (suc j) old.set) (sym p.search)
           (nowhere_stays e (slice_index line j) p.never old.set line j p.nowhere (slice_get-get_or line j 0 lt) (subst (λ m. StandsAt e m line j old.set) p.search stands)))
     ]
@@ -119,25 +150,32 @@ module _ (e : Expression) (mode : Mode) (line : Text) where
   goes_stands zero first last le stands goes = stands_same e mode line 0 first.set last.set goes.set stands
   goes_stands (suc j) first last le stands (middle, goes, over) = over_stands j middle last (omega arith) over (goes_stands j first middle (omega arith) stands goes)
 
-  over_steps : (n : ℕ) (c : ℕ) (first old new : Stage) → GoesOver e mode c old new → AddsAtMost n first.steps old.steps → AddsAtMost (suc n) first.steps new.steps
-  over_steps n c first old new over a = elim over.over [
-    | inl r ↦ rw r.steps (record { built = omega (arith, a.built); reused = omega (arith, a.reused); sum = omega (arith, a.sum); refused = a.refused })
-    | inr rest ↦ elim rest [
-      | inl b ↦ rw b.steps (record { built = omega (arith, a.built); reused = omega (arith, a.reused); sum = omega (arith, a.sum); refused = a.refused })
-      | inr p ↦ rw p.same.steps (record { built = omega (arith, a.built); reused = omega (arith, a.reused); sum = omega (arith, a.sum); refused = a.refused })
-    ]
-  ]
+  over_steps : (n : ℕ) (c : ℕ) (first old new : Stage) → GoesOver e mode c old new → AddsUpTo n 0 first.steps old.steps → AddsUpTo (suc n) 0 first.steps new.steps
+  over_steps n c first old new over a = rw (sym one) (adds_both n 1 0 0 first.steps old.steps new.steps a here)
+    where
+      one : n + 1 ≡ suc n
+      one = omega arith
+
+      here : AddsUpTo 1 0 old.steps new.steps
+      here = elim over.over [
+        | inl r ↦ rw r.steps (reused_adds 1 0 old.steps)
+        | inr rest ↦ elim rest [
+          | inl b ↦ rw b.steps (built_adds 1 0 old.steps)
+          | inr p ↦ rw p.steps (built_adds 1 0 old.steps)
+        ]
+      ]
 
   -- each byte counts as one step at most
-  pub goes_steps : (j : ℕ) (first last : Stage) → Goes e mode line j first last → AddsAtMost j first.steps last.steps
+  pub goes_steps : (j : ℕ) (first last : Stage) → Goes e mode line j first last → AddsUpTo j 0 first.steps last.steps
   unfolding Goes
-  goes_steps zero first last goes = rw goes.steps (record { built = omega arith; reused = omega arith; sum = omega arith; refused = λ h. h })
+  goes_steps zero first last goes = rw goes.steps (adds_none 0 0 first.steps)
   goes_steps (suc j) first last (middle, goes, over) = over_steps j (slice_index line j) first middle last over (goes_steps j first middle goes)
 
-  pub finishes_steps : (first : Stage) (cache : Cache) (steps : Steps) (answer : Bool) → Finishes e mode line first cache steps answer → AddsAtMost (length line + 1) first.steps steps
+  pub finishes_steps : (first : Stage) (cache : Cache) (steps : Steps) (answer : Bool) → Finishes e mode line first cache steps answer → AddsUpTo (length line + 1) 0 first.steps steps
   finishes_steps first cache steps answer f =
       let a = goes_steps f.place first (record { set = f.set; cache = cache; steps = steps }) f.goes in
-      record { built = a.built; reused = a.reused; sum = omega (arith, a.sum, f.within); refused = a.refused }
+      let few : f.place ≤ length line + 1 = omega (arith, f.within) in
+      adds_within f.place (length line + 1) 0 0 first.steps steps few (omega arith) a
 
 module _ (e : Expression) (line : Text) where
   -- no matched stretch ends at a place with a set that is gone over
@@ -165,22 +203,38 @@ module _ (e : Expression) (line : Text) where
       (none_here j middle.set (omega arith) over.plain (goes_stands e Search line j first middle (omega arith) stands goes))
 
   -- bytes that are passed
-  pub goes_past : (first stage : Stage) (j d : ℕ) → IsNowhere stage.set → IsPlain e Search stage.set → ((k : ℕ) → j ≤ k → k < d + j → ¬ CanBegin (part_of e 0) (slice_index line k))
-      → Goes e Search line j first stage → Goes e Search line (d + j) first stage
-  goes_past first stage j zero nowhere plain never goes =
+  goes_past : (first : Stage) (set : StateSet) (cache : Cache) (steps : Steps) (j d : ℕ) → IsNowhere set → IsPlain e Search set → ((k : ℕ) → j ≤ k → k < d + j → ¬ CanBegin (part_of e 0) (slice_index line k))
+      → Goes e Search line j first (record { set = set; cache = cache; steps = steps }) → Goes e Search line (d + j) first (record { set = set; cache = cache; steps = stepped d steps })
+  goes_past first set cache steps j zero nowhere plain never goes =
       let same : j ≡ 0 + j = omega arith in
+      let stage : Stage = record { set = set; cache = cache; steps = steps } in
       subst (λ k. Goes e Search line k first stage) same goes
-  goes_past first stage j (suc d) nowhere plain never goes =
+  goes_past first set cache steps j (suc d) nowhere plain never goes =
       let same : suc (d + j) ≡ suc d + j = omega arith in
-      subst (λ k. Goes e Search line k first stage) same
-      (goes_on e Search line (d + j) first stage stage (goes_past first stage j d nowhere plain (λ k low high. never k low (omega (arith, high))) goes)
-      (record { plain = plain; over = inr (inr (record { search = refl; nowhere = nowhere; never = never (d + j) (omega arith) (omega arith); same = alike_self stage })) }))
+      let middle : Stage = record { set = set; cache = cache; steps = stepped d steps } in
+      let last : Stage = record { set = set; cache = cache; steps = stepped (suc d) steps } in
+      subst (λ k. Goes e Search line k first last) same
+      (goes_on e Search line (d + j) first middle last (goes_past first set cache steps j d nowhere plain (λ k low high. never k low (omega (arith, high))) goes) (record {
+        plain = plain;
+        over = inr (inr (record {
+          search = refl;
+          nowhere = nowhere;
+          never = never (d + j) (omega arith) (omega arith);
+          set = (refl, refl);
+          cache = refl;
+          steps = sym (stepped_more d steps);
+        }));
+      }))
 
-  pub goes_to : (first stage : Stage) (j n : ℕ) → j ≤ n → IsNowhere stage.set → IsPlain e Search stage.set → ((k : ℕ) → j ≤ k → k < n → ¬ CanBegin (part_of e 0) (slice_index line k))
-      → Goes e Search line j first stage → Goes e Search line n first stage
-  goes_to first stage j n le nowhere plain never goes =
+  pub goes_to : (first : Stage) (set : StateSet) (cache : Cache) (j n : ℕ) (before after : Steps) → j ≤ n → IsNowhere set → IsPlain e Search set
+      → ((k : ℕ) → j ≤ k → k < n → ¬ CanBegin (part_of e 0) (slice_index line k)) → (j < n → after ≡ many_built (n - j) before) → (n ≡ j → after ≡ before)
+      → Goes e Search line j first (record { set = set; cache = cache; steps = before }) → Goes e Search line n first (record { set = set; cache = cache; steps = after })
+  goes_to first set cache j n before after le nowhere plain never counted none goes =
       let sum : n - j + j ≡ n = omega arith in
-      subst (λ k. Goes e Search line k first stage) sum (goes_past first stage j (n - j) nowhere plain (λ k low high. never k low (omega (arith, high))) goes)
+      let steps : after ≡ stepped (n - j) before = stepped_is (n - j) before after (λ some. counted (omega (arith, some))) (λ over. none (omega (arith, over, le))) in
+      let came = goes_past first set cache before j (n - j) nowhere plain (λ k low high. never k low (omega (arith, high))) goes in
+      let there : Goes e Search line n first (record { set = set; cache = cache; steps = stepped (n - j) before }) = subst (λ k. Goes e Search line k first (record { set = set; cache = cache; steps = stepped (n - j) before })) sum came in
+      subst (λ s. Goes e Search line n first (record { set = set; cache = cache; steps = s })) (sym steps) there
 
   -- what a search for some matched stretch says
   says_search : (first : Stage) (cache : Cache) (steps : Steps) (answer : Bool) → StandsAt e Search line 0 first.set → Finishes e Search line first cache steps answer → IsTrue answer ↔ Matches e line false
@@ -244,5 +298,5 @@ module _ (e : Expression) (line : Text) where
   pub searches_readied : (mode : Mode) (old middle new : Cache) (before after : Steps) (answer : Bool) → IsReadied old middle → Searches e mode line middle new before after answer → Searches e mode line old new before after answer
   searches_readied mode old middle new before after answer ready s = record { first = s.first; stands = s.stands; cache = readied_twice old middle s.first.cache ready s.cache; steps = s.steps; finishes = s.finishes }
 
-  pub searches_steps : (mode : Mode) (old new : Cache) (before after : Steps) (answer : Bool) → Searches e mode line old new before after answer → AddsAtMost (length line + 1) before after
-  searches_steps mode old new before after answer s = subst (λ b. AddsAtMost (length line + 1) b after) s.steps (finishes_steps e mode line s.first new after answer s.finishes)
+  pub searches_steps : (mode : Mode) (old new : Cache) (before after : Steps) (answer : Bool) → Searches e mode line old new before after answer → AddsUpTo (length line + 1) 0 before after
+  searches_steps mode old new before after answer s = subst (λ b. AddsUpTo (length line + 1) 0 b after) s.steps (finishes_steps e mode line s.first new after answer s.finishes)

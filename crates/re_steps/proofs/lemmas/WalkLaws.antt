@@ -11,7 +11,7 @@ use denote.Enum.Bare.{sameb}
 use Rattle.re_auto.specs.contracts.mode.Mode.{the_type}
 use Rattle.re_auto.specs.declared.mode.Mode.TheVariants.{Search, Whole}
 use Rattle.re_auto.specs.declared.step.state_set.StateSet.{StateSet}
-use Rattle.re_auto.specs.Meters.{Steps, many_built, many_reused}
+use Rattle.re_meter.specs.Meters.{Steps, many_built, many_reused}
 use Rattle.re_auto.specs.Working.StateSets.{IsSame, IsNextSet}
 use Rattle.re_steps.specs.declared.table.Mark.{Mark}
 use Rattle.re_steps.specs.Working.Pairs.{unknown, shown, Mirrors, IsKeptOrLost}
@@ -33,7 +33,7 @@ walked_none place steps = let none : place - place ≡ 0 = omega arith in ap (λ
 -- steps that were reused, and one more
 pub walked_more : (n : ℕ) (steps : Steps) → many_reused 1 (walked n steps) ≡ walked (suc n) steps
 walked_more zero steps = refl
-walked_more (suc n) steps = ap (λ k. record { built = steps.built; reused = k; refused = steps.refused }) (omega arith)
+walked_more (suc n) steps = ap (λ k. record { built = steps.built; reused = k; passed = steps.passed; refused = steps.refused }) (omega arith)
 
 -- the mode is that for whole lines, or it isn't
 pub is_whole : (mode : Mode) → true ≡ sameb the_type mode Whole → mode ≡ Whole
@@ -218,18 +218,18 @@ pub walked_is : (n : ℕ) (old new : Steps) → new ≡ many_reused n old → (n
 walked_is zero old new counted none = none refl
 walked_is (suc n) old new counted none = counted
 
-module _ (asked : LineSearch) (old : Table) (before : Steps) (spot : Spot) (middle new : Table) (after : Steps) where
+module _ (asked : LineSearch) (old : Table) (before : Steps) (spot : Spot) (middle : Table) (between : Steps) (new : Table) (after : Steps) where
   -- a search that came over one byte by a cell went on
-  pub arrives_on : (place cell : ℕ) (went : Went) → LeadsOn asked middle place cell new went → IsRightFor asked new → spot.place < place
-      → ((first : Stage) → IsAt asked first old before spot.place spot.row → HasLanded asked first middle after place cell) → Arrives asked old before spot new after went
+  pub arrives_on : (place cell : ℕ) (went : Went) → LeadsOn asked middle between place cell new after went → IsRightFor asked new → spot.place < place
+      → ((first : Stage) → IsAt asked first old before spot.place spot.row → HasLanded asked first middle between place cell) → Arrives asked old before spot new after went
   arrives_on place cell (w.To next) leads right on lands = record {
     right = right;
     on = omega (arith, on, leads.0);
     within = leads.1;
     row = leads.2;
-    comes = λ first came. leads.3 first after (lands first came);
+    comes = λ first came. leads.3 first (lands first came);
   }
-  arrives_on place cell (w.Reported answer) leads right on lands = record { right = right; finishes = λ first came. leads first after (lands first came) }
+  arrives_on place cell (w.Reported answer) leads right on lands = record { right = right; finishes = λ first came. leads first (lands first came) }
   arrives_on place cell (w.Alone k) leads right on lands = absurd leads
 
 module _ (asked : LineSearch) (t : Table) (right : IsRightFor asked t) (steps : Steps) where

@@ -1,12 +1,13 @@
 -- Stretches that begin at one place, on their way over a line.
-use Rattle.std.specs.Prelude.{◌≡◌, ℕ, ◌+◌, ◌-◌, ◌<◌, ◌≤◌, ◌↔◌, IsTrue, length}
+use Rattle.std.specs.Prelude.{◌≡◌, ℕ, ◌+◌, ◌-◌, ◌<◌, ◌≤◌, ◌↔◌, ◌⊎◌, IsTrue, length}
 use Rattle.re_syntax.specs.Bytes.{Text}
 use Rattle.re_syntax.specs.Expression.{Expression}
 use Rattle.re_syntax.specs.Holds.{Holds}
-use Rattle.re_auto.specs.Meters.{Steps}
-use Rattle.re_auto.specs.Searching.{AddsAtMost}
+use Rattle.re_meter.specs.Meters.{Steps, many_built}
+use Rattle.re_meter.specs.Meters.{AddsUpTo}
 use Rattle.re_auto.specs.Working.Bits.{InWord}
 use Rattle.re_auto.specs.Working.Positions.{Reaches, part_of}
+use Rattle.re_auto.specs.Working.Tables.{HasOneWord}
 use Rattle.re_steps.specs.declared.lone.Followed.{Followed}
 use Rattle.re_steps.specs.declared.lone.Tried.{Tried}
 use Rattle.re_steps.specs.declared.lone.Tried.TheVariants.{Ends, Fails, Open}
@@ -26,11 +27,21 @@ pub record IsLongest (e : Expression) (line : Text) (i j : ℕ) : Type 0 where
 abbrev pub HasNone : Expression → Text → ℕ → Type 0
 HasNone e line i = (l : ℕ) → i < l → l ≤ length line → ¬ Holds line e i l
 
--- The stretches that begin at i are known as far as a place. The longest of them ends at `last`, or
--- there is none, which is known after at most `patience` bytes.
+-- the stretches that begin at i are followed over the byte at place k: one of them comes there, and
+-- it is less than `patience` bytes away or a matched one ended by then
+abbrev pub GoesOnAt : Expression → Text → ℕ → ℕ → ℕ → Type 0
+GoesOnAt e line i patience k =
+    ((q : ℕ) × Reaches (part_of e 0) line i k q) ×
+    ((k < i + patience) ⊎ ((l : ℕ) × (i < l) × (l ≤ k) × Holds line e i l))
+
+-- The stretches that begin at i are followed to a place and no further: it is the first where they
+-- don't go on, or the line's end. The longest of them ends at `last`, or there is none, which is known
+-- after at most `patience` bytes.
 pub record IsFollowed (e : Expression) (line : Text) (i patience : ℕ) (followed : Followed) : Type 0 where
   pub begun : i < followed.place
   pub within : followed.place ≤ length line
+  pub on : (k : ℕ) → i < k → k < followed.place → GoesOnAt e line i patience k
+  pub over : (followed.place ≡ length line) ⊎ ¬ GoesOnAt e line i patience followed.place
   pub low : i ≤ followed.last
   pub longest : i < followed.last → IsLongest e line i followed.last
   pub few : followed.last ≡ i → followed.place ≤ i + patience
@@ -40,10 +51,18 @@ pub record IsFollowed (e : Expression) (line : Text) (i patience : ℕ) (followe
 -- byte from there on, and at most `patience` steps if it finds none.
 abbrev pub IsTried : Expression → Text → ℕ → ℕ → Steps → Steps → Tried → Type 0
 IsTried e line i patience before after (Ends j) =
-    IsLongest e line i j × AddsAtMost (length line - i) before after
+    IsLongest e line i j × AddsUpTo (length line - i) 0 before after
 IsTried e line i patience before after Fails =
-    HasNone e line i × AddsAtMost patience before after
-IsTried e line i patience before after Open = AddsAtMost patience before after
+    HasNone e line i × AddsUpTo patience 0 before after
+IsTried e line i patience before after Open = AddsUpTo patience 0 before after
+
+-- a try counts each byte that the stretches that begin at i are followed over as a built step, and
+-- nothing where a set is not one word
+abbrev pub CountsTry : Expression → Text → ℕ → ℕ → Steps → Steps → Type 0
+CountsTry e line i patience before after =
+    (HasOneWord e → (followed : Followed) × IsFollowed e line i patience followed
+    × (after ≡ many_built (followed.place - i) before))
+    × (¬ HasOneWord e → after ≡ before)
 
 -- of the matched stretches that begin at i and end before a place the longest ends at `last`, which
 -- is i where there is none

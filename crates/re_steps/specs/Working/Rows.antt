@@ -6,7 +6,7 @@ use Rattle.re_syntax.specs.Expression.{Expression, expression_of}
 use Rattle.re_auto.specs.declared.mode.Mode.{Mode}
 use Rattle.re_auto.specs.declared.mode.Mode.TheVariants.{Search}
 use Rattle.re_auto.specs.declared.step.state_set.StateSet.{StateSet}
-use Rattle.re_auto.specs.Meters.{Steps, many_reused}
+use Rattle.re_meter.specs.Meters.{Steps, many_reused}
 use Rattle.re_auto.specs.Working.StateSets.{IsMadeFor, IsSame, IsNowhere, IsNextSet, IsAccepting}
 use Rattle.re_auto.specs.Working.StateSets.{StandsAt, AreAlikeInClasses}
 use Rattle.re_steps.specs.declared.table.Mark.{Mark}

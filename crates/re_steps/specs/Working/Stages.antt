@@ -7,7 +7,7 @@ use Rattle.re_syntax.specs.Expression.{Expression}
 use Rattle.re_auto.specs.declared.mode.Mode.{Mode}
 use Rattle.re_auto.specs.declared.mode.Mode.TheVariants.{Search, Whole}
 use Rattle.re_auto.specs.declared.step.state_set.StateSet.{StateSet}
-use Rattle.re_auto.specs.Meters.{Steps, many_built, many_reused}
+use Rattle.re_meter.specs.Meters.{Steps, many_built, many_reused}
 use Rattle.re_auto.specs.Working.Positions.{part_of}
 use Rattle.re_auto.specs.Working.StateSets.{IsSame, IsNowhere, IsNextSet, IsAccepting, StandsAt, TakenAlike}
 use Rattle.re_auto.specs.Working.Tables.{CanBegin}
@@ -63,12 +63,15 @@ pub record IsBuilt (e : Expression) (mode : Mode) (c : ℕ) (old new : Stage) : 
   pub cache : HoldsNoOther e old.cache old.set c new.cache
   pub steps : new.steps ≡ many_built 1 old.steps
 
--- no stretch is on its way and none can begin with the byte, which is passed without a step
+-- No stretch is on its way and none can begin with the byte, so it takes the set to itself. Many such
+-- bytes are gone over at once: each step counts as built, and the cache stays.
 pub record IsPassed (e : Expression) (mode : Mode) (c : ℕ) (old new : Stage) : Type 0 where
   pub search : mode ≡ Search
   pub nowhere : IsNowhere old.set
   pub never : ¬ CanBegin (part_of e 0) c
-  pub same : AreAlike new old
+  pub set : IsSame new.set old.set
+  pub cache : new.cache ≡ old.cache
+  pub steps : new.steps ≡ many_built 1 old.steps
 
 -- a search for some matched stretch goes on only where none ends that it knows of
 abbrev pub IsPlain : Expression → Mode → StateSet → Type 0

@@ -2,7 +2,7 @@
 use Rattle.std.specs.Prelude.{◌≡◌, ℕ, suc, ◌<◌, ◌≤◌, Bool, [], Some, length, slice_get}
 use Rattle.re_syntax.specs.Bytes.{Text}
 use Rattle.re_auto.specs.declared.step.state_set.StateSet.{StateSet}
-use Rattle.re_auto.specs.Meters.{Steps}
+use Rattle.re_meter.specs.Meters.{Steps}
 use Rattle.re_auto.specs.Working.StateSets.{StandsAt}
 use Rattle.re_steps.specs.declared.table.LineSearch.{LineSearch}
 use Rattle.re_steps.specs.declared.table.Table.{Table}
@@ -46,15 +46,15 @@ HasLanded asked first t steps place cell =
     Lands (expression_in asked) asked.mode asked.line.now first (cache_of t) steps j cell
 
 -- where a search goes on after the cell that led over the byte before this place
-abbrev pub LeadsOn : LineSearch → Table → ℕ → ℕ → Table → Went → Type 0
-LeadsOn asked old place cell new (w.To spot) =
+abbrev pub LeadsOn : LineSearch → Table → Steps → ℕ → ℕ → Table → Steps → Went → Type 0
+LeadsOn asked old before place cell new after (w.To spot) =
     (place ≤ spot.place) × (spot.place ≤ length asked.line.now) × IsRow new spot.row
-    × ((first : Stage) (steps : Steps) → HasLanded asked first old steps place cell →
-    IsAt asked first new steps spot.place spot.row)
-LeadsOn asked old place cell new (w.Reported answer) =
-    (first : Stage) (steps : Steps) → HasLanded asked first old steps place cell →
-    IsReported asked first new steps answer
-LeadsOn asked old place cell new (w.Alone k) = ⊥
+    × ((first : Stage) → HasLanded asked first old before place cell →
+    IsAt asked first new after spot.place spot.row)
+LeadsOn asked old before place cell new after (w.Reported answer) =
+    (first : Stage) → HasLanded asked first old before place cell →
+    IsReported asked first new after answer
+LeadsOn asked old before place cell new after (w.Alone k) = ⊥
 
 -- a search went on from a spot, over one byte or more
 pub record ArrivesAt (asked : LineSearch) (old : Table) (before : Steps) (spot : Spot)

@@ -1,6 +1,6 @@
 -- Leaps of a search for many strings: where none of them begins.
-use Rattle.std.proofs.Common.{◌≡◌, ℕ, ◌+◌, ◌-◌, ◌<◌, ◌≤◌, inl, inr, List, [], ◌++◌, length, take, drop, slice_index, sym, ap, subst, ◌∙◌, arith, length-drop}
-use Rattle.std.proofs.lemmas.List.{drop-append-le, length-take-le, get_or-drop, get_or-take, get_or_default}
+use Rattle.std.proofs.Common.{◌≡◌, ℕ, ◌+◌, ◌-◌, ◌<◌, ◌≤◌, inl, inr, List, [], ◌++◌, length, take, drop, slice_index, refl, sym, ap, subst, ◌∙◌, arith, length-drop}
+use Rattle.std.proofs.lemmas.List.{drop-append-le, length-take-le, get_or-drop, get_or-take, get_or_default, get_or_append_left}
 use Rattle.std.proofs.lemmas.Bool.{cases_lt}
 use Rattle.re_syntax.specs.Bytes.{Text}
 use Rattle.re_strings.specs.declared.leaps.Leaps.{Leaps}
@@ -20,47 +20,93 @@ part_length line i j le = length-drop i (take j line) ∙ ap (λ n. n - i) (leng
 module _ (strings : List Text) (line : Text) where
   -- nothing is passed yet
   pub none_begins_at_first : (place : ℕ) → NoneBegins strings line place place
-  none_begins_at_first place i j lt o = let low = o.0 in omega (arith, low, lt)
+  none_begins_at_first place = record {
+    begins = λ i j lt o. let low = o.0 in omega (arith, low, lt);
+    over = λ i k j low lt. let none : ⊥ = omega (arith, low, lt) in absurd none;
+  }
 
   -- more is passed
-  pub none_begins_on : (place at next : ℕ) → NoneBegins strings line place at → NoneBegins strings line at next → NoneBegins strings line place next
-  none_begins_on place at next before more i j lt o = elim (cases_lt i at) [ inl early ↦ before i j early o | inr late ↦ more i j lt (late, o.1, o.2, o.3) ]
+  pub none_begins_on : (place at next : ℕ) → at ≤ next → NoneBegins strings line place at → NoneBegins strings line at next → NoneBegins strings line place next
+  none_begins_on place at next on before more = record {
+    begins = λ i j lt o. elim (cases_lt i at) [ inl early ↦ before.begins i j early o | inr late ↦ more.begins i j lt (late, o.1, o.2, o.3) ];
+    over = λ i k j low lt o. elim (cases_lt i at) [ inl early ↦ before.over i k j low early (let beyond = o.0 in omega (arith, on, beyond), o.1, o.2, o.3) | inr late ↦ more.over i k j late lt o ];
+  }
 
-  -- no string begins before the place to which a window's last two bytes let a search leap
-  pub none_begins_leap : (l : Leaps) → AreLeapsOf strings l → (at shift : ℕ) → 2 ≤ l.window → at + l.window ≤ length line → shift < l.window
+  -- no string goes on with a part that has a window's last two bytes
+  not_over_pair : (l : Leaps) → AreLeapsOf strings l → (at shift : ℕ) → 2 ≤ l.window → shift < l.window
       → slice_index l.shifts.items (pair_row (slice_index line (at + l.window - 2)) (slice_index line (at + l.window - 1))) ≡ shift
-      → NoneBegins strings line at (at + shift)
-  none_begins_leap l a at shift pair within short is i j lt (low, inside, end, own) =
-      let s : Text = drop i (take j line) in
+      → (i j : ℕ) → at ≤ i → i < at + shift → at + l.window ≤ j → j ≤ length line → ¬ IsFront strings (drop i (take j line))
+  not_over_pair l a at shift pair short is i j low lt room end front =
+      let s : Text = front.1 in
+      let own : IsString strings s = (front.0, front.1, front.2, front.3, refl) in
+      let part : Text = drop i (take j line) in
+      let (more, goes) = front.4 in
       let k : ℕ = at + l.window - 2 - i in
-      let long = a.long s own in
       let size = part_length line i j end in
-      let room : i + l.window ≤ j = omega (arith, long, size, inside) in
-      let first : slice_index s k ≡ slice_index line (at + l.window - 2) =
-      let place : i + k ≡ at + l.window - 2 = omega (arith, low, lt, short, pair) in
-      byte_of_part line i j k (omega (arith, place, low, room, pair)) ∙ ap (slice_index line) place in
-      let second : slice_index s (k + 1) ≡ slice_index line (at + l.window - 1) =
-      let place : i + (k + 1) ≡ at + l.window - 1 = omega (arith, low, lt, short, pair) in
-      byte_of_part line i j (k + 1) (omega (arith, place, low, room, pair)) ∙ ap (slice_index line) place in
+      let byte : (n : ℕ) → i + n < j → slice_index s n ≡ slice_index line (i + n) =
+      λ n inside. ap (λ t. slice_index t n) goes ∙ get_or_append_left part more 0 n (omega (arith, size, inside)) ∙ byte_of_part line i j n inside in
+      let at_first : i + k ≡ at + l.window - 2 = omega (arith, low, lt, short, pair) in
+      let at_next : i + (k + 1) ≡ at + l.window - 1 = omega (arith, low, lt, short, pair) in
+      let first : slice_index s k ≡ slice_index line (at + l.window - 2) = byte k (omega (arith, at_first, room, pair)) ∙ ap (slice_index line) at_first in
+      let second : slice_index s (k + 1) ≡ slice_index line (at + l.window - 1) = byte (k + 1) (omega (arith, at_next, room, pair)) ∙ ap (slice_index line) at_next in
       let reported = a.right s own k (omega (arith, low, lt, short, pair)) in
       let row : pair_row (slice_index s k) (slice_index s (k + 1)) ≡ pair_row (slice_index line (at + l.window - 2)) (slice_index line (at + l.window - 1)) = omega (arith, first, second) in
       let same : slice_index l.shifts.items (pair_row (slice_index s k) (slice_index s (k + 1))) ≡ shift = ap (slice_index l.shifts.items) row ∙ is in
       omega (arith, reported, same, low, lt, short, pair)
 
+  -- no string begins before the place to which a window's last two bytes let a search leap
+  pub none_begins_leap : (l : Leaps) → AreLeapsOf strings l → (at shift : ℕ) → 2 ≤ l.window → at + l.window ≤ length line → shift < l.window
+      → slice_index l.shifts.items (pair_row (slice_index line (at + l.window - 2)) (slice_index line (at + l.window - 1))) ≡ shift
+      → NoneBegins strings line at (at + shift)
+  none_begins_leap l a at shift pair within short is = record {
+    begins = λ i j lt o.
+        let low = o.0 in
+        let far = ends_far i j o in
+        not_over_pair l a at shift pair short is i j low lt (omega (arith, far, low)) o.2 (string_front strings (drop i (take j line)) o.3);
+    over = λ i k j low lt o.
+        let beyond = o.0 in
+        let far = ends_far k j (beyond, o.1, o.2, o.3) in
+        not_over_pair l a at shift pair short is i j low lt (omega (arith, far, beyond)) o.2;
+  }
+    where
+      -- a string is no shorter than the window
+      ends_far : {from : ℕ} (i j : ℕ) → Occurs strings from line i j → i + l.window ≤ j
+      ends_far i j o =
+          let long = a.long (drop i (take j line)) o.3 in
+          let size = part_length line i j o.2 in
+          let inside = o.1 in
+          omega (arith, long, size, inside)
+
   -- nor where there is no room for a window
   pub none_begins_to_end : (l : Leaps) → AreLeapsOf strings l → (place at : ℕ) → length line < at + l.window → NoneBegins strings line place at → NoneBegins strings line place (length line)
-  none_begins_to_end l a place at none before i j lt o =
-      elim (cases_lt i at) [
-        | inl early ↦ before i j early o
-        | inr late ↦
-            let long = a.long (drop i (take j line)) o.3 in
-            let size = part_length line i j o.2 in
-            omega (arith, long, size, late, none, o.1, o.2)
-      ]
+  none_begins_to_end l a place at none before = record {
+    begins = λ i j lt o.
+        elim (cases_lt i at) [
+          | inl early ↦ before.begins i j early o
+          | inr late ↦
+              let long = a.long (drop i (take j line)) o.3 in
+              let size = part_length line i j o.2 in
+              omega (arith, long, size, late, none, o.1, o.2)
+        ];
+    over = λ i k j low lt o. let beyond = o.0 in let inside = o.1 in let end = o.2 in omega (arith, beyond, inside, end);
+  }
 
 -- ---- at the root
 
 module _ (all : Labels) (from : ℕ) (line : Text) (root : all.label 0 ≡ []) (place node : ℕ) (zero : node ≡ 0) (g : StandsSince all from line place node) (within : place ≤ length line) where
+  -- what began since goes on no farther than to here
+  none_goes_on : (i j : ℕ) → place ≤ j → g.since ≤ i → i < place → ¬ IsFront all.strings (drop i (take j line))
+  none_goes_on i j le since early front =
+      let (more, longer) = read_on line place j le in
+      let high = g.stands.high in
+      let read = read_length line place within in
+      let in_read : i ≤ length (take place line) = omega (arith, read, early) in
+      let end : drop i (take j line) ≡ drop i (take place line) ++ more = ap (drop i) longer ∙ drop-append-le i (take place line) more in_read in
+      let begins = begins_with_node all g.since line place node g.stands i since (front_shorter all.strings (drop i (take place line)) more (subst (IsFront all.strings) end front)) in
+      let label : all.label node ≡ [] = ap all.label zero ∙ root in
+      let start : g.stands.start ≡ length (take place line) = empty_end (take place line) g.stands.start high (sym label ∙ g.stands.is) in
+      omega (arith, begins, start, read, early)
+
   -- a string that ends at a place where the search is at the root, or later, begins there or later
   begins_after : (i j : ℕ) → place ≤ j → Occurs all.strings from line i j → place ≤ i
   begins_after i j le o =
@@ -68,20 +114,12 @@ module _ (all : Labels) (from : ℕ) (line : Text) (root : all.label 0 ≡ []) (
         | inr late ↦ late
         | inl early ↦
             let own = from_since all from line place node g i j le o in
-            let (more, longer) = read_on line place j le in
-            let high = g.stands.high in
-            let read = read_length line place within in
-            let in_read : i ≤ length (take place line) = omega (arith, read, early) in
-            let end : drop i (take j line) ≡ drop i (take place line) ++ more = ap (drop i) longer ∙ drop-append-le i (take place line) more in_read in
-            let begins = begins_with_node all g.since line place node g.stands i own.0 (front_shorter all.strings (drop i (take place line)) more (subst (IsFront all.strings) end (string_front all.strings (drop i (take j line)) o.3))) in
-            let label : all.label node ≡ [] = ap all.label zero ∙ root in
-            let start : g.stands.start ≡ length (take place line) = empty_end (take place line) g.stands.start high (sym label ∙ g.stands.is) in
-            omega (arith, begins, start, read, early)
+            absurd (none_goes_on i j le own.0 early (string_front all.strings (drop i (take j line)) o.3))
       ]
 
   -- none begins before a place up to which none begins from here on
   none_over : (next : ℕ) → NoneBegins all.strings line place next → (i j : ℕ) → place ≤ j → i < next → ¬ Occurs all.strings from line i j
-  none_over next none i j le lt o = none i j lt (begins_after i j le o, o.1, o.2, o.3)
+  none_over next none i j le lt o = none.begins i j lt (begins_after i j le o, o.1, o.2, o.3)
 
   -- the search is at the root there too
   pub leap_stands : (next : ℕ) → from ≤ place → place ≤ next → next ≤ length line → NoneBegins all.strings line place next → StandsSince all from line next node
@@ -89,6 +127,21 @@ module _ (all : Labels) (from : ℕ) (line : Text) (root : all.label 0 ≡ []) (
     since = next;
     low = omega (arith, low, le);
     none = λ i j beyond lt o. none_over next none i j (omega (arith, le, beyond)) lt o;
+    over = λ i k j first lt o.
+        let beyond = o.0 in
+        let inside = o.1 in
+        elim (cases_lt i place) [
+          | inr late ↦ none.over i k j late lt o
+          | inl early ↦
+              elim (cases_lt i g.since) [
+                | inl before ↦
+                    let start = g.stands.low in
+                    let end = g.stands.high in
+                    let read = read_length line place within in
+                    g.over i k j first before (omega (arith, start, end, read, le, beyond), o.1, o.2, o.3)
+                | inr since ↦ none_goes_on i j (omega (arith, le, beyond, inside)) since early
+              ]
+        ];
     stands = subst (StandsAtNode all next line next) (sym zero) (nothing_read all next line root high);
   }
 
@@ -102,6 +155,7 @@ module _ (all : Labels) (from : ℕ) (line : Text) (root : all.label 0 ≡ []) (
     since = g.since;
     low = g.low;
     none = λ i j beyond lt o. g.none i j (omega (arith, le, beyond)) lt o;
+    over = g.over;
     stands = subst (StandsAtNode all g.since line next) (sym zero) (root_stays all g.since line place next node zero high passed g.stands next le (omega arith));
   }
 

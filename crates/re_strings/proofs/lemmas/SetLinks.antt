@@ -3,73 +3,113 @@ use Rattle.std.proofs.Common.{◌≡◌, ℕ, ◌+◌, ◌-◌, ◌<◌, ◌≤�
 use Rattle.std.proofs.lemmas.List.{drop-drop, get_or_append_left, get_or_push}
 use Rattle.std.proofs.lemmas.Bool.{cases_lt}
 use Rattle.re_syntax.specs.Bytes.{Text}
-use Rattle.re_strings.specs.Working.FixedSets.{IsString, StandsFor, EndsIn, Labels, AreLinked, AreLinkedFor, longer_ending}
+use Rattle.re_strings.specs.Working.FixedSets.{IsString, StandsFor, IsOutput, Labels, AreLinked, AreLinkedFor, own_or}
 use Rattle.re_strings.proofs.lemmas.SetSteps.{string_front}
 
--- the longest string that a node ends with: its own if it is one, else that of its fallback
-pub ends_with : (strings : List Text) (label shorter : Text) (own end : ℕ) → StandsFor strings shorter label 1 → EndsIn strings shorter end
-    → (0 < own → (own ≡ length label) × IsString strings label) → (IsString strings label → own ≡ length label) → EndsIn strings label (longer_ending own end)
-ends_with strings label shorter own end s e is_own own_is = go (nat_lt 0 own) refl
+-- the longest string that a node ends with: the node if it is one, else that of its fallback
+pub output_is : (all : Labels) (n f own out : ℕ) → StandsFor all.strings (all.label f) (all.label n) 1 → IsOutput all (all.label f) out
+    → (0 < own → (own ≡ length (all.label n)) × IsString all.strings (all.label n)) → (IsString all.strings (all.label n) → own ≡ length (all.label n)) → IsOutput all (all.label n) (own_or own n out)
+output_is all n f own out s e is_own own_is = go (nat_lt 0 own) refl
   where
+    label : Text
+    label = all.label n
+
+    shorter : Text
+    shorter = all.label f
+
+    end : ℕ
+    end = length (all.label out)
+
     size : length shorter ≡ length label - s.start
     size = ap length s.is ∙ length-drop s.start label
 
-    go : (b : Bool) → nat_lt 0 own ≡ b → EndsIn strings label (if b then own else end)
+    same : drop (length shorter - end) shorter ≡ drop (length label - end) label
+    same =
+        let high = s.high in
+        let w = e.ends.within in
+        let place : s.start + (length shorter - end) ≡ length label - end = omega (arith, size, w, high) in
+        ap (drop (length shorter - end)) s.is ∙ drop-drop (length shorter - end) s.start label ∙ ap (λ k. drop k label) place
+
+    go : (b : Bool) → nat_lt 0 own ≡ b → IsOutput all label (if b then n else out)
     go true some =
-        let known = is_own (ltb-true 0 own some) in record {
-          within = omega (arith, known.0);
-          ends = λ h. let none : length label - own ≡ 0 = omega (arith, known.0) in subst (λ n. IsString strings (drop n label)) (sym none) known.1;
-          longest = λ j lt is. omega (arith, known.0);
+        let known = is_own (ltb-true 0 own some) in
+        let none : length label - length label ≡ 0 = omega arith in
+        record {
+          ends = record {
+            within = omega arith;
+            ends = λ h. subst (λ k. IsString all.strings (drop k label)) (sym none) known.1;
+            longest = λ j lt is. omega arith;
+          };
+          is = ap (λ k. drop k label) (sym none);
+          some = λ inside. omega (arith, known.0, ltb-true 0 own some);
         }
     go false none = record {
-      within = let w = e.within in omega (arith, w, size);
-      ends = λ h.
-          let high = s.high in
-          let w = e.within in
-          let place : s.start + (length shorter - end) ≡ length label - end = omega (arith, size, w, high, h) in
-          let same : drop (length shorter - end) shorter ≡ drop (length label - end) label = ap (drop (length shorter - end)) s.is ∙ drop-drop (length shorter - end) s.start label ∙ ap (λ n. drop n label) place in
-          subst (IsString strings) same (e.ends h);
-      longest = λ j lt is.
-          elim (cases_lt 0 j) [
-            | inl inside ↦
-                let late = later j inside is in
-                let place : s.start + (j - s.start) ≡ j = omega (arith, late) in
-                let same : drop (j - s.start) shorter ≡ drop j label = ap (drop (j - s.start)) s.is ∙ drop-drop (j - s.start) s.start label ∙ ap (λ n. drop n label) place in
-                let most = e.longest (j - s.start) (omega (arith, size, lt, late)) (subst (IsString strings) (sym same) is) in
-                omega (arith, most, size, late)
-            | inr first ↦
-                let zero : j ≡ 0 = omega (arith, first) in
-                let whole : IsString strings label = subst (λ n. IsString strings (drop n label)) zero is in
-                let long = own_is whole in
-                let no = ltb-false 0 own none in
-                absurd (omega (arith, long, no, lt))
-          ];
+      ends = record {
+        within = let w = e.ends.within in omega (arith, w, size);
+        ends = λ h. subst (IsString all.strings) same (e.ends.ends h);
+        longest = λ j lt is.
+            elim (cases_lt 0 j) [
+              | inl inside ↦
+                  let late = begins_late j inside is in
+                  let place : s.start + (j - s.start) ≡ j = omega (arith, late) in
+                  let part : drop (j - s.start) shorter ≡ drop j label = ap (drop (j - s.start)) s.is ∙ drop-drop (j - s.start) s.start label ∙ ap (λ k. drop k label) place in
+                  let most = e.ends.longest (j - s.start) (omega (arith, size, lt, late)) (subst (IsString all.strings) (sym part) is) in
+                  omega (arith, most, size, late)
+              | inr first ↦
+                  let zero : j ≡ 0 = omega (arith, first) in
+                  let whole : IsString all.strings label = subst (λ k. IsString all.strings (drop k label)) zero is in
+                  let long = own_is whole in
+                  let no = ltb-false 0 own none in
+                  absurd (omega (arith, long, no, lt))
+            ];
+      };
+      is = e.is ∙ same;
+      some = e.some;
     }
       where
-        later : (j : ℕ) → 0 < j → IsString strings (drop j label) → s.start ≤ j
-        later j inside is = elim (cases_lt j s.start) [ inl early ↦ absurd (s.none j (omega (arith, inside)) early (string_front strings (drop j label) is)) | inr late ↦ late ]
+        begins_late : (j : ℕ) → 0 < j → IsString all.strings (drop j label) → s.start ≤ j
+        begins_late j inside is = elim (cases_lt j s.start) [ inl early ↦ absurd (s.none j (omega (arith, inside)) early (string_front all.strings (drop j label) is)) | inr late ↦ late ]
+
+-- neither it nor its fallback's comes after it
+pub own_or_within : (own node out : ℕ) → out ≤ node → own_or own node out ≤ node
+own_or_within own node out le = go (nat_lt 0 own)
+  where
+    go : (b : Bool) → (if b then node else out) ≤ node
+    go true = omega arith
+    go false = le
 
 -- one more row
-pub linked_more : (fails ends newf newe : List ℕ) (f e : ℕ) → AreLinked (length fails) fails ends → 0 < length fails → f < length fails → newf ≡ fails ++ f ∷ [] → newe ≡ ends ++ e ∷ [] → AreLinked (length newf) newf newe
-linked_more fails ends newf newe f e a some lt isf ise = record {
-  fallbacks = λ n inside below.
-      let size : length newf ≡ length fails + 1 = ap length isf ∙ length-append fails (f ∷ []) in
-      elim (cases_lt n (length fails)) [
-        | inl early ↦ subst (λ m. m < n) (sym (ap (λ l. slice_index l n) isf ∙ get_or_append_left fails (f ∷ []) 0 n early)) (a.fallbacks n inside early)
-        | inr late ↦
-            let at : length fails ≡ n = omega (arith, late, below, size) in
-            subst (λ m. m < n) (sym (ap (λ l. slice_index l n) isf ∙ get_or_push fails f 0 n at)) (omega (arith, lt, at))
-      ];
-  all_fails = refl;
-  all_ends = let x = a.all_ends in omega (arith, x, ap length isf, ap length ise, length-append fails (f ∷ []), length-append ends (e ∷ []));
-}
+pub linked_more : (fails outputs newf newo : List ℕ) (f e : ℕ) → AreLinked (length fails) fails outputs → 0 < length fails → f < length fails → e ≤ length fails → newf ≡ fails ++ f ∷ [] → newo ≡ outputs ++ e ∷ []
+    → AreLinked (length newf) newf newo
+linked_more fails outputs newf newo f e a some lt le isf iso =
+    let same = a.all_outputs in
+    record {
+      fallbacks = λ n inside below.
+          let size : length newf ≡ length fails + 1 = ap length isf ∙ length-append fails (f ∷ []) in
+          elim (cases_lt n (length fails)) [
+            | inl early ↦ subst (λ m. m < n) (sym (ap (λ l. slice_index l n) isf ∙ get_or_append_left fails (f ∷ []) 0 n early)) (a.fallbacks n inside early)
+            | inr late ↦
+                let at : length fails ≡ n = omega (arith, late, below, size) in
+                subst (λ m. m < n) (sym (ap (λ l. slice_index l n) isf ∙ get_or_push fails f 0 n at)) (omega (arith, lt, at))
+          ];
+      below = λ n below.
+          let size : length newo ≡ length outputs + 1 = ap length iso ∙ length-append outputs (e ∷ []) in
+          elim (cases_lt n (length outputs)) [
+            | inl early ↦ subst (λ m. m ≤ n) (sym (ap (λ l. slice_index l n) iso ∙ get_or_append_left outputs (e ∷ []) 0 n early)) (a.below n early)
+            | inr late ↦
+                let at : length outputs ≡ n = omega (arith, late, below, size) in
+                subst (λ m. m ≤ n) (sym (ap (λ l. slice_index l n) iso ∙ get_or_push outputs e 0 n at)) (omega (arith, le, at, same))
+          ];
+      all_fails = refl;
+      all_outputs = omega (arith, same, ap length isf, ap length iso, length-append fails (f ∷ []), length-append outputs (e ∷ []));
+    }
 
-pub linked_right : (all : Labels) (fails ends newf newe : List ℕ) (f own : ℕ) → AreLinked (length fails) fails ends → newf ≡ fails ++ f ∷ [] → newe ≡ ends ++ longer_ending own (slice_index ends f) ∷ [] → f < length fails
+pub linked_right : (all : Labels) (fails outputs newf newo : List ℕ) (f own : ℕ) → AreLinked (length fails) fails outputs → newf ≡ fails ++ f ∷ [] → newo ≡ outputs ++ own_or own (length fails) (slice_index outputs f) ∷ [] → f < length fails
     → StandsFor all.strings (all.label f) (all.label (length fails)) 1
     → (0 < own → (own ≡ length (all.label (length fails))) × IsString all.strings (all.label (length fails))) → (IsString all.strings (all.label (length fails)) → own ≡ length (all.label (length fails)))
-    → AreLinkedFor all fails ends → AreLinkedFor all newf newe
-linked_right all fails ends newf newe f own a isf ise lt s is_own own_is old =
-    let same = a.all_ends in
+    → AreLinkedFor all fails outputs → AreLinkedFor all newf newo
+linked_right all fails outputs newf newo f own a isf iso lt s is_own own_is old =
+    let same = a.all_outputs in
     record {
       fallbacks = λ n inside below.
           elim (cases_lt n (length fails)) [
@@ -78,45 +118,54 @@ linked_right all fails ends newf newe f own a isf ise lt s is_own own_is old =
                 let at : length fails ≡ n = omega (arith, late, below, ap length isf, length-append fails (f ∷ [])) in
                 subst (λ m. StandsFor all.strings (all.label m) (all.label n) 1) (sym (ap (λ l. slice_index l n) isf ∙ get_or_push fails f 0 n at)) (subst (λ k. StandsFor all.strings (all.label f) (all.label k) 1) at s)
           ];
-      endings = λ n below.
-          let e = longer_ending own (slice_index ends f) in
-          elim (cases_lt n (length ends)) [
-            | inl early ↦ subst (EndsIn all.strings (all.label n)) (sym (ap (λ l. slice_index l n) ise ∙ get_or_append_left ends (e ∷ []) 0 n early)) (old.endings n early)
+      ended = λ n below.
+          let e = own_or own (length fails) (slice_index outputs f) in
+          elim (cases_lt n (length outputs)) [
+            | inl early ↦ subst (IsOutput all (all.label n)) (sym (ap (λ l. slice_index l n) iso ∙ get_or_append_left outputs (e ∷ []) 0 n early)) (old.ended n early)
             | inr late ↦
-                let at : length ends ≡ n = omega (arith, late, below, ap length ise, length-append ends (e ∷ [])) in
+                let at : length outputs ≡ n = omega (arith, late, below, ap length iso, length-append outputs (e ∷ [])) in
                 let here : length fails ≡ n = omega (arith, at, same) in
-                subst (EndsIn all.strings (all.label n)) (sym (ap (λ l. slice_index l n) ise ∙ get_or_push ends e 0 n at))
-                (subst (λ k. EndsIn all.strings (all.label k) e) here
-                (ends_with all.strings (all.label (length fails)) (all.label f) own (slice_index ends f) s (old.endings f (omega (arith, lt, same))) is_own own_is))
+                subst (IsOutput all (all.label n)) (sym (ap (λ l. slice_index l n) iso ∙ get_or_push outputs e 0 n at))
+                (subst (λ k. IsOutput all (all.label k) e) here
+                (output_is all (length fails) f own (slice_index outputs f) s (old.ended f (omega (arith, lt, same))) is_own own_is))
           ];
     }
 
 -- ---- the root alone
 
-pub root_linked : (fails ends : List ℕ) (count : ℕ) → count ≡ 1 → fails ≡ 0 ∷ [] → ends ≡ 0 ∷ [] → AreLinked count fails ends
-root_linked fails ends count one is_fails is_ends =
+pub root_linked : (fails outputs : List ℕ) (count : ℕ) → count ≡ 1 → fails ≡ 0 ∷ [] → outputs ≡ 0 ∷ [] → AreLinked count fails outputs
+root_linked fails outputs count one is_fails is_outputs =
     let few : length fails ≡ 1 = ap length is_fails in
-    let same : length ends ≡ 1 = ap length is_ends in
+    let same : length outputs ≡ 1 = ap length is_outputs in
     record {
       fallbacks = λ n some below. omega (arith, some, below, few);
+      below = λ n inside.
+          let first : n ≡ 0 = omega (arith, inside, same) in
+          let root : slice_index outputs n ≡ 0 = ap (slice_index outputs) first ∙ ap (λ l. slice_index l 0) is_outputs in
+          omega (arith, root);
       all_fails = few ∙ sym one;
-      all_ends = same ∙ sym one;
+      all_outputs = same ∙ sym one;
     }
 
-pub root_linked_right : (all : Labels) (fails ends : List ℕ) → all.label 0 ≡ [] → fails ≡ 0 ∷ [] → ends ≡ 0 ∷ [] → AreLinkedFor all fails ends
-root_linked_right all fails ends root is_fails is_ends =
+pub root_linked_right : (all : Labels) (fails outputs : List ℕ) → all.label 0 ≡ [] → fails ≡ 0 ∷ [] → outputs ≡ 0 ∷ [] → AreLinkedFor all fails outputs
+root_linked_right all fails outputs root is_fails is_outputs =
     let few : length fails ≡ 1 = ap length is_fails in
-    let same : length ends ≡ 1 = ap length is_ends in
+    let same : length outputs ≡ 1 = ap length is_outputs in
     record {
       fallbacks = λ n some below. let none : ⊥ = omega (arith, some, below, few) in absurd none;
-      endings = λ n below.
+      ended = λ n below.
           let first : n ≡ 0 = omega (arith, below, same) in
-          subst (λ k. EndsIn all.strings (all.label k) (slice_index ends k)) (sym first)
-          (subst (λ es. EndsIn all.strings (all.label 0) (slice_index es 0)) (sym is_ends)
-          (subst (λ l. EndsIn all.strings l 0) (sym root)
+          let out : slice_index outputs n ≡ 0 = ap (slice_index outputs) first ∙ ap (λ l. slice_index l 0) is_outputs in
+          let empty : length (all.label 0) ≡ 0 = ap length root in
+          subst (λ k. IsOutput all (all.label k) (slice_index outputs n)) (sym first)
+          (subst (IsOutput all (all.label 0)) (sym out)
           (record {
-            within = omega arith;
-            ends = λ some. let none : ⊥ = omega (arith, some) in absurd none;
-            longest = λ j inside _. omega (arith, inside);
-          })));
+            ends = record {
+              within = omega arith;
+              ends = λ some. let none : ⊥ = omega (arith, some, empty) in absurd none;
+              longest = λ j inside _. omega (arith, inside);
+            };
+            is = let none : length (all.label 0) - length (all.label 0) ≡ 0 = omega arith in ap (λ k. drop k (all.label 0)) (sym none);
+            some = λ inside. absurd (omega (arith, inside));
+          }));
     }

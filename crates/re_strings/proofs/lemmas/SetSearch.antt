@@ -132,6 +132,7 @@ module _ (all : Labels) (from : ℕ) (line : Text) where
     since = from;
     low = omega arith;
     none = λ i j le lt o. let low = o.0 in omega (arith, lt, low);
+    over = λ i k j low lt. let none : ⊥ = omega (arith, low, lt) in absurd none;
     stands = nothing_read all from line root within;
   }
 
@@ -141,6 +142,7 @@ module _ (all : Labels) (from : ℕ) (line : Text) where
     since = g.since;
     low = g.low;
     none = λ i j le early o. g.none i j (omega (arith, le)) early o;
+    over = g.over;
     stands = byte_read all g.since line place n m lt g.stands step;
   }
 
@@ -149,12 +151,23 @@ module _ (all : Labels) (from : ℕ) (line : Text) where
   no_longer_since place n e within g ends i o = no_longer all g.since line place n e within g.stands ends i (from_since place n g i place (omega arith) o)
 
   -- and that string ends here
-  longest_ends_since : (place n e : ℕ) → place ≤ length line → StandsSince all from line place n → EndsIn all.strings (all.label n) e → 0 < e → Occurs all.strings from line (place - e) place
+  pub longest_ends_since : (place n e : ℕ) → place ≤ length line → StandsSince all from line place n → EndsIn all.strings (all.label n) e → 0 < e → Occurs all.strings from line (place - e) place
   longest_ends_since place n e within g ends some =
       let o = longest_ends all g.since line place n e within g.stands ends some in
       let low = g.low in
       let late = o.0 in
       (omega (arith, low, late), o.1, o.2, o.3)
+
+  -- where a string ends, the node is the longest end of all that was read since `from`
+  pub begun_at : (place n e : ℕ) → place ≤ length line → StandsSince all from line place n → EndsIn all.strings (all.label n) e → 0 < e → StandsAtNode all from line place n
+  begun_at place n e within g ends some =
+      let o = longest_ends all g.since line place n e within g.stands ends some in record {
+        start = g.stands.start;
+        low = let low = g.low in let since = g.stands.low in omega (arith, low, since);
+        high = g.stands.high;
+        is = g.stands.is;
+        none = λ j low lt. elim (cases_lt j g.since) [ inl early ↦ g.over j (place - e) place low early o | inr late ↦ g.stands.none j late lt ];
+      }
 
   -- where the node ends with no string, none ends here
   pub none_ends : (place n e : ℕ) → place ≤ length line → StandsSince all from line place n → EndsIn all.strings (all.label n) e → e ≡ 0 → (i : ℕ) → ¬ Occurs all.strings from line i place

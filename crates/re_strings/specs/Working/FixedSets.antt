@@ -80,6 +80,21 @@ AreFallbacksOf all fails =
     (n : ℕ) → 0 < n → n < length fails →
     StandsFor all.strings (all.label (slice_index fails n)) (all.label n) 1
 
+-- The node is the longest string, not the empty one, that the label ends with. It is the root if there
+-- is none.
+pub record IsOutput (all : Labels) (label : Text) (m : ℕ) : Type 0 where
+  pub ends : EndsIn all.strings label (length (all.label m))
+  pub is : all.label m ≡ drop (length label - length (all.label m)) label
+  pub some : 0 < m → 0 < length (all.label m)
+
+-- no node's output comes after it
+abbrev pub AreOutputs : List ℕ → Type 0
+AreOutputs outputs = (n : ℕ) → n < length outputs → slice_index outputs n ≤ n
+
+-- the label ends with a string that has this length, not 0
+abbrev pub EndsWith : List Text → Text → ℕ → Type 0
+EndsWith strings label n = (0 < n) × (n ≤ length label) × IsString strings (drop (length label - n) label)
+
 -- the node after a step over a byte
 abbrev pub Steps : Labels → ℕ → ℕ → ℕ → Type 0
 Steps all n b m =
@@ -111,9 +126,11 @@ abbrev pub NoneBetween : List Text → ℕ → Text → ℕ → ℕ → Type 0
 NoneBetween strings from line place next =
     (i k : ℕ) → place < k → k < next → ¬ Occurs strings from line i k
 
--- no string, not the empty one, begins at a place that is `place` or later, and before `next`
-abbrev pub NoneBegins : List Text → Text → ℕ → ℕ → Type 0
-NoneBegins strings line place next = (i j : ℕ) → i < next → ¬ Occurs strings place line i j
+-- No string, not the empty one, begins at a place that is `place` or later, and before `next`. Where
+-- a string that begins at `next` or later ends, none of them can go on.
+pub record NoneBegins (strings : List Text) (line : Text) (place next : ℕ) : Type 0 where
+  pub begins : (i j : ℕ) → i < next → ¬ Occurs strings place line i j
+  pub over : (i k j : ℕ) → place ≤ i → i < next → Occurs strings next line k j → ¬ IsFront strings (drop i (take j line))
 
 -- the row of a pair of bytes
 abbrev pub pair_row : ℕ → ℕ → ℕ
@@ -138,7 +155,8 @@ pub record IsTable (t : Table) : Type 0 where
   pub fallbacks : AreFallbacks t.fails.items
   pub fails : length t.fails.items ≡ length t.trie.bytes.items
   pub depths : length t.depths.items ≡ length t.trie.bytes.items
-  pub ends : length t.ends.items ≡ length t.trie.bytes.items
+  pub below : AreOutputs t.outputs.items
+  pub outputs : length t.outputs.items ≡ length t.trie.bytes.items
   pub leaps : IsLeaps t.leaps
   pub fronts : IsLeaps t.fronts
   pub pairs : 2 ≤ t.leaps.window → t.fronts.window ≡ 2
@@ -150,8 +168,8 @@ pub record IsTableOf (all : Labels) (t : Table) : Type 0 where
   pub fails : AreFallbacksOf all t.fails.items
   pub depths : (n : ℕ) → n < length t.trie.bytes.items →
       slice_index t.depths.items n ≡ length (all.label n)
-  pub ends : (n : ℕ) → n < length t.trie.bytes.items →
-      EndsIn all.strings (all.label n) (slice_index t.ends.items n)
+  pub outputs : (n : ℕ) → n < length t.trie.bytes.items →
+      IsOutput all (all.label n) (slice_index t.outputs.items n)
   pub leaps : AreLeapsOf all.strings t.leaps
   pub fronts : AreLeapsOf all.strings t.fronts
 
@@ -160,11 +178,13 @@ abbrev pub StandsAtNode : Labels → ℕ → Text → ℕ → ℕ → Type 0
 StandsAtNode all from line place node =
     StandsFor all.strings (all.label node) (take place line) from
 
--- the same from a later place on; no string that begins before it ends here or later
+-- The same from a later place on. No string that begins before it ends here or later. Where a string
+-- that begins there or later ends, none of them can go on.
 pub record StandsSince (all : Labels) (from : ℕ) (line : Text) (place node : ℕ) : Type 0 where
   pub since : ℕ
   pub low : from ≤ since
   pub none : (i j : ℕ) → place ≤ j → i < since → ¬ Occurs all.strings from line i j
+  pub over : (i k j : ℕ) → from ≤ i → i < since → Occurs all.strings since line k j → ¬ IsFront all.strings (drop i (take j line))
   pub stands : StandsAtNode all since line place node
 
 -- the best so far, if the longest string that ends at this place has this length; there is none if
@@ -187,15 +207,17 @@ AreOwn all owns =
     × (IsString all.strings (all.label n) → slice_index owns n ≡ length (all.label n))
 
 -- `count` nodes have their rows
-pub record AreLinked (count : ℕ) (fails ends : List ℕ) : Type 0 where
+pub record AreLinked (count : ℕ) (fails outputs : List ℕ) : Type 0 where
   pub fallbacks : AreFallbacks fails
+  pub below : AreOutputs outputs
   pub all_fails : length fails ≡ count
-  pub all_ends : length ends ≡ count
+  pub all_outputs : length outputs ≡ count
 
 -- and these are right
-pub record AreLinkedFor (all : Labels) (fails ends : List ℕ) : Type 0 where
+pub record AreLinkedFor (all : Labels) (fails outputs : List ℕ) : Type 0 where
   pub fallbacks : AreFallbacksOf all fails
-  pub endings : (n : ℕ) → n < length ends → EndsIn all.strings (all.label n) (slice_index ends n)
+  pub ended : (n : ℕ) → n < length outputs → IsOutput all (all.label n) (slice_index outputs n)
 
-abbrev pub longer_ending : ℕ → ℕ → ℕ
-longer_ending own end = if nat_lt 0 own then own else end
+-- the node itself if it is a string, which has a length, else this output
+abbrev pub own_or : ℕ → ℕ → ℕ → ℕ
+own_or own node output = if nat_lt 0 own then node else output

@@ -4,7 +4,8 @@ use Rattle.re_syntax.specs.Lines.{terminated}
 use Rattle.re_search.proofs.lemmas.OneMatcherMore.{one_more, value_at, within}
 use Rattle.line_chunks.specs.Working.Chunks.{line_text}
 use Rattle.re_search.proofs.lemmas.KeptMatchers.{none_asked, one_asked}
-use Rattle.grep_core.proofs.lemmas.CostLaws.{adds_none, adds_for_more, adds_once_more}
+use Rattle.re_meter.proofs.lemmas.Adding.{adds_none}
+use Rattle.grep_core.proofs.lemmas.CostLaws.{adds_for_more, adds_once_more}
 use Rattle.grep_session.specs.Working.Columns.{AddsColumn}
 use Rattle.grep_session.proofs.lemmas.ColumnLoops.{columns_none, columns_more}
 use Rattle.grep_session.proofs.matching.add_columns.Goals as goal
@@ -14,7 +15,7 @@ loop-matcher-init g c = record {
   found = columns_none _ _ _ _;
   number = omega arith;
   same_matchers = none_asked;
-  steps = adds_none _ _;
+  steps = adds_none _ _ _;
 }
 
 pub loop-matcher-preserved : goal.loop-matcher-preserved
@@ -49,7 +50,7 @@ returns-in_err-add_column-clause-steps g c =
     let i = c.loop-matcher.matcher-index in
     let more : i + 1 ≤ length c.args.matchers.now = omega (arith, c.loop-matcher-test.true) in
     let bytes = length (terminated (map line_text c.args.chunk.now)) in
-    adds_for_more (i + 1) (length c.args.matchers.now) bytes _ _ more (adds_once_more i bytes _ _ _ c.loop-matcher.invariant.steps c.add_column.ensures.steps)
+    adds_for_more (i + 1) (length c.args.matchers.now) bytes 0 _ _ more (adds_once_more i bytes _ _ _ c.loop-matcher.invariant.steps c.add_column.ensures.steps)
 
 pub returns-clause-ok : goal.returns-clause-ok
 returns-clause-ok g c =

@@ -4,17 +4,17 @@ ghost use Rattle.re_syntax.specs.Bytes.{Text};
 ghost use Rattle.re_syntax.specs.Expression.{expression_of};
 ghost use Rattle.re_syntax.specs.Holds.{positions};
 ghost use Rattle.re_auto.specs.Working.Bits.{InWord};
-ghost use Rattle.re_auto.specs.Meters.{many_built};
+ghost use Rattle.re_meter.specs.Meters.{many_built};
 ghost use Rattle.re_auto.specs.Working.Positions.{part_of};
 ghost use Rattle.re_auto.specs.Working.Stepping.{MayBegin, IsNext};
 ghost use Rattle.re_auto.specs.Working.StateSets.{IsMadeFor, StandsAt, IsNextSet};
 ghost use Rattle.re_auto.specs.Working.Tables.{HasOneWord};
 
 use crate::bits;
-use crate::meter::Meter;
 use crate::mode::Mode;
 use crate::step::automaton::Automaton;
 use crate::step::state_set::StateSet;
+use re_meter::Meter;
 
 impl Automaton {
     /// Whether there are from 1 to 64 positions, so that a set of them is one word, which can be

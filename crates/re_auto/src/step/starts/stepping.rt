@@ -5,7 +5,7 @@ ghost use Rattle.re_syntax.specs.Bytes.{Text};
 ghost use Rattle.re_syntax.specs.Expression.{Expression, expression_of};
 ghost use Rattle.re_auto.specs.declared.build.BuildFault.TheVariants.{Memory};
 ghost use Rattle.re_auto.specs.declared.mode.Mode.{Mode};
-ghost use Rattle.re_auto.specs.Meters.{many_built};
+ghost use Rattle.re_meter.specs.Meters.{many_built};
 ghost use Rattle.re_auto.specs.Working.Positions.{is_end};
 ghost use Rattle.re_syntax.specs.Working.BestStretches.{Least};
 ghost use Rattle.re_auto.specs.Working.Starts.{IsMatched, IsSpent};
@@ -14,10 +14,10 @@ ghost use Rattle.re_auto.specs.Working.StartSets.{AreOfOneSize, AreSame, StartsA
 
 use crate::bits;
 use crate::build::BuildFault;
-use crate::meter::Meter;
 use crate::mode::Mode;
 use crate::step::automaton::Automaton;
 use crate::step::starts::Starts;
+use re_meter::Meter;
 use std::alloc::Global;
 
 impl Starts {

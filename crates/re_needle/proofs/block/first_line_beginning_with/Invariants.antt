@@ -1,10 +1,14 @@
 use Rattle.std.proofs.Common.{length, ◌-◌}
+use Rattle.re_meter.specs.Meters.{AddsUpTo}
 use Rattle.re_needle.specs.Working.Needles.{run_of}
 use Rattle.re_needle.proofs.lemmas.BegunLines.{IsPassedTo}
 use Rattle.re_needle.proofs.block.first_line_beginning_with.Given as goal
 
 abbrev pub invariant-lines : goal.invariant-lines
-invariant-lines l = IsPassedTo (run_of l.finder) l.block l.start
+invariant-lines l = record {
+  passed : IsPassedTo (run_of l.finder) l.block l.start;
+  steps : AddsUpTo 0 l.start l.fn.meter l.meter;
+}
 
 abbrev pub decreases-lines : goal.decreases-lines
 decreases-lines l = length l.block - l.start

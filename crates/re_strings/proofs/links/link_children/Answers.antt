@@ -1,7 +1,7 @@
 use Rattle.std.proofs.Common.{rules, ◌≡◌, ◌+◌, ◌<◌, [], ◌∷◌, ◌++◌, length, slice_index, sym, ap, subst, ◌∙◌, arith, length-append}
 use Rattle.std.proofs.lemmas.Grind.{get_or_default_zero}
-use Rattle.re_strings.specs.Working.FixedSets.{AreLinked, StandsFor, longer_ending}
-use Rattle.re_strings.proofs.lemmas.SetLinks.{linked_more, linked_right}
+use Rattle.re_strings.specs.Working.FixedSets.{AreLinked, StandsFor, own_or}
+use Rattle.re_strings.proofs.lemmas.SetLinks.{own_or_within, linked_more, linked_right}
 use Rattle.re_strings.proofs.lemmas.SetSearch.{row_read}
 use Rattle.re_strings.proofs.links.link_children.Goals as goal
 
@@ -10,7 +10,7 @@ children-preserved c =
     let first = c.args.trie.now.first.items in
     let bytes = c.args.trie.now.bytes.items in
     let fails = c.children.links.fails.items in
-    let ends = c.children.links.ends.items in
+    let outputs = c.children.links.outputs.items in
     let child : c.len-child.result ≡ length fails = search rules in
     let rows = c.requires.trie.rows in
     let within = c.requires.within in
@@ -21,27 +21,29 @@ children-preserved c =
     let beyond = c.requires.trie.beyond c.args.node c.requires.within in
     let before = c.fallback-fail.ensures.before in
     let fail : c.fallback-fail.result < length fails = omega (arith, before, low) in
-    let same = c.children.invariant.linked.all_ends in
-    let read : c.index-in-children-2.result.now ≡ slice_index ends c.fallback-fail.result = sym (row_read ends c.fallback-fail.result c.index-in-children-2.result.now (omega (arith, fail, same)) c.index-in-children-2.ensures) in
+    let same = c.children.invariant.linked.all_outputs in
+    let read : c.index-in-children-2.result.now ≡ slice_index outputs c.fallback-fail.result = sym (row_read outputs c.fallback-fail.result c.index-in-children-2.result.now (omega (arith, fail, same)) c.index-in-children-2.ensures) in
     let byte : c.index-in-children.result.now ≡ slice_index bytes (length fails) =
     sym (row_read bytes c.len-child.result c.index-in-children.result.now (omega (arith, child, last, in_trie)) c.index-in-children.ensures) ∙ ap (slice_index bytes) child in
     let added = c.in_ok-add_link.ensures in
-    let end : c.longer_end-length.result ≡ longer_ending (slice_index c.args.owns.now (length fails)) (slice_index ends c.fallback-fail.result) =
-    c.longer_end-length.ensures ∙ ap (λ n. longer_ending n c.index-in-children-2.result.now) (ap (slice_index c.args.owns.now) child) ∙ ap (longer_ending (slice_index c.args.owns.now (length fails))) read in
+    let end : c.output_of-output.result ≡ own_or (slice_index c.args.owns.now (length fails)) (length fails) (slice_index outputs c.fallback-fail.result) =
+    c.output_of-output.ensures ∙ ap (λ n. own_or (slice_index c.args.owns.now n) n c.index-in-children-2.result.now) child ∙ ap (own_or (slice_index c.args.owns.now (length fails)) (length fails)) read in
+    let under = c.children.invariant.linked.below c.fallback-fail.result (omega (arith, fail, same)) in
+    let late = own_or_within (slice_index c.args.owns.now (length fails)) (length fails) (slice_index outputs c.fallback-fail.result) (omega (arith, under, fail)) in
     let size : length c.add_link.new.links.fails.items ≡ length fails + 1 = ap length added.0 ∙ length-append fails (c.fallback-fail.result ∷ []) in
     record {
       low = omega (arith, low, size);
       high = omega (arith, last, size);
-      linked = linked_more fails ends c.add_link.new.links.fails.items c.add_link.new.links.ends.items c.fallback-fail.result c.longer_end-length.result
-          c.children.invariant.linked (omega (arith, low, beyond)) fail added.0 added.1;
+      linked = linked_more fails outputs c.add_link.new.links.fails.items c.add_link.new.links.outputs.items c.fallback-fail.result c.output_of-output.result
+          c.children.invariant.linked (omega (arith, low, beyond)) fail (omega (arith, end, late)) added.0 added.1;
       right = λ all t s o old.
           let now = c.children.invariant.right all t s o old in
           let owned = o (length fails) (let w = c.requires.owns in omega (arith, w, last, in_trie)) in
           let stands : StandsFor all.strings (all.label c.fallback-fail.result) (all.label (length fails)) 1 =
           subst (λ x. StandsFor all.strings (all.label c.fallback-fail.result) x 1) (ap (λ b. all.label c.args.node ++ b ∷ []) byte ∙ sym (t.child c.args.node (length fails) c.requires.within (low, last)))
           (c.fallback-fail.ensures.right all t s (rw c.deref.ensures.value now.fallbacks)) in
-          linked_right all fails ends c.add_link.new.links.fails.items c.add_link.new.links.ends.items c.fallback-fail.result (slice_index c.args.owns.now (length fails))
-          c.children.invariant.linked added.0 (added.1 ∙ ap (λ e. ends ++ e ∷ []) end) fail stands owned.0 owned.1 now;
+          linked_right all fails outputs c.add_link.new.links.fails.items c.add_link.new.links.outputs.items c.fallback-fail.result (slice_index c.args.owns.now (length fails))
+          c.children.invariant.linked added.0 (added.1 ∙ ap (λ e. outputs ++ e ∷ []) end) fail stands owned.0 owned.1 now;
     }
 
 pub children-init : goal.children-init
@@ -51,7 +53,7 @@ children-init c =
     record {
       low = omega (arith, all);
       high = omega (arith, all, ordered);
-      linked = subst (λ n. AreLinked n c.args.links.now.fails.items c.args.links.now.ends.items) (sym all) c.requires.linked;
+      linked = subst (λ n. AreLinked n c.args.links.now.fails.items c.args.links.now.outputs.items) (sym all) c.requires.linked;
       right = λ _ _ _ _ linked. linked;
     }
 
@@ -61,7 +63,7 @@ returns-clause-linked c =
     let end : c.index.result.now ≡ slice_index first (c.args.node + 1) =
     c.index.ensures ∙ get_or_default_zero first (c.args.node + 1) c.index.result.now (let r = c.requires.trie.rows in let w = c.requires.within in omega (arith, r, w)) in
     let all : length c.children.links.fails.items ≡ slice_index first (c.args.node + 1) = omega (arith, end, c.children.invariant.high, c.children-test.false, c.len.ensures) in
-    subst (λ n. AreLinked n c.children.links.fails.items c.children.links.ends.items) all c.children.invariant.linked
+    subst (λ n. AreLinked n c.children.links.fails.items c.children.links.outputs.items) all c.children.invariant.linked
 
 pub returns-clause-right : goal.returns-clause-right
 returns-clause-right c = c.children.invariant.right

@@ -6,9 +6,9 @@ abbrev pub invariant-children : goal.invariant-children
 invariant-children l = record {
   low : slice_index l.trie.first.items l.node ≤ length l.links.fails.items;
   high : length l.links.fails.items ≤ slice_index l.trie.first.items (l.node + 1);
-  linked : AreLinked (length l.links.fails.items) l.links.fails.items l.links.ends.items;
+  linked : AreLinked (length l.links.fails.items) l.links.fails.items l.links.outputs.items;
   right : (all : Labels) → IsTrieOf all l.trie.first.items l.trie.bytes.items → AreStartsOf false all l.starts → AreOwn all l.owns
-      → AreLinkedFor all l.fn.links.fails.items l.fn.links.ends.items → AreLinkedFor all l.links.fails.items l.links.ends.items;
+      → AreLinkedFor all l.fn.links.fails.items l.fn.links.outputs.items → AreLinkedFor all l.links.fails.items l.links.outputs.items;
 }
 
 abbrev pub decreases-children : goal.decreases-children

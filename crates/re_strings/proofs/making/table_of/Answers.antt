@@ -9,14 +9,14 @@ returns-clause-right c = λ strings same.
     let all : Labels = record { strings = strings; label = label } in
     let plain = c.in_ok-plain.ensures.right all trie in
     let linked = (rw (c.deref.ensures.value, c.deref-2.ensures.value) at c.in_ok-links.ensures.right) all trie plain own in
-    let ended = c.in_ok-links.ensures.linked.all_ends in (
+    let ended = c.in_ok-links.ensures.linked.all_outputs in (
       label,
       record {
         trie = trie;
         starts = c.in_ok-starts.ensures.right all trie plain;
         fails = linked.fallbacks;
         depths = c.in_ok-depths.ensures.right all trie;
-        ends = λ n lt. linked.endings n (omega (arith, lt, ended));
+        outputs = λ n lt. linked.ended n (omega (arith, lt, ended));
         leaps = same_leaps (map (λ s. s.now) c.args.strings.now) strings same c.in_ok-leaps.leaps c.in_ok-leaps.ensures.right;
         fronts = same_leaps (map (λ s. s.now) c.args.strings.now) strings same c.in_ok-fronts.fronts c.in_ok-fronts.ensures.right;
       },
@@ -29,7 +29,8 @@ returns-clause-table c = record {
   fallbacks = c.in_ok-links.ensures.linked.fallbacks;
   fails = c.in_ok-links.ensures.linked.all_fails;
   depths = c.in_ok-depths.ensures.all;
-  ends = c.in_ok-links.ensures.linked.all_ends;
+  below = c.in_ok-links.ensures.linked.below;
+  outputs = c.in_ok-links.ensures.linked.all_outputs;
   leaps = c.in_ok-leaps.ensures.leaps;
   fronts = c.in_ok-fronts.ensures.leaps;
   pairs = λ le.

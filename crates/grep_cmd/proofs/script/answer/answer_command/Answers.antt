@@ -1,5 +1,5 @@
 use Rattle.std.proofs.Common.{◌≡◌, Some, None, refl, rules, [], ◌∷◌}
-use Rattle.grep_core.proofs.lemmas.CostLaws.{adds_none}
+use Rattle.re_meter.proofs.lemmas.Adding.{adds_none}
 use Rattle.grep_core.proofs.lemmas.RowLemmas.{goes_nowhere}
 use Rattle.grep_cmd.specs.declared.script.reply.Answer.TheVariants.{Accepted, Refused}
 use Rattle.grep_cmd.specs.Script.{does, reports, reports_changes, reports_page, is_bad, edits, shows, lists_changes, lists_page, line_command}
@@ -17,7 +17,7 @@ returns-in-Ok-Some-Edit-clause-answers g c =
     λ reader handed h.
     let done = does_alone g.R.CountedRead.remaining g.R.CountedRead.failures reader handed c.args.lines.now.lines.line c.args.lines.now c.args.meter.now c.make_edit.new.meter c.args.session.now c.make_edit.new.session g.W.CountedWrite.contents g.W.CountedWrite.failures c.args.out.now c.args.out.now c.reply_to_edit.new.out flushed
     (does edit) (reply_to c.make_edit.result ∷ []) h (rw is (refl, refl))
-    (c.make_edit.result, record { gives = c.make_edit.ensures.gives; carries = c.make_edit.ensures.carries; named = λ none. not_for_memory c.make_edit.result (c.make_edit.ensures.memory none) }, refl) c.make_edit.ensures.steps.most c.make_edit.ensures.steps.is_most c.make_edit.ensures.steps.few in
+    (c.make_edit.result, record { gives = c.make_edit.ensures.gives; carries = c.make_edit.ensures.carries; named = λ none. not_for_memory c.make_edit.result (c.make_edit.ensures.memory none) }, refl) c.make_edit.ensures.steps.most c.make_edit.ensures.steps.refusals c.make_edit.ensures.steps.is_most c.make_edit.ensures.steps.few in
     answers_step g.R.CountedRead.remaining g.R.CountedRead.failures reader handed c.args.lines.now.lines.line c.args.lines.now c.args.meter.now c.make_edit.new.meter c.args.session.now c.make_edit.new.session g.W.CountedWrite.contents g.W.CountedWrite.failures c.args.out.now c.args.out.now c.reply_to_edit.new.out flushed
     (reply_to c.make_edit.result ∷ []) (answer_for c.make_edit.result) c.reply_to_edit.result done (refused_as c.make_edit.result) (answered_in_time c.make_edit.result) c.reply_to_edit.ensures
 
@@ -28,7 +28,7 @@ returns-in-Ok-Some-Show-clause-answers g c =
     let s = c.reply_to_show.ensures in
     λ reader handed h.
     let done = does_alone g.R.CountedRead.remaining g.R.CountedRead.failures reader handed c.args.lines.now.lines.line c.args.lines.now c.args.meter.now c.args.meter.now c.args.session.now c.args.session.now g.W.CountedWrite.contents g.W.CountedWrite.failures c.args.out.now c.args.out.now c.reply_to_show.new.out flushed
-    reports s.0 h (rw is (refl, refl)) (s.1, refl) 0 refl (adds_none 0 c.args.meter.now) in
+    reports s.0 h (rw is (refl, refl)) (s.1, refl) 0 0 (refl, refl) (adds_none 0 0 c.args.meter.now) in
     answers_step g.R.CountedRead.remaining g.R.CountedRead.failures reader handed c.args.lines.now.lines.line c.args.lines.now c.args.meter.now c.args.meter.now c.args.session.now c.args.session.now g.W.CountedWrite.contents g.W.CountedWrite.failures c.args.out.now c.args.out.now c.reply_to_show.new.out flushed
     s.0 Accepted c.reply_to_show.result done (shown_is_no_refusal c.args.session.now.inputs s.0 s.1) (λ e. let no : ⊥ = cc in no) s.2
 
@@ -38,7 +38,7 @@ returns-in-Ok-None-clause-answers g c =
     let flushed = goes_nowhere g.W.CountedWrite.contents g.W.CountedWrite.failures c.args.out.now in
     λ reader handed h.
     let done = does_alone g.R.CountedRead.remaining g.R.CountedRead.failures reader handed c.args.lines.now.lines.line c.args.lines.now c.args.meter.now c.args.meter.now c.args.session.now c.args.session.now g.W.CountedWrite.contents g.W.CountedWrite.failures c.args.out.now c.args.out.now c.reply_with.new.out flushed
-    is_bad (bad_command ∷ []) h (rw is (refl, refl)) (refl, refl) 0 refl (adds_none 0 c.args.meter.now) in
+    is_bad (bad_command ∷ []) h (rw is (refl, refl)) (refl, refl) 0 0 (refl, refl) (adds_none 0 0 c.args.meter.now) in
     answers_step g.R.CountedRead.remaining g.R.CountedRead.failures reader handed c.args.lines.now.lines.line c.args.lines.now c.args.meter.now c.args.meter.now c.args.session.now c.args.session.now g.W.CountedWrite.contents g.W.CountedWrite.failures c.args.out.now c.args.out.now c.reply_with.new.out flushed
     (bad_command ∷ []) Refused c.reply_with.result done refl (λ e. let no : ⊥ = cc in no) c.reply_with.ensures
 
@@ -49,7 +49,7 @@ returns-in-Ok-Some-Changes-clause-answers g c =
     let t = c.reply_to_changes.ensures in
     λ reader handed h.
     let done = does_alone g.R.CountedRead.remaining g.R.CountedRead.failures reader handed c.args.lines.now.lines.line c.args.lines.now c.args.meter.now c.args.meter.now c.args.session.now t.1 g.W.CountedWrite.contents g.W.CountedWrite.failures c.args.out.now c.args.out.now c.reply_to_changes.new.out flushed
-    reports_changes t.0 h (rw is (refl, refl)) t.2 0 refl (adds_none 0 c.args.meter.now) in
+    reports_changes t.0 h (rw is (refl, refl)) t.2 0 0 (refl, refl) (adds_none 0 0 c.args.meter.now) in
     answers_changes g.R.CountedRead.remaining g.R.CountedRead.failures reader handed c.args.lines.now.lines.line c.args.lines.now c.args.meter.now c.args.meter.now c.args.session.now c.reply_to_changes.new.session g.W.CountedWrite.contents g.W.CountedWrite.failures c.args.out.now c.args.out.now c.reply_to_changes.new.out flushed
     t.0 t.1 c.reply_to_changes.result done (changes_is_no_refusal c.args.session.now t.1 t.0 t.2) t.4 t.3
 
@@ -62,6 +62,6 @@ returns-in-Ok-Some-Page-clause-answers g c =
     let t = c.reply_to_page.ensures in
     λ reader handed h.
     let done = does_alone g.R.CountedRead.remaining g.R.CountedRead.failures reader handed c.args.lines.now.lines.line c.args.lines.now c.args.meter.now c.args.meter.now c.args.session.now c.args.session.now g.W.CountedWrite.contents g.W.CountedWrite.failures c.args.out.now c.args.out.now c.reply_to_page.new.out flushed
-    (reports_page first count) t.0 h (rw is (refl, refl)) (t.1, refl) 0 refl (adds_none 0 c.args.meter.now) in
+    (reports_page first count) t.0 h (rw is (refl, refl)) (t.1, refl) 0 0 (refl, refl) (adds_none 0 0 c.args.meter.now) in
     answers_step g.R.CountedRead.remaining g.R.CountedRead.failures reader handed c.args.lines.now.lines.line c.args.lines.now c.args.meter.now c.args.meter.now c.args.session.now c.args.session.now g.W.CountedWrite.contents g.W.CountedWrite.failures c.args.out.now c.args.out.now c.reply_to_page.new.out flushed
     t.0 Accepted c.reply_to_page.result done (page_is_no_refusal c.args.session.now.inputs first count t.0 t.1) (λ e. let no : ⊥ = cc in no) t.2

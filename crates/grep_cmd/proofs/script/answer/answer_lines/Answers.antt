@@ -35,6 +35,7 @@ returns-clause-answers g c =
       is_step = rw is (t.0, refl);
       replies_to = (answer, record { gives = c.make_file_edit.ensures.gives; carries = c.make_file_edit.ensures.carries; named = λ none. not_for_memory answer (c.make_file_edit.ensures.memory none) }, refl);
       most = c.make_file_edit.ensures.steps.most;
+      refusals = c.make_file_edit.ensures.steps.refusals;
       is_most = c.make_file_edit.ensures.steps.is_most;
       few = c.make_file_edit.ensures.steps.few;
     })

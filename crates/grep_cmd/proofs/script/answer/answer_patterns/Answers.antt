@@ -35,6 +35,7 @@ returns-in-Ok-clause-answers g c =
       is_step = rw is (t.0, refl);
       replies_to = (c.in-Ok.answer, record { gives = c.in-Ok.ensures.gives; carries = c.in-Ok.ensures.carries; named = λ none. not_for_memory c.in-Ok.answer (c.in-Ok.ensures.memory none) }, refl);
       most = c.in-Ok.ensures.steps.most;
+      refusals = c.in-Ok.ensures.steps.refusals;
       is_most = c.in-Ok.ensures.steps.is_most;
       few = c.in-Ok.ensures.steps.few;
     })

@@ -1,4 +1,4 @@
-use Rattle.std.proofs.Common.{◌≡◌, ◌*◌, ◌+◌, ◌≤◌, ◌∙◌, [], ◌∷◌, ◌++◌, true, length, length-append, append_assoc, map, take, refl, sym, ap, subst, arith, if◌then◌else◌}
+use Rattle.std.proofs.Common.{◌≡◌, ◌+◌, ◌≤◌, ◌∙◌, [], ◌∷◌, ◌++◌, true, length, length-append, append_assoc, map, take, refl, sym, ap, subst, arith, if◌then◌else◌}
 use Rattle.re_syntax.specs.Lines.{terminated}
 use Rattle.re_search.proofs.lemmas.KeptMatchers.{unasked, asked_over, same_sought}
 use Rattle.grep_core.specs.Cost.{SearchesLines}
@@ -10,7 +10,7 @@ use Rattle.grep_core.proofs.lemmas.WaitingRows.{if_kept}
 use Rattle.grep_io.specs.Working.Numbered.{HasHanded}
 use Rattle.grep_core.specs.Working.Progress.{next_shown, last_of}
 use Rattle.grep_core.specs.Working.Stretches.{IsNextOf}
-use Rattle.grep_core.proofs.lemmas.CostLaws.{adds_none, searched_bytes, searched_more_lines, searched_one_line, searched_once}
+use Rattle.grep_core.proofs.lemmas.CostLaws.{searched_bytes, searched_more_lines, searched_one_line, searched_once, unsearched_lines}
 use Rattle.grep_core.proofs.lemmas.PassedLines.{are_ahead, next_first, passed_state, handed_with, handed_passed}
 use Rattle.grep_core.proofs.lemmas.StretchLemmas.{asked_forward, asked_due, divided_kept, stretch_spent, unselected_before, selected_matched, plain_if, before_within, before_block, before_lines, before_counted, before_free}
 use Rattle.grep_core.proofs.lemmas.Verdicts.{decided_yes}
@@ -80,7 +80,7 @@ show_line-requires g c =
     let reported = decided_yes (selected_matched es w.options c.args.searchers.now.whole c.requires.whole (plain_if w.options.invert_match count forward some) line holds) in
     let first = next_first c.lines.lines before (line ∷ []) (subst (IsNextOf c.lines.lines) is n) in
     let mid = passed_state c.lines.lines before first (before_free d) in
-    let (s, are) = followed_waiting g.R.CountedRead.remaining g.R.CountedRead.failures es w.options w.many c.args.surroundings.now.progress.shown w.name.now reader c.args.surroundings.now.progress.context c.requires.is_asked c.lines.lines mid _ _ _ c.lines.meter c.lines.meter c.lines.selected c.lines.surroundings.progress c.wait.new.surroundings.progress c.lines.surroundings.recent c.wait.new.surroundings.recent i.limit i.so_far before (handed_with c.lines.lines before first (before_free d) g.R.CountedRead.remaining g.R.CountedRead.failures reader i.so_far.lines i.so_far.handed) unselected waits (searched_bytes es w.options (length es) before c.lines.meter c.lines.meter (adds_none (length es * length (terminated before)) c.lines.meter)) in
+    let (s, are) = followed_waiting g.R.CountedRead.remaining g.R.CountedRead.failures es w.options w.many c.args.surroundings.now.progress.shown w.name.now reader c.args.surroundings.now.progress.context c.requires.is_asked c.lines.lines mid _ _ _ c.lines.meter c.lines.meter c.lines.selected c.lines.surroundings.progress c.wait.new.surroundings.progress c.lines.surroundings.recent c.wait.new.surroundings.recent i.limit i.so_far before (handed_with c.lines.lines before first (before_free d) g.R.CountedRead.remaining g.R.CountedRead.failures reader i.so_far.lines i.so_far.handed) unselected waits (unsearched_lines es w.options (length es) before c.lines.meter) in
     let same : i.so_far.lines ++ all ≡ s.lines ++ line ∷ [] = ap (λ ls. i.so_far.lines ++ ls) is ∙ sym (append_assoc i.so_far.lines before (line ∷ [])) ∙ ap (λ ls. ls ++ line ∷ []) (sym are) in
     let all_spent = subst (λ ls. SearchesLines es w.options (length es) ls c.args.meter.now c.next_held-stretch.new.meter) same (searched_more_lines es w.options (length es) i.so_far.lines all c.args.meter.now c.lines.meter c.next_held-stretch.new.meter i.so_far.steps spent) in
     let now = passed_state c.lines.lines all n d.free in
@@ -108,7 +108,7 @@ returns-in_err-show_line-clause-given g c =
     let reported = decided_yes (selected_matched es w.options c.args.searchers.now.whole c.requires.whole (plain_if w.options.invert_match count forward some) line holds) in
     let first = next_first c.lines.lines before (line ∷ []) (subst (IsNextOf c.lines.lines) is n) in
     let mid = passed_state c.lines.lines before first (before_free d) in
-    let (s, are) = followed_waiting g.R.CountedRead.remaining g.R.CountedRead.failures es w.options w.many c.args.surroundings.now.progress.shown w.name.now reader c.args.surroundings.now.progress.context c.requires.is_asked c.lines.lines mid _ _ _ c.lines.meter c.lines.meter c.lines.selected c.lines.surroundings.progress c.wait.new.surroundings.progress c.lines.surroundings.recent c.wait.new.surroundings.recent i.limit i.so_far before (handed_with c.lines.lines before first (before_free d) g.R.CountedRead.remaining g.R.CountedRead.failures reader i.so_far.lines i.so_far.handed) unselected waits (searched_bytes es w.options (length es) before c.lines.meter c.lines.meter (adds_none (length es * length (terminated before)) c.lines.meter)) in
+    let (s, are) = followed_waiting g.R.CountedRead.remaining g.R.CountedRead.failures es w.options w.many c.args.surroundings.now.progress.shown w.name.now reader c.args.surroundings.now.progress.context c.requires.is_asked c.lines.lines mid _ _ _ c.lines.meter c.lines.meter c.lines.selected c.lines.surroundings.progress c.wait.new.surroundings.progress c.lines.surroundings.recent c.wait.new.surroundings.recent i.limit i.so_far before (handed_with c.lines.lines before first (before_free d) g.R.CountedRead.remaining g.R.CountedRead.failures reader i.so_far.lines i.so_far.handed) unselected waits (unsearched_lines es w.options (length es) before c.lines.meter) in
     let same : i.so_far.lines ++ all ≡ s.lines ++ line ∷ [] = ap (λ ls. i.so_far.lines ++ ls) is ∙ sym (append_assoc i.so_far.lines before (line ∷ [])) ∙ ap (λ ls. ls ++ line ∷ []) (sym are) in
     let all_spent = subst (λ ls. SearchesLines es w.options (length es) ls c.args.meter.now c.next_held-stretch.new.meter) same (searched_more_lines es w.options (length es) i.so_far.lines all c.args.meter.now c.lines.meter c.next_held-stretch.new.meter i.so_far.steps spent) in
     let now = passed_state c.lines.lines all n d.free in
@@ -137,7 +137,7 @@ lines-preserved-in-Some g c =
     let reported = decided_yes (selected_matched es w.options c.args.searchers.now.whole c.requires.whole (plain_if w.options.invert_match count forward some) line holds) in
     let first = next_first c.lines.lines before (line ∷ []) (subst (IsNextOf c.lines.lines) is n) in
     let mid = passed_state c.lines.lines before first (before_free d) in
-    let (s, are) = followed_waiting g.R.CountedRead.remaining g.R.CountedRead.failures es w.options w.many c.args.surroundings.now.progress.shown w.name.now reader c.args.surroundings.now.progress.context c.requires.is_asked c.lines.lines mid _ _ _ c.lines.meter c.lines.meter c.lines.selected c.lines.surroundings.progress c.wait.new.surroundings.progress c.lines.surroundings.recent c.wait.new.surroundings.recent i.limit i.so_far before (handed_with c.lines.lines before first (before_free d) g.R.CountedRead.remaining g.R.CountedRead.failures reader i.so_far.lines i.so_far.handed) unselected waits (searched_bytes es w.options (length es) before c.lines.meter c.lines.meter (adds_none (length es * length (terminated before)) c.lines.meter)) in
+    let (s, are) = followed_waiting g.R.CountedRead.remaining g.R.CountedRead.failures es w.options w.many c.args.surroundings.now.progress.shown w.name.now reader c.args.surroundings.now.progress.context c.requires.is_asked c.lines.lines mid _ _ _ c.lines.meter c.lines.meter c.lines.selected c.lines.surroundings.progress c.wait.new.surroundings.progress c.lines.surroundings.recent c.wait.new.surroundings.recent i.limit i.so_far before (handed_with c.lines.lines before first (before_free d) g.R.CountedRead.remaining g.R.CountedRead.failures reader i.so_far.lines i.so_far.handed) unselected waits (unsearched_lines es w.options (length es) before c.lines.meter) in
     let same : i.so_far.lines ++ all ≡ s.lines ++ line ∷ [] = ap (λ ls. i.so_far.lines ++ ls) is ∙ sym (append_assoc i.so_far.lines before (line ∷ [])) ∙ ap (λ ls. ls ++ line ∷ []) (sym are) in
     let all_spent = subst (λ ls. SearchesLines es w.options (length es) ls c.args.meter.now c.next_held-stretch.new.meter) same (searched_more_lines es w.options (length es) i.so_far.lines all c.args.meter.now c.lines.meter c.next_held-stretch.new.meter i.so_far.steps spent) in
     let now = c.pass.new.self in
@@ -171,7 +171,7 @@ lines-smaller-in-Some g c =
     let reported = decided_yes (selected_matched es w.options c.args.searchers.now.whole c.requires.whole (plain_if w.options.invert_match count forward some) line holds) in
     let first = next_first c.lines.lines before (line ∷ []) (subst (IsNextOf c.lines.lines) is n) in
     let mid = passed_state c.lines.lines before first (before_free d) in
-    let (s, are) = followed_waiting g.R.CountedRead.remaining g.R.CountedRead.failures es w.options w.many c.args.surroundings.now.progress.shown w.name.now reader c.args.surroundings.now.progress.context c.requires.is_asked c.lines.lines mid _ _ _ c.lines.meter c.lines.meter c.lines.selected c.lines.surroundings.progress c.wait.new.surroundings.progress c.lines.surroundings.recent c.wait.new.surroundings.recent i.limit i.so_far before (handed_with c.lines.lines before first (before_free d) g.R.CountedRead.remaining g.R.CountedRead.failures reader i.so_far.lines i.so_far.handed) unselected waits (searched_bytes es w.options (length es) before c.lines.meter c.lines.meter (adds_none (length es * length (terminated before)) c.lines.meter)) in
+    let (s, are) = followed_waiting g.R.CountedRead.remaining g.R.CountedRead.failures es w.options w.many c.args.surroundings.now.progress.shown w.name.now reader c.args.surroundings.now.progress.context c.requires.is_asked c.lines.lines mid _ _ _ c.lines.meter c.lines.meter c.lines.selected c.lines.surroundings.progress c.wait.new.surroundings.progress c.lines.surroundings.recent c.wait.new.surroundings.recent i.limit i.so_far before (handed_with c.lines.lines before first (before_free d) g.R.CountedRead.remaining g.R.CountedRead.failures reader i.so_far.lines i.so_far.handed) unselected waits (unsearched_lines es w.options (length es) before c.lines.meter) in
     let same : i.so_far.lines ++ all ≡ s.lines ++ line ∷ [] = ap (λ ls. i.so_far.lines ++ ls) is ∙ sym (append_assoc i.so_far.lines before (line ∷ [])) ∙ ap (λ ls. ls ++ line ∷ []) (sym are) in
     let all_spent = subst (λ ls. SearchesLines es w.options (length es) ls c.args.meter.now c.next_held-stretch.new.meter) same (searched_more_lines es w.options (length es) i.so_far.lines all c.args.meter.now c.lines.meter c.next_held-stretch.new.meter i.so_far.steps spent) in
     let now = c.pass.new.self in
@@ -199,7 +199,7 @@ count_found-selected-requires g c =
     let reported = decided_yes (selected_matched es w.options c.args.searchers.now.whole c.requires.whole (plain_if w.options.invert_match count forward some) line holds) in
     let first = next_first c.lines.lines before (line ∷ []) (subst (IsNextOf c.lines.lines) is n) in
     let mid = passed_state c.lines.lines before first (before_free d) in
-    let (s, are) = followed_waiting g.R.CountedRead.remaining g.R.CountedRead.failures es w.options w.many c.args.surroundings.now.progress.shown w.name.now reader c.args.surroundings.now.progress.context c.requires.is_asked c.lines.lines mid _ _ _ c.lines.meter c.lines.meter c.lines.selected c.lines.surroundings.progress c.wait.new.surroundings.progress c.lines.surroundings.recent c.wait.new.surroundings.recent i.limit i.so_far before (handed_with c.lines.lines before first (before_free d) g.R.CountedRead.remaining g.R.CountedRead.failures reader i.so_far.lines i.so_far.handed) unselected waits (searched_bytes es w.options (length es) before c.lines.meter c.lines.meter (adds_none (length es * length (terminated before)) c.lines.meter)) in
+    let (s, are) = followed_waiting g.R.CountedRead.remaining g.R.CountedRead.failures es w.options w.many c.args.surroundings.now.progress.shown w.name.now reader c.args.surroundings.now.progress.context c.requires.is_asked c.lines.lines mid _ _ _ c.lines.meter c.lines.meter c.lines.selected c.lines.surroundings.progress c.wait.new.surroundings.progress c.lines.surroundings.recent c.wait.new.surroundings.recent i.limit i.so_far before (handed_with c.lines.lines before first (before_free d) g.R.CountedRead.remaining g.R.CountedRead.failures reader i.so_far.lines i.so_far.handed) unselected waits (unsearched_lines es w.options (length es) before c.lines.meter) in
     let same : i.so_far.lines ++ all ≡ s.lines ++ line ∷ [] = ap (λ ls. i.so_far.lines ++ ls) is ∙ sym (append_assoc i.so_far.lines before (line ∷ [])) ∙ ap (λ ls. ls ++ line ∷ []) (sym are) in
     let all_spent = subst (λ ls. SearchesLines es w.options (length es) ls c.args.meter.now c.next_held-stretch.new.meter) same (searched_more_lines es w.options (length es) i.so_far.lines all c.args.meter.now c.lines.meter c.next_held-stretch.new.meter i.so_far.steps spent) in
     let now = passed_state c.lines.lines all n d.free in

@@ -23,3 +23,6 @@ returns-clause-steps c = subst (λ (lines : List Text). TakesSteps (AddFile c.ar
 
 pub returns-clause-memory : goal.returns-clause-memory
 returns-clause-memory c = λ newline. absurd (newline (rw c.deref.ensures.value at c.if-any_newline.ensures))
+
+pub returns-in-Err-clause-steps : goal.returns-in-Err-clause-steps
+returns-in-Err-clause-steps c = takes_none (AddFile c.args.name.items (map (λ line. line.items) c.args.lines.items)) _ _

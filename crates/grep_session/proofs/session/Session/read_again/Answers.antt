@@ -9,7 +9,7 @@ use Rattle.grep_session.specs.Touched.{all_lines}
 use Rattle.grep_session.proofs.lemmas.EditLemmas.{AreMatchers-same, asked_session}
 use Rattle.grep_session.proofs.lemmas.AllPatternsRead.{refuses_again}
 use Rattle.grep_session.proofs.lemmas.ChangeLemmas.{anew_files}
-use Rattle.grep_session.proofs.lemmas.StepLemmas.{takes_lines}
+use Rattle.grep_session.proofs.lemmas.StepLemmas.{takes_lines, takes_none}
 use Rattle.re_search.proofs.lemmas.KeptMatchers.{none_asked}
 use Rattle.grep_session.proofs.lemmas.RoomLemmas.{keep_same}
 use Rattle.grep_session.proofs.session.Session.read_again.Goals as goal
@@ -56,3 +56,6 @@ pub invariant_of-self : goal.invariant_of-self
 invariant_of-self c =
     let s = c.self.inside in
     asked_session s _ refl refl c.self.invariant none_asked (subst (All (IsFileKept (map matched_expression s.matchers.items) s.options)) (sym c.in-Err-find_columns.ensures.err) c.self.invariant.kept)
+
+pub returns-in-Err-clause-steps : goal.returns-in-Err-clause-steps
+returns-in-Err-clause-steps c = λ edit applies touches. takes_none edit _ _

@@ -8,6 +8,7 @@ use Rattle.grep_session.specs.Edits.{Edit, SetFlag, Applies, option_of, with_opt
 use Rattle.grep_session.specs.Working.Sessions.{inputs_of}
 use Rattle.grep_session.specs.Touched.{TakesSteps, Touches, searched_by, parts_alone, all_lines, touched_by_flag}
 use Rattle.grep_session.proofs.lemmas.AllPatternsRead.{sets_flag, applies_same, applies_flag}
+use Rattle.grep_session.proofs.lemmas.StepLemmas.{takes_none}
 use Rattle.grep_session.proofs.session.Session.set_flag.Goals as goal
 
 pub returns-then-option_of-on-clause-gives : goal.returns-then-option_of-on-clause-gives
@@ -58,3 +59,6 @@ returns-in-Output-clause-gives c =
     let readable = subst (λ (i : Inputs). All (IsReadable i.syntax i.options.ignore_case) i.patterns) c.self.view_is c.self.invariant.matchers.readable in
     let applies = subst (λ o. Applies (SetFlag c.args.flag c.args.on) old (Ok (read_as old.syntax o old))) (sym options) (applies_flag c.args.flag c.args.on old (c.in-Output.ensures.same_case old.options) readable) in
     subst (λ n. Applies (SetFlag c.args.flag c.args.on) old (Ok n)) (sym c.put_options.ensures) applies
+
+pub returns-then-option_of-on-clause-steps : goal.returns-then-option_of-on-clause-steps
+returns-then-option_of-on-clause-steps c = takes_none (SetFlag c.args.flag c.args.on) _ _

@@ -6,6 +6,7 @@ use Rattle.grep_session.specs.Edits.{Edit, SetSyntax, Applies}
 use Rattle.grep_session.specs.Touched.{TakesSteps, Touches, searched_by, all_lines}
 use Rattle.grep_session.specs.Working.Sessions.{inputs_of}
 use Rattle.grep_session.proofs.lemmas.AllPatternsRead.{sets_syntax}
+use Rattle.grep_session.proofs.lemmas.StepLemmas.{takes_none}
 use Rattle.grep_session.proofs.session.Session.set_syntax.Goals as goal
 
 pub returns-then-is_same-clause-gives : goal.returns-then-is_same-clause-gives
@@ -27,3 +28,6 @@ returns-clause-steps c =
     let steps = subst (λ o. (edit : Edit) → (AreReadable c.args.syntax o old → Applies edit old (Ok (read_as c.args.syntax o old))) → Touches edit old (searched_by (length old.patterns) (all_lines old)) → TakesSteps edit old c.args.meter.now c.read_again-2.new.meter) same c.read_again-2.ensures.steps in
     let other : c.args.syntax ≡ old.syntax → ⊥ = λ e. c.if-is_same.ensures (e ∙ sym (ap (λ (i : Inputs). i.syntax) c.self.view_is)) in
     steps (SetSyntax c.args.syntax) (λ readable. inl (readable, refl)) (inr (other, refl))
+
+pub returns-then-is_same-clause-steps : goal.returns-then-is_same-clause-steps
+returns-then-is_same-clause-steps c = takes_none (SetSyntax c.args.syntax) _ _

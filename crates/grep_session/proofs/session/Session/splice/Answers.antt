@@ -5,6 +5,7 @@ use Rattle.grep_session.specs.Edits.{Splice, EditGives, HasPlace}
 use Rattle.grep_session.specs.Touched.{TakesSteps, NeedsNoMemory}
 use Rattle.grep_session.specs.Working.Sessions.{inputs_of}
 use Rattle.grep_session.proofs.lemmas.EditLemmas.{refuses_splice, needs_for_lines, newline_not_memory, empty_map}
+use Rattle.grep_session.proofs.lemmas.StepLemmas.{takes_none}
 use Rattle.grep_session.proofs.session.Session.splice.Goals as goal
 
 pub returns-then-any_newline-clause-gives : goal.returns-then-any_newline-clause-gives
@@ -38,3 +39,12 @@ returns-clause-steps c = subst (λ (lines : List Text). TakesSteps (Splice c.arg
 
 pub returns-clause-memory : goal.returns-clause-memory
 returns-clause-memory c = λ need. c.put_lines.ensures.memory (subst (λ (lines : List Text). NeedsNoMemory (Splice c.args.k c.args.start c.args.count lines) c.args.self.now) (sym (rw c.deref-3.ensures.value at c.in-Ok-copies_of.ensures.ok)) need)
+
+pub returns-in-Err-clause-steps : goal.returns-in-Err-clause-steps
+returns-in-Err-clause-steps c = takes_none (Splice c.args.k c.args.start c.args.count (map (λ line. line.items) c.args.lines.items)) _ _
+
+pub returns-then-any_newline-clause-steps : goal.returns-then-any_newline-clause-steps
+returns-then-any_newline-clause-steps c = takes_none (Splice c.args.k c.args.start c.args.count (map (λ line. line.items) c.args.lines.items)) _ _
+
+pub returns-in-Err-copies_of-clause-steps : goal.returns-in-Err-copies_of-clause-steps
+returns-in-Err-copies_of-clause-steps c = takes_none (Splice c.args.k c.args.start c.args.count (map (λ line. line.items) c.args.lines.items)) _ _

@@ -14,7 +14,4 @@ returns-then-self-clause-within c = part_within (literal_expression c.args.self.
 pub returns-clause-reported : goal.returns-clause-reported
 returns-clause-reported c =
     let whole : c.args.self.now.whole ≡ false = ap (λ (l : Literal). l.whole) (sym c.self.view_is) ∙ c.if-self.false in
-    rw whole c.occurrence.ensures
-
-pub returns-clause-within : goal.returns-clause-within
-returns-clause-within c = part_within (literal_expression c.args.self.now ∷ []) c.args.line.now false c.args.from c.occurrence.result c.occurrence.ensures
+    rw whole c.occurrence.ensures.reported

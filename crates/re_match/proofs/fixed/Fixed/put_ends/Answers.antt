@@ -1,14 +1,26 @@
-use Rattle.std.proofs.Common.{◌≡◌, true, false, sym, ap, ◌∙◌}
+use Rattle.std.proofs.Common.{◌≡◌, ◌<◌, [], ◌∷◌, true, false, length, map, sym, ap, ◌∙◌, subst, arith}
+use Rattle.std.proofs.Math.Decide.{dec_le}
+use Rattle.std.proofs.lemmas.Bool.{false≢true}
+use Rattle.re_syntax.specs.Bytes.{Text}
+use Rattle.re_syntax.specs.Expression.{byte, sequence}
+use Rattle.re_ends.specs.Working.GreatestEnds.{AddsEnds, FoundPast}
 use Rattle.re_ends.proofs.lemmas.FoundEnds.{adds_alike, whole_found}
 use Rattle.re_match.specs.Working.Literals.{Literal, literal_expression}
+use Rattle.re_match.proofs.lemmas.OneText.{past_found}
 use Rattle.re_match.proofs.fixed.Fixed.put_ends.Goals as goal
 
-pub returns-then-self : goal.returns-then-self
-returns-then-self c =
+pub returns-then-self-clause-added : goal.returns-then-self-clause-added
+returns-then-self-clause-added c =
     let whole : c.args.self.now.whole ≡ true = ap (λ (l : Literal). l.whole) (sym c.self.view_is) ∙ c.if-self.true in
     rw whole (adds_alike _ _ c.args.line.now c.args.ends.now c.add_line.new.ends (whole_found (literal_expression c.args.self.now) c.args.line.now c.is_line.result c.is_line.ensures) c.add_line.ensures)
 
-pub returns : goal.returns
-returns c =
+pub returns-clause-added : goal.returns-clause-added
+returns-clause-added c =
     let whole : c.args.self.now.whole ≡ false = ap (λ (l : Literal). l.whole) (sym c.self.view_is) ∙ c.if-self.false in
-    rw whole c.add_occurrences.ensures
+    let text : c.needle.result.now ≡ c.args.self.now.text = c.needle.ensures ∙ ap (λ (l : Literal). l.text) c.self.view_is in
+    let some : 0 < length c.needle.result.now = elim (dec_le 1 (length c.needle.result.now)) [
+      | yes h ↦ h
+      | no h ↦ absurd (false≢true (sym c.if-is_empty.false ∙ c.is_empty.ensures.1 (let size = ap length text in omega (arith, size, h))))
+    ] in
+    let adds = adds_alike _ _ c.args.line.now c.args.ends.now c.add_occurrences.new.ends (past_found c.needle.result.now c.args.line.now some) c.add_occurrences.ensures.added in
+    rw whole (subst (λ (t : Text). AddsEnds (FoundPast (sequence (map byte t) ∷ []) c.args.line.now false) c.args.line.now c.args.ends.now c.add_occurrences.new.ends) text adds)

@@ -14,7 +14,7 @@ returns-then-self-clause-within c = part_within (any_literal c.args.self.now ∷
 pub returns-clause-reported : goal.returns-clause-reported
 returns-clause-reported c =
     let whole : c.args.self.now.whole ≡ false = ap (λ (l : Literals). l.whole) (sym c.self.view_is) ∙ c.if-self.false in
-    rw whole c.occurrence.ensures
+    rw whole c.occurrence.ensures.reported
 
 pub returns-clause-within : goal.returns-clause-within
-returns-clause-within c = part_within (any_literal c.args.self.now ∷ []) c.args.line.now false c.args.from c.occurrence.result c.occurrence.ensures
+returns-clause-within c = part_within (any_literal c.args.self.now ∷ []) c.args.line.now false c.args.from c.occurrence.result c.occurrence.ensures.reported

@@ -1,6 +1,8 @@
 use Rattle.std.proofs.Common.{◌≡◌, true, false, sym, ap, ◌∙◌}
+use Rattle.re_syntax.specs.Lines.{lines_of}
 use Rattle.re_ends.proofs.lemmas.FoundEnds.{adds_alike, whole_found}
 use Rattle.re_match.specs.Working.Literals.{Literals, any_literal}
+use Rattle.re_match.proofs.lemmas.SetMatches.{strings_found}
 use Rattle.re_match.proofs.fixed_set.FixedSet.put_ends.Goals as goal
 
 pub returns-then-self : goal.returns-then-self
@@ -10,5 +12,7 @@ returns-then-self c =
 
 pub returns : goal.returns
 returns c =
+    let l : Literals = record { texts = lines_of c.self.inside.texts.items; fold = c.self.inside.table.fold; whole = c.self.inside.whole } in
+    let (label, right) = c.self.invariant.1 in
     let whole : c.args.self.now.whole ≡ false = ap (λ (l : Literals). l.whole) (sym c.self.view_is) ∙ c.if-self.false in
-    rw whole c.add_occurrences.ensures
+    rw (whole, ← c.self.view_is) (adds_alike _ _ c.args.line.now c.args.ends.now c.add_ends.new.ends (strings_found l c.args.line.now) (c.add_ends.ensures _ right))

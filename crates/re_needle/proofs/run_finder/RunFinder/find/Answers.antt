@@ -1,8 +1,8 @@
 use Rattle.re_needle.proofs.lemmas.RunLaws.{finds_text}
 use Rattle.re_needle.proofs.run_finder.RunFinder.find.Goals as goal
 
-pub returns-in-Text : goal.returns-in-Text
-returns-in-Text c = rw c.in-Text.is (finds_text c.args.line.now c.in-Text.finder c.find.result c.find.ensures)
+pub returns-in-Text-clause-found : goal.returns-in-Text-clause-found
+returns-in-Text-clause-found c = rw c.in-Text.is (finds_text c.args.line.now c.in-Text.finder c.find_text.result c.find_text.ensures.found)
 
-pub returns-in-Sets : goal.returns-in-Sets
-returns-in-Sets c = rw c.in-Sets.is c.find-in-Sets.ensures
+pub returns-in-Sets-clause-found : goal.returns-in-Sets-clause-found
+returns-in-Sets-clause-found c = rw c.in-Sets.is c.find.ensures.found

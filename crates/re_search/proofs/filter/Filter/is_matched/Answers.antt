@@ -1,4 +1,4 @@
-use Rattle.std.proofs.Common.{◌≡◌, ◌+◌, ◌∙◌, ap, subst, length, length-append, map}
+use Rattle.std.proofs.Common.{◌≡◌, ◌≤◌, arith, ◌+◌, ◌∙◌, ap, subst, length, length-append, map}
 use Rattle.std.proofs.lemmas.List.{map-append}
 use Rattle.re_search.proofs.lemmas.KeptMatchers.{none_asked}
 use Rattle.re_search.proofs.lemmas.WithPartsMatchers.{front_answers, back_answers, back_matches, front_decides, same_joined, steps_joined, steps_of_rest}
@@ -10,14 +10,14 @@ is_matched_from-requires g c =
     let whole = g.M.LineMatch.whole in
     let parts = c.split_at_mut-before.result in
     let wholes = ap (map whole) c.split_at_mut-before.ensures.value ∙ map-append whole parts.0.now parts.1.now in
-    (c.requires.0, back_answers c.requires.0 (map whole parts.0.now) (map whole parts.1.now) (subst (AllAnswer c.requires.0) wholes c.requires.1))
+    (c.requires.alike.0, back_answers c.requires.alike.0 (map whole parts.0.now) (map whole parts.1.now) (subst (AllAnswer c.requires.alike.0) wholes c.requires.alike.1))
 
 pub is_matched_from-requires-2 : goal.is_matched_from-requires-2
 is_matched_from-requires-2 g c =
     let whole = g.M.LineMatch.whole in
     let parts = c.split_at_mut-before.result in
     let wholes = ap (map whole) c.split_at_mut-before.ensures.value ∙ map-append whole parts.0.now parts.1.now in
-    (c.requires.0, front_answers c.requires.0 (map whole parts.0.now) (map whole parts.1.now) (subst (AllAnswer c.requires.0) wholes c.requires.1))
+    (c.requires.alike.0, front_answers c.requires.alike.0 (map whole parts.0.now) (map whole parts.1.now) (subst (AllAnswer c.requires.alike.0) wholes c.requires.alike.1))
 
 pub returns-then-is_matched_from-clause-reported : goal.returns-then-is_matched_from-clause-reported
 returns-then-is_matched_from-clause-reported g c =
@@ -55,12 +55,14 @@ pub returns-then-is_matched_from-clause-steps : goal.returns-then-is_matched_fro
 returns-then-is_matched_from-clause-steps g c =
     let parts = c.split_at_mut-before.result in
     let count : length c.args.matchers.now ≡ length parts.0.now + length parts.1.now = ap length c.split_at_mut-before.ensures.value ∙ length-append parts.0.now parts.1.now in
-    rw count (steps_of_rest (length parts.0.now) (length parts.1.now) (length c.args.line.now + 1) c.args.meter.now c.is_matched_from.new.meter c.is_matched_from.ensures.steps)
+    let rest : 1 ≤ length parts.1.now = omega (arith, count, c.requires.some, c.split_at_mut-before.ensures.front_len, c.min-first.ensures) in
+    rw count (steps_of_rest (length parts.0.now) (length parts.1.now) (length c.args.line.now + 1) c.args.meter.now c.is_matched_from.new.meter rest c.is_matched_from.ensures.steps)
 
 pub returns-clause-steps : goal.returns-clause-steps
 returns-clause-steps g c =
     let parts = c.split_at_mut-before.result in
     let count : length c.args.matchers.now ≡ length parts.0.now + length parts.1.now = ap length c.split_at_mut-before.ensures.value ∙ length-append parts.0.now parts.1.now in
+    let rest : 1 ≤ length parts.1.now = omega (arith, count, c.requires.some, c.split_at_mut-before.ensures.front_len, c.min-first.ensures) in
     rw count
-    (steps_joined (length parts.0.now) (length parts.1.now) (length c.args.line.now + 1) c.args.meter.now c.is_matched_from.new.meter c.is_matched_from-2.new.meter
+    (steps_joined (length parts.0.now) (length parts.1.now) (length c.args.line.now + 1) c.args.meter.now c.is_matched_from.new.meter c.is_matched_from-2.new.meter rest
     c.is_matched_from.ensures.steps c.is_matched_from-2.ensures.steps)

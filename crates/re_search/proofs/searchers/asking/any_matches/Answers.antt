@@ -1,7 +1,6 @@
-use Rattle.std.proofs.Common.{◌+◌, ◌*◌, ◌≤◌, length, refl, arith, rules}
-use Rattle.std.proofs.Math.Nat.{mul-le-mul_right}
+use Rattle.std.proofs.Common.{◌+◌, ◌-◌, ◌*◌, ◌≤◌, length, refl, arith, rules}
 use Rattle.std.proofs.lemmas.Bool.{false≢true}
-use Rattle.re_match.proofs.lemmas.StepSums.{adds_within}
+use Rattle.re_search.proofs.lemmas.SearchedBlocks.{ruled_out, looked_at}
 use Rattle.re_search.proofs.searchers.asking.any_matches.Goals as goal
 
 pub returns-then-rules_out-clause-reported : goal.returns-then-rules_out-clause-reported
@@ -11,10 +10,13 @@ returns-then-rules_out-clause-reported g c =
 
 pub returns-then-rules_out-clause-steps : goal.returns-then-rules_out-clause-steps
 returns-then-rules_out-clause-steps g c =
-    let n = length c.args.matchers.now in
-    let one : 1 ≤ n = search rules in
-    let once : 1 * (length c.args.line.now + 1) ≤ n * (length c.args.line.now + 1) = mul-le-mul_right (length c.args.line.now + 1) one in
-    adds_within (length c.args.line.now + 1) (n * (length c.args.line.now + 1)) _ _ (omega (arith, once)) c.if-rules_out.ensures.steps
+    let one : 1 ≤ length c.args.matchers.now = search rules in
+    ruled_out (length c.args.matchers.now) (length c.args.line.now) _ _ one c.if-rules_out.ensures.steps
 
 pub returns-clause-reported : goal.returns-clause-reported
 returns-clause-reported g c = c.is_matched-2.ensures.reported c.args.whole c.requires.alike
+
+pub returns-clause-steps : goal.returns-clause-steps
+returns-clause-steps g c =
+    let one : 1 ≤ length c.args.matchers.now = search rules in
+    looked_at (length c.args.matchers.now) (length c.args.line.now) _ _ _ one (c.rules_out.ensures.none c.if-rules_out.false) c.is_matched-2.ensures.steps

@@ -1,7 +1,8 @@
-use Rattle.std.proofs.Common.{◌≡◌, ◌∙◌, ℕ, get_or, map, subst, sym, ap, refl}
-use Rattle.std.proofs.lemmas.List.{with_items_is}
+use Rattle.std.proofs.Common.{◌≡◌, ◌∙◌, ℕ, length, get_or, map, subst, sym, ap, refl}
+use Rattle.std.proofs.lemmas.List.{with_items_is, length-replicate}
 use Rattle.re_ends.specs.Working.GreatestEnds.{FoundPast}
 use Rattle.re_search.specs.Working.Sought.{Sought}
+use Rattle.re_meter.specs.Meters.{with_refusal}
 use Rattle.re_search.specs.Working.Courses.{AreEnds}
 use Rattle.re_search.proofs.lemmas.CourseLaws.{ends_of_zeros, zero_at, refused}
 use Rattle.re_search.proofs.searchers.parts.learn.Goals as goal
@@ -10,9 +11,13 @@ pub returns-clause-right : goal.returns-clause-right
 returns-clause-right g c =
     let es = map g.M.LineMatch.expression c.args.matchers.now in
     let sought : Sought = record { expressions = es; whole = c.args.whole } in
-    let zeros : (i : ℕ) → get_or c.deref_mut.result.now i 0 ≡ 0 = λ i. ap (λ xs. get_or xs i 0) (c.deref_mut.ensures.value ∙ c.in-Ok.ensures.items_if_clones_equal (λ y h. h)) ∙ zero_at _ i in
-    subst (AreEnds sought c.args.line.now) (sym (with_items_is c.in-Ok.ends c.add_all_ends.new.ends (c.add_all_ends.ensures.added.0 ∙ sym c.in-Ok.ensures.len)))
+    let zeros : (i : ℕ) → get_or c.deref_mut.result.now i 0 ≡ 0 = λ i. ap (λ xs. get_or xs i 0) (c.deref_mut.ensures.value ∙ c.in-Some.ensures.made) ∙ zero_at _ i in
+    subst (AreEnds sought c.args.line.now) (sym (with_items_is c.in-Some.ends c.add_all_ends.new.ends (c.add_all_ends.ensures.added.0 ∙ sym c.in-Some.ensures.long)))
     (ends_of_zeros (FoundPast es c.args.line.now c.args.whole) c.args.line.now c.deref_mut.result.now c.add_all_ends.new.ends zeros c.add_all_ends.ensures.added)
 
 pub returns-in_default-clause-steps : goal.returns-in_default-clause-steps
-returns-in_default-clause-steps g c = λ first times taken. refused _ first times c.args.course.now _ c.args.meter.now c.note_refusal.new.self c.requires.nothing refl refl taken c.note_refusal.ensures
+returns-in_default-clause-steps g c = λ first times taken. refused _ first times c.args.course.now _ c.args.meter.now _ c.requires.nothing refl refl refl taken c.in_default.ensures.refused
+
+pub returns-in_default-zeros-clause-steps : goal.returns-in_default-zeros-clause-steps
+returns-in_default-zeros-clause-steps g c = λ first times taken.
+    refused _ first times c.args.course.now _ c.args.meter.now _ c.requires.nothing refl refl refl taken (subst (λ s. c.zeros-2.new.self ≡ with_refusal s) c.in-Some.ensures.given c.in_default-zeros.ensures.refused)

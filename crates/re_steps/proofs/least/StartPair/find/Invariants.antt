@@ -1,7 +1,7 @@
 use Rattle.std.proofs.Common.{◌≡◌, ◌-◌, ◌≤◌, length}
 use Rattle.re_syntax.specs.Expression.{expression_of}
 use Rattle.re_auto.specs.Working.StartSets.{place_of}
-use Rattle.re_auto.specs.Searching.{AddsAtMost}
+use Rattle.re_meter.specs.Meters.{AddsUpTo}
 use Rattle.re_steps.specs.Working.Simulations.{AreStartsFor, Carries}
 use Rattle.re_steps.proofs.least.StartPair.find.Given as goal
 
@@ -12,7 +12,7 @@ invariant-places l = record {
   made : AreStartsFor (expression_of l.automaton) l.self;
   here : place_of l.self.current ≡ l.place;
   carries : Carries (expression_of l.automaton) l.from l.line l.place l.self.current l.best;
-  steps : AddsAtMost (l.place - l.from) l.fn.meter l.meter;
+  steps : AddsUpTo (l.place - l.from) 0 l.fn.meter l.meter;
 }
 
 abbrev pub decreases-places : goal.decreases-places

@@ -8,9 +8,9 @@ use Rattle.re_steps.proofs.lemmas.WalkLaws.{under_low, under_high, is_whole, is_
 use Rattle.re_steps.proofs.table.Table.arrive.Goals as goal
 
 pub returns-then-place-asked-clause-leads : goal.returns-then-place-asked-clause-leads
-returns-then-place-asked-clause-leads c = λ first steps landed. let is = landed.1 in let lands = landed.2 in
+returns-then-place-asked-clause-leads c = λ first landed. let is = landed.1 in let lands = landed.2 in
     let special = lands.special c.if-cell-ge-LIMIT.true in
-    let last : Stage = record { set = lands.set; cache = cache_of c.args.self.now; steps = steps } in
+    let last : Stage = record { set = lands.set; cache = cache_of c.args.self.now; steps = c.args.meter.now } in
     record {
       place = c.args.place;
       within = c.requires.within.1;
@@ -26,11 +26,11 @@ returns-then-cell-ge-LIMIT-clause-leads c =
       omega arith,
       c.requires.within.1,
       (c.requires.row.0, subst (λ r. IsRowOf known.sets.keys known.stride r c.requires.row.0) under c.requires.row.1),
-      λ first steps landed. let is = landed.1 in let lands = landed.2 in record {
+      λ first landed. let is = landed.1 in let lands = landed.2 in record {
         set = lands.set;
         row = subst (λ r. IsRowOf known.sets.keys known.stride r lands.set) under lands.row;
         plain = λ lt. absurd (omega (arith, lt, c.if-place-asked.false));
-        goes = let last : Stage = record { set = lands.set; cache = cache_of known; steps = steps } in subst (λ k. Goes (expression_in c.args.asked.now) c.args.asked.now.mode c.args.asked.now.line.now k first last) is lands.goes;
+        goes = let last : Stage = record { set = lands.set; cache = cache_of known; steps = c.args.meter.now } in subst (λ k. Goes (expression_in c.args.asked.now) c.args.asked.now.mode c.args.asked.now.line.now k first last) is lands.goes;
       },
     )
 
@@ -41,23 +41,23 @@ returns-then-cell-gt0-clause-leads c =
       omega arith,
       c.requires.within.1,
       (c.requires.row.0, subst (λ r. IsRowOf known.sets.keys known.stride r c.requires.row.0) under c.requires.row.1),
-      λ first steps landed. let is = landed.1 in let lands = landed.2 in record {
+      λ first landed. let is = landed.1 in let lands = landed.2 in record {
         set = lands.set;
         row = subst (λ r. IsRowOf known.sets.keys known.stride r lands.set) under lands.row;
         plain = λ _. lands.plain (omega (arith, c.if-cell-ge-LIMIT.false));
-        goes = let last : Stage = record { set = lands.set; cache = cache_of known; steps = steps } in subst (λ k. Goes (expression_in c.args.asked.now) c.args.asked.now.mode c.args.asked.now.line.now k first last) is lands.goes;
+        goes = let last : Stage = record { set = lands.set; cache = cache_of known; steps = c.args.meter.now } in subst (λ k. Goes (expression_in c.args.asked.now) c.args.asked.now.mode c.args.asked.now.line.now k first last) is lands.goes;
       },
     )
 
 pub returns-then-eq-clause-leads : goal.returns-then-eq-clause-leads
-returns-then-eq-clause-leads c = λ first steps landed. let is = landed.1 in let lands = landed.2 in
+returns-then-eq-clause-leads c = λ first landed. let is = landed.1 in let lands = landed.2 in
     let known = c.args.self.now in
     let e = expression_in c.args.asked.now in
     let zero : c.args.cell ≡ 0 = omega (arith, c.if-cell-gt0.false) in
     let row : IsRowOf known.sets.keys known.stride 0 lands.set = subst (λ cell. IsRowOf known.sets.keys known.stride (row_under cell) lands.set) zero lands.row in
     let rows = c.requires.right.first in
     let same = row_zero e c.args.asked.now.mode (rows_of known) c.requires.right.sound lands.set rows.nowhere row rows.is_nowhere in
-    let last : Stage = record { set = lands.set; cache = cache_of known; steps = steps } in
+    let last : Stage = record { set = lands.set; cache = cache_of known; steps = c.args.meter.now } in
     record {
       place = c.args.place;
       within = c.requires.within.1;
@@ -78,17 +78,18 @@ returns-clause-leads c =
       c.next_beginning-next.ensures.within.0,
       c.next_beginning-next.ensures.within.1,
       (rows.nowhere, zeroth),
-      λ first steps landed. let is = landed.1 in let lands = landed.2 in
+      λ first landed. let is = landed.1 in let lands = landed.2 in
           let row : IsRowOf known.sets.keys known.stride 0 lands.set = subst (λ cell. IsRowOf known.sets.keys known.stride (row_under cell) lands.set) zero lands.row in
           let same = row_zero e c.args.asked.now.mode (rows_of known) c.requires.right.sound lands.set rows.nowhere row rows.is_nowhere in
           let plain : IsPlain e c.args.asked.now.mode lands.set = lands.plain (omega (arith, zero)) in
-          let last : Stage = record { set = lands.set; cache = cache_of known; steps = steps } in
           record {
             set = lands.set;
             row = row;
             plain = λ _. plain;
-            goes = subst (λ m. Goes e m c.args.asked.now.line.now next first last) (sym search)
-                (goes_to e c.args.asked.now.line.now first last c.args.place next c.next_beginning-next.ensures.within.0 (subst IsNowhere (sym same) rows.empty) (subst (λ m. IsPlain e m lands.set) search plain)
-                c.next_beginning-next.ensures.passed (subst (λ m. Goes e m c.args.asked.now.line.now c.args.place first last) search (subst (λ k. Goes e c.args.asked.now.mode c.args.asked.now.line.now k first last) is lands.goes)));
+            goes = subst (λ m. Goes e m c.args.asked.now.line.now next first (record { set = lands.set; cache = cache_of known; steps = c.next_beginning-next.new.meter })) (sym search)
+                (goes_to e c.args.asked.now.line.now first lands.set (cache_of known) c.args.place next c.args.meter.now c.next_beginning-next.new.meter c.next_beginning-next.ensures.within.0
+                (subst IsNowhere (sym same) rows.empty) (subst (λ m. IsPlain e m lands.set) search plain) c.next_beginning-next.ensures.passed c.next_beginning-next.ensures.counted c.next_beginning-next.ensures.none
+                (subst (λ m. Goes e m c.args.asked.now.line.now c.args.place first (record { set = lands.set; cache = cache_of known; steps = c.args.meter.now })) search
+                (subst (λ k. Goes e c.args.asked.now.mode c.args.asked.now.line.now k first (record { set = lands.set; cache = cache_of known; steps = c.args.meter.now })) is lands.goes)));
           },
     )

@@ -13,7 +13,7 @@ returns-in-Some-clause-arrives c =
     let walk = c.walk-walk.result in
     let counted = walked_is (walk.place - c.args.spot.place) c.args.meter.now c.add_reused_steps.new.self c.add_reused_steps.ensures.counted c.add_reused_steps.ensures.none in
     let inside : walk.place < length line = omega (arith, c.if-walk-asked.false) in
-    arrives_on c.args.asked.now known c.args.meter.now c.args.spot c.step.new.self c.arrive.new.self c.step.new.meter (walk.place + 1) c.in-Some.cell c.arrive.result c.arrive.ensures.leads c.arrive.ensures.right
+    arrives_on c.args.asked.now known c.args.meter.now c.args.spot c.step.new.self c.step.new.meter c.arrive.new.self c.arrive.new.meter (walk.place + 1) c.in-Some.cell c.arrive.result c.arrive.ensures.leads c.arrive.ensures.right
     (omega (arith, c.walk-walk.ensures.on.0))
     (λ first came. (
       walk.place,

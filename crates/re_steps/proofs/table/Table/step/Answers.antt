@@ -2,7 +2,7 @@ use Rattle.std.proofs.Common.{arith, ◌≡◌, ◌<◌, [], Option, None, Some,
 use Rattle.std.specs.Prelude.{IfNone}
 use Rattle.re_steps.specs.Working.Pairs.{unknown}
 use Rattle.re_steps.specs.Working.Rows.{Lands, LandsAlone, IsRow, IsRightFor, IsKnownCell, cell_at, cache_of, row_under, expression_in, rows_of}
-use Rattle.re_auto.specs.Meters.{many_reused}
+use Rattle.re_meter.specs.Meters.{many_reused}
 use Rattle.re_auto.specs.Working.StateSets.{IsMadeFor}
 use Rattle.re_steps.proofs.lemmas.StageLaws.{nothing_held}
 use Rattle.re_steps.proofs.lemmas.WalkLaws.{lands_held, lands_learned, lands_alone, row_below}

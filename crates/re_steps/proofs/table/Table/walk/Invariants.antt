@@ -1,5 +1,5 @@
 use Rattle.std.proofs.Common.{length, ◌-◌, ◌≡◌, ◌≤◌}
-use Rattle.re_auto.specs.Meters.{Steps}
+use Rattle.re_meter.specs.Meters.{Steps}
 use Rattle.re_steps.specs.Working.Stages.{Stage}
 use Rattle.re_steps.specs.Working.Rows.{IsRow, walked}
 use Rattle.re_steps.specs.Working.Walks.{IsAt}

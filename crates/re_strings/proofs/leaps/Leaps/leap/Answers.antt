@@ -22,8 +22,8 @@ windows-preserved c =
       none = λ strings a b.
           let line = keys c.args.fold c.args.line.now in
           let next = c.windows.at + c.near_shift-shift.result in
-          none_begins_on strings line c.args.place next c.stride-at-in-windows.result
-          (none_begins_on strings line c.args.place c.windows.at next (c.windows.invariant.none strings a b) (c.near_shift-shift.ensures.none strings a b))
+          none_begins_on strings line c.args.place next c.stride-at-in-windows.result on.0
+          (none_begins_on strings line c.args.place c.windows.at next (omega arith) (c.windows.invariant.none strings a b) (c.near_shift-shift.ensures.none strings a b))
           (c.stride-at-in-windows.ensures.none strings a);
     }
 

@@ -21,6 +21,6 @@ windows-preserved c =
       high = omega (arith, c.windows-test.true);
       none = λ strings a.
           let line = keys c.args.fold c.args.line.now in
-          none_begins_on strings line c.args.place c.windows.at (c.windows.at + (c.args.self.now.window - 1)) (c.windows.invariant.none strings a)
+          none_begins_on strings line c.args.place c.windows.at (c.windows.at + (c.args.self.now.window - 1)) (omega arith) (c.windows.invariant.none strings a)
           (subst (NoneBegins strings line c.windows.at) longest (c.shift.ensures.none strings a));
     }

@@ -1,6 +1,7 @@
-use Rattle.std.proofs.Common.{◌<◌, ◌≤◌, ◌-◌, length}
+use Rattle.std.proofs.Common.{◌≡◌, ◌<◌, ◌≤◌, ◌-◌, length}
 use Rattle.re_strings.specs.Working.FixedSets.{Labels, IsTableOf, StandsSince, IsBestOccurrence}
 use Rattle.re_strings.specs.Working.Keys.{keys}
+use Rattle.re_strings.proofs.lemmas.SetReached.{IsBegun}
 use Rattle.re_strings.proofs.table.Table.find_by.Given as goal
 
 abbrev pub invariant-places : goal.invariant-places
@@ -10,6 +11,8 @@ invariant-places l = record {
   in_trie : l.node < length l.self.trie.bytes.items;
   stands : (all : Labels) → IsTableOf all l.self → StandsSince all l.from (keys l.self.fold l.line) l.place l.node;
   best : (all : Labels) → IsTableOf all l.self → IsBestOccurrence all.strings l.from (keys l.self.fold l.line) l.place l.best;
+  begun : (all : Labels) → IsTableOf all l.self → IsBegun all l.from (keys l.self.fold l.line) l.place l.node l.best;
+  uncounted : l.meter ≡ l.fn.meter;
 }
 
 abbrev pub decreases-places : goal.decreases-places

@@ -1,11 +1,11 @@
-use Rattle.std.proofs.Common.{◌≡◌, ◌<◌, [], ◌∷◌, ◌++◌, length, nat_eq, slice_index, sym, ap, subst, ◌∙◌, arith}
+use Rattle.std.proofs.Common.{◌≡◌, [], ◌∷◌, ◌++◌, length, nat_eq, slice_index, sym, ap, subst, ◌∙◌, arith}
 use Rattle.std.specs.Prelude.{◌↔◌, IsTrue}
 use Rattle.std.proofs.lemmas.Bool.{false≢true}
 use Rattle.std.proofs.lemmas.List.{length-map}
 use Rattle.re_strings.specs.Working.FixedSets.{IsFront, IsString}
 use Rattle.re_strings.specs.Working.Keys.{key, keys}
 use Rattle.re_strings.proofs.lemmas.KeyLaws.{key_at}
-use Rattle.re_strings.proofs.lemmas.SetSearch.{row_read, goes_on_in_line, ends_whole, all_read, one_more_byte}
+use Rattle.re_strings.proofs.lemmas.SetSearch.{goes_on_in_line, ends_whole, all_read, one_more_byte}
 use Rattle.re_strings.proofs.table.Table.is_line.Goals as goal
 
 pub returns-in_default : goal.returns-in_default
@@ -36,8 +36,6 @@ pub returns : goal.returns
 returns c = λ all t.
     let line = keys c.args.self.now.fold c.args.line.now in
     let size : length line ≡ length c.args.line.now = length-map c.args.line.now (key c.args.self.now.fold) in
-    let in_rows : c.places.node < length c.args.self.now.ends.items = let r = c.requires.table.ends in let w = c.places.invariant.in_trie in omega (arith, r, w) in
-    let read = row_read c.args.self.now.ends.items c.places.node c.index.result.now in_rows c.index.ensures in
     let is = c.places.invariant.read all t ∙ all_read line c.places.place (omega (arith, size)) in
-    subst (λ n. IsTrue (nat_eq c.index.result.now n) ↔ IsString all.strings line) size
-    (ends_whole all.strings line (all.label c.places.node) c.index.result.now (let s = c.requires.some in omega (arith, size, s)) is (rw read at (t.ends c.places.node c.places.invariant.in_trie)))
+    subst (λ n. IsTrue (nat_eq c.ending.result n) ↔ IsString all.strings line) size
+    (ends_whole all.strings line (all.label c.places.node) c.ending.result (let s = c.requires.some in omega (arith, size, s)) is (c.ending.ensures all t))

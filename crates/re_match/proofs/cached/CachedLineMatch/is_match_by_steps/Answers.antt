@@ -1,0 +1,12 @@
+use Rattle.re_syntax.specs.Expression.{expression_of}
+use Rattle.re_steps.specs.Working.Stages.{mode_for}
+use Rattle.re_steps.proofs.lemmas.StageLaws.{searches_say, searches_steps}
+use Rattle.re_match.proofs.cached.CachedLineMatch.is_match_by_steps.Goals as goal
+
+pub returns-clause-reported : goal.returns-clause-reported
+returns-clause-reported c =
+    searches_say (expression_of c.args.self.now.tree) c.args.line.now c.args.self.now.whole c.args.self.now.cache c.searched.new.self.cache c.args.meter.now c.searched.new.meter c.searched.result c.searched.ensures.searches
+
+pub returns-clause-steps : goal.returns-clause-steps
+returns-clause-steps c =
+    searches_steps (expression_of c.args.self.now.tree) c.args.line.now (mode_for c.args.self.now.whole) c.args.self.now.cache c.searched.new.self.cache c.args.meter.now c.searched.new.meter c.searched.result c.searched.ensures.searches

@@ -1,0 +1,23 @@
+-- The work of a look over a line, and of steps after it.
+use Rattle.std.proofs.Common.{◌≡◌, ℕ, ◌+◌, ◌≤◌, min, inl, inr, length, sym, subst, arith}
+use Rattle.re_meter.specs.Meters.{Steps, AddsAtMost, AddsUpTo}
+use Rattle.re_meter.proofs.lemmas.Adding.{adds_none, adds_within, adds_both, only_passed}
+use Rattle.re_syntax.specs.Bytes.{Text}
+use Rattle.re_syntax.specs.Expression.{Expression}
+use Rattle.re_needle.proofs.lemmas.Looks.{look_within}
+use Rattle.re_match.specs.Working.Sweeping.{LooksOver}
+
+module _ (e : Expression) (line : Text) where
+  -- no byte is passed twice
+  looks_once : (old new : Steps) → LooksOver e line old new → AddsUpTo 0 (length line) old new
+  looks_once old new (inl same) = subst (AddsUpTo 0 (length line) old) (sym same) (adds_none 0 (length line) old)
+  looks_once old new (inr (inl l)) = only_passed (length line) _ old new (look_within line l.found) l.passed
+  looks_once old new (inr (inr l)) = only_passed (length line) (min (length l.run) (length line)) old new (omega arith) l.passed
+
+  pub looks_over : (old new : Steps) → LooksOver e line old new → AddsAtMost (length line + 1) old new
+  looks_over old new looked = adds_within 0 (length line + 1) (length line) (length line + 1) old new (omega arith) (omega arith) (looks_once old new looked)
+
+  -- and then steps are taken
+  pub looks_and_steps : (old mid new : Steps) → LooksOver e line old mid → AddsUpTo (length line + 1) 0 mid new → AddsAtMost (length line + 1) old new
+  looks_and_steps old mid new looked steps =
+      adds_within (0 + (length line + 1)) (length line + 1) (length line + 0) (length line + 1) old new (omega arith) (omega arith) (adds_both 0 (length line + 1) (length line) 0 old mid new (looks_once old mid looked) steps)

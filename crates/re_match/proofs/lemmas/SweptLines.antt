@@ -1,0 +1,138 @@
+-- What a look over a block says of the line in which it stopped.
+use Rattle.std.proofs.Common.{◌≡◌, ◌∙◌, ℕ, ◌+◌, ◌-◌, ◌<◌, ◌≤◌, ◌++◌, ◌∷◌, inl, inr, Bool, true, false, List, Option, None, Some, length, take, drop, get_or, slice_range, slice_index, sym, ap, subst, refl, arith, length-take, length-drop}
+use Rattle.std.specs.Prelude.{IsTrue}
+use Rattle.std.proofs.Math.Decide.{dec_le}
+use Rattle.std.proofs.lemmas.List.{get_or-drop, get_or-take, get_or-append-add, drop-drop}
+use Rattle.re_syntax.specs.Bytes.{Bytes, Text}
+use Rattle.re_syntax.specs.Expression.{Expression}
+use Rattle.re_syntax.specs.Holds.{Matches}
+use Rattle.re_syntax.specs.Lines.{newline, HasNoNewline}
+use Rattle.re_meter.specs.Meters.{Steps, AddsAtMost, AddsUpTo}
+use Rattle.re_meter.proofs.lemmas.Adding.{adds_within, adds_both}
+use Rattle.re_needle.specs.Working.Blocks.{IsLineFrom, StopsInLine, PassesUnmatched}
+use Rattle.re_needle.proofs.lemmas.BlockLemmas.{passed_within}
+use Rattle.re_needle.specs.Working.Needles.{IsJustRun}
+use Rattle.re_needle.specs.Working.Runs.{RunStandsAt, look_cost, set_at}
+use Rattle.re_needle.specs.declared.block.Swept.{Swept}
+use Rattle.re_needle.proofs.lemmas.Looks.{look_within}
+use Rattle.re_needle.proofs.lemmas.NeedleLaws.{settled_says}
+use Rattle.re_match.specs.declared.sweeps.Sweep.{Sweep}
+use Rattle.re_match.specs.declared.sweeps.Stop.{Stop}
+use Rattle.re_match.specs.declared.sweeps.Stop.TheVariants.{Unseen, Seen, Matched}
+use Rattle.re_match.specs.Working.Sweeping.{StopsAt, left_for}
+
+-- a look that stopped in a line says that it may be matched
+pub stops_seen : (e : Expression) (whole : Bool) (block : Text) (swept : Swept) → StopsInLine block swept → StopsAt e whole block (record { start = swept.start; reached = look_cost block swept.place; stop = Seen })
+stops_seen e whole block swept stops = record {
+  within = look_within block swept.place;
+  near = stops;
+  unseen = λ no. absurd (other no);
+  matched = λ no. absurd (another no);
+}
+  where
+    other : Seen ≡ Unseen → ⊥
+    other same = cc
+
+    another : Seen ≡ Matched → ⊥
+    another same = cc
+
+-- a run without a newline that was found in the block is in the line in which the look stopped
+module _ (block : Text) (run : List Bytes) (start at end : ℕ) (stands : RunStandsAt block run at) (some : 1 ≤ length run) (low : start ≤ at) (near : look_cost block (Some at) ≤ end + 1) (free : HasNoNewline (slice_range block at (at + length run))) (cut : IsLineFrom block start end) where
+  abbrev pub line : Text
+  line = slice_range block start end
+
+  in_line : at + length run ≤ end
+  in_line = elim (dec_le (at + length run) end) [
+    | yes fits ↦ fits
+    | no far ↦
+        (let fits = stands.fits in
+        let here : at ≤ end = omega (arith, near, fits, some) in
+        let piece = slice_range block at (at + length run) in
+        let long : length piece ≡ length run = omega (arith, length-take (at + length run - at) (drop at block), length-drop at block, fits) in
+        let inside : end - at < length piece = omega (arith, long, far, here) in
+        let within : end - at < at + length run - at = omega (arith, far, here) in
+        let back : at + (end - at) ≡ end = omega (arith, here) in
+        absurd (free (end - at) 0 inside (get_or-take (at + length run - at) (drop at block) (end - at) 0 within ∙ get_or-drop at block (end - at) 0 ∙ ap (λ n. get_or block n 0) back ∙ newline_at)))
+  ]
+    where
+      newline_at : get_or block end 0 ≡ newline
+      newline_at =
+          let long : length (slice_range block start end) ≡ end - start = omega (arith, length-take (end - start) (drop start block), length-drop start block, cut.1) in
+          let place : start + (length (slice_range block start end) + 0) ≡ end = omega (arith, long, cut.0) in
+          sym (ap (λ n. get_or block n 0) place) ∙ sym (get_or-drop start block (length (slice_range block start end) + 0) 0)
+          ∙ ap (λ l. get_or l (length (slice_range block start end) + 0) 0) cut.3 ∙ get_or-append-add (slice_range block start end) (newline ∷ drop (end + 1) block) 0 0
+
+  stands_in_line : RunStandsAt line run (at - start)
+  stands_in_line = record {
+    fits =
+        let long : length line ≡ end - start = omega (arith, length-take (end - start) (drop start block), length-drop start block, cut.1) in
+        omega (arith, in_line, low, long, cut.0);
+    takes = λ j below.
+        let within : at - start + j < end - start = omega (arith, in_line, low, below) in
+        let back : start + (at - start + j) ≡ at + j = omega (arith, low) in
+        let same : slice_index line (at - start + j) ≡ slice_index block (at + j) = get_or-take (end - start) (drop start block) (at - start + j) 0 within ∙ get_or-drop start block (at - start + j) 0 ∙ ap (λ n. get_or block n 0) back in
+        subst (λ b. IsTrue (set_at run j b)) (sym same) (stands.takes j below);
+  }
+
+  -- so it is matched, if the expression holds where the run is
+  pub matched_there : (e : Expression) → IsJustRun run e → Matches e line false
+  matched_there e is = (settled_says e line false true (inr (inr (record { run = run; is = is; any = refl; place = at - start; stands = stands_in_line; yes = refl })))).0 refl
+
+-- a look that stopped in a line says that it is matched
+pub stops_matched : (e : Expression) (run : List Bytes) (block : Text) (swept : Swept) (at : ℕ) → IsJustRun run e → 1 ≤ length run → swept.place ≡ Some at → RunStandsAt block run at → swept.start ≤ at
+    → HasNoNewline (slice_range block at (at + length run)) → StopsInLine block swept → StopsAt e false block (record { start = swept.start; reached = look_cost block swept.place; stop = Matched })
+stops_matched e run block swept at is some place stands low free stops = record {
+  within = look_within block swept.place;
+  near = stops;
+  unseen = λ no. absurd (other no);
+  matched = λ _ end cut. matched_there block run swept.start at end stands some low (subst (λ p. look_cost block p ≤ end + 1) place (stops end cut)) free cut e is;
+}
+  where
+    other : Matched ≡ Unseen → ⊥
+    other same = cc
+
+-- a line of a block is a line of the rest of the block
+pub line_after : (block : Text) (s a end : ℕ) → IsLineFrom block (s + a) end → IsLineFrom (drop s block) a (end - s) × (slice_range (drop s block) a (end - s) ≡ slice_range block (s + a) end)
+line_after block s a end cut =
+    let from : drop a (drop s block) ≡ drop (s + a) block = drop-drop a s block in
+    let count : end - s - a ≡ end - (s + a) = omega arith in
+    let same : slice_range (drop s block) a (end - s) ≡ slice_range block (s + a) end = ap (take (end - s - a)) from ∙ ap (λ n. take n (drop (s + a) block)) count in
+    let next : s + (end - s + 1) ≡ end + 1 = omega (arith, cut.0) in
+    let rest : drop (end - s + 1) (drop s block) ≡ drop (end + 1) block = drop-drop (end - s + 1) s block ∙ ap (λ n. drop n block) next in (
+      (
+        omega (arith, cut.0),
+        omega (arith, cut.0, cut.1, length-drop s block),
+        subst HasNoNewline (sym same) cut.2,
+        from ∙ cut.3 ∙ ap (λ l. l ++ newline ∷ drop (end + 1) block) (sym same) ∙ ap (λ r. slice_range (drop s block) a (end - s) ++ newline ∷ r) (sym rest),
+      ),
+      same,
+    )
+
+module _ (e : Expression) (whole : Bool) (block : Text) (start end : ℕ) (sweep : Sweep) (stops : StopsAt e whole (drop start block) sweep) (cut : IsLineFrom block (start + sweep.start) end) where
+  -- the line at which a sweep of the rest of a block stopped
+  pub matched_at : sweep.stop ≡ Matched → Matches e (slice_range block (start + sweep.start) end) whole
+  matched_at says = let (there, same) = line_after block start sweep.start end cut in subst (λ (l : Text). Matches e l whole) same (stops.matched says (end - start) there)
+
+  -- the work of a sweep, and of the search of that line
+  pub turn_adds : (line : ℕ) (old begun swept new : Steps) → line ≡ end - (start + sweep.start) → AddsAtMost start old begun → AddsUpTo sweep.start sweep.reached begun swept → AddsUpTo (line + 1) (left_for sweep.stop (line + 1)) swept new → AddsAtMost (end + 1) old new
+  turn_adds line old begun swept new long a b d =
+      let steps : start + sweep.start + (line + 1) ≤ end + 1 = omega (arith, long, cut.0) in
+      adds_within (start + sweep.start + (line + 1)) (end + 1) (start + sweep.reached + left_for sweep.stop (line + 1)) (end + 1) old new steps (bytes sweep.stop refl)
+      (adds_both (start + sweep.start) (line + 1) (start + sweep.reached) (left_for sweep.stop (line + 1)) old swept new (adds_both start sweep.start start sweep.reached old begun swept a b) d)
+    where
+      near : sweep.reached ≤ end - start + 1
+      near = stops.near (end - start) (line_after block start sweep.start end cut).0
+
+      bytes : (stop : Stop) → sweep.stop ≡ stop → start + sweep.reached + left_for stop (line + 1) ≤ end + 1
+      bytes Unseen is = let few = stops.unseen is in omega (arith, few, long, cut.0)
+      bytes Seen is = omega (arith, near, cut.0)
+      bytes Matched is = omega (arith, near, cut.0)
+
+-- the work of a sweep after which no line is left
+pub last_sweep : (e : Expression) (whole : Bool) (block : Text) (start : ℕ) (sweep : Sweep) (old begun swept : Steps) → start ≤ length block → PassesUnmatched e whole (drop start block) sweep.start → StopsAt e whole (drop start block) sweep
+    → AddsAtMost start old begun → AddsUpTo sweep.start sweep.reached begun swept → AddsAtMost (length block) old swept
+last_sweep e whole block start sweep old begun swept within passes stops a b =
+    let few = passed_within (λ line. ¬ Matches e line whole) (drop start block) sweep.start passes in
+    let reached = stops.within in
+    adds_within (start + sweep.start) (length block) (start + sweep.reached) (length block) old swept (omega (arith, few, within, length-drop start block)) (omega (arith, reached, within, length-drop start block))
+    (adds_both start sweep.start start sweep.reached old begun swept a b)

@@ -1,5 +1,0 @@
-use Rattle.re_syntax.specs.Expression.{expression_of}
-use Rattle.re_match.proofs.simulated.SimulatedLineMatch.first_candidate.Goals as goal
-
-pub returns : goal.returns
-returns c = rw (← c.self.view_is) (c.first_line.ensures (expression_of c.self.inside.automaton) c.self.invariant.2)

@@ -1,0 +1,2 @@
+-- lemmas by subject
+pub mod lemmas

@@ -1,0 +1,2 @@
+-- the definitions that the contract of the whole command, or of the session, rests on
+pub mod Meters

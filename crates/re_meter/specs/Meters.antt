@@ -1,0 +1,83 @@
+-- The work of searches, counted up to the greatest u64.
+use Rattle.std.specs.Prelude.{◌≡◌, ℕ, zero, suc, ◌+◌, ◌-◌, ◌^◌, ◌≤◌, min}
+
+-- the steps that were computed, those that were found in a cache, the bytes that were passed, and
+-- how often memory that saves work was refused
+pub record Steps : Type 0 where
+  pub built : ℕ
+  pub reused : ℕ
+  pub passed : ℕ
+  pub refused : ℕ
+
+abbrev pub fresh : Steps
+fresh = record { built = 0; reused = 0; passed = 0; refused = 0 }
+
+-- a count increased by a number; it stays at the greatest u64
+abbrev pub counted : ℕ → ℕ → ℕ
+counted more n = min (n + more) (2 ^ 64 - 1)
+
+abbrev pub many_built : ℕ → Steps → Steps
+many_built more steps =
+    record {
+      built = counted more steps.built;
+      reused = steps.reused;
+      passed = steps.passed;
+      refused = steps.refused;
+    }
+
+abbrev pub many_reused : ℕ → Steps → Steps
+many_reused more steps =
+    record {
+      built = steps.built;
+      reused = counted more steps.reused;
+      passed = steps.passed;
+      refused = steps.refused;
+    }
+
+abbrev pub one_reused : Steps → Steps
+one_reused steps = many_reused 1 steps
+
+abbrev pub many_passed : ℕ → Steps → Steps
+many_passed more steps =
+    record {
+      built = steps.built;
+      reused = steps.reused;
+      passed = counted more steps.passed;
+      refused = steps.refused;
+    }
+
+abbrev pub with_refusal : Steps → Steps
+with_refusal steps =
+    record {
+      built = steps.built;
+      reused = steps.reused;
+      passed = steps.passed;
+      refused = counted 1 steps.refused;
+    }
+
+-- a count of refusals after some more of them
+abbrev pub refused_more : ℕ → ℕ → ℕ
+refused_more zero n = n
+refused_more (suc k) n = counted 1 (refused_more k n)
+
+-- at most so many steps were counted, and at most so many bytes were passed; no count fell, but each
+-- stops at the greatest u64
+pub record CountsAtMost (most_steps most_bytes : ℕ) (old new : Steps) : Type 0 where
+  pub built : min old.built (2 ^ 64 - 1) ≤ new.built
+  pub reused : min old.reused (2 ^ 64 - 1) ≤ new.reused
+  pub passed : min old.passed (2 ^ 64 - 1) ≤ new.passed
+  pub sum : new.built + new.reused ≤ old.built + old.reused + most_steps
+  pub bytes : new.passed ≤ old.passed + most_bytes
+
+-- the same, and memory was refused so often
+pub record Adds (most_steps most_bytes refusals : ℕ) (old new : Steps) : Type 0 where
+  pub counts : CountsAtMost most_steps most_bytes old new
+  pub refused : new.refused ≡ refused_more refusals old.refused
+
+-- the same, and no memory was refused
+abbrev pub AddsUpTo : ℕ → ℕ → Steps → Steps → Type 0
+AddsUpTo most_steps most_bytes old new = Adds most_steps most_bytes 0 old new
+
+-- at most `most` steps were counted, and at most `most` bytes were passed
+abbrev pub AddsAtMost : ℕ → Steps → Steps → Type 0
+AddsAtMost most old new = AddsUpTo most most old new

@@ -1,0 +1,55 @@
+//! The ends of all strings at the places of a line.
+ghost use Rattle.std.specs.Prelude.{◌≡◌, ℕ, ◌+◌, ◌<◌, ◌≤◌, length};
+ghost use Rattle.re_syntax.specs.Working.PutEnds.{AddsEnds};
+ghost use Rattle.re_strings.specs.Working.FixedSets.{IsTable, IsTableOf, Labels, Occurs, EndsWith};
+ghost use Rattle.re_strings.specs.Working.Keys.{keys};
+
+use crate::keys::key_of;
+use crate::table::{Table, step};
+
+impl Table {
+    /// Gives each place of the line the greatest end of the strings, not the empty one, that begin
+    /// there, if `ends` has no greater one. It goes over each byte once: its caller counts a step
+    /// for each.
+    pub fn add_ends(&self, line: &[u8], ends: &mut [usize])
+        requires table { IsTable self.now }
+        requires fits { length ends.old ≡ length line.now }
+        ensures { (all : Labels) → IsTableOf all self.now →
+            AddsEnds
+            (λ i m. (j : ℕ) × (m < j) × Occurs all.strings 0 (keys self.now.fold line.now) i j)
+            line.now ends.old ends.new }
+    {
+        let mut node = 0;
+        'places: for place in 0..line.len() {
+            let byte = key_of(self.fold, line[place]);
+            node = step(&self.trie, &self.starts, &self.fails, node, byte);
+            self.put_outputs(node, place + 1, ends);
+        }
+    }
+
+    // Puts this end where each string begins that the node ends with.
+    fn put_outputs(&self, node: usize, end: usize, ends: &mut [usize])
+        requires table { IsTable self.now }
+        requires in_trie { node < length self.now.trie.bytes.items }
+        ensures { (all : Labels) → IsTableOf all self.now → length (all.label node) ≤ end →
+            AddsEnds
+            (λ i m. (n : ℕ) × (m < end) × (i + n ≡ end) × EndsWith all.strings (all.label node) n)
+            ends.old ends.old ends.new }
+    {
+        let mut output = self.outputs[node] as usize;
+        'outputs: while output > 0 {
+            let start = end.saturating_sub(self.depths[output] as usize);
+            put_end(ends, start, end);
+            output = self.outputs[self.fails[output] as usize] as usize;
+        }
+    }
+}
+
+/// Puts this end at a place, if that has no greater one. There may be no such place.
+pub fn put_end(ends: &mut [usize], start: usize, end: usize)
+    ensures { AddsEnds (λ i m. (i ≡ start) × (m < end)) ends.old ends.old ends.new }
+{
+    if start < ends.len() && ends[start] < end {
+        ends[start] = end;
+    }
+}
