@@ -11,4 +11,5 @@ pub mod OneMatcher
 pub mod SearchedBlocks
 pub mod FilterLaws
 pub mod PlainLaws
+pub mod KeptAnswers
 pub mod CourseLaws

@@ -6,18 +6,21 @@ ghost use Rattle.re_search.specs.declared.course.Known.TheVariants.{Nothing};
 ghost use Rattle.re_search.specs.Working.Courses.{AreEnds, HasTaken, IsCourseOf};
 ghost use Rattle.re_search.specs.Working.Sought.{Sought};
 
+use crate::kept::Answer;
 use re_auto::Meter;
 use re_syntax::Span;
 use std::alloc::Global;
 
 /// How the search for the parts of one line goes: up to which sum of steps, and which number of passed
-/// bytes, each part is searched for by itself, and what is known of the line.
+/// bytes, each part is searched for by itself, what is known of the line, and what the first matchers,
+/// as many as there was memory for, answered when they were asked.
 #[derive(Drop)]
 pub struct Course {
     pub(crate) alloc: Global,
     pub(crate) limit: u128,
     pub(crate) byte_limit: u128,
     pub(crate) known: Known,
+    pub(crate) answers: Vec<Answer>,
 }
 
 /// What is known of the parts of a line.
@@ -46,6 +49,7 @@ impl Course {
             limit: sum(meter).saturating_add(2 * cost),
             byte_limit: (meter.passed() as u128).saturating_add(2 * cost),
             known: Known::Nothing,
+            answers: Vec::new(alloc),
         }
     }
 

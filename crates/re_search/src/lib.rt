@@ -4,6 +4,7 @@
 
 mod course;
 mod filter;
+mod kept;
 mod plain;
 mod searchers;
 mod several;

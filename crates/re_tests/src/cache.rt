@@ -189,17 +189,17 @@ fn pairs_that_are_held_are_reused(rt: HostRuntime) -> Result<(), Fail> {
 }
 
 // A request for this number of bytes and N more has the N-th request after it refused.
-const REFUSE: usize = 9_000_000;
+pub const REFUSE: usize = 9_000_000;
 
 // A request for this number of bytes is refused where one was since the last command, and ends that
 // command.
-const WAS_REFUSED: usize = 8_000_000;
+pub const WAS_REFUSED: usize = 8_000_000;
 
-// How many requests two searches of a row make at most.
-const MOST: usize = 2_000;
+// How many requests the searches of a row make at most.
+pub const MOST: usize = 2_000;
 
 // Makes a request for this number of bytes.
-fn ask(alloc: Global, bytes: usize) -> Result<usize, AllocError> {
+pub fn ask(alloc: Global, bytes: usize) -> Result<usize, AllocError> {
     let mut mark = Vec::with_capacity(alloc, bytes)?;
     mark.push(b'.')?;
     Ok(mark.len())

@@ -4,10 +4,11 @@ ghost use Rattle.re_search.specs.Searching.{AllAnswer};
 ghost use Rattle.re_search.specs.Working.Matchers.{wants_whole};
 
 use crate::blocks::all_made;
+use crate::cache::{MOST, REFUSE, WAS_REFUSED, ask};
 use crate::several::ends_of;
 use re_auto::{Meter, fresh_meter};
 use re_search::{Filter, Matcher, Searchers, parts};
-use std::alloc::Global;
+use std::alloc::{AllocError, Global};
 use std::process::Abort;
 use std::test::Fail;
 
@@ -86,19 +87,78 @@ fn assert_parts(rt: &impl Abort, alloc: Global, row: &Row) -> Result<(), Fail> {
     let mut meter = fresh_meter();
     let count = count_parts(rt, alloc, &mut matchers, &mut others, &line, &mut meter);
     assert_eq!(rt; count, expected, "{texts:?}");
-    let steps = meter.built().saturating_add(meter.reused());
-    let search = (matchers.len() as u64).saturating_mul(line.len() as u64 + 1);
-    let most = search.saturating_mul(4);
-    assert!(rt; steps <= most, "{texts:?}");
-    assert!(rt; meter.passed() <= most, "{texts:?}");
     assert_eq!(rt; meter.refused(), 0, "{texts:?}");
+    assert_counted(rt, row, matchers.len(), line.len(), &meter);
     Ok(())
+}
+
+// No more was counted than by four searches of a line of this number of bytes.
+fn assert_counted(rt: &impl Abort, row: &Row, matchers: usize, bytes: usize, meter: &Meter) {
+    let steps = meter.built().saturating_add(meter.reused());
+    let search = (matchers as u64).saturating_mul((bytes as u64).saturating_add(1));
+    let most = search.saturating_mul(4);
+    assert!(rt; steps <= most, "{:?}", row.0);
+    assert!(rt; meter.passed() <= most, "{:?}", row.0);
 }
 
 #[test]
 fn all_parts_of_a_line_take_four_searches(rt: HostRuntime) -> Result<(), Fail> {
     for row in rows() {
         assert_parts(&rt, rt.alloc(), row)?;
+    }
+    Ok(())
+}
+
+// Searches for the parts of a line while the N-th request for memory is refused; whether one was. A
+// refusal is counted only where one came, and four searches are enough where none is counted.
+fn searched_without(
+    rt: &impl Abort,
+    alloc: Global,
+    matchers: &mut [Matcher],
+    others: &mut [Matcher],
+    line: &[u8],
+    row: &Row,
+    n: usize,
+) -> Result<bool, AllocError>
+    requires alike { AllAnswer false (map wants_whole matchers.old) }
+    requires others { AllAnswer false (map wants_whole others.old) }
+{
+    let asked = matchers.len();
+    let mut meter = fresh_meter();
+    ask(alloc, REFUSE.saturating_add(n))?;
+    let count = count_parts(rt, alloc, matchers, others, line, &mut meter);
+    let refused = ask(alloc, WAS_REFUSED).is_err();
+    assert_eq!(rt; count, row.3, "{:?}", row.0);
+    assert!(rt; meter.refused() <= refused as u64, "{:?}", row.0);
+    if meter.refused() == 0 {
+        assert_counted(rt, row, asked, line.len(), &meter);
+    }
+    Ok(refused)
+}
+
+// The same for new matchers of the row.
+fn assert_refused(rt: &impl Abort, alloc: Global, row: &Row, n: usize) -> Result<bool, Fail> {
+    let (texts, letters, times, _) = *row;
+    let mut matchers = all_made(alloc, texts)?;
+    let mut others = all_made(alloc, texts)?;
+    let line = again(alloc, letters, times)?;
+    Ok(searched_without(rt, alloc, &mut matchers, &mut others, &line, row, n)?)
+}
+
+// Refuses each request for memory of a row's searches in turn, until a run meets no refusal.
+fn assert_each_refused(rt: &impl Abort, alloc: Global, row: &Row) -> Result<(), Fail> {
+    'requests: for n in 1..=MOST {
+        if !assert_refused(rt, alloc, row, n)? {
+            return Ok(());
+        }
+    }
+    panic!(rt; "a row that asks for memory without an end");
+}
+
+#[test]
+fn parts_without_memory(rt: HostRuntime) -> Result<(), Fail> {
+    'rows: for row in rows() {
+        assert_each_refused(&rt, rt.alloc(), row)?;
     }
     Ok(())
 }

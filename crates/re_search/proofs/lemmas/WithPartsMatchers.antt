@@ -11,7 +11,7 @@ use Rattle.re_auto.specs.Meters.{Steps}
 use Rattle.std.proofs.Math.Nat.{mul-le-mul_right}
 use Rattle.re_meter.specs.Meters.{AddsUpTo}
 use Rattle.re_meter.proofs.lemmas.Adding.{adds_within, adds_both}
-use Rattle.re_auto.specs.Searching.{AddsAtMost, AllAnswer, SameMatchers, SomeMatches, DecidesMatchOfAll}
+use Rattle.re_auto.specs.Searching.{AllAnswer, SameMatchers, SomeMatches, DecidesMatchOfAll}
 use Rattle.re_syntax.proofs.lemmas.SomeOfJoined.{Any-left, Any-right, Any-append-cases}
 
 -- those of the first part give the answer that all give

@@ -1,11 +1,14 @@
 -- The search for the parts of one line: what it knows of the line, and how much work it took.
-use Rattle.std.specs.Prelude.{◌≡◌, ⊤, ℕ, ◌+◌, ◌*◌, ◌<◌, ◌≤◌, ◌↔◌, List, min, length, slice_index}
+use Rattle.std.specs.Prelude.{◌≡◌, ⊤, ℕ, ◌+◌, ◌*◌, ◌<◌, ◌≤◌, ◌↔◌, ◌≢◌, List, [], ◌∷◌, Bool, get_or, min, length, slice_index}
 use Rattle.re_syntax.specs.Bytes.{Text}
+use Rattle.re_syntax.specs.Expression.{Expression}
 use Rattle.re_meter.specs.Meters.{Steps, Adds}
+use Rattle.re_auto.specs.Searching.{FindsPart}
 use Rattle.re_ends.specs.Working.GreatestEnds.{FoundPast}
 use Rattle.re_search.specs.declared.course.Course.{Course}
 use Rattle.re_search.specs.declared.course.Known.{Known}
 use Rattle.re_search.specs.declared.course.Known.TheVariants.{Nothing, Ends, Refused}
+use Rattle.re_search.specs.declared.kept.Answer.{Answer}
 use Rattle.re_search.specs.Working.Sought.{Sought}
 
 -- each place of the line has the greatest end of the parts that begin there, or 0
@@ -21,9 +24,28 @@ IsKnownOf sought line Nothing = ⊤
 IsKnownOf sought line (Ends ends) = AreEnds sought line ends.items
 IsKnownOf sought line Refused = ⊤
 
+-- the answer of the matcher with this number, if there is one, is right
+abbrev pub IsAnswer : Expression → Text → Bool → List Answer → ℕ → Type 0
+IsAnswer e line whole answers number =
+    (answer : Answer) → number < length answers → get_or answers number answer ≡ answer →
+    FindsPart (e ∷ []) line whole answer.from answer.part
+
+-- so is each answer
+abbrev pub AreAnswers : Sought → Text → List Answer → Type 0
+AreAnswers sought line answers =
+    (number : ℕ) (e : Expression) → number < length sought.expressions →
+    get_or sought.expressions number e ≡ e → IsAnswer e line sought.whole answers number
+
+-- the answers with other numbers are as before
+abbrev pub KeepsOthers : ℕ → List Answer → List Answer → Type 0
+KeepsOthers number old new =
+    (other : ℕ) (answer : Answer) → other ≢ number → other < length new →
+    get_or new other answer ≡ answer → (other < length old) × (get_or old other answer ≡ answer)
+
 -- the course is one of the search for the parts of this line
-abbrev pub IsCourseOf : Sought → Text → Course → Type 0
-IsCourseOf sought line course = IsKnownOf sought line course.known
+pub record IsCourseOf (sought : Sought) (line : Text) (course : Course) : Type 0 where
+  pub known : IsKnownOf sought line course.known
+  pub answers : AreAnswers sought line course.answers.items
 
 -- How many searches of the whole line are as dear as this number of searches for a part: no more
 -- than three before the pass that finds all ends, which is one more. Where memory for the ends was

@@ -11,7 +11,7 @@ ghost use Rattle.re_search.specs.Working.Courses.{IsCourseOf, IsReady, HasTaken}
 
 use crate::course::{Course, Known, part_from};
 use crate::searchers::Searchers;
-use crate::several::parts;
+use crate::several::{parts, parts_by_answers};
 use re_auto::Meter;
 use re_match::LineMatch;
 use re_syntax::Span;
@@ -84,7 +84,10 @@ pub fn next_part<M: LineMatch>(
     if let Known::Ends(ends) = &course.known {
         return part_from(ends, from);
     }
-    parts(matchers, line, from, meter)
+    if matchers.len() < 2 {
+        return parts(matchers, line, from, meter);
+    }
+    parts_by_answers(matchers, whole, &mut course.answers, line, from, meter)
 }
 
 // Learns the ends of all parts of the line, if the search for them takes too long otherwise.
@@ -124,6 +127,9 @@ fn learn<M: LineMatch>(
 )
     requires alike { AllAnswer whole (map M.whole matchers.old) }
     requires nothing { course.old.known ≡ Nothing }
+    requires right { IsCourseOf
+        (record { expressions = map M.expression matchers.old; whole = whole }) line.now
+        course.old }
     ensures same_matchers { SameMatchers M.expression M.whole M.room matchers.old matchers.new }
     ensures right { IsCourseOf
         (record { expressions = map M.expression matchers.old; whole = whole }) line.now

@@ -1,4 +1,4 @@
-use Rattle.std.proofs.Common.{◌+◌, ◌-◌, ◌*◌, ◌≤◌, length, refl, arith, rules}
+use Rattle.std.proofs.Common.{◌≤◌, length, refl, rules}
 use Rattle.std.proofs.lemmas.Bool.{false≢true}
 use Rattle.re_search.proofs.lemmas.SearchedBlocks.{ruled_out, looked_at}
 use Rattle.re_search.proofs.searchers.asking.any_matches.Goals as goal
