@@ -94,7 +94,7 @@ impl Fixed {
         requires { from ≤ length line.now }
         ensures reported { FindsPart (literal_expression self.now ∷ []) line.now false from result }
         ensures within { IfSome result (λ part. (from ≤ part.end) × (part.end ≤ length line.now)) }
-        ensures looked { (meter.new ≡ meter.old)
+        ensures looked { ((self.now.text ≡ []) × (meter.new ≡ meter.old))
             ⊎ LooksOnce self.now.text (drop from line.now) meter.old meter.new }
     {
         let length = self.finder.needle().len();

@@ -30,13 +30,15 @@ pub fn ask<M: LineMatch>(
     meter: &mut Meter,
 ) -> Option<Span>
     requires within { from ≤ length line.now }
-    requires right { IsAnswer (M.expression matcher.old) line.now (M.whole matcher.old) answers.old.items number }
+    requires right { IsAnswer (M.expression matcher.old) line.now (M.whole matcher.old)
+        answers.old.items number }
     ensures reported { FindsPart (M.expression matcher.old ∷ []) line.now (M.whole matcher.old) from
         result }
     ensures same_expression { M.expression matcher.new ≡ M.expression matcher.old }
     ensures same_whole { M.whole matcher.new ≡ M.whole matcher.old }
     ensures same_room { M.room matcher.new ≡ M.room matcher.old }
-    ensures right { IsAnswer (M.expression matcher.old) line.now (M.whole matcher.old) answers.new.items number }
+    ensures right { IsAnswer (M.expression matcher.old) line.now (M.whole matcher.old)
+        answers.new.items number }
     ensures others { KeepsOthers number answers.old.items answers.new.items }
     ensures steps { AddsAtMost (length line.now - from + 1) meter.old meter.new }
 {

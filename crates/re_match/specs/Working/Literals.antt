@@ -1,5 +1,5 @@
 -- Fixed strings as matchers (XCU grep, options -F and -i).
-use Rattle.std.specs.Prelude.{◌≡◌, ℕ, ◌+◌, ◌-◌, ◌≤◌, ◌⊎◌, Bool, true, false, List, Option, Some, None, length, map, take, drop}
+use Rattle.std.specs.Prelude.{◌≡◌, ℕ, ◌+◌, ◌-◌, ◌≤◌, ◌⊎◌, [], Bool, true, false, List, Option, Some, None, length, map, take, drop}
 use Rattle.std.specs.Prelude.{if◌then◌else◌}
 use Rattle.re_syntax.specs.Bytes.{Text}
 use Rattle.re_syntax.specs.Expression.{Expression, byte, sequence, alt}
@@ -7,7 +7,7 @@ use Rattle.re_syntax.specs.declared.span.Span.{Span}
 use Rattle.re_syntax.specs.Holds.{folded}
 use Rattle.re_syntax.specs.Lines.{HasNoNewline}
 use Rattle.re_meter.specs.Meters.{Steps, many_built, many_passed}
-use Rattle.re_strings.specs.Working.FixedSets.{IsFront}
+use Rattle.re_strings.specs.Working.FixedSets.{IsFront, IsString}
 use Rattle.re_strings.specs.Working.Keys.{keys}
 use Rattle.re_strings.specs.Working.Reached.{EndsFirst, end_cost}
 use Rattle.re_needle.specs.Working.Blocks.{LooksOnce}
@@ -47,9 +47,11 @@ abbrev pub part_cost : Text → ℕ → Option Span → ℕ
 part_cost line from None = length line - from + 1
 part_cost line from (Some part) = part.end - from
 
--- some bytes were looked over for the string, once or not at all
+-- the string was looked for once; not at all where the whole line has to be it, or it is empty
 abbrev pub LooksFor : Literal → Text → Steps → Steps → Type 0
-LooksFor literal bytes old new = (new ≡ old) ⊎ LooksOnce literal.text bytes old new
+LooksFor literal bytes old new =
+    (((literal.whole ≡ true) ⊎ (literal.text ≡ [])) × (new ≡ old))
+    ⊎ LooksOnce literal.text bytes old new
 
 -- and so many steps were counted
 pub record CountsLook (literal : Literal) (bytes : Text) (steps : ℕ) (old new : Steps) : Type 0 where
@@ -61,17 +63,18 @@ pub record CountsLook (literal : Literal) (bytes : Text) (steps : ℕ) (old new 
 abbrev pub keyed : Literals → List Text
 keyed literals = map (keys literals.fold) literals.texts
 
--- some bytes were looked over for the strings, up to where the first of them ends, or not at all
+-- the strings were looked for once, up to where the first of them ends; not at all where one of them
+-- is empty
 abbrev pub LooksForAny : Literals → Text → Steps → Steps → Type 0
 LooksForAny literals bytes old new =
-    (new ≡ old)
+    (IsString (keyed literals) [] × (new ≡ old))
     ⊎ ((end : Option ℕ) × EndsFirst (keyed literals) (keys literals.fold bytes) end
     × (new ≡ many_passed (end_cost bytes end) old))
 
--- and so many steps were counted
+-- the same, or the whole line has to be one of them, and so many steps were counted
 pub record CountsAny (literals : Literals) (bytes : Text) (steps : ℕ) (old new : Steps) : Type 0 where
   pub looked : Steps
-  pub looks : LooksForAny literals bytes old looked
+  pub looks : ((literals.whole ≡ true) × (looked ≡ old)) ⊎ LooksForAny literals bytes old looked
   pub counted : new ≡ many_built steps looked
 
 -- the search for a part went from a place up to another, and passed the bytes up to there: the line

@@ -1,4 +1,4 @@
-use Rattle.std.proofs.Common.{None, Some, inr, sym, ◌∙◌, slice_range, length-take-le}
+use Rattle.std.proofs.Common.{None, Some, refl, inl, inr, sym, ◌∙◌, slice_range, length-take-le}
 use Rattle.std.proofs.lemmas.Bool.{false≢true}
 use Rattle.re_syntax.specs.Lines.{lines_of}
 use Rattle.re_match.specs.Working.Literals.{Literals}
@@ -15,6 +15,9 @@ pub returns-then-self-clause-found : goal.returns-then-self-clause-found
 returns-then-self-clause-found c end cut =
     let l : Literals = record { texts = lines_of c.self.inside.texts.items; fold = c.self.inside.table.fold; whole = c.self.inside.whole } in
     rw (← c.self.view_is) (empty_matches l (slice_range c.args.block.now c.none.result.start end) (c.self.invariant.2.0 c.if-self.true))
+
+pub returns-then-self-clause-looked : goal.returns-then-self-clause-looked
+returns-then-self-clause-looked c = rw (← c.self.view_is) (inl (c.self.invariant.2.0 c.if-self.true, refl))
 
 pub returns-in_default-clause-passes : goal.returns-in_default-clause-passes
 returns-in_default-clause-passes c =

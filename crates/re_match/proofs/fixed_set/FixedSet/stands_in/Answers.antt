@@ -1,4 +1,4 @@
-use Rattle.std.proofs.Common.{refl, inr, sym, ◌∙◌}
+use Rattle.std.proofs.Common.{refl, inl, inr, sym, ◌∙◌}
 use Rattle.std.proofs.lemmas.Bool.{false≢true}
 use Rattle.re_syntax.specs.Lines.{lines_of}
 use Rattle.re_match.specs.Working.Literals.{Literals}
@@ -9,6 +9,9 @@ pub returns-then-self-clause-reported : goal.returns-then-self-clause-reported
 returns-then-self-clause-reported c =
     let l : Literals = record { texts = lines_of c.self.inside.texts.items; fold = c.self.inside.table.fold; whole = c.self.inside.whole } in
     rw (← c.self.view_is) ((λ _. empty_matches l c.args.line.now (c.self.invariant.2.0 c.if-self.true)), (λ _. refl))
+
+pub returns-then-self-clause-looked : goal.returns-then-self-clause-looked
+returns-then-self-clause-looked c = rw (← c.self.view_is) (inl (c.self.invariant.2.0 c.if-self.true, refl))
 
 pub returns-clause-reported : goal.returns-clause-reported
 returns-clause-reported c =
