@@ -6,14 +6,39 @@ end
 vim.g.loaded_live_occur = 1
 
 local options = { nargs = "*", bang = true, range = true, desc = "List the lines that match, and keep the list right" }
-if vim.fn.has("nvim-0.8") == 1 then
-  options.preview = function(...)
-    return require("live_occur.preview").show(...)
-  end
-end
 vim.api.nvim_create_user_command("LiveOccur", function(call)
   require("live_occur").command(call)
 end, options)
 vim.api.nvim_create_user_command("LiveOccurQuickfix", function()
   require("live_occur").quickfix()
 end, { desc = "Make a quickfix list of a list of LiveOccur" })
+
+-- What is typed for a list has a preview.
+local group = vim.api.nvim_create_augroup("live_occur", {})
+vim.api.nvim_create_autocmd({ "CmdlineEnter", "CmdlineChanged" }, {
+  group = group,
+  callback = function()
+    local preview = package.loaded["live_occur.preview"]
+    if preview and (preview.now or preview.prompt) or vim.fn.getcmdline():find("LiveOccur", 1, true) then
+      require("live_occur.preview").changed()
+    end
+  end,
+})
+vim.api.nvim_create_autocmd("CmdwinEnter", {
+  group = group,
+  callback = function()
+    local preview = package.loaded["live_occur.preview"]
+    if preview then
+      preview.shrink()
+    end
+  end,
+})
+vim.api.nvim_create_autocmd("CmdlineLeave", {
+  group = group,
+  callback = function()
+    local preview = package.loaded["live_occur.preview"]
+    if preview then
+      preview.leave()
+    end
+  end,
+})

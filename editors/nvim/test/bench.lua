@@ -1,7 +1,10 @@
 -- What the tests share.
 
+local watch = require("watch")
+
 local api, fn = vim.api, vim.fn
-local M = { passed = 0, failed = 0 }
+local M = { passed = 0, failed = 0, stall = 0 }
+M.longest = tonumber(vim.env.STALL or 300) -- the milliseconds for which Neovim may not answer
 
 function M.tell(text)
   io.stdout:write(text .. "\n")
@@ -12,10 +15,34 @@ function M.fail(title, text)
   M.tell("FAILED: " .. title .. "\n" .. text)
 end
 
--- Runs one test in a Neovim with one empty buffer.
+-- All tests are watched while they wait: what then runs are calls of the client.
+local wait = vim.wait
+function vim.wait(...)
+  local ended = watch.start()
+  local results = { wait(...) }
+  M.stall = math.max(M.stall, ended())
+  return unpack(results)
+end
+
+-- Calls the client, as a key does, and counts it as a time without an answer.
+function M.call(body)
+  M.stall = math.max(M.stall, watch.time(body))
+end
+
+-- Runs one test in a Neovim with one empty buffer. It fails where Neovim doesn't answer for long.
 function M.test(title, body)
+  if vim.env.VERBOSE then
+    M.tell(title)
+    io.stdout:flush()
+  end
+  M.stall, vim.v.errmsg = 0, ""
   local ran, fault = xpcall(body, debug.traceback)
-  if ran then
+  if ran and vim.v.errmsg:find("Error executing", 1, true) then -- in a call that Neovim made
+    ran, fault = false, vim.v.errmsg
+  end
+  if ran and M.stall > M.longest then
+    M.fail(title, ("Neovim doesn't answer for %.0f ms"):format(M.stall))
+  elseif ran then
     M.passed = M.passed + 1
   else
     M.fail(title, fault)
@@ -39,6 +66,10 @@ end
 function M.buffer(lines)
   vim.cmd("enew!")
   api.nvim_buf_set_lines(0, 0, -1, false, lines)
+  if #lines > 10000 then -- The test's own lines aren't left to the client's calls.
+    lines = nil
+    collectgarbage()
+  end
   return api.nvim_get_current_buf()
 end
 
@@ -76,9 +107,21 @@ end
 -- Types keys in the list's window.
 function M.type(list, keys)
   local window = fn.win_findbuf(list.buffer)[1]
-  api.nvim_win_call(window, function()
-    api.nvim_feedkeys(api.nvim_replace_termcodes(keys, true, true, true), "xt", false)
+  M.call(function()
+    api.nvim_win_call(window, function()
+      api.nvim_feedkeys(api.nvim_replace_termcodes(keys, true, true, true), "xt", false)
+    end)
   end)
+end
+
+-- Begins an edit in the window of a list that is up to date.
+function M.begin_edit(list)
+  assert(list:wait(20000), "the list doesn't come to rest")
+  api.nvim_set_current_win(fn.win_findbuf(list.buffer)[1])
+  api.nvim_feedkeys("e", "xt", false)
+  assert(vim.wait(20000, function()
+    return list.edit and list.edit.ready
+  end, 1), "no edit begins: " .. tostring(M.said))
 end
 
 -- What grep writes for the texts of buffers, as M.rows has it.
@@ -133,6 +176,50 @@ function M.compare(list, what)
     return #list.files > 1 and line:gsub("^%d+:", "", 1) or line
   end, M.grep(list, { "-o" }))
   M.equal(parts, wanted, (what or "") .. " parts")
+end
+
+-- A second Neovim, with a terminal of 60 columns and 20 lines: the body gets functions that run Lua in
+-- it, that give what its screen shows, and that type keys.
+function M.with_screen(body)
+  local socket = fn.tempname()
+  local words = { vim.v.progpath, "--listen", socket, "-u", "NONE", "-i", "NONE", "-n" }
+  local child = fn.jobstart(words, { pty = true, width = 60, height = 20, env = { TERM = "xterm-256color" } })
+  local channel
+  assert(vim.wait(10000, function()
+    local connected, number = pcall(fn.sockconnect, "pipe", socket, { rpc = true })
+    channel = connected and number or nil
+    return connected
+  end, 10), "a second Neovim doesn't start")
+  local function run(lua, ...)
+    return vim.rpcrequest(channel, "nvim_exec_lua", lua, { ... })
+  end
+  local function screen()
+    return run([[
+      vim.cmd("redraw")
+      local lines = {}
+      for row = 1, vim.o.lines do
+        local cells = {}
+        for column = 1, vim.o.columns do
+          cells[column] = vim.fn.screenstring(row, column)
+        end
+        lines[row] = table.concat(cells):gsub("%s+$", "")
+      end
+      return lines
+    ]])
+  end
+  run([[
+    local path, program = ...
+    vim.opt.runtimepath:prepend(path)
+    vim.o.hidden = true
+    vim.cmd("runtime plugin/live_occur.lua")
+    require("live_occur").setup({ program = program })
+  ]], vim.opt.runtimepath:get()[1], require("live_occur.settings").program)
+  local ran, fault = pcall(body, run, screen, function(keys)
+    vim.rpcrequest(channel, "nvim_input", keys)
+  end)
+  fn.chanclose(channel)
+  fn.jobstop(child)
+  assert(ran, fault)
 end
 
 function M.milliseconds(body)

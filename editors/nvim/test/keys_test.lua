@@ -37,7 +37,7 @@ test("flags and syntaxes have keys", function()
   end
 end)
 
-test("patterns are added, dropped and edited by keys", function()
+test("patterns are added, dropped and changed by keys", function()
   bench.buffer({ "one", "two", "three" })
   local list = bench.list("one")
   answering({ "[", "thr" }, function()
@@ -51,7 +51,7 @@ test("patterns are added, dropped and edited by keys", function()
   end)
   equal(rows(list), { "3:three" })
   answering({ "w" }, function()
-    bench.type(list, "e")
+    bench.type(list, "c")
     rows(list)
   end)
   equal(rows(list), { "2:two" })
@@ -116,6 +116,16 @@ test("the cursor stays on its row", function()
   equal(api.nvim_win_get_cursor(window)[1], 2)
 end)
 
+test("a window that shows the header goes on to", function()
+  local a, b = bench.buffer({ "one", "x", "one" }), bench.buffer({ "one" })
+  local list = bench.list("one", { a })
+  rows(list)
+  local window = fn.win_findbuf(list.buffer)[1]
+  list:add_buffer(b)
+  rows(list)
+  equal({ fn.line("w0", window), api.nvim_win_get_cursor(window)[1] }, { 1, 3 })
+end)
+
 test("the cursor stays where it is while a long reply comes, unless it is moved", function()
   local settings = require("live_occur.settings")
   local slice, lines = settings.slice, {}
@@ -135,7 +145,7 @@ test("the cursor stays where it is while a long reply comes, unless it is moved"
   rows(list)
   list:set_flag("x", false)
   vim.wait(5000, function()
-    return list.paused
+    return list.paused and api.nvim_buf_line_count(list.buffer) > 3
   end, 1)
   api.nvim_win_set_cursor(window, { 3, 0 })
   equal(#rows(list), 100)
@@ -175,43 +185,17 @@ test("numbers and parts are drawn over the rows", function()
   rows(list)
   local draw = require("live_occur.draw")
   local wanted = { { 0, nil, "LiveOccurNumber", "      2" }, { 8, 11, "LiveOccurMatch" }, { 13, 16, "LiveOccurMatch" } }
-  equal(draw.marks(list, 1, 16), wanted)
+  equal(draw.marks(list, 1, (" "):rep(16)), wanted)
   api.nvim_buf_set_lines(buffer, 0, 0, false, { "new" })
   wanted[1][4] = "      3" -- before the program is asked
-  equal(draw.marks(list, 1, 16), wanted)
-  equal(draw.marks(list, 0, 5), { { 0, 5, "LiveOccurHeader" } })
-  equal(draw.marks(list, 2, 5), {})
+  equal(draw.marks(list, 1, (" "):rep(16)), wanted)
+  equal(draw.marks(list, 0, "basic"), { { 0, 5, "LiveOccurHeader" } })
+  equal(draw.marks(list, 2, "basic"), {})
 end)
-
--- A second Neovim, with a terminal of 60 columns and 20 lines; and what its screen shows.
-local function with_screen(body)
-  local child = fn.jobstart({ vim.v.progpath, "--embed", "-u", "NONE", "-i", "NONE", "-n" }, { rpc = true })
-  vim.rpcrequest(child, "nvim_ui_attach", 60, 20, { rgb = true })
-  local function run(lua, ...)
-    return vim.rpcrequest(child, "nvim_exec_lua", lua, { ... })
-  end
-  local function screen()
-    return run([[
-      vim.cmd("redraw")
-      local lines = {}
-      for row = 1, vim.o.lines do
-        local cells = {}
-        for column = 1, vim.o.columns do
-          cells[column] = vim.fn.screenstring(row, column)
-        end
-        lines[row] = table.concat(cells):gsub("%s+$", "")
-      end
-      return lines
-    ]])
-  end
-  local ran, fault = pcall(body, run, screen)
-  fn.jobstop(child)
-  assert(ran, fault)
-end
 
 test("the screen shows rows with their numbers, which are right at once", function()
   local program = require("live_occur.settings").program
-  with_screen(function(run, screen)
+  bench.with_screen(function(run, screen)
     run([[
       local path, program = ...
       vim.opt.runtimepath:prepend(path)
@@ -228,22 +212,6 @@ test("the screen shows rows with their numbers, which are right at once", functi
   end)
 end)
 
-test("a preview shows rows and highlights the buffer", function()
-  local buffer = bench.buffer({ "one", "two\0", "one two" })
-  local shown = api.nvim_create_buf(false, true)
-  local space = api.nvim_create_namespace("test_preview")
-  local call = { args = "two", range = 0, line1 = 1, line2 = 1, bang = false }
-  equal(require("live_occur.preview").show(call, space, shown), 2)
-  equal(api.nvim_buf_get_lines(shown, 0, -1, false), { "2 hits", "2:two ", "3:one two" })
-  local marks = vim.tbl_map(function(mark)
-    return { mark[2], mark[3], mark[4].end_col }
-  end, api.nvim_buf_get_extmarks(buffer, space, 0, -1, { details = true }))
-  equal(marks, { { 1, 0, 3 }, { 2, 4, 7 } })
-  call.args = "[" -- a pattern that isn't whole yet
-  equal(require("live_occur.preview").show(call, space, shown), 2)
-  equal(api.nvim_buf_get_lines(shown, 0, -1, false), { "UnclosedBracket at 0" })
-end)
-
 test("the health check finds no fault", function()
   vim.cmd("silent checkhealth live_occur")
   local text = table.concat(api.nvim_buf_get_lines(0, 0, -1, false), "\n")
@@ -258,7 +226,7 @@ test("the help has tags", function()
   fn.writefile(fn.readfile(here .. "/doc/live-occur.txt"), folder .. "/live-occur.txt")
   equal(fn.execute("helptags " .. folder), "")
   local tags = table.concat(fn.readfile(folder .. "/tags"), "\n")
-  local wanted = { ":LiveOccur", ":LiveOccurQuickfix", "live-occur", "live-occur-keys", "live-occur-settings" }
+  local wanted = { ":LiveOccur", ":LiveOccurQuickfix", "live-occur", "live-occur-keys", "live-occur-edit" }
   for _, tag in ipairs(wanted) do
     assert(("\n" .. tags):find("\n" .. tag .. "\t", 1, true), tag .. " is no tag")
   end

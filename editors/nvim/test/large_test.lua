@@ -52,41 +52,26 @@ local function drawn(list)
   local hits = list:total()
   return bench.milliseconds(function()
     for row = hits - 50, hits do
-      require("live_occur.draw").marks(list, row, 40)
+      require("live_occur.draw").marks(list, row, (" "):rep(40))
     end
   end)
-end
-
--- Runs a body, and returns the greatest number of milliseconds in which Neovim did nothing else.
-local function longest_wait(body)
-  local timer, last, longest = vim.loop.new_timer(), vim.loop.hrtime(), 0
-  local function beat()
-    local now = vim.loop.hrtime()
-    longest, last = math.max(longest, (now - last) / 1e6), now
-  end
-  timer:start(0, 2, vim.schedule_wrap(beat))
-  body()
-  beat()
-  timer:close()
-  return longest
 end
 
 -- The milliseconds of a change of flag i, until the first hits are shown and until all are.
 local function flag(list, first_place)
   local hits = list:total()
-  local page = bench.milliseconds(function()
+  local first = bench.milliseconds(function()
     list:set_flag("i", true)
     vim.wait(60000, function()
-      return list.page or not list.asked
+      return list.files[1].stale > 0 and list.files[1].hits.before > 0 or not list.asked
     end, 1)
   end)
-  bench.equal(list.page ~= nil, hits >= settings.page_from, "a page is shown")
   bench.equal(list:at(1).place, first_place)
   local rest = bench.milliseconds(function()
     settle(list)
   end)
-  bench.equal({ list.page, list:total() }, { nil, hits })
-  return page, page + rest
+  bench.equal(list:total(), hits)
+  return first, first + rest
 end
 
 local function measure(count, pattern, first_place)
@@ -96,15 +81,15 @@ local function measure(count, pattern, first_place)
   local times = edits(list, buffer, count)
   bench.equal(list:total(), hits + 40)
   local marks = drawn(list)
-  local page, all
-  local longest = longest_wait(function()
-    page, all = flag(list, first_place)
-  end)
+  local ended = require("watch").start()
+  local first, all = flag(list, first_place)
+  local longest = ended()
   bench.tell(("%d lines, %d hits: opened in %.0f ms, first rows in %.0f ms, all in %.0f ms"):format(count, hits,
     unpack(opened)))
   bench.tell(("    an edit with its update %.1f ms (median), %.1f ms (greatest); 50 rows drawn in %.2f ms"):format(
     times[20], times[40], marks))
-  bench.tell(("    flag i: first rows in %.0f ms, all in %.0f ms; Neovim waits %.0f ms at most"):format(page, all, longest))
+  local told = "    flag i: first rows in %.0f ms, all in %.0f ms; Neovim waits %.0f ms at most"
+  bench.tell(told:format(first, all, longest))
   assert(times[20] < 100, "an edit takes long")
 end
 

@@ -38,26 +38,33 @@ test("a buffer's name is the one that it has", function()
   equal(api.nvim_buf_get_lines(list.buffer, 1, -1, false), {})
 end)
 
-test("a page is shown in a long list of several buffers", function()
+test("a long reply is shown while it comes, and read no faster", function()
   local settings = require("live_occur.settings")
-  local from = settings.page_from
-  settings.page_from = 1
-  local a, b = bench.buffer({ "one", "One" }), bench.buffer({ "x", "one" })
+  local slice, lines = settings.slice, {}
+  for number = 1, 4000 do
+    lines[number] = "one " .. number .. (" and more"):rep(50)
+  end
+  local a, b = bench.buffer(lines), bench.buffer(lines)
   local list = bench.list("one", { a, b })
   rows(list)
-  local page = {}
-  local show = list.show_page
-  list.show_page = function(...)
-    show(...)
-    page = api.nvim_buf_get_lines(list.buffer, 1, -1, false)
-    equal({ list:at(2).file.buffer, list:at(2).place }, { a, 1 })
+  settings.slice = 100
+  local stopped, most, put = false, 0, list.apply_piece
+  list.apply_piece = function(...)
+    put(...)
+    stopped = stopped or list.session.stopped
+    most = math.max(most, list.session.reply.ahead)
+    local file = list.files[1]
+    if file.stale > 0 then -- A row that isn't replaced yet has no number.
+      equal(list:at(file.hits.before + 1).stale, nil)
+      equal(list:at(file.hits.before + 2).stale, true)
+      equal(list:at(file.shown + 1).heading, true)
+    end
   end
   list:set_flag("i", true)
-  equal(rows(list), { "1:1:one", "1:2:One", "2:2:one" })
-  settings.page_from = from
-  equal(page, { "        one", "        One", "        one", "        one" })
-  local names = { "[No Name]", "        one", "        One", "[No Name]", "        one" }
-  equal(api.nvim_buf_get_lines(list.buffer, 1, -1, false), names)
+  equal(#rows(list), 8000)
+  settings.slice = slice
+  equal(stopped, true)
+  assert(most < 40, most .. " pieces are held")
 end)
 
 test("a list follows edits of each kind", function()
@@ -173,7 +180,50 @@ test("bytes are sent and shown as they are", function()
   local long = string.rep("\195\164", 3000) .. "end"
   api.nvim_buf_set_lines(0, 0, -1, false, { long })
   list:wait()
-  equal(list:rows()[1][3], string.rep("\195\164", 500))
+  equal(list:rows()[1][3], string.rep("\195\164", 500) .. "…")
+end)
+
+-- The text of the first row of a list, and the texts that are highlighted in it.
+local function first_row(list)
+  list:wait()
+  local text = api.nvim_buf_get_lines(list.buffer, 1, 2, false)[1]
+  local parts = {}
+  for _, mark in ipairs(require("live_occur.draw").marks(list, 1, text)) do
+    if mark[3] == "LiveOccurMatch" then
+      parts[#parts + 1] = text:sub(mark[1] + 1, mark[2])
+    end
+  end
+  return text, parts
+end
+
+test("a shortened row shows the text around its first match", function()
+  local settings = require("live_occur.settings")
+  local most = settings.max_columns
+  local buffer = bench.buffer({ ("ä"):rep(2000) .. "one" .. ("ö"):rep(100) .. "one" .. ("ü"):rep(2000) })
+  local list = bench.list("one")
+  local text, parts = first_row(list)
+  equal(text, (" "):rep(8) .. "…" .. ("ä"):rep(20) .. "one" .. ("ö"):rep(100) .. "one" .. ("ü"):rep(377) .. "…")
+  equal(parts, { "one", "one" })
+  equal(list:rows()[1][4]:match("%d+%-"), "4000-")
+  api.nvim_set_current_win(fn.win_findbuf(list.buffer)[1])
+  api.nvim_win_set_cursor(0, { 2, 0 })
+  require("live_occur.keys").visit(list)
+  equal(api.nvim_win_get_cursor(0), { 1, 4000 })
+  for _, each in ipairs({
+    { ("x"):rep(999) .. "one", "…" .. ("x"):rep(40) .. "one" }, -- nothing is cut off at the end
+    { ("x"):rep(997) .. "one", ("x"):rep(997) .. "one" },
+    { ("x"):rep(900) .. "one" .. ("y"):rep(900), ("x"):rep(900) .. "one" .. ("y"):rep(97) .. "…" },
+    { ("x"):rep(30) .. ("one"):rep(1000), ("x"):rep(30) .. ("one"):rep(323) .. "o…" },
+  }) do
+    api.nvim_buf_set_lines(buffer, 0, -1, false, { each[1] })
+    text, parts = first_row(list)
+    equal(text:sub(9), each[2])
+    equal({ parts[1], parts[2] }, { "one", parts[2] and "one" })
+  end
+  settings.max_columns = 10
+  api.nvim_buf_set_lines(buffer, 0, -1, false, { "0123456789abc one def" })
+  equal({ first_row(list) }, { (" "):rep(8) .. "…c one def", { "one" } })
+  settings.max_columns = most
 end)
 
 test("context shows the lines around", function()
@@ -189,6 +239,38 @@ test("context shows the lines around", function()
     { "        a", "        B", "        a", "        c", "--", "        a" })
   list:set_context(0, 0)
   equal(api.nvim_buf_get_lines(list.buffer, 1, -1, false), { "        a", "        a", "        a" })
+end)
+
+test("lines around are right while a long reply comes", function()
+  local settings = require("live_occur.settings")
+  local slice, lines = settings.slice, {}
+  for number = 1, 2000 do
+    lines[number] = (number % 3 == 0 and "a " or "b ") .. number .. ("."):rep(400)
+  end
+  local buffer = bench.buffer(lines)
+  local list = bench.list("a")
+  list:set_context(1, 0)
+  rows(list)
+  settings.slice = 10
+  local function check()
+    for row, text in ipairs(api.nvim_buf_get_lines(list.buffer, 1, -1, false)) do
+      local place = list:at(row).place
+      equal(text:sub(9), place and lines[list:line_of(list.files[1], place) + 1] or "", "row " .. row)
+    end
+  end
+  local pause, paused = list.pause, 0
+  list.pause = function(...)
+    paused = paused + 1
+    if paused % 20 == 1 then
+      check()
+    end
+    pause(...)
+  end
+  list:set_flag("i", true)
+  equal(#rows(list), 666)
+  check()
+  settings.slice = slice
+  assert(paused > 0 and buffer > 0, "the reply came at once")
 end)
 
 test("edits that are far apart are asked about one by one", function()

@@ -148,7 +148,7 @@ local function compare_drawn(list)
         given[#given + 1], before = "--", false
       end
       local mark = at.near and "-" or ":"
-      local number = vim.trim(draw.marks(list, row, #texts[row + 1])[1][4])
+      local number = vim.trim(draw.marks(list, row, texts[row + 1])[1][4])
       given[#given + 1] = number .. mark .. texts[row + 1]:sub(9)
     end
   end
@@ -197,8 +197,7 @@ end
 -- Few lines are sent at once, so that edits come between.
 local settings = require("live_occur.settings")
 local slice = settings.slice
-local page_from = settings.page_from
-settings.slice, settings.page_from = 40, 30
+settings.slice = 40
 
 bench.test(("%d random edits in four buffers, seed %d"):format(EDITS, SEED), function()
   math.randomseed(SEED)
@@ -257,4 +256,4 @@ bench.test("random edits around a range of lines", function()
   end
 end)
 
-settings.slice, settings.page_from = slice, page_from
+settings.slice = slice

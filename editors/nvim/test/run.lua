@@ -2,7 +2,8 @@
 --
 --     OCCUR=build/occur GREP=build/grep nvim --headless -u NONE -i NONE -n -S editors/nvim/test/run.lua
 --
--- EDITS and SEED in the environment change the random edits, and LINES the sizes that are timed.
+-- EDITS and SEED in the environment change the random edits, LINES the sizes that are timed, STALL for how
+-- many milliseconds Neovim may not answer, and ONLY which tests are run.
 
 local here = vim.fn.fnamemodify(debug.getinfo(1, "S").source:sub(2), ":p:h")
 vim.opt.runtimepath:prepend(vim.fn.fnamemodify(here, ":h"))
@@ -11,12 +12,15 @@ vim.cmd("runtime plugin/live_occur.lua")
 vim.o.hidden = true
 vim.o.swapfile = false
 
-vim.api.nvim_echo = function() end -- Messages would be between the lines of the tests.
-
 local bench = require("bench")
+vim.api.nvim_echo = function(chunks) -- Messages would be between the lines of the tests.
+  bench.said = table.concat(vim.tbl_map(function(chunk)
+    return chunk[1]
+  end, chunks))
+end
 require("live_occur").setup({ program = vim.fn.fnamemodify(vim.env.OCCUR or "occur", ":p"), delay = 20 })
 local ran, fault = xpcall(function()
-  for _, name in ipairs({ "pure", "lists", "keys", "random", "large" }) do
+  for _, name in ipairs(vim.split(vim.env.ONLY or "pure lists keys edit preview states random large", " ")) do
     dofile(here .. "/" .. name .. "_test.lua")
   end
 end, debug.traceback)

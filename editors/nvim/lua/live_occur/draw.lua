@@ -2,6 +2,8 @@
 -- rows in view alone, each time that they are drawn; so a number is right at once.
 
 local List = require("live_occur.list")
+local marks = require("live_occur.marks")
+local row_texts = require("live_occur.row")
 local settings = require("live_occur.settings")
 
 local api = vim.api
@@ -13,32 +15,59 @@ local LINKS = {
   LiveOccurNumber = "LineNr",
   LiveOccurMatch = "Search",
   LiveOccurNear = "Comment",
+  LiveOccurEdited = "WarningMsg",
+  LiveOccurPreview = "StatusLine",
 }
 
+-- The marks of a row while rows are edited. What is in the column for folds has `column`.
+local function edited_marks(list, row, text)
+  local edit = list.edit
+  local number = marks.at(list.buffer, edit.space, row, text)
+  local file = number and edit.files[number]
+  if file == false then
+    local group = number == 1 and "LiveOccurHeader" or "LiveOccurBuffer"
+    return { { 0, nil, group, text .. (" "):rep(row_texts.margin), column = true } }
+  end
+  local same = number and text == edit.shown[number]
+  local line = file and api.nvim_buf_is_valid(file.buffer) and marks.line(file.buffer, edit.space, number)
+  local shown = line and ("%7d "):format(line + 1) or (" "):rep(row_texts.margin)
+  return { { 0, nil, same and "LiveOccurNumber" or "LiveOccurEdited", shown, column = true } }
+end
+
 -- The marks of a row: for each its first column, the column after it and its group, or its text.
-function M.marks(list, row, length)
-  local at = list:at(row)
+function M.marks(list, row, text)
+  if list.edit then
+    return list.edit.ready and edited_marks(list, row, text) or {}
+  end
+  local at, length = list:at(row), #text
   if not at then
     return row == 0 and { { 0, length, "LiveOccurHeader" } } or {}
+  elseif at.stale then
+    return {}
   elseif at.heading then
     return { { 0, length, "LiveOccurBuffer" } }
   elseif not at.place then
     return { { 0, length, "LiveOccurNear" } }
   end
   local number = ("%7d"):format(list:line_of(at.file, at.place) + 1)
-  local marks = { { 0, nil, "LiveOccurNumber", number } }
+  local found = { { 0, nil, "LiveOccurNumber", number } }
   if at.near then
-    marks[2] = { List.margin, length, "LiveOccurNear" }
+    found[2] = { row_texts.margin, length, "LiveOccurNear" }
   elseif settings.highlight then
-    for first, last in at.parts:gmatch("(%d+)%-(%d+)") do
-      local start = List.margin + tonumber(first)
-      if start >= length then
-        break
-      end
-      marks[#marks + 1] = { start, math.min(List.margin + tonumber(last), length), "LiveOccurMatch" }
-    end
+    M.add_parts(found, at.parts, row_texts.shift(at.parts), length)
   end
-  return marks
+  return found
+end
+
+-- Adds marks for the parts of a row that is so many bytes long, further right by `shift`.
+function M.add_parts(found, parts, shift, length)
+  for first, last in parts:gmatch("(%d+)%-(%d+)") do
+    local start = shift + tonumber(first)
+    if start >= length then
+      break
+    end
+    found[#found + 1] = { start, math.min(shift + tonumber(last), length), "LiveOccurMatch" }
+  end
 end
 
 local function on_line(_, _, buffer, row)
@@ -47,11 +76,13 @@ local function on_line(_, _, buffer, row)
   if not text then
     return
   end
-  for _, mark in ipairs(M.marks(list, row, #text)) do
-    local first, last, group, number = unpack(mark)
+  for _, mark in ipairs(M.marks(list, row, text)) do
+    local first, last, group, shown = unpack(mark)
     local options = { ephemeral = true, priority = 100 }
-    if number then
-      options.virt_text, options.virt_text_pos = { { number, group } }, "overlay"
+    if mark.column then
+      options.virt_text, options.virt_text_win_col = { { shown, group } }, -row_texts.margin
+    elseif shown then
+      options.virt_text, options.virt_text_pos = { { shown, group } }, "overlay"
     else
       options.end_row, options.end_col, options.hl_group = row, last, group
     end

@@ -31,11 +31,6 @@ function M.check()
   else
     fail("it doesn't answer as it should: " .. table.concat(replies, ", "), { "Install a newer Gaxtrel" })
   end
-  if vim.fn.has("nvim-0.8") == 1 then
-    ok("patterns have a preview while they are typed")
-  else
-    ok("there is no preview while a pattern is typed: it needs Neovim 0.8")
-  end
 end
 
 return M

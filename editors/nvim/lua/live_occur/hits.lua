@@ -9,15 +9,15 @@ local Hits = {}
 Hits.__index = Hits
 
 function Hits.new()
-  return setmetatable({
-    lines = 0, -- the number of lines of the buffer
-    before = 0, -- the number of hits in the first stack
-    places = {},
-    parts = {},
-    after = 0, -- the number of hits in the second stack
-    from_end = {},
-    parts_after = {},
-  }, Hits)
+  local self = setmetatable({ lines = 0 }, Hits) -- the number of lines of the buffer
+  self:clear()
+  return self
+end
+
+function Hits:clear()
+  self.before, self.after = 0, 0 -- the numbers of hits in the two stacks
+  self.places, self.parts = {}, {}
+  self.from_end, self.parts_after = {}, {}
 end
 
 function Hits:count()
@@ -67,6 +67,12 @@ end
 -- Takes out the hits of `removed` lines from line `front` on, in place of which there are `added`
 -- lines now. Returns how many hits are before them, and how many were taken out.
 function Hits:cut(front, removed, added)
+  if removed >= self.lines then -- All go, and their tables, too.
+    local count = self:count()
+    self:clear()
+    self.lines = added
+    return 0, count
+  end
   self:move_gap(self:below(front))
   local rest = self.lines - front - removed
   local after = self.after

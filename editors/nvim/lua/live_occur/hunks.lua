@@ -23,6 +23,20 @@ local function join(hunks, first, last)
   table.insert(hunks, first, joined)
 end
 
+-- Extends the one hunk that an edit meets. This is all that most edits do.
+local function grow(hunk, at, removed, added)
+  local from, to = math.min(at, hunk.at), math.max(at + removed, hunk.at + hunk.added)
+  local size, grown = to - from, hunk.added - hunk.removed
+  hunk.at, hunk.removed, hunk.added = from, size - grown, size + added - removed
+end
+
+-- Moves the hunks from this one on.
+local function move(hunks, index, lines)
+  for later = index, #hunks do
+    hunks[later].at = hunks[later].at + lines
+  end
+end
+
 -- Notes that `removed` lines from `at` on, of the new text as it was until now, became `added`.
 function M.note(hunks, at, removed, added)
   local index = 1
@@ -32,6 +46,10 @@ function M.note(hunks, at, removed, added)
   local last = index
   while hunks[last] and hunks[last].at <= at + removed + NEAR do
     last = last + 1
+  end
+  if last == index + 1 then
+    grow(hunks[index], at, removed, added)
+    return move(hunks, index + 1, added - removed)
   end
   -- The edit as a hunk of text that is unchanged so far, over all hunks that it meets.
   local from, to, grown = at, at + removed, 0
@@ -45,9 +63,7 @@ function M.note(hunks, at, removed, added)
   end
   local size = to - from
   table.insert(hunks, index, { at = from, removed = size - grown, added = size + added - removed })
-  for later = index + 1, #hunks do
-    hunks[later].at = hunks[later].at + added - removed
-  end
+  move(hunks, index + 1, added - removed)
   if #hunks > MOST then
     join(hunks, 1, #hunks)
   end

@@ -33,7 +33,7 @@ local function buffers_of(names)
 end
 
 -- What the words of :LiveOccur say: the pattern, the buffers and, for an error, a text.
-local function read_words(words)
+function M.read_words(words)
   local names, pattern = words:match("^%+%+buffers=(%S+) ?(.*)$")
   if not names then
     return words, { api.nvim_get_current_buf() }
@@ -48,41 +48,64 @@ local function show_window(list)
   api.nvim_win_set_buf(0, list.buffer)
 end
 
+-- :e and :e! in a list
+function M.read(list)
+  if list.edit then
+    require("live_occur.edit").give_up(list)
+  else
+    list:renew_rows()
+  end
+end
+
 local function watch(list)
   local group = api.nvim_create_augroup("live_occur_" .. list.buffer, {})
-  local function on(events, pattern, callback)
-    api.nvim_create_autocmd(events, { group = group, callback = callback, buffer = pattern })
+  local function on(events, buffer, callback, nested)
+    api.nvim_create_autocmd(events, { group = group, callback = callback, buffer = buffer, nested = nested })
   end
-  on({ "BufUnload", "BufWipeout" }, list.buffer, function()
+  local function close()
     list:close()
     vim.schedule(function()
       pcall(api.nvim_del_augroup_by_id, group)
       pcall(api.nvim_buf_delete, list.buffer, { force = true })
     end)
+  end
+  on("BufWipeout", list.buffer, close)
+  on("BufUnload", list.buffer, function()
+    vim.schedule(function() -- `:e` unloads it, too, and has loaded it again by then.
+      if not list.closed and not api.nvim_buf_is_loaded(list.buffer) then
+        close()
+      end
+    end)
   end)
-  on("BufWinEnter", list.buffer, M.set_window)
+  on("VimLeavePre", nil, close)
+  on("BufReadCmd", list.buffer, function()
+    M.read(list)
+  end)
+  on("BufWriteCmd", list.buffer, function(event)
+    require("live_occur.edit").write(list, event.file)
+  end, true) -- Files are saved, which other plugins follow.
+  on("BufWinEnter", list.buffer, function()
+    M.set_window(list)
+  end)
   on("CursorMoved", list.buffer, function()
     require("live_occur.keys").moved(list)
   end)
-  api.nvim_create_autocmd("BufFilePost", {
-    group = group,
-    callback = function()
-      list:rename()
-    end,
-  })
-  api.nvim_create_autocmd({ "BufReadPost", "BufNewFile", "BufWinEnter" }, {
-    group = group,
-    callback = function(event)
-      list:loaded(event.buf)
-    end,
-  })
+  on("BufFilePost", nil, function()
+    list:rename()
+  end)
+  on({ "BufReadPost", "BufNewFile", "BufWinEnter" }, nil, function(event)
+    list:loaded(event.buf)
+  end)
 end
 
-function M.set_window()
+function M.set_window(list)
   local values = { wrap = false, number = false, relativenumber = false, cursorline = true, spell = false }
   values.winfixheight = true
   for name, value in pairs(values) do
     api.nvim_set_option_value(name, value, { scope = "local" })
+  end
+  if list.edit and list.edit.ready then
+    require("live_occur.edit").set_window(list, api.nvim_get_current_win())
   end
 end
 
@@ -102,20 +125,30 @@ end
 
 -- :LiveOccur
 function M.command(call)
-  local pattern, buffers, fault = read_words(call.args)
+  local pattern, buffers, fault = M.read_words(call.args)
   if fault then
     return api.nvim_echo({ { "LiveOccur: " .. fault, "ErrorMsg" } }, true, {})
   end
-  if pattern == "" then
-    pattern = fn.input("List lines that match: ")
-    if pattern == "" then
-      return
-    end
-  end
   local range = call.range > 0 and { call.line1, call.line2 } or nil
-  local list, problem, place = M.open(pattern, buffers, { range = range, syntax = call.bang and "extended" or nil })
+  local syntax = call.bang and "extended" or require("live_occur.settings").syntax
+  if pattern ~= "" then
+    return M.open_or_tell(pattern, buffers, { range = range, syntax = syntax })
+  end
+  local preview = require("live_occur.preview")
+  preview.ask({ prompt = "List lines that match: " }, function(text)
+    return preview.target(buffers, range, syntax, text)
+  end, function(text)
+    if text and text ~= "" then
+      M.open_or_tell(text, buffers, { range = range, syntax = syntax })
+    end
+  end)
+end
+
+-- Opens a list, or says why there is none.
+function M.open_or_tell(pattern, buffers, options)
+  local list, fault, place = M.open(pattern, buffers, options)
   if not list then
-    require("live_occur.keys").show_fault(problem, place and pattern, place)
+    require("live_occur.keys").show_fault(fault, place and pattern, place)
   end
   return list
 end

@@ -1,7 +1,7 @@
 -- What the keys of a list do.
 
 local List = require("live_occur.list")
-local settings = require("live_occur.settings")
+local row_texts = require("live_occur.row")
 
 local api, fn = vim.api, vim.fn
 local M = {}
@@ -28,7 +28,7 @@ local function target(list)
     return nil
   end
   local line = list:line_of(at.file, at.place) + 1
-  local column = tonumber((at.parts or ""):match("^%d+") or 0)
+  local column = row_texts.column(at.parts or "")
   return at.file.buffer, math.min(line, api.nvim_buf_line_count(at.file.buffer)), column
 end
 
@@ -88,15 +88,16 @@ end
 
 -- Asks for a pattern until one is taken: the prompt then says why the one before was refused. Where
 -- nothing is typed the list stays as it is.
-local function ask_pattern(prompt, text, take, fault)
-  vim.ui.input({ prompt = (fault and fault .. "; " or "") .. prompt, default = text }, function(pattern)
+local function ask_pattern(prompt, text, listed, take, fault)
+  local options = { prompt = (fault and fault .. "; " or "") .. prompt, default = text }
+  require("live_occur.preview").ask(options, listed, function(pattern)
     if pattern == nil or pattern == "" then
       return
     end
     take(pattern, function(problem, place)
       if problem then
         local kind = place and problem:sub(1, #problem - #pattern - #" in: ") or problem
-        ask_pattern(prompt, pattern, take, kind)
+        ask_pattern(prompt, pattern, listed, take, kind)
       end
     end)
   end)
@@ -131,7 +132,10 @@ local function choose_pattern(list, prompt, take)
 end
 
 function M.add_pattern(list)
-  ask_pattern("Add pattern: ", "", function(pattern, done)
+  local function listed(pattern)
+    return require("live_occur.preview").target_of_list(list, pattern)
+  end
+  ask_pattern("Add pattern: ", "", listed, function(pattern, done)
     list:add_pattern(pattern, done)
   end)
 end
@@ -142,10 +146,13 @@ function M.drop_pattern(list)
   end)
 end
 
--- The edited pattern comes after the others: the program only adds and drops patterns.
-function M.edit_pattern(list)
-  choose_pattern(list, "Edit pattern", function(number)
-    ask_pattern("Edit pattern: ", list.patterns[number], function(pattern, done)
+-- The changed pattern comes after the others: the program only adds and drops patterns.
+function M.change_pattern(list)
+  choose_pattern(list, "Change pattern", function(number)
+    local function listed(pattern)
+      return require("live_occur.preview").target_of_list(list, pattern, number)
+    end
+    ask_pattern("Change pattern: ", list.patterns[number], listed, function(pattern, done)
       list:add_pattern(pattern, function(fault, place)
         if not fault then
           list:drop_pattern(number)
@@ -219,11 +226,13 @@ end
 
 -- Makes a quickfix list of the hits as they are now.
 function M.quickfix(list)
+  if list.edit then
+    return say("rows are edited; :w or :e! ends that", "ErrorMsg")
+  end
   list:wait()
   local items = {}
   for number, row in ipairs(list:rows()) do
-    local column = tonumber((row[4]):match("^%d+") or 0) + 1
-    items[number] = { bufnr = row[1], lnum = row[2], col = column, text = row[3] }
+    items[number] = { bufnr = row[1], lnum = row[2], col = row_texts.column(row[4]) + 1, text = row[3] }
   end
   fn.setqflist({}, " ", { title = "LiveOccur " .. table.concat(list.patterns, "  "), items = items })
   if M.current() then -- So that :cnext takes another window than the list's.
@@ -240,9 +249,10 @@ M.keys = {
   { "<C-w><CR>", "goes to the line in a new window", function(list) M.visit(list, true) end },
   { "<Space>", "shows the line", function(list) M.visit(list, false, true) end },
   { "f", "following on or off", M.toggle_follow },
+  { "e", "edits the rows", function(list) require("live_occur.edit").begin(list) end },
   { "a", "adds a pattern", M.add_pattern },
+  { "c", "changes a pattern", M.change_pattern },
   { "d", "drops a pattern", M.drop_pattern },
-  { "e", "edits a pattern", M.edit_pattern },
   { "B", "basic expressions", function(list) M.set_syntax(list, "basic") end },
   { "E", "extended expressions", function(list) M.set_syntax(list, "extended") end },
   { "F", "fixed strings", function(list) M.set_syntax(list, "fixed") end },
@@ -252,11 +262,18 @@ M.keys = {
   { "C", "lines around", M.ask_context },
   { "+", "one more buffer", M.add_buffer },
   { "-", "one buffer less", M.remove_buffer },
-  { "u", "brings the list up to date at once", function(list) list:wait() end },
+  { "R", "brings the list up to date at once", function(list) list:wait() end },
   { "r", "starts the program again", function(list) list:restart() end },
   { "Q", "makes a quickfix list", M.quickfix },
   { "q", "hides the list", function() pcall(vim.cmd, "hide") end },
 }
+
+-- Puts the keys aside.
+function M.unset(list)
+  for _, key in ipairs(M.keys) do
+    pcall(vim.keymap.del, "n", key[1], { buffer = list.buffer })
+  end
+end
 
 function M.set(list)
   for _, key in ipairs(M.keys) do
@@ -272,7 +289,7 @@ end
 -- Shows the line of the row, if the list follows, as the cursor moves.
 function M.moved(list)
   local row = api.nvim_win_get_cursor(0)[1]
-  if list.follow and row ~= list.followed then
+  if list.follow and not list.edit and row ~= list.followed then
     list.followed = row
     M.visit(list, false, true)
   end

@@ -7,15 +7,16 @@
 local Hits = require("live_occur.hits")
 local Session = require("live_occur.session")
 local hunks = require("live_occur.hunks")
+local marks = require("live_occur.marks")
+local row_texts = require("live_occur.row")
 local settings = require("live_occur.settings")
 
 local api, fn, uv = vim.api, vim.fn, vim.uv or vim.loop
-local MARGIN = string.rep(" ", 8)
 local GAP = "--"
+local PIECE = 5000 -- how many rows are put at once
 
 local List = { all = {} } -- `all` has each list by the number of its buffer
 List.__index = List
-List.margin = #MARGIN
 
 -- Small things
 
@@ -34,16 +35,15 @@ local function lines_of(buffer, first, last)
   return api.nvim_buf_get_lines(buffer, first, last, false)
 end
 
--- A row's text: the line, or its beginning up to a whole character.
-local function row_text(line)
-  local most = settings.max_columns
-  if #line > most then
-    while most > 0 and line:byte(most + 1) >= 128 and line:byte(most + 1) < 192 do
-      most = most - 1
+-- Moves what is kept of windows as rows are replaced by so many.
+local function move_kept(windows, first, last, count)
+  for _, kept in ipairs(windows) do
+    if kept.row >= last then
+      kept.row = kept.row + count - (last - first)
+    elseif kept.row >= first then
+      kept.row = math.max(first + math.min(kept.row - first, count - 1), 0)
     end
-    line = line:sub(1, most)
   end
-  return MARGIN .. line
 end
 
 -- Making a list
@@ -162,12 +162,14 @@ function List:restart()
     self:show_header()
     return say(fault, "ErrorMsg")
   end
-  self.had_hits, self.page, self.changed = false, nil, false
+  self.had_hits, self.changed = false, false
   self:put(1, -1, {})
   for _, file in ipairs(files) do
-    self:add_file(file)
+    if not file.closed then
+      self:add_file(file)
+    end
     file.pending, file.sent, file.hits = {}, {}, Hits.new()
-    file.shown, file.heading, file.view = 0, false, nil
+    file.shown, file.heading, file.view, file.stale = 0, false, nil, 0
     hunks.note(file.pending, 0, 0, file.to - file.from)
   end
   self:step()
@@ -181,6 +183,9 @@ function List:close()
   self.closed = true
   for _, file in ipairs(self.files) do
     file.attached = nil
+    if self.edit then
+      marks.clear(file.buffer, self.edit.space)
+    end
   end
   if self.timer then
     self.timer:close()
@@ -208,7 +213,7 @@ function List:add_buffer(buffer, range)
     end
   end
   fn.bufload(buffer)
-  local file = { buffer = buffer, pending = {}, sent = {}, hits = Hits.new(), shown = 0, heading = false }
+  local file = { buffer = buffer, pending = {}, sent = {}, hits = Hits.new(), shown = 0, heading = false, stale = 0 }
   file.count = api.nvim_buf_line_count(buffer)
   file.ranged = range ~= nil
   file.from = range and math.min(range[1] - 1, file.count) or 0
@@ -220,18 +225,35 @@ function List:add_buffer(buffer, range)
   self:later()
 end
 
+-- A file leaves the list: its rows do, some at once, and then the file itself.
 function List:remove_file(file)
-  for index, each in ipairs(self.files) do
-    if each == file then
-      local row = self:row_of(file)
-      self:put(row, row + file.shown, {})
-      file.closed, file.attached = true, nil
-      table.remove(self.files, index)
-      self.session:send("close " .. index - 1, nil, self:accepted())
-      self:put_headings()
-      return self:show_header()
-    end
+  file.closed, file.attached, file.pending, file.hits = true, nil, {}, Hits.new()
+  self:leave(file)
+end
+
+function List:leave(file)
+  local index
+  for number, each in ipairs(self.files) do
+    index = each == file and number or index
   end
+  if self.closed or not index then
+    return
+  end
+  local windows, row = self:keep_windows(), self:row_of(file)
+  local count = math.min(file.shown, settings.slice, PIECE)
+  self:put(row, row + count, {}, windows)
+  file.shown = file.shown - count
+  if file.shown > 0 then
+    self:restore_windows(windows)
+    return vim.defer_fn(function()
+      self:leave(file)
+    end, 1)
+  end
+  table.remove(self.files, index)
+  self.session:send("close " .. index - 1, nil, self:accepted())
+  self:restore_windows(windows)
+  self:put_headings()
+  self:show_header()
 end
 
 -- Follows the edits of a buffer.
@@ -247,18 +269,27 @@ function List:attach(file)
     end,
     on_reload = function()
       if file.attached == token then
+        self:lose(file)
         self:renew(file)
       end
     end,
     on_detach = function()
       if file.attached == token then
         file.attached = nil
+        self:lose(file)
         vim.schedule(function()
           self:check(file)
         end)
       end
     end,
   })
+end
+
+-- Notes that rows that are edited belong to no lines of a buffer any more.
+function List:lose(file)
+  if self.edit then
+    self.edit.lost[file] = "was loaded anew"
+  end
 end
 
 -- Notes an edit: lines from `first` up to `last` are now those up to `new_last`.
@@ -299,9 +330,9 @@ function List:renew(file)
 end
 
 -- Takes care that what is known of a buffer is right: it may have been unloaded, loaded anew or
--- wiped since.
+-- wiped since. While rows are edited that waits.
 function List:check(file)
-  if self.closed or file.closed then
+  if self.closed or file.closed or self.edit then
     return
   elseif not api.nvim_buf_is_valid(file.buffer) then
     return self:remove_file(file)
@@ -332,8 +363,10 @@ function List:later()
       self:step()
     end)
   end
-  if not self.closed then
+  local now = uv.now()
+  if not self.closed and self.later_at ~= now then -- One of many edits at once is enough.
     self.timer:start(settings.delay, 0, self.at_pause) -- anew, where it runs
+    self.later_at = now
   end
 end
 
@@ -364,7 +397,7 @@ end
 
 -- Sends what was edited, at most a slice of it, and asks what changed.
 function List:step()
-  if self.closed or self.ended then
+  if self.closed or self.ended or self.edit then
     return
   elseif self.asked then
     self.due = true
@@ -384,6 +417,26 @@ function List:step()
   if self.changed then
     self:ask_changes()
   end
+  self:start_edit()
+end
+
+-- Begins to edit rows, if that is wanted and the list is right.
+function List:start_edit()
+  if self.edit_wanted then
+    require("live_occur.edit").start(self)
+  end
+end
+
+-- Goes on after rows were edited.
+function List:go_on()
+  for _, file in ipairs(vim.list_extend({}, self.files)) do
+    self:check(file)
+  end
+  self:rename()
+  self:put_headings()
+  self:step()
+  self:show_header()
+  self:redraw()
 end
 
 -- Brings the list up to date, and waits for it. Returns false if that takes too long.
@@ -406,8 +459,13 @@ end
 
 -- Whether the list is right, and no reply is on its way.
 function List:settled()
-  if self.closed or self.ended then
+  if self.closed or self.ended or self.edit then
     return true
+  end
+  for _, file in ipairs(self.files) do
+    if file.closed then
+      return false
+    end
   end
   return not (self:has_edits() or self.asked or self.changed or self.session:busy())
 end
@@ -438,17 +496,22 @@ function List:apply_more()
   end
 end
 
--- Ends a piece: what waits comes first, and then the next one.
-function List:pause(windows)
+-- Ends a piece: what waits comes first, and then the next one; or, with a reply, more of that.
+function List:pause(windows, reply)
   local applying = self.applying
-  for _, kept in ipairs(windows) do
-    kept.seen = api.nvim_win_get_cursor(kept.window)[1]
-  end
-  vim.defer_fn(function()
+  local function go_on()
     if self.applying == applying and not self.closed then
       self:apply_more()
     end
-  end, 1)
+  end
+  for _, kept in ipairs(windows) do
+    kept.seen = api.nvim_win_get_cursor(kept.window)[1]
+  end
+  if reply then
+    reply.waits = go_on
+  else
+    vim.defer_fn(go_on, 1)
+  end
   self.paused = true
   self:show_header()
   coroutine.yield()
@@ -460,24 +523,39 @@ function List:pause(windows)
   end
 end
 
-function List:apply_reply(reply, files, sent)
-  if sent then
-    table.remove(sent.sent, 1)
+-- The next block of a reply, or nil at its end.
+function List:block_of(reply, number, windows)
+  while not reply.blocks[number] and not reply.kind do
+    self:pause(windows, reply)
   end
-  if reply.kind ~= "status" then
+  return reply.blocks[number]
+end
+
+-- The next piece of a block, or nil at its end.
+function List:piece_of(reply, block, number, windows)
+  while not block.done and not block.pieces[number + 1] do
+    self:pause(windows, reply)
+  end
+  return block.pieces[number]
+end
+
+-- Applies a reply. `sent` is the file of which a hunk was sent before it, if there is one.
+function List:apply_reply(reply, files, sent)
+  if reply.kind and reply.kind ~= "status" then
     self.asked = nil
     return self:accepted()(reply)
   end
   local windows = self:keep_windows()
-  local paged = self.page ~= nil
-  self.page = nil
-  for _, block in ipairs(reply.blocks) do
-    self:apply(files[block.words[1] + 1], block, windows)
+  local number, block = 1, self:block_of(reply, 1, windows)
+  while block do
+    local file = files[block.words[1] + 1]
+    self:apply(file, reply, block, windows, file == sent)
+    sent = file ~= sent and sent or nil
+    number = number + 1
+    block = self:block_of(reply, number, windows)
   end
-  if paged and #reply.blocks == 0 then
-    self:render_all()
-  elseif paged then
-    self:rename()
+  if sent then
+    table.remove(sent.sent, 1)
   end
   if #reply.blocks > 0 then
     self:to_first_hit(windows)
@@ -490,45 +568,75 @@ function List:apply_reply(reply, files, sent)
   end
   self:show_header()
   self:redraw()
+  self:start_edit()
 end
 
--- Applies one h line, with its hits.
-function List:apply(file, block, windows)
-  if file.closed then
-    return
-  end
-  local front, removed, added = block.words[2], block.words[3], block.words[4]
-  local index, gone = file.hits:cut(front, removed, added)
-  local done = self:apply_piece(file, block, 0, index, gone, windows)
-  while done < block.count do
-    self:pause(windows)
-    if file.closed then
-      return
+-- Applies one h line, with its hits. `sent` is whether it has what the first sent hunk did.
+function List:apply(file, reply, block, windows, sent)
+  local number, piece, around = 1, self:piece_of(reply, block, 1, windows), self:around()
+  if around then -- All rows of the file are made anew at once.
+    self.session:read_all(reply)
+    while not block.done do
+      self:pause(windows, reply)
     end
-    done = self:apply_piece(file, block, done, index + done, 0)
   end
-  if self:around() then
+  if sent then
+    table.remove(file.sent, 1)
+  end
+  self:cut(file, block, windows)
+  while true do
+    self:apply_piece(file, piece, windows)
+    if piece then
+      block.pieces[number] = false -- It isn't needed any more.
+      self.session:taken(reply)
+    end
+    number = number + 1
+    local more = not block.done or block.pieces[number]
+    if not more and (file.closed or file.stale == 0) then
+      break
+    end
+    if not around then
+      self:pause(windows)
+    end
+    piece = more and self:piece_of(reply, block, number, windows)
+  end
+  if self:around() and not file.closed then
     self:render(file, windows)
   end
 end
 
--- Puts the hits after the first `done` ones of an h line into a list, in place of `gone` ones from
--- number `index` on; but at most a slice of them. Returns how many are there then. Where lines around
--- are shown all are put, since the rows are made anew after it.
-function List:apply_piece(file, block, done, index, gone, windows)
-  local last = self:around() and block.count or math.min(block.count, done + settings.slice)
-  local texts = {}
-  for number = done + 1, last do
-    file.hits:push(block.places[number], block.parts[number])
-    texts[number - done] = row_text(block.lines[number])
+-- Takes the hits of replaced lines out of a file. Their rows stay for now, as stale ones.
+function List:cut(file, block, windows)
+  if file.closed then
+    return
+  end
+  local index, gone = file.hits:cut(block.words[2], block.words[3], block.words[4])
+  if not self:around() then
+    local row = self:row_of(file) + (file.heading and 1 or 0) + index
+    move_kept(windows, row, row + gone, block.words[5])
+    file.stale = gone
+  end
+end
+
+-- Puts the hits of a piece of an h line, if there is one, into a list, and takes some of the stale rows
+-- after them out. Where lines around are shown the rows are made anew after it.
+function List:apply_piece(file, piece, windows)
+  local texts, index = {}, file.hits.before
+  if file.closed then
+    return
+  end
+  for number = 1, piece and piece.count or 0 do
+    local text, start = row_texts.text(piece.lines[number], piece.parts[number])
+    file.hits:push(piece.places[number], row_texts.kept_parts(piece.parts[number], start))
+    texts[number] = text
   end
   if not self:around() then
     local row = self:row_of(file) + (file.heading and 1 or 0) + index
-    self:put(row, row + gone, texts, windows, block.count)
-    file.shown = file.shown + #texts - gone
+    local gone = math.min(file.stale, PIECE, settings.slice)
+    self:put(row, row + gone, texts)
+    file.shown, file.stale = file.shown + #texts - gone, file.stale - gone
     self:put_heading(file, windows)
   end
-  return last
 end
 
 -- Rows
@@ -551,24 +659,26 @@ function List:row_of(file)
 end
 
 -- What a row of the list's buffer is: nil for the header, else a table with `file`, and `place` (of
--- the last report) and `parts` for a hit, `place` and `near` for a line around, or neither.
+-- the last report) and `parts` for a hit, `place` and `near` for a line around, or neither. One that
+-- is about to be taken out is `stale`.
 function List:at(row)
   local index = row - 1
   if index < 0 then
     return nil
-  elseif self.page and self.page[row] then
-    return self.page[row]
   end
   for _, file in ipairs(self.files) do
     if index < file.shown then
+      local after = file.hits.before + file.stale
       index = index + (file.heading and 0 or 1)
       if index == 0 then
         return { file = file, heading = true }
+      elseif file.closed or not file.view and index > file.hits.before and index <= after then
+        return { file = file, stale = true }
       elseif file.view then
         local number, place = file.view.numbers[index], file.view.places[index]
         return { file = file, place = place, near = not number, parts = number and select(2, file.hits:get(number)) }
       end
-      local place, parts = file.hits:get(index)
+      local place, parts = file.hits:get(index > after and index - file.stale or index)
       return { file = file, place = place, parts = parts }
     end
     index = index - file.shown
@@ -580,30 +690,22 @@ function List:line_of(file, place)
   return file.from + hunks.place(file.pending, hunks.place(file.sent, place))
 end
 
--- Replaces rows of the list's buffer, and moves what is kept of its windows with them: as if there
--- were `count` texts, of which the others come later.
-function List:put(first, last, texts, windows, count)
+-- Replaces rows of the list's buffer, and moves what is kept of its windows with them.
+function List:put(first, last, texts, windows)
   local buffer = self.buffer
   if not buffer or (first == last and #texts == 0) then
     return
   end
-  count = count or #texts
   vim.bo[buffer].modifiable = true
   api.nvim_buf_set_lines(buffer, first, last, false, texts)
   vim.bo[buffer].modifiable = false
   vim.bo[buffer].modified = false
-  for _, kept in ipairs(windows or {}) do
-    if kept.row >= last then
-      kept.row = kept.row + count - (last - first)
-    elseif kept.row >= first then
-      kept.row = math.max(first + math.min(kept.row - first, count - 1), 0)
-    end
-  end
+  move_kept(windows or {}, first, last, #texts)
 end
 
 -- Whether a row with the name of a file's buffer is before its rows.
 function List:wants_heading(file)
-  return #self.files > 1 and file.hits:count() > 0
+  return #self.files > 1 and file.hits:count() + file.stale > 0
 end
 
 -- Puts the row with the name of a file's buffer, or takes it out.
@@ -625,6 +727,9 @@ end
 
 -- Writes the names of all buffers anew.
 function List:rename()
+  if self.closed or self.edit then
+    return
+  end
   for _, file in ipairs(self.files) do
     if file.heading then
       local row = self:row_of(file)
@@ -637,7 +742,8 @@ end
 function List:render(file, windows)
   local row = self:row_of(file)
   local texts = {}
-  file.heading, file.view = self:wants_heading(file), nil
+  file.view, file.stale = nil, 0
+  file.heading = self:wants_heading(file)
   if file.heading then
     texts[1] = List.name_of(file.buffer)
   end
@@ -650,11 +756,17 @@ function List:render(file, windows)
   file.shown = #texts
 end
 
+-- The text of a row for a place of a file.
+function List:text_at(file, place, parts)
+  local line = self:line_of(file, place)
+  return (row_texts.text(lines_of(file.buffer, line, line + 1)[1] or "", parts))
+end
+
 -- Adds the texts of all hits of a file, as they are in its buffer.
 function List:hit_texts(file, texts)
   for number = 1, file.hits:count() do
-    local line = self:line_of(file, (file.hits:get(number)))
-    texts[#texts + 1] = row_text(lines_of(file.buffer, line, line + 1)[1] or "")
+    local place, parts = file.hits:get(number)
+    texts[#texts + 1] = self:text_at(file, place, parts)
   end
 end
 
@@ -667,8 +779,7 @@ function List:view_of(file, texts)
     local count = #texts + 1
     local index = #view.places + 1
     view.places[index], view.numbers[index] = place or false, number or false
-    local line = place and self:line_of(file, place)
-    texts[count] = line and row_text(lines_of(file.buffer, line, line + 1)[1] or "") or GAP
+    texts[count] = place and self:text_at(file, place, number and select(2, hits:get(number))) or GAP
   end
   local shown
   for number = 1, hits:count() do
@@ -690,6 +801,16 @@ function List:view_of(file, texts)
   return view
 end
 
+-- Writes the rows of a list whose buffer was loaded anew, as by `:e`.
+function List:renew_rows()
+  self.shown_header = nil
+  for _, file in ipairs(self.files) do
+    file.shown, file.heading, file.view = 0, false, nil
+  end
+  self:put(0, -1, { "" })
+  self:render_all()
+end
+
 function List:render_all()
   local windows = self:keep_windows()
   for _, file in ipairs(self.files) do
@@ -707,7 +828,7 @@ function List:rows()
     local at = self:at(row)
     if at and at.parts then
       local line = self:line_of(at.file, at.place) + 1
-      rows[#rows + 1] = { at.file.buffer, line, texts[row + 1]:sub(#MARGIN + 1), at.parts }
+      rows[#rows + 1] = { at.file.buffer, line, row_texts.bare(texts[row + 1]), at.parts }
     end
   end
   return rows
@@ -740,13 +861,16 @@ function List:header()
   words[#words + 1] = counted(self:total(), "hit") .. ", " .. counted(#self.files, "buffer")
   if self.ended then
     words[#words + 1] = self.ended
-  elseif self.due or self.page or self.paused then
+  elseif self.due or self.paused then
     words[#words + 1] = "more to come"
   end
   return table.concat(words, "  ")
 end
 
 function List:show_header()
+  if self.edit then
+    return
+  end
   local text = self.buffer and self:header():gsub("[\n%z]", " ")
   if self.buffer and text ~= self.shown_header and api.nvim_buf_is_valid(self.buffer) then
     self.shown_header = text
@@ -765,7 +889,8 @@ function List:keep_windows()
   for _, window in ipairs(self:windows()) do
     local cursor = api.nvim_win_get_cursor(window)
     local top = fn.line("w0", window) - 1
-    kept[#kept + 1] = { window = window, row = cursor[1] - 1, column = cursor[2], above = cursor[1] - 1 - top }
+    local row = cursor[1] - 1
+    kept[#kept + 1] = { window = window, row = row, first = row, column = cursor[2], above = row - top }
   end
   return kept
 end
@@ -776,6 +901,9 @@ function List:restore_windows(kept)
     local row = math.max(0, math.min(each.row, count - 1))
     local now = api.nvim_win_get_cursor(each.window)
     local top = math.max(row - each.above, 0) + 1
+    if each.above == each.first and row < api.nvim_win_get_height(each.window) then
+      top = 1 -- It showed the header, and goes on to.
+    end
     api.nvim_win_call(each.window, function()
       if now[1] - 1 ~= row or fn.line("w0") ~= top then
         fn.winrestview({ lnum = row + 1, col = each.column, topline = top })
@@ -829,42 +957,9 @@ function List:change(command, lines, done)
     end
     self:show_header()
   end)
-  self:ask_page()
   self.changed = true
   self:step()
   self:show_header()
-end
-
--- In a long list the hits are replaced one time for all, which takes a while. So the first ones are
--- asked for alone, and put into the first rows until then.
-function List:ask_page()
-  if self.asked or #self.files == 0 or self:total() < settings.page_from or self:has_edits() then
-    return
-  end
-  local files = vim.list_extend({}, self.files)
-  self.session:send("page 0 " .. 2 * settings.height, nil, function(reply)
-    if reply.kind == "status" and self.asked then
-      self:show_page(files, reply.blocks[1])
-    end
-  end)
-end
-
--- Puts the hits of a page into as many of the first rows.
-function List:show_page(files, block)
-  local count = math.min(block.count, api.nvim_buf_line_count(self.buffer) - 1)
-  local texts, page = {}, {}
-  for number = 1, count do
-    local file = files[block.files[number] + 1]
-    if file.closed then
-      return
-    end
-    texts[number] = row_text(block.lines[number])
-    page[number] = { file = file, place = block.places[number], parts = block.parts[number] }
-  end
-  self:put(1, 1 + count, texts)
-  self.page = page
-  self:show_header()
-  self:redraw()
 end
 
 local function nothing() end

@@ -1,16 +1,24 @@
 -- A process of the program `occur`: commands out, replies in.
 
+local settings = require("live_occur.settings")
+
 local uv = vim.uv or vim.loop
+local PIECE = 5000 -- how many hits are in one table: a larger one keeps Lua's collector busy for long
+local AHEAD = 4 -- how many such tables are read before they are taken
 local Session = {}
 Session.__index = Session
 
 -- Replies
 
 -- A reply is a table: `kind` is ok, refused or status, `text` what follows it. The reply to changes
--- has `blocks`, one for each h line, with arrays of the places, parts and lines of its hits. The
--- reply to page has `total` and one block, with the numbers of files too.
-local function new_block(words)
-  return { words = words, count = 0, files = {}, places = {}, parts = {}, lines = {} }
+-- has `blocks`, one for each h line, with pieces: each has arrays of the places, parts and lines of
+-- some hits. The reply to page has `total` and one such piece as `page`, with the numbers of files too.
+--
+-- A long reply to changes is given out before it is whole: it has no `kind` then. A block is whole
+-- when it is `done`, and a piece when there is another one after it. `waits` is called when more of
+-- the reply has come. Nothing is read while several pieces were not taken.
+local function new_piece()
+  return { count = 0, files = {}, places = {}, parts = {}, lines = {} }
 end
 
 local function numbers_of(text)
@@ -21,35 +29,72 @@ local function numbers_of(text)
   return numbers
 end
 
+-- Reads a number in a text, from `start` on, and returns the place after it. No string is made for
+-- it: in a long reply they keep Lua's collector busy.
+local function read_number(text, start)
+  local number, digit = 0, text:byte(start)
+  while digit >= 48 and digit <= 57 do
+    number, start = number * 10 + digit - 48, start + 1
+    digit = text:byte(start)
+  end
+  return number, start
+end
+
 -- Reads `place parts line`, from `start` on in a text, up to `finish`.
-local function read_hit(block, text, start, finish)
-  local place_end = text:find(" ", start, true)
+local function read_hit(piece, text, start, finish)
+  local place, place_end = read_number(text, start)
   local parts_end = text:find(" ", place_end + 1, true)
-  local count = block.count + 1
-  block.places[count] = tonumber(text:sub(start, place_end - 1))
-  block.parts[count] = text:sub(place_end + 1, parts_end - 1)
-  block.lines[count] = text:sub(parts_end + 1, finish)
-  block.count = count
+  local count = piece.count + 1
+  piece.places[count] = place
+  piece.parts[count] = text:sub(place_end + 1, parts_end - 1)
+  piece.lines[count] = text:sub(parts_end + 1, finish)
+  piece.count = count
+end
+
+-- The piece of a reply for the next hit.
+local function piece_of(reply)
+  local pieces = reply.blocks[#reply.blocks].pieces
+  local last = pieces[#pieces]
+  if not last or last.count >= math.min(PIECE, settings.slice) then
+    last = new_piece()
+    pieces[#pieces + 1] = last
+    reply.ahead = reply.ahead + 1
+  end
+  return last
+end
+
+-- Notes that the last block of a reply has all its hits.
+local function end_block(reply)
+  local last = reply.blocks[#reply.blocks]
+  if last then
+    last.done = true
+  end
+end
+
+local function new_reply()
+  return { blocks = {}, ahead = 0 }
 end
 
 -- Reads one line of a reply, and returns whether the reply ends with it.
 local function read_line(reply, text, start, finish)
   local first, second = text:byte(start, start + 1)
   if second == 32 and first == 114 then -- r
-    read_hit(reply.blocks[#reply.blocks], text, start + 2, finish)
+    read_hit(piece_of(reply), text, start + 2, finish)
   elseif second == 32 and first == 112 then -- p
-    local block = reply.blocks[1]
-    local file_end = text:find(" ", start + 2, true)
-    block.files[block.count + 1] = tonumber(text:sub(start + 2, file_end - 1))
-    read_hit(block, text, file_end + 1, finish)
+    local page = reply.page
+    local file, file_end = read_number(text, start + 2)
+    page.files[page.count + 1] = file
+    read_hit(page, text, file_end + 1, finish)
   elseif second == 32 and first == 104 then -- h
-    table.insert(reply.blocks, new_block(numbers_of(text:sub(start + 2, finish))))
+    end_block(reply)
+    table.insert(reply.blocks, { words = numbers_of(text:sub(start + 2, finish)), pieces = {} })
   else
     local kind, rest = text:sub(start, finish):match("^(%l+) ?(.*)$")
     if kind == "hits" then
       reply.total = tonumber(rest)
-      reply.blocks = { new_block({}) }
+      reply.page = new_piece()
     else
+      end_block(reply)
       reply.kind, reply.text = kind, rest
       return true
     end
@@ -80,17 +125,65 @@ function Session:read(text)
   if start <= #text then
     self.rest = { text:sub(start) }
   end
+  if #self.reply.blocks > 0 then
+    self:give(self.reply)
+  end
 end
 
--- Gives a whole reply to the function that waits for it.
+-- Gives a reply to the function that waits for it; or tells it that more has come.
+function Session:give(reply)
+  local wanted = reply.waits
+  if not reply.given then
+    reply.given, wanted = true, self.waiting[self.answered + 1]
+  end
+  reply.waits = nil
+  if wanted then
+    vim.schedule(function()
+      if not self.closed then
+        wanted(reply)
+      end
+    end)
+  end
+  if not reply.kind and not reply.all and reply.ahead > AHEAD then
+    self.stopped = true
+    self.output:read_stop()
+  end
+end
+
+-- A reply is whole.
 function Session:hand_over()
-  local reply, wanted = self.reply, self.waiting[self.answered + 1]
+  local reply = self.reply
+  self:give(reply)
   self.waiting[self.answered + 1] = nil
   self.answered = self.answered + 1
-  self.reply = { blocks = {} }
-  vim.schedule(function()
-    if not self.closed and wanted then
-      wanted(reply)
+  self.reply = new_reply()
+end
+
+-- A piece of a reply was taken.
+function Session:taken(reply)
+  reply.ahead = reply.ahead - 1
+  if reply.ahead < AHEAD then
+    self:go_on()
+  end
+end
+
+-- All of a reply is read, even if no piece is taken.
+function Session:read_all(reply)
+  reply.all = true
+  self:go_on()
+end
+
+function Session:go_on()
+  if self.stopped and not self.closed then
+    self.stopped = false
+    self:read_output()
+  end
+end
+
+function Session:read_output()
+  self.output:read_start(function(_, text)
+    if text then
+      self:read(text)
     end
   end)
 end
@@ -100,7 +193,7 @@ end
 -- Starts the program. `ended` is called with a text when it ends by itself. Returns nothing and a
 -- text where it can't be started.
 function Session.start(program, states, ended)
-  local self = setmetatable({ rest = {}, reply = { blocks = {} }, waiting = {}, sent = 0, answered = 0 }, Session)
+  local self = setmetatable({ rest = {}, reply = new_reply(), waiting = {}, sent = 0, answered = 0 }, Session)
   self.input, self.output, self.errors = uv.new_pipe(false), uv.new_pipe(false), uv.new_pipe(false)
   local said = {}
   local words = states and { "--states", tostring(states) } or {}
@@ -118,11 +211,7 @@ function Session.start(program, states, ended)
     return nil, program .. " can't be started: " .. tostring(fault)
   end
   self.pid = fault
-  self.output:read_start(function(_, text)
-    if text then
-      self:read(text)
-    end
-  end)
+  self:read_output()
   self.errors:read_start(function(_, text)
     said[#said + 1] = text
   end)

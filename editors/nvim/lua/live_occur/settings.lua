@@ -11,9 +11,9 @@ local M = {
   follow = false, -- whether the line of the row at the cursor is shown
   highlight = true, -- whether matched parts are highlighted
   max_columns = 1000, -- how many bytes of a line its row shows at most
-  slice = 20000, -- how many lines are sent at once
-  page_from = 20000, -- from how many hits on the first ones are asked for alone, where all are replaced
-  preview_lines = 20000, -- the greatest number of lines for a preview while a pattern is typed
+  edit_rows = 100000, -- the greatest number of rows that can be edited
+  slice = 10000, -- how many lines are sent at once
+  preview = true, -- whether the first hits are shown while a pattern is typed
 }
 
 return M

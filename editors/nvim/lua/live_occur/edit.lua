@@ -1,0 +1,412 @@
+-- Rows that are edited.
+--
+-- While it lasts each row is its line alone, without the margin, so that all keys of Vim work. A mark
+-- covers each row, and another one its line in the searched buffer (`marks.lua`): whatever is edited,
+-- a row is written into its own line or into none. Meanwhile the list waits: no edit is sent, and no
+-- reply is on its way.
+
+local marks = require("live_occur.marks")
+local row_texts = require("live_occur.row")
+local settings = require("live_occur.settings")
+
+local api = vim.api
+local M = { head = "rows are edited: :w writes them, :e! gives them up" }
+local SLICE = 2000 -- how many rows are made ready at once
+local NAMED = 3 -- how many rows a message names
+local SHOWN = 200 -- how many bytes of each it shows
+
+local function say(text, kind)
+  api.nvim_echo({ { "LiveOccur: " .. text, kind } }, true, {})
+end
+
+local function count_of(number, what)
+  return number .. " " .. what .. (number == 1 and " is" or "s are")
+end
+
+-- Windows
+
+-- Sets local options of a window, and returns the values that they had.
+local function set_options(window, options)
+  local before = {}
+  api.nvim_win_call(window, function()
+    for name, value in pairs(options) do
+      before[name] = api.nvim_get_option_value(name, { scope = "local" })
+      api.nvim_set_option_value(name, value, { scope = "local" })
+    end
+  end)
+  return before
+end
+
+-- Shows the numbers of rows in a window: in the place of a column for folds.
+function M.set_window(list, window)
+  local kept = list.edit.windows
+  local options = { foldcolumn = tostring(row_texts.margin), winhighlight = "FoldColumn:LiveOccurNumber" }
+  kept[window] = kept[window] or set_options(window, options)
+end
+
+local function restore_windows(kept)
+  for window, options in pairs(kept) do
+    if api.nvim_win_is_valid(window) then
+      set_options(window, options)
+    end
+  end
+end
+
+-- Moves the cursors of a list's windows to other columns.
+local function shift_cursors(list, columns)
+  for _, window in ipairs(list:windows()) do
+    local cursor = api.nvim_win_get_cursor(window)
+    api.nvim_win_set_cursor(window, { cursor[1], math.max(0, cursor[2] + columns) })
+  end
+end
+
+-- The beginning
+
+-- Makes rows ready from `first` on: their text is the line alone, and marks are put.
+local function make_ready(list, edit, first, last)
+  local shown = {}
+  for row = first, last do
+    local at, text = list:at(row), edit.texts[row + 1]
+    edit.files[row + 1] = false
+    if at and at.place then
+      local line = list:line_of(at.file, at.place)
+      local whole = api.nvim_buf_get_lines(at.file.buffer, line, line + 1, false)[1] or ""
+      text = row_texts.bare(text)
+      edit.files[row + 1], edit.cut[row + 1] = at.file, text ~= whole or nil
+      marks.pin(at.file.buffer, edit.space, row + 1, line)
+    end
+    shown[#shown + 1] = row == 0 and M.head .. "  " .. text or text
+  end
+  list:put(first, last + 1, shown)
+  for row = first, last do
+    local text = shown[row - first + 1]
+    edit.shown[row + 1] = text
+    marks.set(list.buffer, edit.space, row + 1, row, #text)
+  end
+  edit.done = last + 1
+end
+
+-- The names of buffers of which no row can be written.
+local function read_only(list)
+  local names = {}
+  for _, file in ipairs(list.files) do
+    if file.hits:count() > 0 and M.refusal(file) then
+      names[#names + 1] = list.name_of(file.buffer)
+    end
+  end
+  return names
+end
+
+local function open(list, edit)
+  local buffer = list.buffer
+  for option, value in pairs({ buftype = "acwrite", undolevels = vim.go.undolevels, modifiable = true }) do
+    vim.bo[buffer][option] = value
+  end
+  vim.bo[buffer].modified = false
+  for _, window in ipairs(list:windows()) do
+    M.set_window(list, window)
+  end
+  shift_cursors(list, -row_texts.margin)
+  edit.ready = true
+  local names = read_only(list)
+  if #names > 0 then
+    say("rows of " .. table.concat(names, ", ") .. " can't be written", "WarningMsg")
+  end
+end
+
+-- Makes the next rows ready, and all others after it. Where something is edited meanwhile it begins
+-- again as soon as the list is right.
+local function go_on(list, edit)
+  if list.edit ~= edit or list.closed then
+    return
+  elseif list:has_edits() then
+    M.finish(list, edit.texts)
+    list.edit_wanted = true
+    return list:step()
+  end
+  make_ready(list, edit, edit.done, math.min(edit.done + SLICE, #edit.texts) - 1)
+  if edit.done == #edit.texts then
+    return open(list, edit)
+  end
+  vim.defer_fn(function()
+    go_on(list, edit)
+  end, 1)
+end
+
+-- Begins an edit, if one is wanted and the list is right.
+function M.start(list)
+  if not list.edit_wanted or list.edit or list.closed or not list:settled() then
+    return
+  end
+  list.edit_wanted = false
+  if list:total() == 0 then
+    return say("there is no row")
+  end
+  local edit = { files = {}, cut = {}, shown = {}, lost = {}, clean = {}, windows = {}, done = 0 }
+  edit.texts = api.nvim_buf_get_lines(list.buffer, 0, -1, false)
+  edit.space = api.nvim_create_namespace("live_occur_rows_" .. list.buffer)
+  list.edit = edit
+  require("live_occur.keys").unset(list)
+  go_on(list, edit)
+end
+
+-- The key: begins an edit as soon as the list is right.
+function M.begin(list)
+  local rows = api.nvim_buf_line_count(list.buffer) - 1
+  if list.ended then
+    return say("the list isn't kept right; r starts the program again", "ErrorMsg")
+  elseif rows > settings.edit_rows then
+    return say(("there are %d rows, and at most %d can be edited"):format(rows, settings.edit_rows), "ErrorMsg")
+  end
+  list.edit_wanted = true
+  list:step()
+  M.start(list)
+end
+
+-- The end
+
+-- Ends an edit: these are the rows from now on, and the list goes on.
+function M.finish(list, texts)
+  local edit = list.edit
+  local windows = list:keep_windows()
+  list.edit = nil
+  for option, value in pairs({ buftype = "nofile", undolevels = -1 }) do
+    vim.bo[list.buffer][option] = value
+  end
+  list:put(0, -1, texts)
+  marks.clear(list.buffer, edit.space)
+  for _, file in ipairs(list.files) do
+    marks.clear(file.buffer, edit.space)
+  end
+  list:restore_windows(windows)
+  if edit.ready then
+    shift_cursors(list, row_texts.margin)
+  end
+  require("live_occur.keys").set(list)
+  restore_windows(edit.windows)
+  list.shown_header = nil
+  list:go_on()
+end
+
+function M.give_up(list)
+  M.finish(list, list.edit.texts)
+  say("the rows are as they were")
+end
+
+-- Writing
+
+-- Why rows of a file can't be written, or nil.
+function M.refusal(file)
+  local buffer = file.buffer
+  if not api.nvim_buf_is_valid(buffer) or not api.nvim_buf_is_loaded(buffer) then
+    return "isn't loaded"
+  elseif not vim.bo[buffer].modifiable or vim.bo[buffer].readonly then
+    return "is read-only"
+  end
+end
+
+-- What was edited: `changes` are the numbers of the rows that differ, with their texts; the others are
+-- counts of rows that are left alone.
+local function compare(list, edit)
+  local texts = api.nvim_buf_get_lines(list.buffer, 0, -1, false)
+  local found = marks.survey(list.buffer, edit.space, texts)
+  local result = { changes = {}, heads = 0, gone = 0, mixed = 0, added = 0 }
+  local known = 0
+  for number, shown in ipairs(edit.shown) do
+    local row, span = found.lines[number], found.span[number]
+    local same = row and texts[row + 1] == shown
+    if span then
+      same = texts[span[1] + 1] == shown or texts[span[2] + 1] == shown
+    elseif shown == "" and found.gone[number] then
+      same = texts[found.gone[number] + 1] == ""
+    end
+    known = known + ((row or same) and 1 or 0)
+    local kind = found.gone[number] and "gone" or "mixed"
+    if row and not same and edit.files[number] then
+      table.insert(result.changes, { number = number, text = texts[row + 1] })
+    elseif not same and not edit.files[number] then
+      result.heads = result.heads + 1
+    elseif not same then
+      result[kind] = result[kind] + 1
+    end
+  end
+  result.added = result.mixed == 0 and math.max(0, #texts - known - result.heads) or 0
+  return result
+end
+
+-- The first place where two texts differ, and how many bytes after it differ in each; by whole
+-- characters.
+local function difference(old, new)
+  local start, shorter = 0, math.min(#old, #new)
+  while start < shorter and old:byte(start + 1) == new:byte(start + 1) do
+    start = start + 1
+  end
+  start = row_texts.whole(old, start)
+  local rest = 0
+  while rest < shorter - start and old:byte(#old - rest) == new:byte(#new - rest) do
+    rest = rest + 1
+  end
+  while rest > 0 and row_texts.whole(old, #old - rest) ~= #old - rest do
+    rest = rest - 1
+  end
+  return start, #old - rest, #new - rest
+end
+
+-- Writes rows into the lines of a file's buffer, as one step of undo. Returns how many were written;
+-- others are added to `left`.
+local function write_lines(list, edit, file, changes, left)
+  local written = 0
+  vim.cmd("let &l:undolevels = &l:undolevels") -- What was edited before is a step of its own.
+  for _, change in ipairs(changes) do
+    local line = marks.line(file.buffer, edit.space, change.number)
+    local old = line and api.nvim_buf_get_lines(file.buffer, line, line + 1, false)[1]
+    if line and old == edit.shown[change.number] then
+      local start, old_end, new_end = difference(old, change.text)
+      api.nvim_buf_set_text(file.buffer, line, start, line, old_end, { change.text:sub(start + 1, new_end) })
+      edit.texts[change.number] = row_texts.text(change.text)
+      written = written + 1
+    else
+      table.insert(left, M.named(list, edit, change, "changed meanwhile"))
+    end
+  end
+  vim.cmd("let &l:undolevels = &l:undolevels")
+  return written
+end
+
+-- A row that is left alone, with the reason, and with the text that was typed.
+function M.named(list, edit, change, reason)
+  local file = edit.files[change.number]
+  local buffer = file.buffer
+  local place = api.nvim_buf_is_valid(buffer) and api.nvim_buf_get_extmark_by_id(buffer, edit.space, change.number, {})
+  local line = place and place[1] and ":" .. place[1] + 1 or ""
+  local text = edit.cut[change.number] and "" or vim.trim(change.text)
+  if #text > SHOWN then
+    text = text:sub(1, row_texts.whole(text, SHOWN)) .. "…"
+  end
+  return list.name_of(buffer) .. line .. " " .. reason .. (text == "" and "" or ": " .. text)
+end
+
+-- Saves a buffer's file. Returns whether it did, and a fault.
+local function save(buffer)
+  local ran, fault = pcall(api.nvim_buf_call, buffer, function()
+    vim.cmd("silent keepalt lockmarks write")
+  end)
+  return ran and not vim.bo[buffer].modified, fault
+end
+
+-- Whether another program changed the file of a buffer, which Vim would ask about. Where 'autoread' is
+-- on the buffer is loaded anew by this.
+local function changed_outside(buffer)
+  local changed = false
+  local watch = api.nvim_create_autocmd("FileChangedShell", {
+    buffer = buffer,
+    callback = function()
+      changed, vim.v.fcs_choice = true, ""
+    end,
+  })
+  pcall(vim.cmd, "silent checktime " .. buffer)
+  api.nvim_del_autocmd(watch)
+  return changed
+end
+
+-- Notes which files can be saved: those of buffers without other changes.
+local function note_clean(edit, changes)
+  for _, change in ipairs(changes) do
+    local file = edit.files[change.number]
+    local buffer = file.buffer
+    if edit.clean[file] == nil then
+      local loaded = api.nvim_buf_is_loaded(buffer)
+      local has_file = loaded and vim.bo[buffer].buftype == "" and api.nvim_buf_get_name(buffer) ~= ""
+      edit.clean[file] = has_file and not vim.bo[buffer].modified and not changed_outside(buffer)
+    end
+  end
+end
+
+-- The changes of each file that can be written; others are added to `left`.
+local function by_file(list, edit, changes, left)
+  local of_files, refused = {}, {}
+  for _, change in ipairs(changes) do
+    local file = edit.files[change.number]
+    if refused[file] == nil then
+      refused[file] = edit.lost[file] or M.refusal(file) or false
+    end
+    local reason = edit.cut[change.number] and "is shortened" or refused[file]
+    if reason then
+      table.insert(left, M.named(list, edit, change, reason))
+    else
+      of_files[file] = of_files[file] or {}
+      table.insert(of_files[file], change)
+    end
+  end
+  return of_files
+end
+
+-- Writes the rows of one file, and saves it, if it had no other changes.
+local function write_file(list, edit, file, changes, result)
+  local buffer, written = file.buffer, 0
+  api.nvim_buf_call(buffer, function()
+    written = write_lines(list, edit, file, changes, result.left)
+  end)
+  result.written = result.written + written
+  if written == 0 then
+    return
+  end
+  local saved, fault = false, nil
+  if edit.clean[file] then
+    saved, fault = save(buffer)
+  end
+  table.insert(saved and result.saved or result.modified, list.name_of(buffer))
+  if fault then
+    table.insert(result.left, (tostring(fault):gsub("^.-(E%d+:)", "%1")))
+  end
+end
+
+-- The message after a write.
+local function report(result, compared)
+  local parts = { count_of(result.written, "row") .. " written" }
+  local function add(kind, names)
+    if #names > 0 then
+      parts[#parts + 1] = kind .. ": " .. table.concat(names, ", ")
+    end
+  end
+  local function add_count(number, what, rest)
+    if number > 0 then
+      parts[#parts + 1] = count_of(number, what) .. " " .. rest
+    end
+  end
+  add("saved", result.saved)
+  add("left modified", result.modified)
+  add_count(compared.gone, "row", "deleted, and left in the buffer")
+  add_count(compared.mixed, "row", "joined, split or moved, and left alone")
+  add_count(compared.added, "row", "added, and ignored")
+  if result.written == 0 then -- Else a command for all rows met them, too.
+    add_count(compared.heads, "head", "edited, and left alone")
+  end
+  local shown = vim.list_slice(result.left, 1, NAMED)
+  if #result.left > NAMED then
+    shown[#shown + 1] = ("%d more"):format(#result.left - NAMED)
+  end
+  add(#result.left .. " left alone", shown)
+  say(table.concat(parts, "; "), #parts > 1 + (#result.saved > 0 and 1 or 0) and "WarningMsg" or nil)
+end
+
+-- :w, which has no other name.
+function M.write(list, name)
+  local edit = list.edit
+  if not edit or name ~= api.nvim_buf_get_name(list.buffer) then
+    return say(":w takes no name here", "ErrorMsg")
+  end
+  local compared = compare(list, edit)
+  note_clean(edit, compared.changes)
+  local result = { written = 0, saved = {}, modified = {}, left = {} }
+  local of_files = by_file(list, edit, compared.changes, result.left)
+  for _, file in ipairs(list.files) do
+    if of_files[file] then
+      write_file(list, edit, file, of_files[file], result)
+    end
+  end
+  M.finish(list, edit.texts)
+  report(result, compared)
+end
+
+return M

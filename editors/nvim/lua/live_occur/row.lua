@@ -1,0 +1,64 @@
+-- The text of a row: a margin, over which its number is drawn, and its line, or a part of that.
+
+local settings = require("live_occur.settings")
+
+local MARGIN = string.rep(" ", 8)
+local CUT = "…" -- what a row has in place of the bytes that are cut off
+local LEAD = 40 -- how many bytes before its first match a row has, if its line's beginning is cut off
+
+local M = { margin = #MARGIN }
+
+-- A place in a line, or one before it, where a character begins.
+function M.whole(line, place)
+  for back = 0, math.min(3, place) do
+    local byte = line:byte(place - back + 1)
+    if not byte or byte < 128 or byte >= 192 then
+      return place - back
+    end
+  end
+  return place
+end
+
+-- How many bytes of a long line are cut off before its first match.
+local function start_of(line, parts, most)
+  local first, last = parts:match("(%d+)%-(%d+)")
+  if not first or tonumber(last) <= most then
+    return 0
+  end
+  return M.whole(line, math.max(0, tonumber(first) - math.min(LEAD, math.floor(most / 4))))
+end
+
+-- The text of a row for a line with these parts, and how many bytes are cut off before it.
+function M.text(line, parts)
+  local most = settings.max_columns
+  if #line <= most then
+    return MARGIN .. line, 0
+  end
+  local start = start_of(line, parts or "", most)
+  local finish = start + most < #line and M.whole(line, start + most) or #line
+  local text = line:sub(start + 1, finish)
+  return MARGIN .. (start > 0 and CUT or "") .. text .. (finish < #line and CUT or ""), start
+end
+
+-- The parts of a row, as they are kept: before them is what is cut off, if that is more than none.
+function M.kept_parts(parts, start)
+  return start > 0 and "@" .. start .. " " .. parts or parts
+end
+
+-- How many columns a part of a row is further right than in its line.
+function M.shift(parts)
+  local start = parts:match("^@(%d+) ")
+  return #MARGIN + (start and #CUT - tonumber(start) or 0)
+end
+
+-- The column in its line, from 0, of a row's first part.
+function M.column(parts)
+  return tonumber(parts:match("(%d+)%-")) or 0
+end
+
+-- The text of a row without its margin.
+function M.bare(text)
+  return text:sub(#MARGIN + 1)
+end
+
+return M
