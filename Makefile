@@ -15,7 +15,8 @@
 # make evidence   writes docs/EVIDENCE.md: the newest run of each of the targets above
 # make install    copies the programs and their manual pages below $(DESTDIR)$(PREFIX), the Emacs client to
 #                 $(DESTDIR)$(SITE_LISP) and the Neovim client to $(DESTDIR)$(NVIM_SITE), if SITE_LISP and NVIM_SITE
-#                 name folders; another grep that is there is kept, unless FORCE=1 is given
+#                 name folders; EMACS compiles its client, where it is there; another grep that is there is kept,
+#                 unless FORCE=1 is given
 # make dist       packs the programs, their pages and the clients into an archive in build/
 # make clean      removes what make built; what rt keeps of its proofs is kept
 
@@ -98,8 +99,7 @@ install: build/grep build/occur
 	install -m 755 build/occur "$(DESTDIR)$(PREFIX)/bin/occur"
 	install -m 644 man/grep.1 "$(DESTDIR)$(PREFIX)/share/man/man1/grep.1"
 	install -m 644 man/occur.1 "$(DESTDIR)$(PREFIX)/share/man/man1/occur.1"
-	if test -n "$(SITE_LISP)"; then \
-	    install -d "$(DESTDIR)$(SITE_LISP)" && install -m 644 editors/emacs/live-occur.el "$(DESTDIR)$(SITE_LISP)/"; fi
+	if test -n "$(SITE_LISP)"; then editors/emacs/install.sh "$(EMACS)" "$(DESTDIR)$(SITE_LISP)"; fi
 	if test -n "$(NVIM_SITE)"; then cd editors/nvim && for folder in plugin doc lua/live_occur; do \
 	    install -d "$(DESTDIR)$(NVIM_SITE)/$$folder" && \
 	    install -m 644 $$folder/*.* "$(DESTDIR)$(NVIM_SITE)/$$folder/" || exit; done; fi

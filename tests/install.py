@@ -140,11 +140,39 @@ def same_grep(bench: Bench) -> Verdict:
 @grep_case("`make install` copies the clients of editors below DESTDIR, to the folders that are named.")
 def clients(bench: Bench) -> Verdict:
     folders = {"SITE_LISP": bench.folder / "lisp", "NVIM_SITE": bench.folder / "nvim"}
-    status = install(bench, f"DESTDIR={bench.folder / 'stage'}",
+    status = install(bench, f"DESTDIR={bench.folder / 'stage'}", "EMACS=no-such-emacs",
                      *(f"{name}={folder}" for name, folder in folders.items()))
     lisp, nvim = (files_in(bench.folder / "stage" / folder.relative_to("/")) for folder in folders.values())
     wanted = Answer("\n".join(["live-occur.el", *NVIM_CLIENT]).encode())
     return Verdict(wanted, Answer(lisp + b"\n" + nvim, b"", status))
+
+
+STARTED = """(progn (load "live-occur-autoloads") (princ (symbol-function 'live-occur-isearch))
+                      (require 'live-occur) (princ (byte-code-function-p (symbol-function 'live-occur))))"""
+"""What an Emacs does with an installed client: it writes what the client is before and after it is loaded."""
+
+
+@grep_case("`make install` compiles the Emacs client, and writes what loads it when it is used.")
+def compiled(bench: Bench) -> Verdict:
+    emacs = shutil.which("emacs")
+    if not emacs:
+        raise Skipped("no emacs")
+    lisp = bench.folder / "lisp"
+    status = install(bench, f"SITE_LISP={lisp}")
+    ran = subprocess.run([emacs, "-Q", "--batch", "-L", lisp, "--eval", STARTED], timeout=SECONDS,
+                         stdin=subprocess.DEVNULL, capture_output=True, check=False)
+    names = files_in(lisp)
+    wanted = b"live-occur-autoloads.el\nlive-occur.el\nlive-occur.elc"
+    loads = ran.stdout.startswith(b"(autoload live-occur ") and ran.stdout.endswith(b"t")
+    return Verdict(Answer(wanted + b"\nTrue"), Answer(names + f"\n{loads}".encode(), b"", status))
+
+
+@grep_case("`make install` without an Emacs leaves no Emacs client that another one compiled.")
+def not_compiled(bench: Bench) -> Verdict:
+    for name in ("live-occur.elc", "live-occur-autoloads.el"):
+        bench.write(f"lisp/{name}", b"old")
+    status = install(bench, f"SITE_LISP={bench.folder / 'lisp'}", "EMACS=no-such-emacs")
+    return Verdict(Answer(b"live-occur.el"), Answer(files_in(bench.folder / "lisp"), b"", status))
 
 
 @grep_case("`make dist` packs both programs, their pages, the clients of editors, the licences and a README.")

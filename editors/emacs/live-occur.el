@@ -4,18 +4,19 @@
 
 ;; Author: The Gaxtrel authors
 ;; URL: https://gaxtrel.example/
-;; Version: 0.1.0
+;; Version: 0.9.0
 ;; Package-Requires: ((emacs "28.1"))
 ;; Keywords: matching, tools, convenience
 ;; SPDX-License-Identifier: MIT OR Apache-2.0
 
 ;;; Commentary:
 
-;; `live-occur' lists the lines of the current buffer that match a pattern, as
-;; `occur' does, while the pattern is typed; other commands take the buffers
-;; of a project, of a mode, or with a name, marked files of Dired, and what
-;; isearch looks for.  The list is kept right while the buffers are edited, and
-;; its rows can be edited themselves.  C-h m in it describes the keys.
+;; `live-occur' lists the lines of the current buffer, or of its region, that
+;; match a pattern, as `occur' does, while the pattern is typed; other commands
+;; take the buffers of a project, of a mode, or with a name, marked files of
+;; Dired, and what isearch looks for.  The list is kept right while the buffers
+;; are edited, and its rows can be edited themselves.  C-h m in it describes the
+;; keys.
 ;;
 ;; What matches is decided by the program `occur' of Gaxtrel, one process a
 ;; list: it is sent the lines that a change touched, and answers what changed
@@ -62,6 +63,13 @@ In a list it has the flags that are on."
               (const :tag "v: list the lines that are not matched" ?v)
               (const :tag "x: match whole lines alone" ?x)))
 
+(defcustom live-occur-smart-case nil
+  "Whether both cases match unless a pattern has an upper-case letter.
+Flag i follows the patterns then.  A letter after a backslash isn't counted,
+unless the patterns are fixed strings.  In a list it has the value that is in
+force there, and to turn flag i on or off by hand ends it."
+  :type 'boolean)
+
 (defcustom live-occur-context nil
   "How many lines a list shows around each that matches, when it begins.
 In a list it has how many are shown now."
@@ -76,6 +84,13 @@ In a list it has how many are shown now."
   "Seconds after which the list follows a pattern that is typed.
 It is nil for lists that wait until the pattern is entered."
   :type '(choice (const :tag "Wait for RET" nil) number))
+
+(defcustom live-occur-preview t
+  "Whether the first hit after point is shown while a pattern is typed.
+\\<live-occur-preview-map>\\[live-occur-preview-next] and \
+\\[live-occur-preview-previous] show others.  RET goes to the one that is
+shown, and leaves the mark where point was."
+  :type 'boolean)
 
 (defcustom live-occur-idle-rows 10000
   "How many rows of a list are made while Emacs is idle, at most.
@@ -96,6 +111,12 @@ The whole line is searched."
 (defface live-occur-match '((t :inherit match))
   "Face for the matched parts of a row.")
 
+(defface live-occur-changed '((t :inherit warning))
+  "Face for name and number of a row whose line was changed and isn't saved.")
+
+(defface live-occur-preview '((t :inherit highlight))
+  "Face for the hit that is shown while a pattern is typed, and for its row.")
+
 (defface live-occur-fault '((t :inherit error :underline t))
   "Face for the place at which a pattern is refused.")
 
@@ -109,16 +130,33 @@ The whole line is searched."
 (defvar-local live-occur--fault nil "What made this list wrong, or nil.")
 (defvar-local live-occur--sources nil "The sources, in their order.")
 (defvar-local live-occur--patterns nil "The patterns, in their order.")
-(defvar-local live-occur--asked nil
-  "Whether changes of hits are on their way; `again' to ask for more then.")
-(defvar-local live-occur--came nil "Changes of hits that are not applied yet.")
+(defvar-local live-occur--asked nil "Whether changes of hits are on their way.")
+(defvar-local live-occur--due nil "Whether to ask for changes of hits.")
+(defvar-local live-occur--slice nil
+  "What is being sent: see `live-occur--send-next'.")
+(defvar-local live-occur--more nil "Whether more lines are to be searched.")
+(defvar-local live-occur--held nil "Whether the list gets no other rows now.")
+(defvar-local live-occur--kept nil
+  "Whether rows stay until a program that was started again has reported all.")
+(defvar-local live-occur--own-settings nil
+  "The `live-occur--settings' before isearch gave this list others, or nil.")
 (defvar-local live-occur--trying nil
   "Whether patterns wait for a reply, or what is wanted after that.")
 (defvar-local live-occur--previewing nil "Whether a pattern is being typed.")
+(defvar-local live-occur--preview nil
+  "The `live-occur--preview' while a pattern is typed, or nil.")
+(defvar-local live-occur--looking nil
+  "The patterns of the last look for a hit, and whether it goes on: a pair.
+Each look has another one.")
+(defvar-local live-occur--wanted nil
+  "The hit to whose row point goes when the hits have come, or nil.")
 (defvar-local live-occur--page nil
   "Where the hits are not shown, how many to tell of, and where to go back to.")
 (defvar-local live-occur--made 0 "How many rows were made while idle.")
 (defvar-local live-occur--idle-timer nil "The timer that looks for edits.")
+(defvar-local live-occur--touched nil "The buffers that rows have changed.")
+(defvar-local live-occur--edited nil
+  "The lines that this edit of rows has changed, the last one first.")
 (defvar-local live-occur--timer nil "The timer that does so once, or nil.")
 
 (defvar live-occur--sending nil "Whether edits are being sent.")
@@ -130,9 +168,11 @@ The whole line is searched."
   `(when (buffer-live-p ,buffer)
      (with-current-buffer ,buffer ,@body)))
 
-(defun live-occur--text-after-point ()
-  "The text from point to the end of the line."
-  (buffer-substring-no-properties (point) (line-end-position)))
+(defun live-occur--text-after-point (&optional most)
+  "The text from point to the end of the line, at most MOST characters of it."
+  (let ((end (line-end-position)))
+    (buffer-substring-no-properties
+     (point) (if most (min end (+ (point) most)) end))))
 
 (defun live-occur--look-later (list seconds)
   "Look at LIST in SECONDS, if Emacs is idle and no other timer does."
@@ -144,8 +184,17 @@ The whole line is searched."
 ;;;; A program and its replies
 
 ;; Commands are answered in their order, so it suffices to keep what waits
-;; for a reply in a queue.  It is the property `waiting' of the process.  What
-;; the program says to its standard error follows its last reply.
+;; for a reply in a queue.  It is the property `waiting' of the process: pairs
+;; of a length and a function.  What the program says to its standard error
+;; follows its last reply.
+;;
+;; Where a pipe is full Emacs sleeps, and far too long.  So commands on their
+;; way have few bytes in all, and others stay in the property `unsent'.  A long
+;; one goes alone and in parts: each when the program sleeps, since it has read
+;; all then.
+
+(defconst live-occur--flight 45000
+  "How many bytes are on their way to a program at most.")
 
 (defun live-occur--end ()
   "End the program of this list, if there is one."
@@ -156,38 +205,123 @@ The whole line is searched."
 
 (defun live-occur--send (text function)
   "Send the command TEXT, and call FUNCTION in this list with the reply.
-FUNCTION gets the last line of the reply, and the lines before it as bytes.
+FUNCTION gets the last line of the reply, and the blocks before it: each is a
+list of a line that says what comes, and of the rows in `live-occur--piece's.
 A program that has ended gives no reply, and one that can't be written to is
 ended; its sentinel reports either."
-  (cl-callf append (process-get live-occur--process 'waiting) (list function))
+  (let ((inhibit-quit t))
+    (cl-callf append (process-get live-occur--process 'unsent)
+      (list (cons text function)))
+    (live-occur--write live-occur--process)))
+
+(defun live-occur--write (process)
+  "Send PROCESS what waits to be sent, as far as it fits."
+  (while (and (process-get process 'unsent)
+              (not (process-get process 'rest))
+              (live-occur--fits-p
+               process (length (caar (process-get process 'unsent)))))
+    (pcase-let ((`(,text . ,function) (pop (process-get process 'unsent))))
+      (cl-callf append (process-get process 'waiting)
+        (list (cons (length text) function)))
+      (if (length< text (1+ live-occur--flight))
+          (live-occur--write-text process text)
+        (process-put process 'rest (cons text 0))
+        ;; A timer that begins in another one would wait for a redisplay.
+        (process-put process 'timer
+                     (run-with-timer 0 0.002 #'live-occur--write-part
+                                     process))))))
+
+(defun live-occur--fits-p (process length)
+  "Whether a command of LENGTH bytes more may be on its way to PROCESS."
+  (let ((waiting (process-get process 'waiting)))
+    (and (process-live-p process)
+         (or (null waiting)
+             (and (length< waiting 50)
+                  (<= (+ length (cl-loop for (sent . _) in waiting sum sent))
+                      live-occur--flight))))))
+
+(defun live-occur--write-text (process text)
+  "Write TEXT to PROCESS."
   (condition-case nil
-      (process-send-string live-occur--process text)
-    (error (when (process-live-p live-occur--process)
-             (delete-process live-occur--process)))))
+      (process-send-string process (live-occur--bytes text))
+    (error (when (process-live-p process)
+             (delete-process process)))))
+
+(defun live-occur--write-part (process)
+  "Send PROCESS the next part of a long command, if it sleeps.
+Where the system doesn't tell, it has slept since the part before."
+  (pcase-let* ((`(,text . ,start) (process-get process 'rest))
+               (most (/ live-occur--flight
+                        (if (= (length text) (string-bytes text)) 1 4)))
+               (end (min (length text) (+ start most))))
+    (when (member (alist-get 'state (process-attributes (process-id process)))
+                  '(nil "S" "I"))
+      (process-put process 'rest (and (length> text end) (cons text end)))
+      (live-occur--write-text process (substring text start end)))
+    (unless (and (process-get process 'rest) (process-live-p process))
+      (cancel-timer (process-get process 'timer))
+      (process-put process 'rest nil)
+      (live-occur--write process))))
+
+;; A long reply is taken in pieces while it comes.
+
+(defvar-local live-occur--blocks nil
+  "The blocks of the reply that is coming, and their rows, the last first.")
+(defvar-local live-occur--rows-left 0 "How many rows of the block are to come.")
+(defvar-local live-occur--lines-here 0 "How many lines are before point.")
 
 (defun live-occur--read (process text)
   "Take TEXT from PROCESS, and hand out the replies in it.
-A reply of several lines begins with h or hits, and ends in the line of its
-status.  None ends before point.  What takes a reply may send more, and so get
-here again: the reply is taken out of the buffer before."
+What takes a reply may send more, and so get here again: the reply is taken out
+of the buffer before."
   (let ((output (process-buffer process)))
     (live-occur--in output
       (save-excursion (goto-char (point-max)) (insert text))
-      (while (and (buffer-live-p output)
-                  (save-excursion
-                    (goto-char (point-min))
-                    (looking-at "\\(h\\)\\|ok\\|refused\\|status"))
-                  (or (not (match-beginning 1))
-                      (search-forward "\nstatus " nil t))
-                  (search-forward "\n" nil t))
-        (let* ((last (line-beginning-position 0))
-               (reply (buffer-substring last (1- (point))))
-               (rows (buffer-substring (point-min) last)))
-          (delete-region (point-min) (point))
-          (with-current-buffer (process-get process 'list)
-            (funcall (pop (process-get process 'waiting)) reply rows))))
-      (when (buffer-live-p output)
-        (goto-char (max (point-min) (- (point-max) (length "\nstatus 0"))))))))
+      (while (and (buffer-live-p output) (live-occur--take process)))
+      (live-occur--in (process-get process 'list)
+        (live-occur--write process)
+        (live-occur--step)))))
+
+(defun live-occur--take (process)
+  "Take some rows or one line out of this buffer, the output of PROCESS.
+Answer whether they were there.  What is no part of a reply stays."
+  (let ((count (max 1 (min 500 live-occur--rows-left))))
+    (when (and (live-occur--came-p count)
+               (save-excursion
+                 (goto-char (point-min))
+                 (looking-at-p "[rp] \\|h\\|ok$\\|refused\\|status")))
+      (let ((text (buffer-substring (point-min) (point)))
+            (last (progn (forward-line -1) (- (point) (point-min)))))
+        (delete-region (point-min) (+ (point-min) (length text)))
+        (setq live-occur--lines-here 0)
+        (cond ((eq (aref text 0) ?h)
+               (push (list text) live-occur--blocks)
+               (let ((count (nth 5 (split-string text " "))))
+                 (setq live-occur--rows-left (string-to-number (or count "")))))
+              ((eq (aref text 1) ?\s)
+               (cl-callf - live-occur--rows-left count)
+               (push (live-occur--piece text count
+                                        (live-occur--place-in text last) 0)
+                     (cdar live-occur--blocks)))
+              (t (live-occur--hand-out process (substring text 0 -1)))))
+      t)))
+
+(defun live-occur--came-p (count)
+  "Whether COUNT lines are in this buffer.
+Point moves to their end, or to where to look for it later."
+  (let* ((start (point))
+         (wanted (- count live-occur--lines-here))
+         (short (forward-line wanted))
+         (begun (if (and (> (point) start) (not (bolp))) 1 0)))
+    (= count (cl-incf live-occur--lines-here (- wanted short begun)))))
+
+(defun live-occur--hand-out (process reply)
+  "Give REPLY of PROCESS, with the blocks before it, to what waits for it."
+  (let ((blocks (nreverse (cl-shiftf live-occur--blocks nil))))
+    (dolist (block blocks)
+      (setcdr block (nreverse (cdr block))))
+    (live-occur--in (process-get process 'list)
+      (funcall (cdr (pop (process-get process 'waiting))) reply blocks))))
 
 (defun live-occur--ended (process _event)
   "Report in the list of PROCESS that it has ended, if it has."
@@ -238,7 +372,9 @@ here again: the reply is taken out of the buffer before."
   (let ((default-directory temporary-file-directory)
         (process-adaptive-read-buffering nil)
         (output (generate-new-buffer " *live-occur replies*" t)))
-    (with-current-buffer output (set-buffer-multibyte nil))
+    (with-current-buffer output
+      (set-buffer-multibyte nil)
+      (setq-local cache-long-scans nil))
     (setq live-occur--process
           (make-process
            :name "live-occur" :buffer output :noquery t
@@ -248,8 +384,9 @@ here again: the reply is taken out of the buffer before."
                              (list "--states" (format "%d" live-occur-states))))
            :filter #'live-occur--read :sentinel #'live-occur--ended)))
   (process-put live-occur--process 'list (current-buffer))
-  (setq live-occur--fault nil live-occur--asked nil live-occur--came nil
-        live-occur--trying nil)
+  (setq live-occur--fault nil live-occur--asked nil live-occur--due nil
+        live-occur--slice nil live-occur--more nil live-occur--trying nil
+        live-occur-flags (live-occur--flags-for live-occur--patterns))
   (live-occur--order (format "syntax %s\n" live-occur-syntax))
   (dolist (letter (cons ?o live-occur-flags))
     (live-occur--order (format "flag %c on\n" letter)))
@@ -258,8 +395,12 @@ here again: the reply is taken out of the buffer before."
   (mapc #'live-occur--open live-occur--sources))
 
 (defun live-occur--command (words count lines)
-  "A command of WORDS with COUNT lines that are in the text LINES."
-  (concat (format "%s %d\n" words count) (live-occur--bytes lines)
+  "A command of WORDS with COUNT lines that are in the text LINES.
+It is bytes, or still a text where it is long."
+  (concat (format "%s %d\n" words count)
+          (if (length> lines live-occur--flight)
+              lines
+            (live-occur--bytes lines))
           (if (or (= count 0) (string-suffix-p "\n" lines)) "" "\n")))
 
 (defun live-occur--patterns-command (patterns)
@@ -277,21 +418,196 @@ here again: the reply is taken out of the buffer before."
   "The text that BYTES are, for people to read."
   (decode-coding-string bytes 'utf-8-emacs-unix t))
 
+;;;; Hunks
+
+;; A hunk is a list of where it begins now, how many lines there were, and how
+;; many there are.  Hunks are in order, with lines between them that did not
+;; change.  Those before the last one noted are kept in a list, the last one
+;; first, and those after it in another: so a note near the one before costs
+;; little.
+
+(cl-defstruct (live-occur--hunks
+               (:constructor live-occur--hunks (gap &optional most))
+               (:copier nil))
+  "Where a text differs from an older one."
+  before after
+  (shift 0)                             ; what to add to where those after begin
+  (number 0)                            ; how many hunks there are
+  gap                         ; more lines than this are between two hunks
+  most                                  ; with more hunks it becomes greater
+  index)                                ; a vector of them, or nil
+
+(defun live-occur--note (hunks start old new)
+  "Note in HUNKS that NEW lines came in the place of OLD ones at START."
+  (live-occur--move-gap hunks start (+ start old))
+  (let ((gap (live-occur--hunks-gap hunks))
+        (shift (live-occur--hunks-shift hunks))
+        (low start) (high (+ start old)) (more 0))
+    (cl-flet ((join (at was is)
+                (setq low (min low at)
+                      high (max high (+ at is))
+                      more (+ more (- was is)))
+                (cl-decf (live-occur--hunks-number hunks))))
+      (while (pcase (car (live-occur--hunks-before hunks))
+               ((and `(,at ,was ,is) (guard (<= (- low at is) gap)))
+                (pop (live-occur--hunks-before hunks))
+                (join at was is))))
+      (while (pcase (car (live-occur--hunks-after hunks))
+               ((and `(,at ,was ,is) (guard (<= (- (+ at shift) high) gap)))
+                (pop (live-occur--hunks-after hunks))
+                (join (+ at shift) was is)))))
+    (push (list low (+ (- high low) more) (+ (- high low) (- new old)))
+          (live-occur--hunks-before hunks))
+    (cl-incf (live-occur--hunks-shift hunks) (- new old))
+    (setf (live-occur--hunks-index hunks) nil)
+    (when (and (> (cl-incf (live-occur--hunks-number hunks))
+                  (or (live-occur--hunks-most hunks) most-positive-fixnum)))
+      (live-occur--widen hunks))))
+
+(defun live-occur--widen (hunks)
+  "Let more lines be between HUNKS, and so fewer of them."
+  (let ((all (live-occur--in-order hunks)))
+    (setf (live-occur--hunks-after hunks) nil
+          (live-occur--hunks-number hunks) 0)
+    (cl-callf * (live-occur--hunks-gap hunks) 4)
+    (dolist (hunk all)
+      (apply #'live-occur--note hunks hunk))))
+
+(defun live-occur--in-order (hunks)
+  "All of HUNKS in a list."
+  (pcase-let (((cl-struct live-occur--hunks before after shift) hunks))
+    (unless (and (null before) (= shift 0))
+      (setf (live-occur--hunks-before hunks) nil
+            (live-occur--hunks-shift hunks) 0
+            (live-occur--hunks-after hunks)
+            (append (reverse before)
+                    (cl-loop for (at . counts) in after
+                             collect `(,(+ at shift) . ,counts)))))
+    (live-occur--hunks-after hunks)))
+
+(defun live-occur--cut-first (hunks new old)
+  "Take NEW lines of the first of HUNKS out of it, and OLD ones."
+  (pcase-let ((`((,at ,was ,is) . ,others) (live-occur--in-order hunks)))
+    (unless (and (= was old) (= is new))
+      (push (list (+ at new) (- was old) (- is new)) others))
+    (setf (live-occur--hunks-after hunks) others
+          (live-occur--hunks-number hunks) (length others))))
+
+(defun live-occur--split (hunks new old)
+  "Let HUNKS say how lines moved since those before line NEW were sent.
+They are in the place of those before line OLD.  Answer the hunks that say how
+lines moved by that, in a list."
+  (let ((tail (live-occur--in-order hunks)) (shift 0) head next)
+    (while (pcase tail
+             (`((,at ,was ,is) . ,_)
+              (when (and (<= (+ at is) new) (<= (+ (- at shift) was) old))
+                (push (pop tail) head)
+                (cl-incf shift (- is was))))))
+    ;; The last line before the cut, and the first after it, that didn't change.
+    (let ((last (min old (- new shift)
+                     (if tail (- (caar tail) shift) old))))
+      (unless (= last old (- new shift))
+        (push (list (+ last shift) (- old last) (- new last shift)) head)))
+    (setq next (max old (- new shift)))
+    (while (and tail (> next (- (caar tail) shift)))
+      (pcase-let ((`(,at ,was ,is) (pop tail)))
+        (setq next (+ (- at shift) was))
+        (cl-incf shift (- is was))
+        (setq next (max next old (- new shift)))))
+    (unless (= next old (- new shift))
+      (push (list new (- next old) (- (+ next shift) new)) tail))
+    (setf (live-occur--hunks-after hunks) tail
+          (live-occur--hunks-number hunks) (length tail)
+          (live-occur--hunks-index hunks) nil)
+    (nreverse head)))
+
+(defun live-occur--unmoved (line hunks)
+  "The line that LINE was before HUNKS, or the one in whose place it came."
+  (let ((shift 0))
+    (cl-loop for (at was is) in (live-occur--in-order hunks)
+             while (< at line)
+             do (cl-incf shift (if (< line (+ at is))
+                                   (max 0 (- line at was))
+                                 (- is was))))
+    (- line shift)))
+
+(defun live-occur--index (hunks)
+  "HUNKS as a vector, with where each begins in the old text first."
+  (or (live-occur--hunks-index hunks)
+      (setf (live-occur--hunks-index hunks)
+            (let ((shift 0))
+              (vconcat (cl-loop for (at was is) in (live-occur--in-order hunks)
+                                collect (list (- at shift) at was is)
+                                do (cl-incf shift (- is was))))))))
+
+(defun live-occur--hunk-of (line hunks)
+  "The last of HUNKS that begins at LINE of an old text or before, or nil.
+Where it begins in that text is in front of it."
+  (let* ((index (live-occur--index hunks))
+         (low 0) (high (length index)))
+    (while (< low high)
+      (let ((middle (/ (+ low high) 2)))
+        (if (<= (car (aref index middle)) line)
+            (setq low (1+ middle))
+          (setq high middle))))
+    (and (> low 0) (aref index (1- low)))))
+
+(defun live-occur--moved (line hunks)
+  "Where LINE of an old text is now, as HUNKS say."
+  (pcase (live-occur--hunk-of line hunks)
+    (`(,from ,at ,was ,is)
+     (let ((after (- line from)))
+       (if (>= after was)
+           (+ at is (- after was))
+         (min (+ at after) (max at (+ at is -1))))))
+    (_ line)))
+
+(defun live-occur--move-gap (hunks start end)
+  "Let those of HUNKS that are before START, and not after END, be in `before'."
+  (let ((gap (live-occur--hunks-gap hunks)))
+    (cl-symbol-macrolet ((before (live-occur--hunks-before hunks))
+                         (after (live-occur--hunks-after hunks))
+                         (shift (live-occur--hunks-shift hunks)))
+      (while (and before (> (- (caar before) end) gap))
+        (cl-decf (caar before) shift)
+        (push (pop before) after))
+      (while (and after
+                  (> (- start (caar after) shift (nth 2 (car after))) gap))
+        (cl-incf (caar after) shift)
+        (push (pop after) before)))))
+
 ;;;; Buffers that are searched
 
 ;; Lines are counted as the gaps between newlines, from 0: a text that ends
 ;; in a newline has an empty line after it, which is never sent.
 
+;; This is a plain vector, which is faster: a command may make many changes.
+
+(cl-defstruct (live-occur--trace (:type vector) (:copier nil))
+  "The last change of a text, or the one that is to come."
+  (place 1) (line 0)                    ; where it is, or where it was nearby
+  from                                  ; where it begins
+  tail                                  ; how far from the end it ends
+  size                                  ; the size of the text
+  span                                  ; how many lines it touches, nil for one
+  whole                                 ; whether they are whole lines
+  touched                               ; see `live-occur--stayed-p'
+  (rest most-positive-fixnum)
+  (number 0))                           ; of changes that are not counted yet
+
 (cl-defstruct (live-occur--source (:conc-name live-occur--) (:copier nil))
-  "A buffer that is searched, and what the program holds of it."
+  "A buffer that is searched, and which of its lines the program has."
   buffer
   list                                  ; the buffer with the rows
+  from to              ; markers of a region, or nil: see `live-occur--limit'
   (lines 0)                             ; how many lines the program holds
-  edits                         ; what changed since: see `live-occur--changed'
-  moves                         ; how lines moved since the hits were reported
+  (edits (live-occur--hunks 50 32))     ; what changed since
+  (moves (live-occur--hunks 0))         ; how lines moved since
+  (sent (live-occur--hunks 0))   ; how they moved before, but since the hits
   pieces                                ; the hits, in `live-occur--piece's
   tick            ; the buffer's tick when its edits were known, or nil if lost
-  (change '(1 0)))                      ; the last one: see `live-occur--note'
+  (trace (make-live-occur--trace))      ; what is known of changes
+  stop)                          ; a tick, and where a line was then, and which
 
 (defvar-local live-occur--sources-here nil
   "The sources that have this buffer's text.")
@@ -323,20 +639,29 @@ A cache of newlines would make it slower to walk over many lines."
       (with-current-buffer buffer
         (unless (cl-callf2 remq source live-occur--sources-here)
           (kill-local-variable 'live-occur--sources-here)
+          (kill-local-variable 'live-occur--burst)
           (remove-hook 'before-change-functions #'live-occur--before t)
           (remove-hook 'after-change-functions #'live-occur--after t))))))
 
 (defun live-occur--count-newlines (from to)
   "Answer how many newlines are from FROM to TO, below 0 if TO comes first."
-  (save-restriction
-    (narrow-to-region from to)
-    (* (if (< to from) -1 1) (1- (line-number-at-pos (point-max))))))
+  (if (= from to) 0
+    (save-excursion                     ; to narrow a buffer moves point
+      (save-restriction
+        (narrow-to-region from to)
+        (* (if (< to from) -1 1) (1- (line-number-at-pos (point-max))))))))
 
 (defun live-occur--go-to-line (source line)
-  "Move to the beginning of LINE of SOURCE, counted from the last change."
-  (pcase-let ((`(,start ,from . ,_) (live-occur--change source)))
-    (goto-char start)
-    (forward-line (- line from))))
+  "Move to the beginning of LINE of SOURCE, from a line that is known."
+  (pcase-let* ((tick (buffer-chars-modified-tick))
+               (stop (live-occur--stop source))
+               (`(,place . ,at) (cond ((eql tick (car stop)) (cdr stop))
+                                      ((live-occur--known-p source)
+                                       (live-occur--anchor source))
+                                      (t '(1 . 0)))))
+    (goto-char place)
+    (when (and (= 0 (forward-line (- line at))) (bolp))
+      (setf (live-occur--stop source) `(,tick ,(point) . ,line)))))
 
 ;;;; Changes
 
@@ -345,6 +670,12 @@ A cache of newlines would make it slower to walk over many lines."
 ;; the number of lines in it; what is reported after has to lie inside, and the
 ;; size of the buffer has to be what both say.  Where it is not, or the tick
 ;; tells of a change that was not reported, the whole text is sent again.
+;;
+;; A command may make many changes.  Those that are near one another and have
+;; no newline cost little: the text that they touched is kept, from `touched'
+;; to `rest' characters before the end, and its lines are counted later.  After
+;; many of them it is a burst: until the next look at the text what is reported
+;; before changes is not needed, and Emacs is spared the work to report it.
 
 (defun live-occur--known-p (source)
   "Whether all edits of SOURCE are known, and none is lost."
@@ -354,40 +685,123 @@ A cache of newlines would make it slower to walk over many lines."
 (defun live-occur--lose (source)
   "Forget the edits of SOURCE: all of its text is to be sent."
   (setf (live-occur--tick source) nil
-        (live-occur--edits source) nil
-        (live-occur--moves source) nil
-        (live-occur--change source) '(1 0)))
+        (live-occur--edits source) (live-occur--hunks 50 32)
+        (live-occur--moves source) (live-occur--hunks 0)
+        (live-occur--trace source) (make-live-occur--trace))
+  (live-occur--in (live-occur--list source) (live-occur--lose-lines source)))
 
-(defun live-occur--gather (function)
-  "Call FUNCTION with each source that has this text, all of it accessible.
+(defmacro live-occur--gather (source &rest body)
+  "Run BODY in this buffer, all of it accessible, if it has the text of SOURCE.
 A copy of a buffer has its local variables, and another text."
+  (declare (indent 1) (debug t))
+  `(when (eq (live-occur--base (current-buffer))
+             (live-occur--base (live-occur--buffer ,source)))
+     (save-restriction
+       (widen)
+       ,@body)))
+
+(defvar-local live-occur--burst nil
+  "How many newlines this buffer had before a burst of changes, or nil.")
+(put 'live-occur--burst 'permanent-local t)
+
+(defconst live-occur--many 200 "After how many changes a burst begins.")
+
+(defun live-occur--begin-burst ()
+  "Ask for reports after edits alone, if that is enough for all sources."
+  (when (cl-every (lambda (source)
+                    (and (eq (live-occur--buffer source) (current-buffer))
+                         (live-occur--known-p source)
+                         (live-occur--trace-touched
+                          (live-occur--trace source))))
+                  live-occur--sources-here)
+    (setq live-occur--burst (live-occur--newlines))
+    (remove-hook 'before-change-functions #'live-occur--before t)))
+
+(defun live-occur--newlines ()
+  "How many newlines this buffer has."
   (save-restriction
     (widen)
+    (1- (line-number-at-pos (point-max)))))
+
+(defun live-occur--end-burst ()
+  "Note what was touched in a burst, and get all reports again."
+  (let ((more (- (live-occur--newlines)
+                 (cl-shiftf live-occur--burst nil))))
+    (add-hook 'before-change-functions #'live-occur--before nil t)
     (dolist (source live-occur--sources-here)
-      (when (eq (live-occur--base (current-buffer))
-                (live-occur--base (live-occur--buffer source)))
-        (funcall function source)))))
+      (when (eq (live-occur--buffer source) (current-buffer))
+        (live-occur--note-touched source more)))))
+
+(defun live-occur--go-on (source start end removed)
+  "Gather that START to END replace REMOVED characters in a burst of SOURCE."
+  (let ((trace (live-occur--trace source))
+        (size (buffer-size)))
+    (cond ((not (and (live-occur--tick source)
+                     (eq (live-occur--buffer source) (current-buffer)))))
+          ((= size (+ (live-occur--trace-size trace) (- end start removed)))
+           (setf (live-occur--trace-touched trace)
+                 (min start (live-occur--trace-touched trace))
+                 (live-occur--trace-rest trace)
+                 (min (- size end) (live-occur--trace-rest trace))
+                 (live-occur--trace-size trace) size
+                 (live-occur--tick source) (buffer-chars-modified-tick)))
+          (t (live-occur--lose source)))))
 
 (defun live-occur--before (start end)
-  "Take note of the lines from START to END, which are about to change."
-  (live-occur--gather
-   (lambda (source)
-     (if (live-occur--known-p source)
-         (pcase-let ((`(,at ,line . ,_) (live-occur--change source)))
-           (cl-incf line (live-occur--count-newlines at start))
-           (live-occur--note source start end line))
-       (live-occur--lose source)))))
+  "Take note of the text from START to END, which is about to change."
+  (when live-occur--burst (live-occur--end-burst))
+  (dolist (source live-occur--sources-here)
+    (unless (live-occur--near-p source start end)
+      (live-occur--gather source
+        (if (live-occur--known-p source)
+            (live-occur--expect source start end)
+          (live-occur--lose source))))))
 
-(defun live-occur--note (source start end line)
-  "Take note of the text of SOURCE from START, which is in LINE, to END.
-It is kept as START, LINE, the distance of END from the buffer's end, how many
-lines are touched, whether they are whole lines, and the buffer's size."
-  (setf (live-occur--change source)
-        (list start line (- (point-max) end)
-              (1+ (live-occur--count-newlines start end))
-              (and (live-occur--begins-line-p start)
-                   (live-occur--begins-line-p end))
-              (buffer-size))))
+(defun live-occur--near-p (source start end)
+  "Whether START to END is in a line, and near the change of SOURCE before it.
+Take note of it then."
+  (let ((trace (live-occur--trace source))
+        (size (buffer-size)))
+    (when (and (<= (live-occur--trace-place trace)
+                   start
+                   (+ 200 (- size (live-occur--trace-rest trace))))
+               (eql (live-occur--tick source) (buffer-chars-modified-tick))
+               (eq (live-occur--buffer source) (current-buffer))
+               (live-occur--no-newline-p start end))
+      (setf (live-occur--trace-from trace) start
+            (live-occur--trace-tail trace) (- size end)
+            (live-occur--trace-size trace) size
+            (live-occur--trace-span trace) nil)
+      t)))
+
+(defun live-occur--no-newline-p (start end)
+  "Whether there is no newline from START to END.
+A search would lose the match data of the command that makes a change."
+  (or (= start end)
+      (let ((point (point)))
+        (goto-char start)
+        (skip-chars-forward "^\n" end)
+        (prog1 (= (point) end)
+          (goto-char point)))))
+
+(defun live-occur--expect (source start end)
+  "Take note of the text from START to END of SOURCE, and of its lines."
+  (live-occur--settle source)
+  (let ((trace (live-occur--trace source))
+        (tail (- (buffer-size) end)))
+    (cl-incf (live-occur--trace-line trace)
+             (live-occur--count-newlines (live-occur--trace-place trace)
+                                         start))
+    (setf (live-occur--trace-place trace) start
+          (live-occur--trace-from trace) start
+          (live-occur--trace-tail trace) tail
+          (live-occur--trace-rest trace) tail
+          (live-occur--trace-size trace) (buffer-size)
+          (live-occur--trace-span trace)
+          (1+ (live-occur--count-newlines start end))
+          (live-occur--trace-whole trace)
+          (and (live-occur--begins-line-p start)
+               (live-occur--begins-line-p end)))))
 
 (defun live-occur--begins-line-p (position)
   "Whether a line begins at POSITION."
@@ -395,112 +809,251 @@ lines are touched, whether they are whole lines, and the buffer's size."
 
 (defun live-occur--after (start end removed)
   "Gather the change that put START to END in the place of REMOVED characters."
-  (live-occur--gather
-   (lambda (source)
-     (live-occur--look-later (live-occur--list source) live-occur-delay)
-     (unless (live-occur--known-p source)
-       (pcase (live-occur--change source)
-         ((and `(,from ,line ,tail ,count ,whole ,size)
-               (let to (- (point-max) tail))
-               (guard (<= from start end to))
-               (guard (= (buffer-size) (+ size (- end start removed)))))
-          (live-occur--note source from to line)
-          (live-occur--took source line count whole))
-         (_ (live-occur--lose source)))))))
+  (dolist (source live-occur--sources-here)
+    (when (current-idle-time)
+      (live-occur--look-later (live-occur--list source) live-occur-delay))
+    (cond (live-occur--burst (live-occur--go-on source start end removed))
+          ((live-occur--stayed-p source start end removed)
+           (when (> (cl-incf (live-occur--trace-number
+                              (live-occur--trace source)))
+                    live-occur--many)
+             (live-occur--begin-burst)))
+          (t (live-occur--gather source
+               (unless (live-occur--known-p source)
+                 (if (live-occur--expected-p (live-occur--trace source)
+                                             start end removed)
+                     (live-occur--took source)
+                   (live-occur--lose source))))))))
 
-(defun live-occur--took (source line count whole)
-  "Note that COUNT lines of SOURCE from LINE on became those of its change.
-WHOLE says whether they were whole lines."
-  (pcase-let* ((`(,from ,_ ,_ ,now ,whole-now ,_) (live-occur--change source))
-               (less (if (and whole whole-now) 1 0)))
-    (setf (live-occur--tick source) (buffer-chars-modified-tick)
-          (live-occur--edits source)
-          (live-occur--changed (live-occur--edits source)
-                               line (- count less) (- now less)))
-    (unless (= count now)
-      (push (list (if (live-occur--begins-line-p from) line (1+ line))
-                  (1- count) (1- now))
-            (live-occur--moves source))
-      ;; The numbers of rows in view are corrected when they are redrawn.
-      (live-occur--in (live-occur--list source) (force-mode-line-update)))))
+(defun live-occur--expected-p (trace start end removed)
+  "Whether TRACE expects that START to END replace REMOVED characters."
+  (let ((size (buffer-size))
+        (from (live-occur--trace-from trace)))
+    (and from
+         (<= from start end (- size (live-occur--trace-tail trace)))
+         (= size (+ (live-occur--trace-size trace) (- end start removed))))))
 
-(defun live-occur--changed (edits start old new)
-  "EDITS and the one that put NEW lines in the place of OLD ones at START.
-An edit is a list of where it begins now, how many lines there were, and how
-many there are.  They come in order, with lines between them that did not
-change: those with at most 50 such lines become one, and so do more than 32."
-  (let ((low start) (high (+ start old)) (more 0) before after
-        (gap (if (length= edits 32) most-positive-fixnum 50)))
-    (pcase-dolist (`(,at ,was ,is) edits)
-      (cond ((> (- low at is) gap) (push (list at was is) before))
-            ((> (- at high) gap)
-             (push (list (+ at (- new old)) was is) after))
-            (t (setq low (min low at)
-                     high (max high (+ at is))
-                     more (+ more (- was is))))))
-    (nconc (nreverse before)
-           (list (list low (+ (- high low) more) (+ (- high low) (- new old))))
-           (nreverse after))))
-
-(defun live-occur--moved (line moves)
-  "The number that LINE has now.
-MOVES say how lines have moved, the last one first."
-  (pcase-dolist (`(,at ,was ,is) (reverse moves))
-    (cond ((>= line (+ at was)) (cl-incf line (- is was)))
-          ((>= line at) (setq line (min line (max at (+ at is -1)))))))
-  line)
-
-;;;; Sending lines
-
-(defun live-occur--flush (source file)
-  "Send the edits of SOURCE, which is number FILE of its list.
-Answer whether there were any.  The last one goes first, so that the program
-has the lines of the others where they were."
-  (live-occur--in-text source
-    (unless (live-occur--known-p source)
-      (live-occur--lose source)
-      (setf (live-occur--edits source)
-            (list (list 0 (live-occur--lines source) (1+ (buffer-size))))))
-    (when-let* ((edits (live-occur--edits source)))
-      (let ((shift (cl-loop for (_ was is) in edits sum (- is was))))
-        (pcase-dolist (`(,at ,was ,is) (reverse edits))
-          (cl-decf shift (- is was))
-          (live-occur--go-to-line source at)
-          (let* ((start (- at shift))
-                 (removed (min was (- (live-occur--lines source) start)))
-                 (added (- is (save-excursion (forward-line is)))))
-            (live-occur--splice source file start removed added)
-            (cl-incf (live-occur--lines source) (- added removed))
-            ;; Without this all lines between two edits would come again.
-            (unless (eq at (caar edits))
-              (live-occur--in (live-occur--list source)
-                (live-occur--ask-for-changes))))))
-      (setf (live-occur--edits source) nil
+(defun live-occur--stayed-p (source start end removed)
+  "Whether a change of SOURCE is in a line, and near the one before it.
+Gather it then: START to END replace REMOVED characters.  The lines are counted
+later in which such changes are, from `touched' to `rest' before the end."
+  (let ((trace (live-occur--trace source)))
+    (when (and (not (live-occur--trace-span trace))
+               (live-occur--expected-p trace start end removed)
+               (eq (live-occur--buffer source) (current-buffer))
+               (live-occur--no-newline-p
+                (live-occur--trace-from trace)
+                (- (buffer-size) (live-occur--trace-tail trace))))
+      (setf (live-occur--trace-touched trace)
+            (min (live-occur--trace-from trace)
+                 (or (live-occur--trace-touched trace)
+                     most-positive-fixnum))
+            (live-occur--trace-rest trace)
+            (min (live-occur--trace-tail trace)
+                 (live-occur--trace-rest trace))
+            (live-occur--trace-size trace) (buffer-size)
             (live-occur--tick source) (buffer-chars-modified-tick))
       t)))
 
-(defun live-occur--splice (source file start removed added)
-  "Put the ADDED lines after point in the place of REMOVED ones at START.
-SOURCE is number FILE of its list.  Where a pipe is full Emacs sleeps, and far
-too long.  So a text is sent in blocks of 20,000 characters, if lines are not
-longer, and few are in the pipe."
-  (let* ((list (live-occur--list source))
-         (process (buffer-local-value 'live-occur--process list)))
-    (while (let* ((end (min (point-max) (+ (point) 20000)))
-                  (lines (live-occur--count-newlines (point) end))
-                  (count (min added (max 1 lines)))
-                  (text (buffer-substring-no-properties
-                         (point) (progn (forward-line count) (point)))))
-             (with-current-buffer list
-               (live-occur--order
-                (live-occur--command
-                 (format "splice %d %d %d" file start removed) count text)))
-             (cl-incf start count)
-             (setq removed 0)
-             (> (cl-decf added count) 0))
-      (while (and (length> (process-get process 'waiting) 2)
-                  (eq (process-status process) 'run))
-        (accept-process-output process 1 nil 1)))))
+(defun live-occur--settle (source)
+  "Note the lines of SOURCE that were touched."
+  (cond ((buffer-local-value 'live-occur--burst (live-occur--buffer source))
+         (with-current-buffer (live-occur--buffer source)
+           (live-occur--end-burst)))
+        ((live-occur--trace-touched (live-occur--trace source))
+         (live-occur--in-text source
+           (live-occur--note-touched source 0)))))
+
+(defun live-occur--note-touched (source more)
+  "Note the lines of SOURCE that were touched, of which MORE are new."
+  (let ((trace (live-occur--trace source)))
+    (when-let* ((start (live-occur--trace-touched trace))
+                (end (- (buffer-size) (live-occur--trace-rest trace))))
+      (live-occur--in-text source
+        (let ((line (if (< start (live-occur--trace-place trace))
+                        (live-occur--count-newlines 1 start)
+                      (live-occur--line-at trace start)))
+              (count (1+ (live-occur--count-newlines start end))))
+          (live-occur--note (live-occur--edits source)
+                            line (- count more) count)
+          (unless (= more 0)
+            (live-occur--note (live-occur--moves source)
+                              line (- count more) count))
+          (setf (live-occur--trace-place trace) start
+                (live-occur--trace-line trace) line))))
+    (setf (live-occur--trace-touched trace) nil
+          (live-occur--trace-number trace) 0)))
+
+(defun live-occur--line-at (trace position)
+  "The line of POSITION, where nothing before that of TRACE has changed since."
+  (+ (live-occur--trace-line trace)
+     (live-occur--count-newlines (live-occur--trace-place trace) position)))
+
+(defun live-occur--took (source)
+  "Note how the change of SOURCE that was expected changed its lines."
+  (let* ((trace (live-occur--trace source))
+         (from (live-occur--trace-from trace))
+         (to (- (buffer-size) (live-occur--trace-tail trace)))
+         (touched (live-occur--trace-touched trace))
+         (start (min from (or touched from)))
+         (end (if touched
+                  (max to (- (buffer-size) (live-occur--trace-rest trace)))
+                to))
+         (old (or (live-occur--trace-span trace) 1))
+         (new (1+ (live-occur--count-newlines from to)))
+         (all (1+ (live-occur--count-newlines start end)))
+         (line (live-occur--line-at trace from))
+         (whole (and (live-occur--begins-line-p from)
+                     (live-occur--begins-line-p to)))
+         (less (if (and whole (live-occur--trace-whole trace)
+                        (live-occur--trace-span trace) (not touched))
+                   1 0)))
+    (live-occur--note (live-occur--edits source)
+                      (live-occur--line-at trace start)
+                      (- all less (- new old)) (- all less))
+    (unless (= old new)
+      (live-occur--note (live-occur--moves source)
+                        (if (live-occur--begins-line-p from) line (1+ line))
+                        (1- old) (1- new))
+      ;; The numbers of rows in view are corrected when they are redrawn.
+      (live-occur--in (live-occur--list source) (force-mode-line-update)))
+    (setf (live-occur--tick source) (buffer-chars-modified-tick)
+          (live-occur--trace source)
+          (make-live-occur--trace
+           :place from :line line :from from :tail (- (buffer-size) to)
+           :size (buffer-size) :span new :whole whole
+           :rest (- (buffer-size) to)))))
+
+(defun live-occur--anchor (source)
+  "A position and the line there, before which nothing of SOURCE changed."
+  (let ((trace (live-occur--trace source)))
+    (cons (live-occur--trace-place trace) (live-occur--trace-line trace))))
+
+;;;; Sending lines
+
+;; A large text is sent block by block, and each block once few are on their
+;; way.  After a slice of lines the list asks what changed of the hits, and
+;; sends no line before that has come.  So hits are always those of the lines
+;; that the program holds, or of those before the slice.
+
+(defvar live-occur--block 20000 "How many bytes of a text are sent at once.")
+(defvar live-occur--slice-lines 20000
+  "After how many lines to ask what changed of the hits.")
+
+(defun live-occur--step ()
+  "Send some of what changed, and ask what changed of the hits.
+It goes on when replies come.  To be broken off between, or begun again, would
+leave the program out of step."
+  (unless (or live-occur--sending live-occur--fault live-occur--held
+              live-occur-edit-mode)
+    (let ((inhibit-quit t) (live-occur--sending t))
+      (when (live-occur--close-killed) (setq live-occur--due t))
+      (mapc #'live-occur--take-stock live-occur--sources)
+      (while (and (not live-occur--asked)
+                  (not (process-get live-occur--process 'unsent))
+                  (live-occur--fits-p live-occur--process live-occur--block)
+                  (live-occur--send-next))))))
+
+(defun live-occur--take-stock (source)
+  "Note all that changed in SOURCE."
+  (unless (live-occur--known-p source)
+    (live-occur--lose source)
+    (live-occur--in-text source
+      (let ((lines (live-occur--lines source))
+            (now (line-number-at-pos (point-max))))
+        (live-occur--note (live-occur--edits source) 0 lines now)
+        (live-occur--note (live-occur--moves source) 0 lines now)
+        (setf (live-occur--tick source) (buffer-chars-modified-tick)))))
+  (live-occur--settle source))
+
+(defun live-occur--edited-p ()
+  "Whether lines of this list are to be sent."
+  (and (cl-some #'live-occur--first-edit live-occur--sources) t))
+
+(defun live-occur--send-next ()
+  "Send the next block of a slice, or what ends or begins one, if any is due.
+The slice is a list of how many lines are left in it, the line at which the next
+block has to begin, or nil, and the sources whose turn is to come.  It has one
+edit of each: lines between edits that are far apart would come again."
+  (pcase-let* ((`(,left ,at . ,sources) live-occur--slice)
+               (source (car sources)))
+    (cond ((not live-occur--slice)
+           (when (or (live-occur--edited-p)
+                     (and live-occur--due (not live-occur--previewing)))
+             (setq live-occur--slice
+                   `(,live-occur--slice-lines nil . ,live-occur--sources))))
+          ((or (not source) (<= left 0))
+           (setq live-occur--slice nil)
+           (live-occur--end-slice)
+           t)
+          (t
+           (pcase-let* ((`(,start . ,_) (live-occur--first-edit source))
+                        (`(,count . ,end)
+                         (and start (memq at (list nil start))
+                              (live-occur--send-block source left))))
+             (unless end (pop sources))
+             (setq live-occur--slice
+                   `(,(- left (or count 0)) ,end . ,sources)))))))
+
+(defun live-occur--first-edit (source)
+  "The first of the edits of SOURCE that are to be sent."
+  (car (live-occur--in-order (live-occur--edits source))))
+
+(defun live-occur--end-slice ()
+  "Ask what changed of the hits, or for some of those of a pattern being typed."
+  (cond ((not live-occur--previewing) (live-occur--ask-for-changes))
+        ((not live-occur--trying) (live-occur--ask-for-page))))
+
+(defun live-occur--send-block (source most)
+  "Send the first of the lines of SOURCE that changed, at most MOST of them.
+Answer how many they are, and where the next are if that was not all."
+  (pcase-let* ((`(,at ,was ,is) (live-occur--first-edit source))
+               (`(,count ,added . ,text)
+                (live-occur--in-text source
+                  (live-occur--go-to-line source at)
+                  (live-occur--block-here (min most is))))
+               (more (< count is))
+               (old (if more
+                        (- (live-occur--unmoved (+ at count)
+                                                (live-occur--moves source))
+                           at)
+                      was))
+               (removed (min old (- (live-occur--lines source) at))))
+    (unless (= added removed 0)
+      (live-occur--order
+       (live-occur--command
+        (format "splice %d %d %d" (seq-position live-occur--sources source #'eq)
+                at removed)
+        added text)))
+    (cl-incf (live-occur--lines source) (- added removed))
+    (live-occur--cut-first (live-occur--edits source) count old)
+    (pcase-dolist (`(,at ,was ,is)
+                   (live-occur--split (live-occur--moves source)
+                                      (+ at count) (+ at old)))
+      (live-occur--note (live-occur--sent source) at was is))
+    (when more (live-occur--tell-more))
+    (cons count (and more (+ at count)))))
+
+(defun live-occur--block-here (most)
+  "How many lines are after point in a block, at most MOST, and what they are.
+The answer has how many of them exist, too, and the text: after a newline at the
+buffer's end there is none."
+  (let* ((start (point))
+         (block (+ (position-bytes start) live-occur--block))
+         (end (or (byte-to-position block) (point-max)))
+         (lines (live-occur--count-newlines start end))
+         (count (min most (if (= end (point-max)) (1+ lines) (max lines 1))))
+         (short (forward-line count)))
+    `(,count ,(- count short) . ,(buffer-substring-no-properties
+                                  start (point)))))
+
+(defun live-occur--tell-more ()
+  "Tell in the header whether more lines are to be searched."
+  (unless (eq live-occur--more
+              (setq live-occur--more (and (or (live-occur--edited-p)
+                                              live-occur--slice)
+                                          t)))
+    (force-mode-line-update)))
 
 ;;;; Hits
 
@@ -519,11 +1072,12 @@ longer, and few are in the pipe."
   shift)                                ; what to add to each place
 
 (cl-defstruct (live-occur--hit (:copier nil))
-  "A line that matches."
+  "A line that matches.  Its row is read where it is needed: it may be long."
   source
   place                      ; its number in the source when it was reported
-  parts                                 ; pairs of places in the bytes
-  bytes)
+  rows                       ; bytes
+  parts-at                   ; where in them its matched parts begin
+  start end)                 ; where its line does, and where that ends
 
 (defun live-occur--place-in (rows start)
   "The place of the hit in the bytes ROWS that begins at START."
@@ -580,16 +1134,41 @@ longer, and few are in the pipe."
 
 (defun live-occur--hit-in (source rows start shift)
   "The hit of SOURCE in the bytes ROWS that begins at START, with SHIFT."
-  (save-match-data
-    (string-match "\\([0-9]+\\) \\([-,0-9]+\\) \\(.*\\)" rows start)
+  (let* ((parts (1+ (string-search " " rows (+ start 2))))
+         (line (1+ (string-search " " rows parts))))
     (make-live-occur--hit
      :source source
-     :place (+ shift (string-to-number (match-string 1 rows)))
-     :bytes (match-string 3 rows)
-     :parts (cl-loop for part in (split-string (match-string 2 rows) "," t "-")
-                     for (start end) = (split-string part "-")
-                     collect (cons (string-to-number start)
-                                   (string-to-number end))))))
+     :place (+ shift (live-occur--place-in rows start))
+     :rows rows :parts-at parts
+     :start line :end (string-search "\n" rows line))))
+
+(defun live-occur--hit-bytes (hit &optional from to)
+  "The bytes of the line of HIT, or those of them FROM and up to TO."
+  (pcase-let (((cl-struct live-occur--hit rows start end) hit))
+    (substring rows (+ start (or from 0)) (min end (+ start (or to end))))))
+
+(defun live-occur--hit-parts (hit &optional limit)
+  "The matched parts of HIT: pairs of places in its bytes.
+With LIMIT they are those that begin before that byte."
+  (let ((at (live-occur--hit-parts-at hit)) part all)
+    (while (and (setq part (live-occur--part-at hit at))
+                (< (car part) (or limit most-positive-fixnum)))
+      (push (cons (car part) (cadr part)) all)
+      (setq at (cddr part)))
+    (nreverse all)))
+
+(defun live-occur--part-at (hit at)
+  "The part of HIT that is told of at AT in its row, or nil.
+It is where it begins and ends, and then where the next is told of."
+  (pcase-let (((cl-struct live-occur--hit rows start) hit))
+    (unless (or (>= at start) (eq (aref rows at) ?-))
+      (let* ((hyphen (string-search "-" rows at))
+             (end (1+ hyphen)))
+        (while (<= ?0 (aref rows end) ?9)
+          (setq end (1+ end)))
+        `(,(string-to-number (substring rows at hyphen))
+          ,(string-to-number (substring rows (1+ hyphen) end))
+          . ,(1+ end))))))
 
 (defun live-occur--map-hits (function first most)
   "Call FUNCTION with each of MOST hits of this list, from number FIRST on."
@@ -613,8 +1192,12 @@ longer, and few are in the pipe."
 
 (defun live-occur--line-of (hit)
   "The line at which HIT is now."
-  (live-occur--moved (live-occur--hit-place hit)
-                     (live-occur--moves (live-occur--hit-source hit))))
+  (let ((source (live-occur--hit-source hit)))
+    (when (buffer-local-value 'live-occur--burst (live-occur--buffer source))
+      (live-occur--settle source))
+    (live-occur--moved (live-occur--moved (live-occur--hit-place hit)
+                                          (live-occur--sent source))
+                       (live-occur--moves source))))
 
 (defmacro live-occur--at-line-of (hit &rest body)
   "Run BODY at the line of HIT in its buffer, unless that is gone."
@@ -630,9 +1213,10 @@ longer, and few are in the pipe."
   "Bring LIST up to date if anything has changed, and make some rows."
   (live-occur--in list
     (setq live-occur--timer nil)
+    (live-occur--forget-saved)
     (if live-occur-edit-mode
         (live-occur--follow-lines)
-      (live-occur--update)
+      (live-occur--step)
       (when (< live-occur--made (min live-occur-idle-rows (live-occur--total)))
         (live-occur--make-rows live-occur--made 200)
         (cl-incf live-occur--made 200)
@@ -641,20 +1225,17 @@ longer, and few are in the pipe."
 (defun live-occur--update (&optional always)
   "Send what has changed, and ask for what changed of the hits.
 If nothing has changed ask for none, but with ALWAYS non-nil."
-  (unless (or live-occur--fault live-occur--previewing live-occur-edit-mode
-              (not (or (live-occur--flush-all) always)))
-    (if live-occur--asked
-        (setq live-occur--asked 'again)
-      (live-occur--ask-for-changes t))))
+  (when always (setq live-occur--due t))
+  (unless live-occur--previewing
+    (live-occur--step)))
 
-(defun live-occur--flush-all ()
-  "Send what has changed in all sources, and answer whether anything has.
-To be broken off between, or begun again, would leave the program out of step."
-  (unless live-occur--sending
-    (let ((inhibit-quit t) (live-occur--sending t))
-      (append (live-occur--close-killed)
-              (delq nil (seq-map-indexed #'live-occur--flush
-                                         live-occur--sources))))))
+(defun live-occur--busy-p ()
+  "Whether this list waits for replies, or has more to send."
+  (and (not live-occur--fault)
+       (or live-occur--asked live-occur--slice
+           (process-get live-occur--process 'unsent)
+           (process-get live-occur--process 'waiting))
+       t))
 
 (defun live-occur--close-killed ()
   "Close the sources of this list whose buffers were killed, and answer them."
@@ -662,54 +1243,37 @@ To be broken off between, or begun again, would leave the program out of step."
         (cl-remove-if #'buffer-live-p live-occur--sources
                       :key #'live-occur--buffer)))
 
-(defun live-occur--ask-for-changes (&optional last)
-  "Ask for what changed of the hits, and keep it when it comes.
-With LAST non-nil apply all that came then."
-  (let ((moves (cl-loop for source in live-occur--sources
-                        collect (cons source (live-occur--moves source)))))
-    (when last (setq live-occur--asked t))
+(defun live-occur--ask-for-changes ()
+  "Ask for what changed of the hits, and apply it when it comes."
+  (setq live-occur--asked t live-occur--due nil)
+  (let ((sources live-occur--sources)
+        (bounds (live-occur--bounds-sent)))
     (live-occur--send "changes\n"
-                      (lambda (_ rows)
-                        (push (cons rows moves) live-occur--came)
-                        (when last (live-occur--apply-all moves))))))
+                      (lambda (_ blocks)
+                        (live-occur--apply-all blocks sources bounds)))))
 
-(defun live-occur--apply-all (moves)
-  "Apply all that came, the first of it first.
-MOVES has the sources, and how their lines had moved at the last question."
+(defun live-occur--apply-all (blocks sources bounds)
+  "Apply BLOCKS, in which files are known by their numbers among SOURCES.
+BOUNDS are what was listed of the first one at the question, or nil."
+  (setq live-occur--asked nil)
+  (live-occur--tell-more)
   (let (spots)
-    (pcase-dolist (`(,rows . ,asked)
-                   (nreverse (cl-shiftf live-occur--came nil)))
-      (let ((at 0))
-        (while (< at (length rows))
-          (pcase-let* ((start (live-occur--after-rows rows at 1))
-                       (`(,_ ,file ,front ,removed ,added ,count)
-                        (mapcar #'string-to-number
-                                (split-string (substring rows at start) " ")))
-                       (source (car (nth file asked)))
-                       (new (live-occur--pieces-in rows start count)))
-            (setq at start)
-            (dolist (piece new)
-              (cl-incf at (length (live-occur--piece-rows piece))))
-            (when (memq source live-occur--sources)
-              (cl-callf2 nconc
-                  (live-occur--apply source front removed added new) spots))))))
-    (live-occur--go-to-spots spots moves))
-  (pcase-dolist (`(,source . ,before) moves)
-    (cl-callf cl-ldiff (live-occur--moves source) before))
-  (when live-occur--page (live-occur--show-hits))
-  (when (eq 'again (cl-shiftf live-occur--asked nil))
-    (live-occur--update t))
+    (pcase-dolist (`(,words . ,pieces) blocks)
+      (pcase-let* ((`(,_ ,file ,front ,removed ,added ,_)
+                    (mapcar #'string-to-number (split-string words " ")))
+                   (source (nth file sources)))
+        (when (memq source live-occur--sources)
+          (cl-callf2 nconc
+              (live-occur--apply source front removed added pieces) spots))))
+    (live-occur--clip bounds)
+    (live-occur--go-to-spots spots t))
+  (dolist (source sources)
+    (live-occur--move-lines source)
+    (setf (live-occur--sent source) (live-occur--hunks 0)))
+  (when (and live-occur--page (not (and live-occur--kept live-occur--more)))
+    (live-occur--show-hits))
+  (live-occur--go-to-wanted)
   (force-mode-line-update))
-
-(defun live-occur--pieces-in (rows start count)
-  "The COUNT hits in the bytes ROWS from START on, in pieces."
-  (cl-loop for left downfrom count above 0 by 500
-           for some = (min left 500)
-           for last = (live-occur--after-rows rows start (1- some))
-           for end = (live-occur--after-rows rows last 1)
-           collect (live-occur--piece (substring rows start end) some
-                                      (live-occur--place-in rows last) 0)
-           do (setq start end)))
 
 (defun live-occur--apply (source front removed added new)
   "Put the hits NEW in the place of those among REMOVED lines of SOURCE.
@@ -743,6 +1307,16 @@ They are among the ADDED lines from FRONT on.  Answer the spots there."
        (forward-line ,row)
        ,@body)))
 
+(defmacro live-occur--at-row-start (position &rest body)
+  "Run BODY at the beginning of the row at POSITION, in the whole list."
+  (declare (indent 1) (debug t))
+  `(save-excursion
+     (save-restriction
+       (widen)
+       (goto-char ,position)
+       (forward-line 0)
+       ,@body)))
+
 (defun live-occur--row-at (position)
   "The number of the row at POSITION, from 0."
   (live-occur--at-row 0 (1- (line-number-at-pos position))))
@@ -760,7 +1334,7 @@ They are among the ADDED lines from FRONT on.  Answer the spots there."
 (defun live-occur--show-hits (&optional spots)
   "Show the hits of this list again, at SPOTS or where it is."
   (let ((spots (or spots (live-occur--spots 0 (buffer-size)))))
-    (setq live-occur--page nil)
+    (setq live-occur--page nil live-occur--kept nil)
     (with-silent-modifications (erase-buffer))
     (live-occur--replace-rows 0 0 (live-occur--total))
     (live-occur--go-to-spots spots)))
@@ -790,9 +1364,9 @@ the window or nil, and the function that moves it."
                           (live-occur--row-at position))
                      ,(- position (line-beginning-position)) ,@how)))))))
 
-(defun live-occur--go-to-spots (spots &optional moves)
+(defun live-occur--go-to-spots (spots &optional new)
   "Go back to SPOTS, or to rows after them.
-MOVES has the sources, and how their lines have moved."
+With NEW non-nil hits were reported since: places are others than before."
   (pcase-dolist (`(,spot ,column ,window ,mover) spots)
     (when (or (not window) (eq (window-buffer window) (current-buffer)))
       (let ((row (pcase spot
@@ -800,7 +1374,9 @@ MOVES has the sources, and how their lines have moved."
                     (+ (live-occur--row-of-source source)
                        (live-occur--count
                         (live-occur--pieces source)
-                        (live-occur--moved place (alist-get source moves)))))
+                        (if new
+                            (live-occur--moved place (live-occur--sent source))
+                          place))))
                    (_ spot))))
         (live-occur--make-rows row 1)
         (funcall mover window
@@ -823,16 +1399,23 @@ MOVES has the sources, and how their lines have moved."
 
 (defun live-occur--make-row (hit)
   "Make the row of HIT at point, or correct its head, and lose point."
-  (let ((head (live-occur--row-head hit (live-occur--line-of hit))))
-    (cond ((eolp) (insert head) (live-occur--insert-text hit))
-          ((not (equal head (buffer-substring-no-properties
-                             (point) (live-occur--after-head))))
-           (delete-region (point) (live-occur--after-head))
-           (insert head)))))
+  (let ((line (live-occur--line-of hit)))
+    (if (eolp)
+        (live-occur--insert-row hit line)
+      (let ((head (live-occur--row-head hit line)))
+        (unless (equal head (buffer-substring-no-properties
+                             (point) (live-occur--after-head)))
+          (delete-region (point) (live-occur--after-head))
+          (insert head))))))
+
+(defun live-occur--insert-row (hit line)
+  "Insert the row of HIT, which is at LINE."
+  (insert (live-occur--row-head hit line))
+  (live-occur--insert-text hit))
 
 (defun live-occur--row-head (hit line)
   "The head of the row of HIT, which is at LINE."
-  (let ((name (live-occur--source-name (live-occur--hit-source hit))))
+  (let ((name (live-occur--shown-name (live-occur--hit-source hit))))
     (propertize (live-occur--head name (1+ line) ":")
                 'mouse-face 'highlight 'help-echo live-occur--mouse
                 'live-occur-number (1+ line))))
@@ -841,31 +1424,81 @@ MOVES has the sources, and how their lines have moved."
   "What rows call SOURCE."
   (or (buffer-name (live-occur--buffer source)) "no buffer"))
 
+(defun live-occur--shown-name (source)
+  "What rows of this list call SOURCE, or nil where it has no other one."
+  (and (cdr live-occur--sources) (live-occur--source-name source)))
+
+(defun live-occur--name-rows ()
+  "Make the rows of this list anew: they get names, or have them no longer."
+  (unless (or live-occur--page live-occur-edit-mode live-occur--held)
+    (live-occur--show-hits)))
+
 (defun live-occur--after-head ()
   "Where the text of the row at point begins."
   (next-single-property-change (point) 'live-occur-number))
 
 (defun live-occur--head (name number mark)
-  "The head of a row of line NUMBER of NAME, with MARK after each part."
-  (concat (propertize (string-replace "\n" " " name) 'face 'live-occur-name)
-          mark
+  "The head of a row of line NUMBER of NAME, with MARK after each part.
+Where NAME is nil the head has none."
+  (concat (and name (propertize (string-replace "\n" " " name)
+                                'face 'live-occur-name))
+          (and name mark)
           (propertize (number-to-string number) 'face 'live-occur-line)
           mark))
 
 (defun live-occur--insert-text (hit)
-  "Insert the text of HIT, with its parts highlighted, or its beginning."
-  (let* ((bytes (seq-take (live-occur--hit-bytes hit)
-                          (* 5 (1+ live-occur-max-columns))))
+  "Insert the text of HIT, with its parts highlighted, or what is shown of it."
+  (let* ((most live-occur-max-columns)
+         (start (live-occur--shown-from hit))
+         (bytes (live-occur--hit-bytes hit start (+ start (* 5 (1+ most)))))
          (text (live-occur--text bytes))
-         (most (min (length text) live-occur-max-columns)))
-    (pcase-dolist (`(,start . ,end) (live-occur--in-characters
-                                     bytes (live-occur--hit-parts hit)))
+         (cut (length> text most))
+         (from (point)))
+    (when cut (setq text (substring text 0 most)))
+    (pcase-dolist (`(,start . ,end)
+                   (live-occur--in-characters
+                    bytes
+                    (cl-loop for (from . to) in (live-occur--hit-parts
+                                                 hit (+ start (length bytes)))
+                             collect (cons (- from start) (- to start)))))
       (when (< start most)
         (put-text-property start (min end most) 'face 'live-occur-match text)))
-    (insert (propertize (substring text 0 most)
+    (when (> start 0) (live-occur--insert-mark))
+    (insert (propertize text
                         'mouse-face 'highlight 'help-echo live-occur--mouse))
-    (when (length> text most)
-      (insert (propertize "…" 'face 'shadow)))))
+    (when cut (live-occur--insert-mark))
+    (when (or cut (> start 0))
+      (put-text-property from (point) 'live-occur-short t))))
+
+(defun live-occur--insert-mark ()
+  "Insert what stands for a part of a line that is not shown."
+  (insert (propertize "…" 'face 'shadow)))
+
+(defun live-occur--shown-from (hit)
+  "From which byte on the line of HIT is shown.
+If its first match isn't in the beginning that would be shown, it is a little
+before the match."
+  (pcase-let ((most live-occur-max-columns)
+              (`(,from ,to . ,_)
+               (live-occur--part-at hit (live-occur--hit-parts-at hit))))
+    (if (or (not from)
+            (<= to most)
+            (and (<= to (* 5 most))
+                 (length< (live-occur--text (live-occur--hit-bytes hit 0 to))
+                          (1+ most))))
+        0
+      (live-occur--byte-before hit from (min 30 (/ most 2))))))
+
+(defun live-occur--byte-before (hit byte count)
+  "Where in the line of HIT the characters begin that are COUNT before BYTE."
+  (pcase-let* (((cl-struct live-occur--hit rows start) hit)
+               (at (+ start byte))
+               (first (max start (- at (* 5 count)))))
+    (while (and (> count 0) (> at first))
+      (setq at (1- at))
+      (unless (= #x80 (logand #xC0 (aref rows at)))
+        (setq count (1- count))))
+    (- at start)))
 
 (defun live-occur--in-characters (line places)
   "Those of PLACES that begin in the bytes LINE as places in its text.
@@ -885,13 +1518,29 @@ A character of which only some bytes are in a place is in it."
 
 (defun live-occur--make-in-view (window)
   "Make the rows of this list in WINDOW and near it, before it is redrawn.
-It may be moved to its point then, so rows there are made, too."
+It may be moved to its point then, so rows there are made, too.  Nothing is done
+where all is as it was at the last time."
   (live-occur--close-killed)
-  (dolist (position (list (window-start window) (window-point window)))
-    (let* ((height (window-body-height window))
-           (first (max 0 (- (live-occur--row-at position) height))))
-      (live-occur--make-rows first (* 3 height))
-      (live-occur--show-around first (* 3 height)))))
+  (live-occur--forget-saved)
+  (unless (equal (window-parameter window 'live-occur-seen)
+                 (live-occur--seen window))
+    (dolist (position (list (window-start window) (window-point window)))
+      (let* ((height (window-body-height window))
+             (first (max 0 (- (live-occur--row-at position) height))))
+        (live-occur--make-rows first (* 3 height))
+        (live-occur--show-around first (* 3 height))
+        (live-occur--mark-changed first (* 3 height))))
+    (set-window-parameter window 'live-occur-seen (live-occur--seen window))))
+
+(defun live-occur--seen (window)
+  "What the rows in WINDOW depend on."
+  (list (current-buffer) (buffer-chars-modified-tick)
+        (window-start window) (window-point window) (window-body-height window)
+        live-occur-context live-occur--page live-occur-max-columns
+        (cl-loop for source in live-occur--sources
+                 for buffer = (live-occur--buffer source)
+                 collect (buffer-name buffer)
+                 collect (buffer-chars-modified-tick buffer))))
 
 ;;;; Lines around
 
@@ -935,15 +1584,18 @@ ABOVE is nil before the first hit of the list, and BELOW after the last one."
 (defun live-occur--lines-in (source from to)
   "The lines FROM to TO of SOURCE as they are shown around rows."
   (when (< from to)
-    (live-occur--in-text source
-      (live-occur--go-to-line source from)
-      (cl-loop for number from (1+ from) to to until (eobp)
-               concat (live-occur--head (buffer-name) number "-")
-               concat (propertize (seq-take (live-occur--text-after-point)
-                                            live-occur-max-columns)
-                                  'face 'live-occur-line)
-               concat "\n"
-               do (forward-line 1)))))
+    (let ((name (live-occur--shown-name source)))
+      (live-occur--in-text source
+        (live-occur--go-to-line source from)
+        (cl-loop for number from (1+ from) to to until (eobp)
+                 unless (live-occur--outside-p source)
+                 concat (concat
+                         (live-occur--head name number "-")
+                         (propertize (live-occur--text-after-point
+                                      live-occur-max-columns)
+                                     'face 'live-occur-line)
+                         "\n")
+                 do (forward-line 1))))))
 
 ;;;; Going to a line
 
@@ -954,11 +1606,9 @@ The list keeps its window."
   (when (mouse-event-p event) (posn-set-point (event-end event)))
   (let* ((hit (or (live-occur--hit (live-occur--row-at (point)))
                   (user-error "There is no row here")))
-         (part (car (live-occur--in-characters
-                     (live-occur--hit-bytes hit)
-                     (seq-take (live-occur--hit-parts hit) 1))))
+         (column (live-occur--first-column hit))
          (position (live-occur--at-line-of hit
-                     (min (line-end-position) (+ (point) (or (car part) 0))))))
+                     (min (line-end-position) (+ (point) column)))))
     (unless position (user-error "The buffer of this row is gone"))
     (setq next-error-last-buffer (current-buffer))
     (pop-to-buffer (live-occur--buffer (live-occur--hit-source hit))
@@ -971,6 +1621,20 @@ The list keeps its window."
                     (buffer-name)))
       (widen))
     (goto-char position)))
+
+(defun live-occur--first-column (hit)
+  "How many characters are before the first matched part of HIT, or 0."
+  (pcase (live-occur--part-at hit (live-occur--hit-parts-at hit))
+    ('nil 0)
+    (`(,from . ,_) (live-occur--column hit from))))
+
+(defun live-occur--column (hit byte)
+  "How many characters of the line of HIT are before the one that has BYTE."
+  (let ((near (live-occur--byte-before hit byte 4)))
+    (+ (length (live-occur--text (live-occur--hit-bytes hit 0 near)))
+       (caar (live-occur--in-characters
+              (live-occur--hit-bytes hit near (+ byte 5))
+              (list (cons (- byte near) (1+ (- byte near)))))))))
 
 (defun live-occur-display ()
   "Show the line of the row at point in another window, and stay here."
@@ -1030,7 +1694,8 @@ Call REPORT with the reply.  Of several wishes the last one is kept."
   "Take REPLY to the wish for PATTERNS, and call REPORT with it."
   (when (and (equal reply "ok") (not (equal patterns live-occur--patterns)))
     (dolist (_ live-occur--patterns) (live-occur--order "drop 0\n"))
-    (setq live-occur--patterns patterns))
+    (setq live-occur--patterns patterns)
+    (live-occur--follow-patterns))
   (funcall report reply)
   (let ((wanted (cl-shiftf live-occur--trying nil)))
     (cond ((consp wanted) (apply #'live-occur--want wanted))
@@ -1081,7 +1746,7 @@ Call REPORT with the reply.  Of several wishes the last one is kept."
   (live-occur--in list
     (unless live-occur--fault
       (setq live-occur--previewing t)
-      (live-occur--flush-all)
+      (live-occur--step)
       (live-occur--want
        (append before
                (unless (string-empty-p text) (split-string text "\n"))
@@ -1100,22 +1765,35 @@ Call REPORT with the reply.  Of several wishes the last one is kept."
       ('basic (replace-regexp-in-string "[][\\.*^$]" "\\\\\\&" symbol))
       (_ (replace-regexp-in-string "[][\\.*^$+?(){}|]" "\\\\\\&" symbol)))))
 
-(defun live-occur--ask (list prompt &optional text before after)
-  "Read patterns with PROMPT, and TEXT at first, until LIST takes them.
+(defun live-occur--prompt (list what)
+  "A prompt of WHAT, with the syntax and the flags of LIST."
+  (with-current-buffer list
+    (format "%s (%s): " what
+            (string-join
+             `(,(symbol-name live-occur-syntax)
+               ,@(cond (live-occur-smart-case '("smart case"))
+                       ((memq ?i live-occur-flags) '("both cases")))
+               ,@(and (memq ?x live-occur-flags) '("whole lines")))
+             ", "))))
+
+(defun live-occur--ask (list what &optional text before after)
+  "Read patterns in a prompt of WHAT, with TEXT at first, until LIST takes them.
 They go between the patterns BEFORE and AFTER."
   (let ((offered (live-occur--symbol-at-point
                   (buffer-local-value 'live-occur-syntax list)))
         (old (buffer-local-value 'live-occur--patterns list)) fault done)
+    (live-occur--begin-showing list (selected-window))
     (unwind-protect
         (while (not done)
           (minibuffer-with-setup-hook
               (lambda ()
                 (live-occur--show-fault fault)
                 (when live-occur-typing-delay
-                  (live-occur--follow-typing list before after)))
+                  (live-occur--follow-typing list before after))
+                (live-occur--bind-preview-keys list))
             (setq text (read-from-minibuffer
                         (concat (and fault (apply #'format "%s at %d; " fault))
-                                prompt)
+                                (live-occur--prompt list what))
                         (if fault (cons text (1+ (nth 1 fault))) text)
                         nil nil 'live-occur-history offered)))
           (with-current-buffer list
@@ -1125,7 +1803,9 @@ They go between the patterns BEFORE and AFTER."
                          text (length before))
                   done (not fault))))
       (live-occur--in list
-        (live-occur--end-preview (if done live-occur--patterns old))))))
+        (unwind-protect
+            (live-occur--end-showing done)
+          (live-occur--end-preview (if done live-occur--patterns old)))))))
 
 (defun live-occur--end-preview (patterns)
   "Keep PATTERNS, and show again what the list had where they are the old ones."
@@ -1142,7 +1822,7 @@ They go between the patterns BEFORE and AFTER."
 (defun live-occur-add-pattern ()
   "Add a pattern: lines that any of the patterns matches are listed."
   (interactive nil live-occur-mode)
-  (live-occur--ask (current-buffer) "Add pattern: " nil live-occur--patterns))
+  (live-occur--ask (current-buffer) "Add pattern" nil live-occur--patterns))
 
 (defun live-occur--read-place (prompt)
   "Read with PROMPT which of the patterns is meant, and answer its number."
@@ -1162,7 +1842,7 @@ They go between the patterns BEFORE and AFTER."
   "Change the pattern of number PLACE."
   (interactive (list (live-occur--read-place "Change pattern: "))
                live-occur-mode)
-  (live-occur--ask (current-buffer) "Pattern: " (nth place live-occur--patterns)
+  (live-occur--ask (current-buffer) "Pattern" (nth place live-occur--patterns)
                    (seq-take live-occur--patterns place)
                    (seq-drop live-occur--patterns (1+ place))))
 
@@ -1173,33 +1853,466 @@ They go between the patterns BEFORE and AFTER."
 
 (defun live-occur--ask-for-page ()
   "Ask for the hits that are in view, and show them when they come."
-  (let ((sources live-occur--sources))
-    (live-occur--send (format "page 0 %d\n" (max 50 (frame-height)))
-                      (lambda (_ rows)
-                        (when live-occur--previewing
-                          (live-occur--show-page rows sources))))))
+  (if (live-occur--region)
+      (live-occur--ask-for-region-page)
+    (let ((sources live-occur--sources))
+      (live-occur--send (format "page 0 %d\n" (live-occur--page-size))
+                        (lambda (_ blocks)
+                          (when live-occur--previewing
+                            (live-occur--tell-more)
+                            (live-occur--take-page (car blocks) sources)))))))
 
-(defun live-occur--show-page (rows sources)
-  "Show the page in the bytes ROWS, with hits of SOURCES, instead of the rows."
-  (setq live-occur--page
-        (cons (string-to-number (substring rows (length "hits ")))
+(defun live-occur--hits-in (block)
+  "How many hits there are, by the first line of BLOCK, which is a page."
+  (string-to-number (substring (car block) (length "hits "))))
+
+(defun live-occur--hit-on-page (piece sources)
+  "The hit of SOURCES in PIECE, which is a row of a page."
+  (let ((row (live-occur--piece-rows piece)))
+    (live-occur--hit-in (nth (live-occur--place-in row 0) sources)
+                        row (1- (string-search " " row 2)) 0)))
+
+(defun live-occur--page-size ()
+  "How many hits a page has."
+  (max 50 (frame-height)))
+
+(defun live-occur--show-page (block sources &optional total)
+  "Show the hits of SOURCES in BLOCK, which is a page, instead of the rows.
+There are TOTAL hits, or as many as the program says."
+  (setq live-occur--kept nil
+        live-occur--page
+        (cons (or total (live-occur--hits-in block))
               (or (cdr live-occur--page)
                   (live-occur--spots 0 (buffer-size)))))
   (with-silent-modifications
     (erase-buffer)
-    (let ((start 0))
-      (while (< (setq start (live-occur--after-rows rows start 1))
-                (length rows))
-        (let* ((source (nth (live-occur--place-in rows start) sources))
-               (place (string-search " " rows (+ start 2)))
-               (hit (live-occur--hit-in source rows place 0)))
-          (insert (live-occur--row-head hit (live-occur--hit-place hit)))
-          (live-occur--insert-text hit)
-          (insert "\n")))))
+    (dolist (piece (cdr block))
+      (let ((hit (live-occur--hit-on-page piece sources)))
+        (live-occur--insert-row hit (live-occur--hit-place hit))
+        (insert "\n"))))
   (goto-char (point-min))
   (dolist (window (get-buffer-window-list nil nil t))
     (set-window-point window (point-min)))
   (force-mode-line-update))
+
+;;;; A hit that is shown while a pattern is typed
+
+;; It is the first one at point or after it, in the window in which the pattern
+;; was asked for.  Its number is found by halving: the program is asked for
+;; pages of one hit.
+
+(cl-defstruct (live-occur--preview (:copier nil))
+  "A window in which hits are shown."
+  window
+  source                                ; the one that the window shows
+  point                                 ; where the window was before
+  start
+  line                                  ; that of this point
+  patterns                              ; for which a hit was looked for
+  keyed                                 ; for which keys moved to a hit
+  number                                ; that of the hit, or nil
+  position                              ; where the hit is
+  (page 0)                              ; the number of the first row shown
+  low high                              ; those of the hits that are listed
+  mark                                  ; overlays over the hit and its row
+  row)
+
+(defvar live-occur--typing-list nil
+  "The list for which a pattern is typed in this minibuffer.")
+
+(defvar live-occur-preview-map
+  (let ((map (make-sparse-keymap)))
+    (define-key map (kbd "C-n") #'live-occur-preview-next)
+    (define-key map (kbd "C-p") #'live-occur-preview-previous)
+    map)
+  "Keys while a pattern is typed and hits are shown.")
+
+(defun live-occur--begin-showing (list window)
+  "Show hits of LIST in WINDOW from now on, if that is wanted, and it has any."
+  (with-current-buffer list
+    (setq live-occur--wanted nil live-occur--looking nil)
+    (when-let* ((source (and live-occur-preview live-occur-typing-delay
+                             (live-occur--source-of (window-buffer window))))
+                (point (window-point window)))
+      (setq live-occur--preview
+            (make-live-occur--preview
+             :window window :source source :point point
+             :start (window-start window)
+             :line (live-occur--in-text source
+                     (1- (line-number-at-pos point))))))))
+
+(defun live-occur--bind-preview-keys (list)
+  "Let keys of this minibuffer move through hits of LIST, if any are shown."
+  (when (buffer-local-value 'live-occur--preview list)
+    (setq-local live-occur--typing-list list)
+    (use-local-map (make-composed-keymap live-occur-preview-map
+                                         (current-local-map)))))
+
+(defun live-occur--ask-about-hits (preview first count function)
+  "Ask for a page of COUNT hits from number FIRST on, for PREVIEW.
+Call FUNCTION with its block, unless it isn't wanted any more then."
+  (let ((patterns live-occur--patterns)
+        (looking live-occur--looking))
+    (live-occur--send (format "page %d %d\n" first count)
+                      (lambda (_ blocks)
+                        (when (and (eq preview live-occur--preview)
+                                   (eq patterns live-occur--patterns)
+                                   (eq looking live-occur--looking))
+                          (funcall function (car blocks)))))))
+
+(defun live-occur--take-page (block sources)
+  "Show the hits of SOURCES in BLOCK, a page, and look for the one after point.
+Where that is on its way already, or done, tell only how many hits there are."
+  (if (and live-occur--page (live-occur--stays-p))
+      (let ((total (live-occur--hits-in block)))
+        (setcar live-occur--page total)
+        (when live-occur--preview
+          (setf (live-occur--preview-high live-occur--preview) total)))
+    (live-occur--show-page block sources)
+    (live-occur--look-for-hit))
+  (force-mode-line-update))
+
+(defun live-occur--begin-look ()
+  "Begin a look for a hit, and give up the one before."
+  (setq live-occur--looking (cons live-occur--patterns t)))
+
+(defun live-occur--stays-p ()
+  "Whether more is to come, and what is looked for or shown stays until then.
+It is the first hit after point, or one that keys have moved to: lines that come
+after it change nothing."
+  (and live-occur--more
+       (pcase live-occur--looking
+         (`(,patterns . ,goes-on)
+          (and (eq patterns live-occur--patterns)
+               (or goes-on (live-occur--shows-p patterns)))))))
+
+(defun live-occur--shows-p (patterns)
+  "Whether a hit of PATTERNS is shown that is after point, or was moved to."
+  (pcase live-occur--preview
+    ((and preview (cl-struct live-occur--preview point keyed position))
+     (and position
+          (eq patterns (live-occur--preview-patterns preview))
+          (or (eq patterns keyed) (>= position point))))))
+
+(defun live-occur--look-for-hit ()
+  "Show the first hit at point or after it, or else the first of its buffer."
+  (when-let* ((preview live-occur--preview)
+              (source (live-occur--preview-source preview))
+              (file (seq-position live-occur--sources source #'eq)))
+    (live-occur--begin-look)
+    (unless (eq live-occur--patterns (live-occur--preview-patterns preview))
+      (setf (live-occur--preview-number preview) nil))
+    (live-occur--with-part
+     preview
+     (lambda (low high)
+       (setf (live-occur--preview-page preview) low
+             (live-occur--preview-low preview) low
+             (live-occur--preview-high preview) high)
+       (live-occur--find-hit
+        preview file (live-occur--look-from preview)
+        (lambda ()
+          (live-occur--find-hit
+           preview file 0 (lambda () (live-occur--show-no-hit preview)))))))))
+
+(defun live-occur--look-from (preview)
+  "The line from which on a hit is looked for, for PREVIEW.
+Once keys have moved it stays where it is, while more lines are searched."
+  (pcase-let (((cl-struct live-occur--preview source line position keyed)
+               preview))
+    (if (and position (eq keyed live-occur--patterns))
+        (live-occur--in-text source (1- (line-number-at-pos position)))
+      line)))
+
+(defun live-occur--with-part (preview function)
+  "Call FUNCTION with which hits are listed, for PREVIEW.
+It is the number of the first one, and that of the first after them."
+  (live-occur--ask-about-hits
+   preview 0 0
+   (lambda (block)
+     (let ((total (live-occur--hits-in block)))
+       (pcase (live-occur--region)
+         ('nil (funcall function 0 total))
+         (source
+          (pcase-let ((`(,from . ,to) (live-occur--bounds source)))
+            (live-occur--find-number
+             preview 0 from 0 total
+             (lambda (low)
+               (live-occur--find-number
+                preview 0 to low total
+                (lambda (high) (funcall function low high))))))))))))
+
+(defun live-occur--find-hit (preview file line otherwise)
+  "Show in PREVIEW the first hit of FILE from LINE on, or call OTHERWISE."
+  (live-occur--find-number
+   preview file line
+   (live-occur--preview-low preview) (live-occur--preview-high preview)
+   (lambda (number) (live-occur--show-number preview number otherwise))))
+
+(defun live-occur--find-number (preview file line low high function)
+  "Call FUNCTION with the number of the first hit of FILE from LINE on.
+It is known that hits before number LOW come before it, and none from HIGH on.
+It is asked for as long as PREVIEW is there."
+  (if (= low high)
+      (funcall function low)
+    (let ((middle (/ (+ low high) 2)))
+      (live-occur--ask-about-hits
+       preview middle 1
+       (lambda (block)
+         (if (live-occur--page-before-p block file line)
+             (setq low (1+ middle))
+           (setq high middle))
+         (live-occur--find-number preview file line low high function))))))
+
+(defun live-occur--page-before-p (block file line)
+  "Whether the page BLOCK has a hit, and that comes before LINE of FILE."
+  (when-let* ((piece (nth 1 block))
+              (row (live-occur--piece-rows piece))
+              (there (live-occur--place-in row 0)))
+    (or (< there file)
+        (and (= there file)
+             (< (live-occur--place-in row (1- (string-search " " row 2)))
+                line)))))
+
+(defun live-occur--show-number (preview number otherwise)
+  "Show the hit of NUMBER in PREVIEW, or call OTHERWISE where it has none."
+  (pcase-let* (((cl-struct live-occur--preview low high) preview)
+               (size (live-occur--page-size))
+               (first (if (< (- number low) size) low (- number (/ size 2)))))
+    (if (not (< -1 (- number low) (- high low)))
+        (funcall otherwise)
+      (live-occur--ask-about-hits
+       preview first (min size (- high first))
+       (lambda (block)
+         (let* ((piece (nth (1+ (- number first)) block))
+                (hit (and piece (live-occur--hit-on-page
+                                 piece live-occur--sources))))
+           (if (not (and hit (eq (live-occur--hit-source hit)
+                                 (live-occur--preview-source preview))))
+               (funcall otherwise)
+             (setf (live-occur--preview-number preview) number
+                   (cdr live-occur--looking) nil)
+             (live-occur--show-found preview hit)
+             (live-occur--show-row preview block first))))))))
+
+(defun live-occur--show-no-hit (preview)
+  "Show in the window of PREVIEW what it showed before."
+  (setf (live-occur--preview-patterns preview) live-occur--patterns
+        (live-occur--preview-number preview) nil
+        (cdr live-occur--looking) nil)
+  (live-occur--go-back preview))
+
+(defun live-occur--go-back (preview)
+  "Let the window of PREVIEW be as it was."
+  (pcase-let (((cl-struct live-occur--preview
+                          window source point start mark row)
+               preview))
+    (setf (live-occur--preview-position preview) nil)
+    (dolist (overlay (list mark row)) (when overlay (delete-overlay overlay)))
+    (when (and (window-live-p window)
+               (eq (window-buffer window) (live-occur--buffer source)))
+      (set-window-point window point)
+      (set-window-start window start t))))
+
+(defun live-occur--show-found (preview hit)
+  "Show HIT in the window of PREVIEW, if it is not outside of what is narrowed."
+  (setf (live-occur--preview-patterns preview) live-occur--patterns)
+  (pcase-let* (((cl-struct live-occur--preview window source mark) preview)
+               (`(,place . ,end) (live-occur--place-of source hit)))
+    (live-occur--in (live-occur--buffer source)
+      (if (not (and (<= (point-min) place end (point-max))
+                    (window-live-p window)
+                    (eq (window-buffer window) (current-buffer))))
+          (live-occur--go-back preview)
+        (set-window-point window place)
+        (setq mark (live-occur--overlay mark place end))
+        (overlay-put mark 'window window)
+        (setf (live-occur--preview-mark preview) mark
+              (live-occur--preview-position preview) place)))))
+
+(defun live-occur--place-of (source hit)
+  "Where in SOURCE the first part of HIT begins and ends, or else its line."
+  (live-occur--in-text source
+    (live-occur--go-to-line source
+                            (live-occur--moved (live-occur--hit-place hit)
+                                               (live-occur--moves source)))
+    (let ((start (point)) (last (line-end-position)))
+      (pcase (live-occur--part-at hit (live-occur--hit-parts-at hit))
+        ('nil (cons start last))
+        (`(,from ,to . ,_)
+         (cons (min last (+ start (live-occur--column hit from)))
+               (min last (+ start 1 (live-occur--column hit (1- to))))))))))
+
+(defun live-occur--overlay (overlay start end)
+  "Put OVERLAY, or a new one if it is nil, from START to END, and answer it."
+  (let ((overlay (or overlay (make-overlay start end))))
+    (move-overlay overlay start end (current-buffer))
+    (overlay-put overlay 'face 'live-occur-preview)
+    (overlay-put overlay 'priority 1)
+    overlay))
+
+(defun live-occur--show-row (preview block first)
+  "Show the row of the hit of PREVIEW.
+The page BLOCK begins with hit number FIRST."
+  (when live-occur--previewing
+    (unless (= first (live-occur--preview-page preview))
+      (live-occur--show-page block live-occur--sources
+                             (- (live-occur--preview-high preview)
+                                (live-occur--preview-low preview)))
+      (setf (live-occur--preview-page preview) first))
+    (goto-char (point-min))
+    (forward-line (- (live-occur--preview-number preview) first))
+    (setf (live-occur--preview-row preview)
+          (live-occur--overlay (live-occur--preview-row preview)
+                               (point) (line-beginning-position 2)))
+    (dolist (window (get-buffer-window-list nil nil t))
+      (set-window-point window (point)))))
+
+(defun live-occur-preview-next (&optional count)
+  "While a pattern is typed, show the hit that is COUNT hits on."
+  (interactive "p")
+  (live-occur--in live-occur--typing-list
+    (when-let* ((preview live-occur--preview)
+                (number (live-occur--preview-number preview)))
+      (cl-incf number (or count 1))
+      (setf (live-occur--preview-keyed preview) live-occur--patterns)
+      (live-occur--begin-look)
+      (live-occur--show-number
+       preview number (lambda ()
+                        (setcdr live-occur--looking nil)
+                        (message "No more hits in this buffer"))))))
+
+(defun live-occur-preview-previous (&optional count)
+  "While a pattern is typed, show the hit that is COUNT hits back."
+  (interactive "p")
+  (live-occur-preview-next (- (or count 1))))
+
+(defun live-occur--end-showing (done)
+  "Show no hit any more: go to the last one if DONE is t, and else back."
+  (when-let* ((preview live-occur--preview))
+    (let (position)
+      (unwind-protect
+          (when (and done (not live-occur--fault))
+            (live-occur--wait-for-hit preview)
+            (setq position (live-occur--preview-position preview)))
+        (setq live-occur--preview nil)
+        (live-occur--go-back preview))
+      (when position (live-occur--go-to-shown preview position)))))
+
+(defun live-occur--wait-for-hit (preview)
+  "Let PREVIEW show a hit of the patterns that this list has, if it can."
+  (let ((patterns live-occur--patterns))
+    (cl-flet ((shown-p () (or (eq patterns
+                                  (live-occur--preview-patterns preview))
+                              (not (eq patterns live-occur--patterns))
+                              (not (memq (live-occur--preview-source preview)
+                                         live-occur--sources)))))
+      (unless (shown-p)
+        (live-occur--look-for-hit)
+        (live-occur--wait-for #'shown-p)))))
+
+(defun live-occur--go-to-shown (preview position)
+  "Go to the hit of PREVIEW, at POSITION in its window, and to its row here."
+  (pcase-let (((cl-struct live-occur--preview window source) preview))
+    (setq live-occur--wanted
+          (make-live-occur--hit
+           :source source
+           :place (live-occur--in-text source
+                    (1- (line-number-at-pos position)))))
+    (unless (or live-occur--asked live-occur--due live-occur--slice
+                live-occur--previewing)
+      (live-occur--go-to-wanted))
+    (with-selected-window window
+      (unless (= (point) position)
+        (push-mark nil t)
+        (goto-char position)))))
+
+(defun live-occur--go-to-wanted ()
+  "Go to the row of the hit that is wanted here, if there is one."
+  (when-let* ((hit (and (not live-occur--page)
+                        (cl-shiftf live-occur--wanted nil))))
+    (live-occur--go-to-spots
+     (cons (list hit 0 nil (lambda (_ position) (goto-char position)))
+           (cl-loop for window in (get-buffer-window-list nil nil t)
+                    collect (list hit 0 window #'set-window-point))))))
+
+;;;; A list of a region
+
+;; The program has the whole buffer, and hits outside of the region are left
+;; out.  Its first line is the first one that begins at the marker `from' or
+;; after it, and the line that has the marker `to' follows the last one.
+
+(defun live-occur--limit (source start end)
+  "List the lines of SOURCE from START to END alone."
+  (live-occur--in-text source
+    (goto-char end)
+    (unless (and (bolp) (< start end)) (forward-line 1))
+    (setf (live-occur--to source) (and (bolp) (copy-marker (point) t)))
+    (goto-char start)
+    (setf (live-occur--from source)
+          (copy-marker (line-beginning-position)))))
+
+(defun live-occur--region ()
+  "The source of this list if a region of it is listed, or nil."
+  (when-let* ((source (car live-occur--sources)))
+    (and (live-occur--from source) source)))
+
+(defun live-occur--bounds (source)
+  "The first line of the region of SOURCE, and the first one after it."
+  (pcase-let (((cl-struct live-occur--source from to) source))
+    (live-occur--in-text source
+      (goto-char from)
+      (let ((first (- (line-number-at-pos) (if (bolp) 1 0))))
+        (cons first (if to
+                        (max first (1- (line-number-at-pos to)))
+                      most-positive-fixnum))))))
+
+(defun live-occur--bounds-sent ()
+  "The bounds of the region that is listed, if all edits were sent, or nil."
+  (when-let* ((source (live-occur--region)))
+    (and (live-occur--known-p source)
+         (not (live-occur--first-edit source))
+         (live-occur--bounds source))))
+
+(defun live-occur--clip (bounds)
+  "Leave out the hits of this list outside of BOUNDS, unless they are nil."
+  (pcase bounds
+    (`(,from . ,to)
+     (pcase-let* ((source (car live-occur--sources))
+                  (`(,head . ,rest)
+                   (live-occur--cut (live-occur--pieces source) from))
+                  (`(,kept . ,tail) (live-occur--cut rest to))
+                  (before (live-occur--count head)))
+       (setf (live-occur--pieces source) kept)
+       (live-occur--replace-rows (+ before (live-occur--count kept))
+                                 (live-occur--count tail) 0)
+       (live-occur--replace-rows 0 before 0)))))
+
+(defun live-occur--outside-p (source)
+  "Whether the line at point of SOURCE is outside of the region listed."
+  (pcase-let (((cl-struct live-occur--source from to) source))
+    (or (and from (< (line-beginning-position) from))
+        (and to (<= to (line-end-position))))))
+
+(defun live-occur--ask-for-region-page ()
+  "Ask for the first hits of the region, and show them when they come."
+  (live-occur--tell-more)
+  (unless (live-occur--stays-p)
+    (live-occur--begin-look)
+    (live-occur--look-for-region-page live-occur--preview)))
+
+(defun live-occur--look-for-region-page (preview)
+  "Ask for the first hits of the region, for PREVIEW, and show them."
+  (live-occur--with-part
+   preview
+   (lambda (low high)
+     (live-occur--ask-about-hits
+      preview low (min (live-occur--page-size) (- high low))
+      (lambda (block)
+        (setcdr live-occur--looking nil)
+        (when live-occur--previewing
+          (live-occur--show-page block live-occur--sources (- high low))
+          (live-occur--tell-more)
+          (live-occur--look-for-hit)))))))
 
 ;;;; Syntax and flags
 
@@ -1212,7 +2325,8 @@ They go between the patterns BEFORE and AFTER."
                           (set variable value))))
     (live-occur--wait-for (lambda () answer))
     (pcase (live-occur--fault-in answer text 0)
-      ('nil (live-occur--update t))
+      ('nil (live-occur--follow-patterns)
+            (live-occur--update t))
       (`(,kind ,place)
        (message "%s at %d: %s" kind place
                 (live-occur--underlined text place))))))
@@ -1245,10 +2359,36 @@ They go between the patterns BEFORE and AFTER."
                      (format "flag %c %s" letter
                              (if (memq letter flags) "on" "off")))))
 
-(defun live-occur-toggle-case ()
-  "Match both cases of letters, or no longer: flag i."
-  (interactive nil live-occur-mode)
-  (live-occur--toggle ?i))
+(defun live-occur--flags-for (patterns)
+  "The flags of this list while it has PATTERNS."
+  (let ((others (remq ?i live-occur-flags))
+        (escapes (not (eq live-occur-syntax 'fixed))))
+    (cond ((not live-occur-smart-case) live-occur-flags)
+          ((cl-loop for pattern in patterns
+                    always (isearch-no-upper-case-p pattern escapes))
+           (cons ?i others))
+          (t others))))
+
+(defun live-occur--follow-patterns ()
+  "Turn flag i on or off as the patterns want it, if the case is smart."
+  (let ((flags (live-occur--flags-for live-occur--patterns)))
+    (unless (equal flags live-occur-flags)
+      (setq live-occur-flags flags)
+      (live-occur--send (if (memq ?i flags) "flag i on\n" "flag i off\n")
+                        (lambda (reply _)
+                          (unless (equal reply "ok")
+                            (setq live-occur-flags (remq ?i flags))))))))
+
+(defun live-occur-toggle-case (&optional smart)
+  "Match both cases of letters, or no longer: flag i.
+With a prefix argument SMART let it follow the patterns from now on, as
+`live-occur-smart-case' says."
+  (interactive "P" live-occur-mode)
+  (live-occur--check)
+  (cond ((setq live-occur-smart-case (and smart t))
+         (live-occur--follow-patterns)
+         (live-occur--update t))
+        (t (live-occur--toggle ?i))))
 
 (defun live-occur-toggle-inverse ()
   "List the lines that are not matched, or no longer: flag v."
@@ -1283,6 +2423,7 @@ Where both numbers are 0 no other lines are shown."
      (propertize
       (concat
        " " (symbol-name live-occur-syntax)
+       (and live-occur-smart-case ", smart case")
        (and live-occur-flags (concat " -" live-occur-flags))
        (pcase live-occur-context
          (`(,before . ,after) (format " -B %d -A %d" before after)))
@@ -1291,11 +2432,14 @@ Where both numbers are 0 no other lines are shown."
               "no pattern")
        "  " (if live-occur--fault
                 (propertize live-occur--fault 'face 'error)
-              (format "%d row%s, %d buffer%s" rows (if (= rows 1) "" "s")
-                      buffers (if (= buffers 1) "" "s")))
+              (format "%d row%s, %d %s%s" rows (if (= rows 1) "" "s")
+                      buffers (if (live-occur--region) "region" "buffer")
+                      (if (= buffers 1) "" "s")))
+       (and live-occur--more (not live-occur--fault) "  more to come")
        (and live-occur-edit-mode
             (substitute-command-keys "  \\<live-occur-edit-mode-map>\
-rows are edited, \\[live-occur-edit-mode] ends it")))
+rows are edited, \\[live-occur-edit-mode] ends it, \
+\\[live-occur-abort-changes] gives it up")))
       'help-echo "In the list: C-h m describes the keys"))))
 
 (defun live-occur-refresh (&rest _)
@@ -1308,7 +2452,7 @@ rows are edited, \\[live-occur-edit-mode] ends it")))
   "Start the program again.  The list stays as it is until that has reported."
   (interactive nil live-occur-mode)
   (live-occur--end)
-  (setq live-occur--page (list (live-occur--total)))
+  (setq live-occur--page (list (live-occur--total)) live-occur--kept t)
   (dolist (source live-occur--sources) (setf (live-occur--pieces source) nil))
   (live-occur--begin)
   (live-occur--update t))
@@ -1324,6 +2468,7 @@ rows are edited, \\[live-occur-edit-mode] ends it")))
   (let ((source (make-live-occur--source :buffer buffer
                                          :list (current-buffer))))
     (cl-callf append live-occur--sources (list source))
+    (when (length= live-occur--sources 2) (live-occur--name-rows))
     (dolist (other (buffer-list))
       (when (eq (live-occur--base other) (live-occur--base buffer))
         (with-current-buffer other
@@ -1334,7 +2479,8 @@ rows are edited, \\[live-occur-edit-mode] ends it")))
 
 (defun live-occur--open (source)
   "Put SOURCE after the files that the program has, without lines."
-  (setf (live-occur--lines source) 0)
+  (setf (live-occur--lines source) 0
+        (live-occur--sent source) (live-occur--hunks 0))
   (live-occur--lose source)
   (live-occur--order "file buffer 0\n"))
 
@@ -1344,7 +2490,9 @@ rows are edited, \\[live-occur-edit-mode] ends it")))
   (live-occur--replace-rows (live-occur--row-of-source source)
                             (live-occur--count (live-occur--pieces source)) 0)
   (let ((file (seq-position live-occur--sources source #'eq)))
-    (setq live-occur--sources (remq source live-occur--sources))
+    (setq live-occur--sources (remq source live-occur--sources)
+          live-occur--slice (remq source live-occur--slice))
+    (when (length= live-occur--sources 1) (live-occur--name-rows))
     (live-occur--order (format "close %d\n" file))))
 
 (defun live-occur--discard ()
@@ -1362,6 +2510,8 @@ rows are edited, \\[live-occur-edit-mode] ends it")))
   (interactive "bSearch buffer: " live-occur-mode)
   (when (live-occur--source-of buffer)
     (user-error "%s is searched already" buffer))
+  (when (live-occur--region)
+    (user-error "The list of a region has no other buffers"))
   (live-occur--add-source (get-buffer buffer))
   (live-occur--update t))
 
@@ -1384,6 +2534,8 @@ rows are edited, \\[live-occur-edit-mode] ends it")))
     ("f" next-error-follow-minor-mode "Show Lines as Point Moves"
      :style toggle :selected next-error-follow-minor-mode)
     ("e" live-occur-edit-mode "Edit Rows")
+    ("s" live-occur-save "Save Buffers Changed in Rows"
+     :active live-occur--touched)
     ("a" live-occur-add-pattern "Add Pattern...")
     ("c" live-occur-change-pattern "Change Pattern..."
      :active live-occur--patterns)
@@ -1394,7 +2546,7 @@ rows are edited, \\[live-occur-edit-mode] ends it")))
      :style toggle :selected (memq ?v live-occur-flags))
     ("x" live-occur-toggle-whole-lines "Whole Lines"
      :style toggle :selected (memq ?x live-occur-flags))
-    ("G" live-occur-basic "Basic Expressions"
+    ("B" live-occur-basic "Basic Expressions"
      :style radio :selected (eq live-occur-syntax 'basic))
     ("E" live-occur-extended "Extended Expressions"
      :style radio :selected (eq live-occur-syntax 'extended))
@@ -1413,6 +2565,7 @@ rows are edited, \\[live-occur-edit-mode] ends it")))
     (define-key map (kbd "C-o") #'live-occur-display)
     (define-key map (kbd "o") #'live-occur-visit)
     (define-key map [mouse-2] #'live-occur-visit)
+    (define-key map [remap save-buffer] #'live-occur-save)
     (pcase-dolist (`(,key ,command . ,_) live-occur--commands)
       (define-key map (kbd key) command))
     (define-key map [follow-link] 'mouse-face)
@@ -1430,6 +2583,7 @@ rows are edited, \\[live-occur-edit-mode] ends it")))
   "A list of the lines that match, kept right while buffers are edited."
   :interactive nil
   (setq-local live-occur-syntax live-occur-syntax
+              live-occur-smart-case live-occur-smart-case
               live-occur-context live-occur-context
               live-occur-flags (sort (copy-sequence live-occur-flags) #'<)
               revert-buffer-function #'live-occur-refresh
@@ -1467,15 +2621,20 @@ Undo works in the list, and in the buffers."
   :lighter " Edit"
   :interactive (live-occur-mode)
   :keymap `((,(kbd "C-c C-c") . live-occur-edit-mode)
-            (,(kbd "C-c C-o") . live-occur-display))
+            (,(kbd "C-c C-k") . live-occur-abort-changes)
+            (,(kbd "C-c C-o") . live-occur-display)
+            ([remap save-buffer] . live-occur-save))
   (let ((on live-occur-edit-mode))
     (setq live-occur-edit-mode nil)
     (when on
       (live-occur--check)
       (live-occur--update)
-      (live-occur--wait-for (lambda () (not live-occur--asked)))
+      (live-occur--wait-for (lambda ()
+                              (live-occur--check)
+                              (not (live-occur--busy-p))))
       (live-occur--make-all-rows))
     (setq live-occur-edit-mode on
+          live-occur--edited nil
           buffer-read-only (not on)
           buffer-undo-list (not on))
     (use-local-map (unless on live-occur-mode-map))
@@ -1486,15 +2645,46 @@ Undo works in the list, and in the buffers."
       (live-occur--show-hits)
       (live-occur--update))))
 
+(easy-menu-define live-occur-edit-menu live-occur-edit-mode-map
+  "Menu of lists whose rows are edited."
+  '("Live-Occur"
+    ["Go to Line" live-occur-display]
+    ["End Edit" live-occur-edit-mode]
+    ["End Edit and Save" live-occur-save]
+    ["Give Changes Up" live-occur-abort-changes]))
+
 (defun live-occur--make-all-rows ()
-  "Make all rows to edit them, unless they are too many for the user."
-  (let ((total (live-occur--total)))
+  "Make all rows to edit them, unless they are too many for the user.
+Where that is quit the list is as before."
+  (let ((total (live-occur--total)) done)
     (unless (or (<= total live-occur-idle-rows)
                 (yes-or-no-p (format "Make all %d rows to edit them? " total)))
       (user-error "The rows are not edited"))
-    (live-occur--make-rows 0 total)
-    (with-silent-modifications
-      (live-occur--map-rows #'live-occur--protect-row 0 total))))
+    (setq live-occur--held t)
+    (unwind-protect
+        (progn
+          (live-occur--in-steps "Making rows to edit them..." total
+                                #'live-occur--make-rows-to-edit)
+          (setq done t))
+      (setq live-occur--held nil)
+      (unless done (live-occur--show-hits)))))
+
+(defun live-occur--make-rows-to-edit (first count)
+  "Make COUNT rows from FIRST on, and let only their texts be edited."
+  (live-occur--make-rows first count)
+  (with-silent-modifications
+    (live-occur--map-rows #'live-occur--protect-row first count)))
+
+(defun live-occur--in-steps (what total function)
+  "Call FUNCTION with the first one and the number of some of TOTAL things.
+It is called until all had their turn.  Between the calls WHAT is told with how
+far it is, and Emacs does what else there is to do."
+  (let ((reporter (make-progress-reporter what 0 total)) (first 0) (some 100))
+    (while (< first total)
+      (funcall function first (min some (- total first)))
+      (progress-reporter-update reporter (cl-incf first some))
+      (sit-for 0))
+    (progress-reporter-done reporter)))
 
 (defun live-occur--protect-row (hit)
   "Make the head and the newline of the row of HIT at point read-only.
@@ -1502,32 +2692,38 @@ All of it is where its buffer is read-only, or its text is shortened."
   (let* ((buffer (live-occur--buffer (live-occur--hit-source hit)))
          (head (live-occur--after-head))
          (end (line-end-position))
-         (text (live-occur--row-text))
-         (line (live-occur--text (live-occur--hit-bytes hit)))
+         (short (get-text-property head 'live-occur-short))
          (why (cond ((buffer-local-value 'buffer-read-only buffer)
                      (format "buffer %s" (buffer-name buffer)))
-                    ((not (equal text line)) "a row that is shortened"))))
+                    (short "a row that is shortened"))))
     (add-text-properties (point) head
                          (list 'read-only (or why "the head of a row")
-                               'live-occur-text text
-                               'front-sticky '(read-only) 'rear-nonsticky t))
+                               'live-occur-hit hit
+                               'live-occur-text
+                               (unless short (live-occur--row-text))
+                               'front-sticky '(read-only)
+                               'rear-nonsticky (not why)))
     (put-text-property end (1+ end) 'read-only (or why "the end of a row"))
     (when why
-      (put-text-property head end 'read-only why)
-      (put-text-property (1- end) end 'rear-nonsticky nil))))
+      (put-text-property head end 'read-only why))))
 
 (defun live-occur--row-changed (start end _removed)
   "Make the change of a row, from START to END, in its line as well.
 Newlines in it become spaces."
   (save-match-data
     (subst-char-in-region start end ?\n ?\s)
-    (live-occur--at-row (live-occur--row-at start)
-      (when-let* ((hit (live-occur--hit (live-occur--row-at (point))))
+    (live-occur--at-row-start start
+      (when-let* ((hit (get-text-property (point) 'live-occur-hit))
                   (text (live-occur--row-text)))
         (condition-case problem
-            (live-occur--change-line
-             hit (get-text-property (point) 'live-occur-text) text)
-          (:success (live-occur--note-text text))
+            (progn
+              (live-occur--touch hit)
+              (live-occur--change-line
+               hit (get-text-property (point) 'live-occur-text) text
+               (max 0 (- start (live-occur--after-head)))
+               (max 0 (- (line-end-position) end))))
+          (:success (live-occur--note-change hit text)
+                    (live-occur--note-text text))
           (error (message "%s; the row alone is edited"
                           (error-message-string problem))))))))
 
@@ -1540,37 +2736,349 @@ Newlines in it become spaces."
   "The text of the row at point."
   (buffer-substring-no-properties (live-occur--after-head) (line-end-position)))
 
-(defun live-occur--change-line (hit old new)
-  "Put the text NEW in the place of OLD in the line of HIT, or signal an error."
+(defun live-occur--change-line (hit old new front back)
+  "Put the text NEW in the place of OLD in the line of HIT, or signal an error.
+They have the first FRONT characters in common, and the last BACK ones."
   (unless (live-occur--at-line-of hit
             (when buffer-read-only
               (user-error "Buffer %s is read-only" (buffer-name)))
-            (unless (equal old (live-occur--text-after-point))
+            (unless (live-occur--line-is-p old)
               (user-error "The line of this row in %s is gone, \
 or was edited there" (buffer-name)))
             (let ((inhibit-modification-hooks nil))
-              (replace-region-contents (point) (line-end-position)
-                                       (lambda () new)))
+              (live-occur--replace old new front back))
             t)
     (user-error "The buffer of this row is gone")))
 
+(defun live-occur--line-is-p (text)
+  "Whether TEXT, which may be nil, is what is from point to the line's end."
+  (when-let* ((end (and text (+ (point) (length text)))))
+    (and (<= end (point-max))
+         (memq (char-after end) '(nil ?\n))
+         (equal text (buffer-substring-no-properties (point) end)))))
+
+(defun live-occur--replace (old new front back)
+  "Put the text NEW in the place of OLD, which is after point.
+They have the first FRONT characters in common, and the last BACK ones.  What
+else they have in common at both ends stays, so that point and markers do."
+  (cl-incf front (live-occur--same old new front back nil))
+  (cl-incf back (live-occur--same old new front back t))
+  (save-excursion
+    (forward-char front)
+    (delete-char (- (length old) front back))
+    (insert (substring new front (- (length new) back)))))
+
+(defun live-occur--same (old new front back from-end)
+  "How much of OLD and NEW is the same, without FRONT characters and BACK ones.
+It is counted from the beginning, or FROM-END.  Steps double up to where they
+differ, and are halved then."
+  (let ((most (- (min (length old) (length new)) front back)) (same 0) (step 1)
+        (grows t))
+    (cl-flet* ((part (text)
+                 (let ((end (- (length text) back same)))
+                   (if from-end (list text (- end step) end)
+                     (list text (+ front same) (+ front same step)))))
+               (equal-p () (and (<= (+ same step) most)
+                                (eq t (apply #'compare-strings
+                                             (append (part old) (part new)))))))
+      (while (> step 0)
+        (if (equal-p) (cl-incf same step) (setq grows nil))
+        (setq step (if grows (* 2 step) (/ step 2)))))
+    same))
+
 (defun live-occur--follow-lines ()
   "Bring rows in view up to date with their lines.
-Rows that were edited alone stay as they are."
+Rows that were edited alone, or are shortened, stay as they are."
   (dolist (window (get-buffer-window-list nil nil t))
-    (live-occur--map-rows
-     (lambda (hit)
-       (let ((inhibit-modification-hooks t)
-             (inhibit-read-only t)
-             (old (get-text-property (point) 'live-occur-text))
-             (new (live-occur--at-line-of hit (live-occur--text-after-point))))
-         (when (and new
-                    (not (equal old new))
-                    (equal old (live-occur--row-text)))
-           (replace-region-contents (live-occur--after-head)
-                                    (line-end-position) (lambda () new))
-           (live-occur--note-text new))))
-     (live-occur--row-at (window-start window)) (window-body-height window))))
+    (live-occur--map-rows #'live-occur--follow-line
+                          (live-occur--row-at (window-start window))
+                          (window-body-height window))))
+
+(defun live-occur--follow-line (hit)
+  "Bring the row of HIT, at point, up to date with its line.
+Where the line has become too long it is shortened.  A row that is far too long
+itself, as it was edited so, stays as it is."
+  (when-let* ((old (get-text-property (point) 'live-occur-text))
+              (most (max live-occur-max-columns (length old)))
+              ((<= most (* 10 live-occur-max-columns)))
+              (new (live-occur--at-line-of hit
+                     (live-occur--text-after-point (1+ most)))))
+    (when (and (not (equal old new))
+               (equal old (live-occur--row-text)))
+      (if (length> new most)
+          (live-occur--shorten-row hit new)
+        (let ((inhibit-modification-hooks t)
+              (inhibit-read-only t))
+          (save-excursion
+            (goto-char (live-occur--after-head))
+            (live-occur--replace old new 0 0)))
+        (live-occur--note-text new)))))
+
+(defun live-occur--shorten-row (hit text)
+  "Let the row of HIT, at point, be the beginning of TEXT, and read-only."
+  (with-silent-modifications
+    (save-excursion
+      (goto-char (live-occur--after-head))
+      (delete-region (point) (line-end-position))
+      (let ((start (point)))
+        (insert (substring text 0 live-occur-max-columns))
+        (live-occur--insert-mark)
+        (put-text-property start (point) 'live-occur-short t)))
+    (live-occur--protect-row hit))
+  (setq buffer-undo-list nil))
+
+;;;; What edits of rows have changed
+
+;; A line that was changed in its row is known until its buffer is saved.  Its
+;; row is marked, and the buffer can be saved from the list.  The changes of an
+;; edit are kept with it as steps, so that they can be given up.
+
+(cl-defstruct (live-occur--touched
+               (:constructor live-occur--touched (source file hash))
+               (:copier nil))
+  "A source of which lines were changed in rows."
+  source
+  file                                  ; see `live-occur--file-state'
+  hash                              ; of the text, or nil if it was modified
+  (lines (make-hash-table)))        ; those that are not saved, by their places
+
+(cl-defstruct (live-occur--line (:copier nil))
+  "A line that was changed in its row."
+  hit
+  saved                                 ; the text when it was saved last
+  steps)                ; what this edit changed, as pairs of texts, last first
+
+(defun live-occur--touched-text (touched)
+  "The buffer that has the text of TOUCHED."
+  (live-occur--base (live-occur--buffer (live-occur--touched-source touched))))
+
+(defun live-occur--file-state ()
+  "What is another value once this buffer was saved, or visits another file."
+  (list buffer-file-name (visited-file-modtime) buffer-file-coding-system))
+
+(defun live-occur--touched-in (source)
+  "What is kept of SOURCE of this list, or nil."
+  (cl-find source live-occur--touched :key #'live-occur--touched-source))
+
+(defun live-occur--touch (hit)
+  "Take note of the source of HIT, whose line is about to change."
+  (live-occur--forget-saved)
+  (let ((source (live-occur--hit-source hit)))
+    (unless (live-occur--touched-in source)
+      (live-occur--in (live-occur--base (live-occur--buffer source))
+        (let ((touched (live-occur--touched
+                        source (live-occur--file-state)
+                        (unless (buffer-modified-p) (buffer-hash)))))
+          (with-current-buffer (live-occur--list source)
+            (push touched live-occur--touched)))))))
+
+(defun live-occur--saved-p (touched)
+  "Whether the buffer of TOUCHED is gone, not modified, or was saved since."
+  (not (live-occur--in (live-occur--touched-text touched)
+         (and (buffer-modified-p)
+              (equal (live-occur--touched-file touched)
+                     (live-occur--file-state))))))
+
+(defun live-occur--forget-saved ()
+  "Forget the changed lines of buffers that were saved since."
+  (when (cl-some #'live-occur--saved-p live-occur--touched)
+    (cl-callf2 cl-delete-if #'live-occur--saved-p live-occur--touched)
+    (live-occur--at-row 0
+      (remove-overlays (point) (point-max) 'live-occur-changed t))
+    (force-mode-line-update)))
+
+(defun live-occur--move-lines (source)
+  "Let the changed lines of SOURCE have their places after those that were sent.
+A line that was deleted is known no longer, and one that others replaced has no
+place."
+  (live-occur--renew-lines
+   source (lambda (place)
+            (live-occur--place-after place (live-occur--sent source)))))
+
+(defun live-occur--lose-lines (source)
+  "Let the changed lines of SOURCE have no places: how it moved isn't known."
+  (live-occur--renew-lines source #'ignore))
+
+(defun live-occur--renew-lines (source function)
+  "Give the changed lines of SOURCE the places that FUNCTION has for theirs.
+A line has none for nil, and is forgotten for `gone'."
+  (when-let* ((touched (live-occur--touched-in source))
+              (lines (live-occur--touched-lines touched)))
+    (setf (live-occur--touched-lines touched) (make-hash-table))
+    (maphash
+     (lambda (place line)
+       (let ((new (and (integerp place) (funcall function place))))
+         (when (integerp new)
+           (setf (live-occur--hit-place (live-occur--line-hit line)) new))
+         (unless (eq new 'gone)
+           (puthash (or new line) line (live-occur--touched-lines touched)))))
+     lines)))
+
+(defun live-occur--place-after (place hunks)
+  "Where the line at PLACE is after HUNKS.
+It is nil where others may have replaced the line, or `gone'."
+  (pcase (live-occur--hunk-of place hunks)
+    (`(,from ,at ,was ,is)
+     (cond ((>= (- place from) was) (+ at is (- place from was)))
+           ((= is 0) 'gone)))
+    (_ place)))
+
+(defun live-occur--note-change (hit text)
+  "Note that the row at point, that of HIT, and its line have become TEXT."
+  (let* ((touched (live-occur--touched-in (live-occur--hit-source hit)))
+         (old (get-text-property (point) 'live-occur-text))
+         (lines (live-occur--touched-lines touched))
+         (line (or (get-text-property (point) 'live-occur-line)
+                   (live-occur--begin-line hit lines))))
+    (unless (eq line (gethash (live-occur--hit-place hit) lines))
+      (setf (live-occur--line-saved line) old))
+    (live-occur--add-step line old text)
+    (live-occur--keep-line touched line text)))
+
+(defun live-occur--begin-line (hit lines)
+  "Let the row at point, that of HIT, have a line, and answer that.
+It is the one of LINES that an edit before this one has changed, or a new one."
+  (let ((line (or (gethash (live-occur--hit-place hit) lines)
+                  (make-live-occur--line :hit hit))))
+    (setf (live-occur--line-steps line) nil)
+    (push line live-occur--edited)
+    (with-silent-modifications
+      (put-text-property (point) (live-occur--after-head)
+                         'live-occur-line line))
+    line))
+
+(defun live-occur--add-step (line old new)
+  "Keep that the text OLD of LINE became NEW."
+  (let ((last (car (live-occur--line-steps line))))
+    (if (not (equal old (cdr last)))
+        (push (cons old new) (live-occur--line-steps line))
+      (setcdr last new)
+      (when (equal (car last) new) (pop (live-occur--line-steps line))))))
+
+(defun live-occur--keep-line (touched line text)
+  "Keep LINE of TOUCHED, unless its TEXT is as it was saved."
+  (let ((lines (live-occur--touched-lines touched))
+        (place (live-occur--hit-place (live-occur--line-hit line))))
+    (cond ((not (equal text (live-occur--line-saved line)))
+           (puthash place line lines))
+          (t (remhash place lines)
+             (when (hash-table-empty-p lines)
+               (live-occur--unmodify touched))))))
+
+(defun live-occur--unmodify (touched)
+  "Mark the buffer of TOUCHED as not modified if its text is what it was then."
+  (with-current-buffer (live-occur--touched-text touched)
+    (when (and (buffer-modified-p)
+               (live-occur--touched-hash touched)
+               (equal (live-occur--touched-file touched)
+                      (live-occur--file-state))
+               (verify-visited-file-modtime)
+               (equal (live-occur--touched-hash touched) (buffer-hash)))
+      (set-buffer-modified-p nil))))
+
+(defun live-occur--changed-p (hit)
+  "Whether the line of HIT was changed in its row, and is not saved since."
+  (when-let* ((touched (live-occur--touched-in (live-occur--hit-source hit)))
+              (line (gethash (live-occur--hit-place hit)
+                             (live-occur--touched-lines touched)))
+              (text (live-occur--line-saved line)))
+    (live-occur--at-line-of hit (not (live-occur--line-is-p text)))))
+
+(defun live-occur--mark-changed (first count)
+  "Mark those of COUNT rows from FIRST on whose lines were changed in rows."
+  (when live-occur--touched
+    (live-occur--forget-saved)
+    (live-occur--at-row first
+      (remove-overlays (point) (line-beginning-position (1+ count))
+                       'live-occur-changed t))
+    (unless live-occur--page
+      (live-occur--map-rows
+       (lambda (hit)
+         (when (live-occur--changed-p hit)
+           (let ((mark (make-overlay (point) (live-occur--after-head))))
+             (overlay-put mark 'live-occur-changed t)
+             (overlay-put mark 'evaporate t)
+             (overlay-put mark 'face 'live-occur-changed))))
+       first count))))
+
+(defun live-occur-abort-changes ()
+  "End the edit of rows, and give up all that it has changed.
+What was edited in the buffers themselves stays."
+  (interactive nil live-occur-mode)
+  (unless live-occur-edit-mode (user-error "No rows are edited"))
+  (let ((steps (live-occur--begin-step))
+        (lines live-occur--edited)
+        (stay 0))
+    (unwind-protect
+        (live-occur--in-steps "Giving changes up..." (length lines)
+                              (lambda (_ count)
+                                (dotimes (_ count)
+                                  (unless (live-occur--put-back (pop lines))
+                                    (cl-incf stay)))))
+      (undo-amalgamate-change-group steps))
+    (mapc #'live-occur--unmodify live-occur--touched)
+    (live-occur-edit-mode -1)
+    (message (pcase stay
+               (0 "The rows and their lines are as they were")
+               (1 "1 line stays changed: it was edited in its buffer, too")
+               (_ "%d lines stay changed: they were edited in their buffers, \
+too"))
+             stay)))
+
+(defun live-occur--begin-step ()
+  "Begin a step for undo in each buffer that this edit of rows has changed."
+  (let (buffers)
+    (dolist (line live-occur--edited)
+      (cl-pushnew (live-occur--base (live-occur--buffer
+                                     (live-occur--hit-source
+                                      (live-occur--line-hit line))))
+                  buffers))
+    (cl-loop for buffer in buffers
+             when (buffer-live-p buffer)
+             nconc (with-current-buffer buffer
+                     (undo-boundary)
+                     (prepare-change-group)))))
+
+(defun live-occur--put-back (line)
+  "Undo what this edit of rows changed of LINE, and answer whether it could."
+  (let* ((hit (live-occur--line-hit line))
+         (steps (live-occur--line-steps line))
+         (first (caar (last steps))))
+    (or (not (buffer-live-p (live-occur--buffer (live-occur--hit-source hit))))
+        (null steps)
+        (live-occur--at-line-of hit (live-occur--line-is-p first))
+        (ignore-errors
+          (live-occur--touch hit)
+          (pcase-dolist (`(,before . ,after) steps)
+            (live-occur--change-line hit after before 0 0))
+          (live-occur--keep-line (live-occur--touched-in
+                                  (live-occur--hit-source hit))
+                                 line first)
+          t))))
+
+(defun live-occur-save ()
+  "Save the buffers of which lines were changed in rows.
+An edit of rows is ended before that."
+  (interactive nil live-occur-mode)
+  (when live-occur-edit-mode (live-occur-edit-mode -1))
+  (live-occur--forget-saved)
+  (let ((saved 0) others)
+    (dolist (touched live-occur--touched)
+      (unless (hash-table-empty-p (live-occur--touched-lines touched))
+        (with-current-buffer (live-occur--touched-text touched)
+          (if (not buffer-file-name)
+              (push (buffer-name) others)
+            (save-buffer)
+            (cl-incf saved)))))
+    (live-occur--forget-saved)
+    (message "%s%s"
+             (pcase saved
+               (0 "No buffer is saved")
+               (1 "1 buffer is saved")
+               (_ (format "%d buffers are saved" saved)))
+             (if others
+                 (concat "; no file is visited by " (string-join others ", "))
+               ""))))
 
 ;;;; Commands to begin a list
 
@@ -1582,41 +3090,98 @@ Rows that were edited alone stay as they are."
            collect (get-buffer name) into buffers
            finally return (seq-uniq buffers)))
 
-;;;###autoload
-(defun live-occur (&optional pattern buffers)
-  "List the lines of the current buffer that match PATTERN.
-The list is kept right while the buffer is edited.  With a prefix argument
-ask for the buffers to search; from Lisp they are BUFFERS, and the answer
-is the buffer with the list.
+(defun live-occur--list-of (buffer)
+  "The list of BUFFER alone that was used last, or nil.
+One whose rows are edited is left alone."
+  (cl-find-if (lambda (list)
+                (and (live-occur--list-p list)
+                     (with-current-buffer list
+                       (and (length= live-occur--sources 1)
+                            (live-occur--source-of buffer)
+                            (not (live-occur--region))
+                            (not live-occur-edit-mode)))))
+              (buffer-list)))
 
-PATTERN is one of POSIX grep, in the syntax that `live-occur-syntax' says,
-or several of them, one a line.  The whole text of each buffer is searched,
-whatever it is narrowed to."
-  (interactive (list nil (and current-prefix-arg (live-occur--read-buffers))))
-  (let ((buffers (or buffers (list (current-buffer))))
-        (list (generate-new-buffer "*Live Occur*"))
-        done)
+(defun live-occur--fill (list buffers pattern &optional region)
+  "Let LIST search BUFFERS for PATTERN, or for one that is asked for.
+Of the first one it lists REGION alone, if that is a pair of positions.
+Without BUFFERS it keeps those that it has.  If that is broken off, it is again
+as it was, and is killed where it is new."
+  (let ((window (get-buffer-window list t)) done)
     (unwind-protect
         (progn
           (with-current-buffer list
-            (live-occur-mode)
-            (live-occur--begin)
-            (mapc #'live-occur--add-source buffers)
-            (when pattern
-              (let ((reply (live-occur--put (split-string pattern "\n"))))
-                (unless (equal reply "ok")
-                  (user-error "The program answered: %s" reply)))))
+            (cond (buffers (live-occur-mode)
+                           (live-occur--begin)
+                           (mapc #'live-occur--add-source buffers)
+                           (when region
+                             (live-occur--limit (car live-occur--sources)
+                                                (car region) (cdr region))))
+                  (live-occur--fault (live-occur-restart)))
+            (when pattern (live-occur--search-for pattern)))
           (unless pattern
-            (when live-occur-typing-delay (display-buffer list))
-            (live-occur--ask list "List lines that match: "))
+            (when live-occur-typing-delay (live-occur--show list))
+            (live-occur--ask list (live-occur--purpose list)))
           (setq done t))
       (unless done
-        (when-let* ((window (get-buffer-window list t)))
-          (quit-restore-window window 'kill))
-        (kill-buffer list)))
+        (unless window
+          (when-let* ((window (get-buffer-window list t)))
+            (quit-restore-window window (if buffers 'kill 'bury))))
+        (when buffers (kill-buffer list))))
     (setq next-error-last-buffer list)
-    (display-buffer list)
+    (live-occur--show list)
     list))
+
+(defun live-occur--show (list)
+  "Show LIST, and not in this window if there is another one.
+This window may have shown it before."
+  (display-buffer list (unless (one-window-p t)
+                         '(nil (inhibit-same-window . t)))))
+
+(defun live-occur--purpose (list)
+  "What LIST is for."
+  (if (memq ?v (buffer-local-value 'live-occur-flags list))
+      "List lines that don't match"
+    "List lines that match"))
+
+(defun live-occur--search-for (pattern)
+  "Search for PATTERN in this list, or signal an error."
+  (let ((reply (live-occur--put (split-string pattern "\n"))))
+    (unless (equal reply "ok")
+      (user-error "The program answered: %s" reply))))
+
+;;;###autoload
+(defun live-occur (&optional pattern buffers another region)
+  "List the lines of the current buffer that match a pattern.
+The list is kept right while the buffer is edited.  Where there is a list of
+this buffer alone it is used again, but with a prefix argument ANOTHER one is
+made.  Of an active region, the pair REGION, its lines alone are listed, in
+a new list.  From Lisp, PATTERN and BUFFERS are what is searched for, and
+where; a new list is made for either, and the answer is its buffer.
+
+A pattern is one of POSIX grep, in the syntax that `live-occur-syntax' says,
+or several of them, one a line.  The whole text of each buffer is searched,
+whatever it is narrowed to."
+  (interactive (list nil nil current-prefix-arg
+                     (and (use-region-p)
+                          (cons (region-beginning) (region-end)))))
+  (if-let* ((list (and (not (or pattern buffers another region))
+                       (live-occur--list-of (current-buffer)))))
+      (if-let* ((settings (buffer-local-value 'live-occur--own-settings list)))
+          (prog1 (apply #'live-occur--search-again list nil settings)
+            (with-current-buffer list
+              (setq live-occur--own-settings nil)))
+        (live-occur--fill list nil nil))
+    (when region (deactivate-mark))
+    (live-occur--fill (generate-new-buffer "*Live Occur*")
+                      (or buffers (list (current-buffer)))
+                      pattern region)))
+
+;;;###autoload
+(defun live-occur-in-buffers (buffers)
+  "List the lines that match in BUFFERS, whose names are asked for."
+  (interactive (list (live-occur--read-buffers)))
+  (live-occur--in-buffers buffers))
 
 (defun live-occur--in-buffers (buffers)
   "List lines of those of BUFFERS that may be searched."
@@ -1671,10 +3236,54 @@ A regexp is taken as a basic regular expression, and any other text as a
 fixed string."
   (interactive)
   (let ((text isearch-string)
-        (live-occur-syntax (if isearch-regexp 'basic 'fixed))
-        (live-occur-flags (and isearch-case-fold-search '(?i))))
+        (syntax (if isearch-regexp 'basic 'fixed))
+        (flags (and isearch-case-fold-search '(?i)))
+        (list (live-occur--list-of (current-buffer)))
+        (settings (live-occur--settings)))
     (isearch-done)
-    (live-occur text)))
+    (if list
+        (with-current-buffer list
+          (setq settings (or live-occur--own-settings (live-occur--settings)))
+          (live-occur--search-again list text syntax flags nil))
+      (let ((live-occur-syntax syntax)
+            (live-occur-flags flags)
+            (live-occur-smart-case nil))
+        (setq list (live-occur text))))
+    (with-current-buffer list
+      (setq live-occur--own-settings settings))
+    list))
+
+(defun live-occur--settings ()
+  "How patterns are read here: syntax, flags, and whether the case is smart."
+  (list live-occur-syntax live-occur-flags live-occur-smart-case))
+
+(defun live-occur--search-again (list pattern syntax flags smart)
+  "Search in LIST for PATTERN, read by SYNTAX, FLAGS and SMART.
+Ask for it if it is nil.  If that is broken off the list is again as it was."
+  (let ((old (with-current-buffer list
+               (cons live-occur--patterns (live-occur--settings))))
+        done)
+    (unwind-protect
+        (progn
+          (with-current-buffer list
+            (live-occur--set-all nil syntax flags smart))
+          (live-occur--fill list nil pattern)
+          (setq done list))
+      (unless done
+        (live-occur--in list (apply #'live-occur--set-all old))))))
+
+(defun live-occur--set-all (patterns syntax flags smart)
+  "Give this list PATTERNS, SYNTAX and FLAGS, and smart case where SMART is t."
+  (dolist (_ live-occur--patterns) (live-occur--order "drop 0\n"))
+  (live-occur--order (format "syntax %s\n" syntax))
+  (dolist (letter '(?i ?v ?x))
+    (live-occur--order
+     (format "flag %c %s\n" letter (if (memq letter flags) "on" "off"))))
+  (when patterns
+    (live-occur--order (live-occur--patterns-command patterns)))
+  (setq live-occur-syntax syntax live-occur-flags flags
+        live-occur--patterns patterns live-occur-smart-case smart)
+  (live-occur--update t))
 
 (provide 'live-occur)
 

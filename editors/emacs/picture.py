@@ -39,8 +39,8 @@ def emacs(occur: Path, folder: Path) -> Terminal:
 
 def picture(terminal: Terminal) -> str:
     """A list over both files after an edit of one."""
-    terminal.type("C-u", "M-x")
-    terminal.write("live-occur")
+    terminal.type("M-x")
+    terminal.write("live-occur-in-buffers")
     terminal.type("Enter", "Enter")
     terminal.write("worker.log")
     terminal.type("Enter", "Enter")
