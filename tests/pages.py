@@ -27,16 +27,16 @@ MOST_WORDS = {
     "docs/SPECIFICATION.md": 5_500,
     "docs/ARCHITECTURE.md": 3_350,
     "docs/PROVING.md": 6_910,
-    "docs/DECISIONS.md": 5_210,
+    "docs/DECISIONS.md": 5_560,
     "docs/PERFORMANCE.md": 1_500,
     "docs/CHANGING.md": 1_930,
     "docs/ROADMAP.md": 1_000,
     "docs/GLOSSARY.md": 960,
     "crates/*/README.md": 4_910,
     "tests/README.md": 1_030,
-    "editors/emacs/README.md": 1_500,
+    "editors/emacs/README.md": 1_590,
     "editors/nvim/*.md": 1_500,
-    "*": 38_900,
+    "*": 39_440,
 }
 """How many words pages have at most, by the pattern of their names."""
 
