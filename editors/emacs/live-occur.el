@@ -1911,6 +1911,7 @@ There are TOTAL hits, or as many as the program says."
   patterns                              ; for which a hit was looked for
   keyed                                 ; for which keys moved to a hit
   number                                ; that of the hit, or nil
+  sought                                ; that of the one asked for by keys
   position                              ; where the hit is
   (page 0)                              ; the number of the first row shown
   low high                              ; those of the hits that are listed
@@ -2000,6 +2001,7 @@ after it change nothing."
               (source (live-occur--preview-source preview))
               (file (seq-position live-occur--sources source #'eq)))
     (live-occur--begin-look)
+    (setf (live-occur--preview-sought preview) nil)
     (unless (eq live-occur--patterns (live-occur--preview-patterns preview))
       (setf (live-occur--preview-number preview) nil))
     (live-occur--with-part
@@ -2090,6 +2092,7 @@ It is asked for as long as PREVIEW is there."
                                  (live-occur--preview-source preview))))
                (funcall otherwise)
              (setf (live-occur--preview-number preview) number
+                   (live-occur--preview-sought preview) nil
                    (cdr live-occur--looking) nil)
              (live-occur--show-found preview hit)
              (live-occur--show-row preview block first))))))))
@@ -2172,13 +2175,16 @@ The page BLOCK begins with hit number FIRST."
   (interactive "p")
   (live-occur--in live-occur--typing-list
     (when-let* ((preview live-occur--preview)
-                (number (live-occur--preview-number preview)))
+                (number (or (live-occur--preview-sought preview)
+                            (live-occur--preview-number preview))))
       (cl-incf number (or count 1))
       (setf (live-occur--preview-keyed preview) live-occur--patterns)
       (live-occur--begin-look)
+      (setf (live-occur--preview-sought preview) number)
       (live-occur--show-number
        preview number (lambda ()
                         (setcdr live-occur--looking nil)
+                        (setf (live-occur--preview-sought preview) nil)
                         (message "No more hits in this buffer"))))))
 
 (defun live-occur-preview-previous (&optional count)

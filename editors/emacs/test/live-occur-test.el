@@ -1191,7 +1191,7 @@ It is the line at its point, and the row at that of the list."
           (kill-buffer list))))))
 
 (ert-deftest live-occur-stays-at-the-hit-that-keys-have-shown ()
-  "A hit is shown while more is to come, and keys move on from there."
+  "A hit is shown while more is to come, and keys move on from there at once."
   (live-occur-test--with '("")
     (live-occur-test--insert-lines 300000 4)
     (goto-char (point-min))
@@ -1212,7 +1212,7 @@ It is the line at its point, and the row at that of the list."
               (should (= (car live-occur--page) (live-occur--preview-high preview))))
             (with-temp-buffer
               (setq-local live-occur--typing-list list)
-              (live-occur-preview-next 2))
+              (dotimes (_ 2) (live-occur-preview-next)))
             (live-occur-test--wait)
             (should-not (live-occur--edited-p))
             (should (looking-at-p "9:the quick brown fox needle$"))
