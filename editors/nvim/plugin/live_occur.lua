@@ -24,21 +24,18 @@ vim.api.nvim_create_autocmd({ "CmdlineEnter", "CmdlineChanged" }, {
     end
   end,
 })
-vim.api.nvim_create_autocmd("CmdwinEnter", {
-  group = group,
-  callback = function()
-    local preview = package.loaded["live_occur.preview"]
-    if preview then
-      preview.shrink()
-    end
-  end,
-})
-vim.api.nvim_create_autocmd("CmdlineLeave", {
-  group = group,
-  callback = function()
-    local preview = package.loaded["live_occur.preview"]
-    if preview then
-      preview.leave()
-    end
-  end,
-})
+
+-- At this event the preview, if it is there, does what has this name.
+local function tell(event, name)
+  vim.api.nvim_create_autocmd(event, {
+    group = group,
+    callback = function()
+      local preview = package.loaded["live_occur.preview"]
+      if preview then
+        preview[name]()
+      end
+    end,
+  })
+end
+tell("CmdwinEnter", "shrink")
+tell("CmdlineLeave", "leave")
