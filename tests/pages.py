@@ -26,8 +26,8 @@ MOST_WORDS = {
     "docs/GUARANTEES.md": 1_710,
     "docs/SPECIFICATION.md": 5_500,
     "docs/ARCHITECTURE.md": 3_350,
-    "docs/PROVING.md": 6_910,
-    "docs/DECISIONS.md": 5_560,
+    "docs/PROVING.md": 6_970,
+    "docs/DECISIONS.md": 5_600,
     "docs/PERFORMANCE.md": 1_500,
     "docs/CHANGING.md": 1_930,
     "docs/ROADMAP.md": 1_000,
@@ -36,7 +36,7 @@ MOST_WORDS = {
     "tests/README.md": 1_030,
     "editors/emacs/README.md": 1_590,
     "editors/nvim/*.md": 1_500,
-    "*": 39_440,
+    "*": 39_560,
 }
 """How many words pages have at most, by the pattern of their names."""
 

@@ -14,7 +14,7 @@ ghost use Rattle.grep_utility.specs.Working.Serving.{ServeFor, IsJoined, AreRead
 
 use crate::matchers::matchers_of;
 use grep_core::Options;
-use re_search::{Filter, FixedSet, Matcher, add_strings, needed_strings};
+use re_search::{Filter, FixedSet, Matcher, add_strings, needed_run, needed_strings};
 use re_syntax::{FaultKind, MOST_POSITIONS, PatternFault, Syntax, split_file};
 use std::alloc::{AllocError, Global};
 
@@ -39,8 +39,8 @@ pub struct OwnedSearchers {
 }
 
 /// The matchers of a search for the patterns, which are the lines of `texts`: one for each; or one
-/// for all, where each is read as strings, they are many or the strings are long, and `texts` has less
-/// than 2^32 - 1 bytes.
+/// for all, where each is read as strings, they are many, or the strings are long or looked for as
+/// parts, and `texts` has less than 2^32 - 1 bytes.
 ///
 /// # Errors
 ///
@@ -61,7 +61,7 @@ pub fn searchers_of(
     ensures err { IfErr result (λ refused. IsOutOfMemory refused.1
         ⊎ IsFirstRefused syntax options.now.ignore_case (lines_of texts.now) refused.0 refused.1) }
 {
-    if let Some(strings) = strings_of(alloc, texts, syntax, options.ignore_case) {
+    if let Some(strings) = strings_of(alloc, texts, syntax, options) {
         let Ok(matchers) = joined(alloc, &strings, options) else {
             let kind = FaultKind::Memory;
             return Err((0, PatternFault { kind, at: 0 }));
@@ -87,18 +87,19 @@ pub fn has_more_than(most: usize, texts: &[u8]) -> bool
 
 /// The strings that the patterns are read as, each followed by a newline, where one pass for all of
 /// them is quicker than a matcher for each pattern. `None` says nothing.
-fn strings_of(alloc: Global, texts: &[u8], syntax: Syntax, fold: bool) -> Option<Vec<u8>>
+fn strings_of(alloc: Global, texts: &[u8], syntax: Syntax, options: &Options) -> Option<Vec<u8>>
     ensures few { IfSome result (λ _. length texts.now + 1 < 2 ^ 32) }
     ensures some { IfSome result (λ _. 1 ≤ length (lines_of texts.now)) }
     ensures read { IfSome result
-        (λ strings. AreReadAs syntax fold (lines_of texts.now) (lines_of strings.items)) }
+        (λ strings.
+        AreReadAs syntax options.now.ignore_case (lines_of texts.now) (lines_of strings.items)) }
 {
     let is_long = texts.len() > MOST_POSITIONS && !has_more_than(FEW, texts);
     if is_long || texts.len() > MOST_BYTES || !has_more_than(0, texts) {
         return None;
     }
-    let strings = read_strings(alloc, texts, syntax, fold)?;
-    if !are_quicker(texts, &strings) {
+    let strings = read_strings(alloc, texts, syntax, options.ignore_case)?;
+    if !are_quicker(texts, &strings, options.only_matching) {
         return None;
     }
     Some(strings)
@@ -126,12 +127,15 @@ fn read_strings(alloc: Global, texts: &[u8], syntax: Syntax, fold: bool) -> Opti
 }
 
 /// Whether one pass for the strings is quicker than a matcher for each pattern: the patterns are many,
-/// or the strings are several long ones.
-fn are_quicker(texts: &[u8], strings: &[u8]) -> bool {
+/// or the strings are several, and long ones or looked for as parts.
+fn are_quicker(texts: &[u8], strings: &[u8], as_parts: bool) -> bool {
     if has_more_than(FEW, texts) {
         return true;
     }
-    has_more_than(1, strings) && !split_file(strings).any(|string| string.len() < LONG)
+    if !has_more_than(1, strings) {
+        return false;
+    }
+    (as_parts && has_more_than(1, texts)) || !split_file(strings).any(|string| string.len() < LONG)
 }
 
 /// How many bytes the strings of a pattern may have.
@@ -154,13 +158,19 @@ fn joined(alloc: Global, texts: &[u8], options: &Options) -> Result<Vec<Matcher>
     Ok(matchers)
 }
 
-/// Strings that the matchers need, where these are many and each needs some. Where memory is
-/// refused for them they are left out.
+/// What the matchers need, where these are several and each is known to need something: a run, or where
+/// they are many, strings. Where memory is refused for it it is left out.
 fn needed_by(alloc: Global, matchers: &[Matcher]) -> Filter
     ensures { ForSome result (λ strings. AreNeeded strings (map matched_expression matchers.now)) }
 {
-    if matchers.len() <= FEW {
+    if matchers.len() < 2 {
         return Filter::none();
+    }
+    if matchers.len() <= FEW {
+        return match needed_run(alloc, matchers) {
+            Ok(needed) => needed,
+            Err(_) => Filter::none(),
+        };
     }
     match needed_strings(alloc, matchers) {
         Ok(needed) => needed,

@@ -1,6 +1,7 @@
 pub mod OneText
 pub mod ReadingLaws
 pub mod LiteralLaws
+pub mod NeededSets
 pub mod SetFolded
 pub mod SetMatches
 pub mod SetBlocks

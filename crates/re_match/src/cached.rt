@@ -1,12 +1,13 @@
 //! Search by stepping an automaton over the line, with a cache of the steps between sets of
 //! positions.
 ghost use Rattle.std.specs.Prelude.{◌≡◌, ℕ, ◌+◌, ◌-◌, ◌<◌, ◌≤◌, ◌↔◌, [], ◌∷◌, false, IsTrue, IfOk};
-ghost use Rattle.std.specs.Prelude.{IfErr, IfSome, length};
+ghost use Rattle.std.specs.Prelude.{IfErr, IfSome, length, map};
 ghost use Rattle.std.specs.NonZero.{non_zero_usize_get};
 ghost use Rattle.re_syntax.specs.Expression.{expression_of};
 ghost use Rattle.re_syntax.specs.Holds.{Matches};
 ghost use Rattle.re_syntax.specs.Lines.{lines_of};
-ghost use Rattle.re_needle.specs.Working.Needles.{IsNeeded};
+ghost use Rattle.re_needle.specs.Working.Needles.{IsNeeded, RunIsNeeded};
+ghost use Rattle.re_syntax.specs.Sets.{members};
 ghost use Rattle.re_auto.specs.Searching.{FindsPart};
 ghost use Rattle.re_meter.specs.Meters.{AddsAtMost, AddsUpTo};
 ghost use Rattle.re_needle.specs.Working.Blocks.{IsBlock};
@@ -20,8 +21,8 @@ use crate::simulated::Simulated;
 use crate::sweeps::{Sweep, Sweeps, count_by_sweeps, next_by_sweeps};
 use re_auto::Meter;
 use re_steps::{LineSearch, Outcome, Table};
-use re_syntax::Span;
-use std::alloc::Global;
+use re_syntax::{ByteSet, Span};
+use std::alloc::{AllocError, Global};
 use std::marker::Model;
 use std::num::NonZeroUsize;
 
@@ -125,6 +126,14 @@ impl Cached {
         ensures { IfSome result (λ text. IsNeeded text.now (expression_of self.now.tree)) }
     {
         self.simulated.needed()
+    }
+
+    /// The first sets of a run that every matched stretch has; none if no run is known. The one error
+    /// is that memory was refused.
+    pub(crate) fn needed_sets(&self, alloc: Global) -> Result<Vec<ByteSet>, AllocError>
+        ensures { IfOk result (λ sets. RunIsNeeded (map members sets.items) (expression_of self.now.tree)) }
+    {
+        self.simulated.needed_sets(alloc)
     }
 
     // Whether the line is matched, by steps alone.
@@ -266,6 +275,7 @@ impl Sweeps for Cached {
 
     ghost room = { λ c. c.most };
 
+    #[inline(always)]
     fn sweep(&self, block: &[u8], meter: &mut Meter) -> Sweep {
         self.simulated.sweep(block, meter)
     }

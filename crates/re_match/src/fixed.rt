@@ -1,7 +1,9 @@
 //! Search for one fixed string (XCU grep, option `-F`).
 ghost use Rattle.std.specs.Prelude.{◌≡◌, ◌+◌, ◌-◌, ◌≤◌, ◌↔◌, [], ◌∷◌, true, false, IsTrue, IfOk};
-ghost use Rattle.std.specs.Prelude.{IfSome, ◌<◌, ◌⊎◌, length, drop};
+ghost use Rattle.std.specs.Prelude.{IfSome, ◌<◌, ◌⊎◌, length, map, drop};
 ghost use Rattle.re_syntax.specs.Holds.{Matches};
+ghost use Rattle.re_syntax.specs.Sets.{members};
+ghost use Rattle.re_needle.specs.Working.Needles.{RunIsNeeded};
 ghost use Rattle.re_syntax.specs.Lines.{lines_of, HasNoNewline};
 ghost use Rattle.re_meter.specs.Meters.{Steps, AddsAtMost, AddsUpTo, many_built, many_passed};
 ghost use Rattle.re_match.specs.Working.Literals.{literal_expression, IsPartOfLines, part_cost};
@@ -19,11 +21,11 @@ use crate::sweeps::{Sweep, Sweeps, count_by_sweeps, next_by_sweeps};
 use memchr::memmem::Finder;
 use re_auto::Meter;
 use re_needle::{
-    Swept, bytes_to, count_by, find_text, first_line_with, has_no_newline, next_line_with,
+    Swept, bytes_to, count_by, find_text, first_line_with, has_no_newline, next_line_with, sets_of,
     step_to_text,
 };
 use re_strings::add_occurrences;
-use re_syntax::Span;
+use re_syntax::{ByteSet, Span};
 use std::alloc::{AllocError, Global};
 use std::marker::Model;
 
@@ -51,6 +53,15 @@ impl Fixed {
     {
         let finder = Finder::new(text).into_owned(alloc)?;
         Ok(Fixed { finder, whole })
+    }
+
+    /// The sets of the string's first bytes, one byte each. The one error is that memory was refused.
+    pub(crate) fn needed_sets(&self, alloc: Global) -> Result<Vec<ByteSet>, AllocError>
+        ensures { IfOk result
+            (λ sets. RunIsNeeded (map members sets.items) (literal_expression self.now)) }
+    {
+        let sets = sets_of(alloc, self.finder.needle())?;
+        Ok(sets)
     }
 
     // Whether the line is the string.

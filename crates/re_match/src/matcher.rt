@@ -1,13 +1,14 @@
 //! Matchers made from the texts of patterns.
 ghost use Rattle.std.specs.Prelude.{◌≡◌, ◌+◌, ◌-◌, ◌<◌, ◌≤◌, ◌↔◌, ◌⊎◌, [], ◌∷◌, not, false, IsTrue};
-ghost use Rattle.std.specs.Prelude.{IfOk, IfErr, IfSome, length};
+ghost use Rattle.std.specs.Prelude.{IfOk, IfErr, IfSome, length, map};
 ghost use Rattle.re_syntax.specs.Expression.{expression_of};
 ghost use Rattle.re_syntax.specs.Holds.{Matches, positions};
 ghost use Rattle.re_syntax.specs.Lines.{lines_of};
 ghost use Rattle.re_syntax.specs.Working.Counted.{HasPositions};
 ghost use Rattle.re_syntax.specs.Profile.{most_positions, most_states};
 ghost use Rattle.re_syntax.specs.Spelled.{IsSpelled, IsMeant, has_limit};
-ghost use Rattle.re_needle.specs.Working.Needles.{IsNeeded};
+ghost use Rattle.re_needle.specs.Working.Needles.{IsNeeded, RunIsNeeded};
+ghost use Rattle.re_syntax.specs.Sets.{members};
 ghost use Rattle.re_match.specs.Reading.{IsSmallFor, IsReadable, IsOutOfMemory, IsNotSpelled};
 ghost use Rattle.re_match.specs.Reading.{IsRefusedFor};
 ghost use Rattle.re_match.specs.Working.Matchers.{matched_expression, wants_whole, is_fixed};
@@ -24,7 +25,7 @@ use crate::line_match::LineMatch;
 use crate::simulated::Simulated;
 use re_auto::{BuildFault, Meter};
 use re_syntax::{
-    FaultKind, MOST_POSITIONS, PatternFault, Span, Syntax, Tree, basic_positions,
+    ByteSet, FaultKind, MOST_POSITIONS, PatternFault, Span, Syntax, Tree, basic_positions,
     extended_positions, read_basic, read_extended, read_fixed,
 };
 use std::alloc::{AllocError, Global};
@@ -102,6 +103,20 @@ impl Matcher {
             Matcher::Simulated(simulated) => simulated.needed(),
             Matcher::Cached(cached) => cached.needed(),
             _ => None,
+        }
+    }
+
+    /// The first sets of a run that every matched stretch has; none if no run is known. The one error
+    /// is that memory was refused.
+    pub fn needed_sets(&self, alloc: Global) -> Result<Vec<ByteSet>, AllocError>
+        ensures { IfOk result
+            (λ sets. RunIsNeeded (map members sets.items) (matched_expression self.now)) }
+    {
+        match self {
+            Matcher::Fixed(fixed) => fixed.needed_sets(alloc),
+            Matcher::FixedSet(_) => Ok(Vec::new(alloc)),
+            Matcher::Simulated(simulated) => simulated.needed_sets(alloc),
+            Matcher::Cached(cached) => cached.needed_sets(alloc),
         }
     }
 }

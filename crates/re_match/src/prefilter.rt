@@ -1,10 +1,12 @@
 //! What is known of lines, parts and blocks by what each match contains.
-ghost use Rattle.std.specs.Prelude.{◌≡◌, ℕ, ◌+◌, ◌≤◌, IfOk, IfSome, IfNone, IsTrue, Some, length};
+ghost use Rattle.std.specs.Prelude.{◌≡◌, ℕ, ◌+◌, ◌≤◌, IfOk, IfSome, IfNone, IsTrue, Some, length, map};
 ghost use Rattle.std.specs.Prelude.{slice_range};
 ghost use Rattle.re_syntax.specs.Expression.{Expression, expression_of};
 ghost use Rattle.re_syntax.specs.Lines.{lines_of, HasNoNewline};
 ghost use Rattle.re_meter.specs.Meters.{AddsUpTo};
-ghost use Rattle.re_needle.specs.Working.Needles.{IsNeeded, IsNeedleOf, IsNeedleFor, run_of};
+ghost use Rattle.re_needle.specs.Working.Needles.{IsNeeded, IsNeedleOf, IsNeedleFor, RunIsNeeded};
+ghost use Rattle.re_needle.specs.Working.Needles.{run_of};
+ghost use Rattle.re_syntax.specs.Sets.{members};
 ghost use Rattle.re_needle.specs.Working.Needles.{IsSettled};
 ghost use Rattle.re_needle.specs.Working.Runs.{FindsRun};
 ghost use Rattle.re_match.specs.Working.Sweeping.{StopsAt, LooksOver};
@@ -19,7 +21,7 @@ use re_needle::{
     first_line_with_run, has_no_newline,
 };
 use re_steps::{Tried, try_place};
-use re_syntax::{Span, Tree};
+use re_syntax::{ByteSet, Span, Tree};
 use std::alloc::{AllocError, Global};
 
 /// What is known of the next part.
@@ -60,6 +62,21 @@ impl Prefilter {
                 Some(text)
             }
             None => None,
+        }
+    }
+
+    /// The first sets of a run that every matched stretch has; none if no run is known. The one error
+    /// is that memory was refused.
+    pub fn sets(&self, alloc: Global) -> Result<Vec<ByteSet>, AllocError>
+        ensures { (e : Expression) → IsNeedleFor e self.now.needle →
+            IfOk result (λ sets. RunIsNeeded (map members sets.items) e) }
+    {
+        match &self.needle {
+            Some(needle) => {
+                let sets = needle.finder.sets(alloc)?;
+                Ok(sets)
+            }
+            None => Ok(Vec::new(alloc)),
         }
     }
 

@@ -1,13 +1,14 @@
 //! Search by stepping an automaton over the line.
 ghost use Rattle.std.specs.Prelude.{◌≡◌, ◌+◌, ◌-◌, ◌≤◌, ◌↔◌, [], ◌∷◌, true, false, IsTrue, IfOk};
-ghost use Rattle.std.specs.Prelude.{IfErr, IfSome, IfNone, length};
+ghost use Rattle.std.specs.Prelude.{IfErr, IfSome, IfNone, length, map};
 ghost use Rattle.re_syntax.specs.Expression.{expression_of};
 ghost use Rattle.re_syntax.specs.Holds.{Matches, positions};
 ghost use Rattle.re_syntax.specs.Lines.{lines_of};
 ghost use Rattle.re_syntax.specs.Profile.{most_positions};
 ghost use Rattle.re_auto.specs.declared.build.BuildFault.TheVariants.{Memory};
 ghost use Rattle.re_auto.specs.Working.Tables.{IsRefused};
-ghost use Rattle.re_needle.specs.Working.Needles.{IsNeeded};
+ghost use Rattle.re_needle.specs.Working.Needles.{IsNeeded, RunIsNeeded};
+ghost use Rattle.re_syntax.specs.Sets.{members};
 ghost use Rattle.re_auto.specs.Working.StateSets.{IsMadeFor};
 ghost use Rattle.re_steps.specs.Working.Simulations.{AreSetsFor, AreStartsFor};
 ghost use Rattle.re_steps.specs.Working.Stages.{Cache, Searches, FinishesFrom};
@@ -27,8 +28,8 @@ use crate::sweeps::{Sweep, Sweeps, count_by_sweeps, next_by_sweeps};
 use re_auto::{Automaton, BuildFault, Meter, Mode, StateSet};
 use re_ends::EndPair;
 use re_steps::{SetPair, StartPair};
-use re_syntax::{Span, Tree};
-use std::alloc::Global;
+use re_syntax::{ByteSet, Span, Tree};
+use std::alloc::{AllocError, Global};
 use std::marker::Model;
 
 /// A matcher for an expression. Contracts see it as the tree and whether the whole line has to be
@@ -108,6 +109,14 @@ impl Simulated {
         ensures { IfSome result (λ text. IsNeeded text.now (expression_of self.now.tree)) }
     {
         self.prefilter.text()
+    }
+
+    /// The first sets of a run that every matched stretch has; none if no run is known. The one error
+    /// is that memory was refused.
+    pub(crate) fn needed_sets(&self, alloc: Global) -> Result<Vec<ByteSet>, AllocError>
+        ensures { IfOk result (λ sets. RunIsNeeded (map members sets.items) (expression_of self.now.tree)) }
+    {
+        self.prefilter.sets(alloc)
     }
 
     /// The automaton.
@@ -345,6 +354,7 @@ impl Sweeps for Simulated {
 
     ghost room = { λ s. 0 };
 
+    #[inline(always)]
     fn sweep(&self, block: &[u8], meter: &mut Meter) -> Sweep {
         self.prefilter.sweep(block, self.whole, meter)
     }

@@ -1,16 +1,19 @@
 //! Blocks of whole lines: finding one, passing over the first ones, and counting them, at once.
 ghost use Rattle.std.specs.Prelude.{◌≡◌, ◌+◌, ◌<◌, ◌≤◌, ◌↔◌, ◌++◌, ◌∷◌, IsTrue, IfSome};
-ghost use Rattle.std.specs.Prelude.{MatchOption, length, take, drop, ⊤, None, IfNone};
+ghost use Rattle.std.specs.Prelude.{List, MatchOption, length, map, take, drop, ⊤, None, IfNone};
 ghost use Rattle.re_syntax.specs.Lines.{newline, lines_of, HasNoNewline};
 ghost use Rattle.re_needle.specs.Working.Blocks.{IsBlock, LineBegins, Lacks, PassesAll};
 ghost use Rattle.re_needle.specs.Working.Blocks.{StandsIn, HoldsOfMany, IsLineFrom, FindsNext};
 ghost use Rattle.re_needle.specs.Working.Blocks.{next_cost, StopsInLine, LooksOnce};
 ghost use Rattle.re_meter.specs.Meters.{many_passed, AddsUpTo};
 ghost use Rattle.re_needle.specs.Working.Needles.{run_of};
+ghost use Rattle.re_syntax.specs.Bytes.{Bytes};
+ghost use Rattle.re_syntax.specs.Sets.{members};
 ghost use Rattle.re_needle.specs.Working.Runs.{BeginsWithout, LacksRun, FindsRun, look_cost};
 
 use crate::newline::first_newline;
 use crate::run_finder::RunFinder;
+use crate::set_finder::SetFinder;
 use crate::text_finder::find_text;
 use memchr::memmem::Finder;
 use memchr::memrchr;
@@ -43,6 +46,19 @@ pub fn first_line_with(finder: &Finder<'_>, block: &[u8], meter: &mut Meter) -> 
     }
 }
 
+/// Looks for the first line with the run of sets in a block of whole lines.
+pub fn first_line_with_sets(finder: &SetFinder, block: &[u8], meter: &mut Meter) -> Swept
+    requires { IsBlock block.now }
+    ensures passes { PassesAll (LacksRun (map members finder.now)) block.now result.start }
+    ensures found { FindsRun block.now (map members finder.now) result.place }
+    ensures low { IfSome result.place (λ at. result.start ≤ at) }
+    ensures stops { StopsInLine block.now result }
+    ensures counted { meter.new ≡ many_passed (look_cost block.now result.place) meter.old }
+{
+    let place = finder.find(block, meter);
+    swept_at(block, place)
+}
+
 /// Looks for the first line with the run in a block of whole lines.
 pub fn first_line_with_run(finder: &RunFinder, block: &[u8], meter: &mut Meter) -> Swept
     requires { IsBlock block.now }
@@ -52,7 +68,22 @@ pub fn first_line_with_run(finder: &RunFinder, block: &[u8], meter: &mut Meter) 
     ensures stops { StopsInLine block.now result }
     ensures counted { meter.new ≡ many_passed (look_cost block.now result.place) meter.old }
 {
-    let Some(at) = finder.find(block, meter) else {
+    let found = finder.find(block, meter);
+    swept_at(block, found)
+}
+
+// Where a look over a block stopped that found this place, or nothing.
+#[inline(always)]
+fn swept_at(block: &[u8], found: Option<usize>) -> Swept
+    requires block { IsBlock block.now }
+    requires within { IfSome found (λ at. at ≤ length block.now) }
+    ensures place { result.place ≡ found }
+    ensures passes { (run : List Bytes) → FindsRun block.now run found →
+        PassesAll (LacksRun run) block.now result.start }
+    ensures low { IfSome result.place (λ at. result.start ≤ at) }
+    ensures stops { StopsInLine block.now result }
+{
+    let Some(at) = found else {
         return nothing_in(block);
     };
     Swept {

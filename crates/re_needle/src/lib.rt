@@ -20,10 +20,12 @@ mod text_finder;
 
 pub use block::{
     Swept, bytes_to, count_by, count_lines_with, first_line_beginning_with, first_line_with,
-    first_line_with_run, has_no_newline, line_end, line_start, next_line_with,
+    first_line_with_run, first_line_with_sets, has_no_newline, line_end, line_start,
+    next_line_with,
 };
 pub use cost::LookCost;
 pub use needle::{Needle, one_byte};
 pub use newline::first_newline;
-pub use run_finder::RunFinder;
+pub use run_finder::{RunFinder, sets_of};
+pub use set_finder::SetFinder;
 pub use text_finder::{bytes_over, find_text, step_to_text};

@@ -1,14 +1,20 @@
 //! Search for a run that every match contains.
-ghost use Rattle.std.specs.Prelude.{◌≡◌, ◌↔◌, IsTrue, IfSome, length, map, min};
+ghost use Rattle.std.specs.Prelude.{◌≡◌, ◌↔◌, IsTrue, IfOk, IfSome, length, map, min};
 ghost use Rattle.re_meter.specs.Meters.{many_passed};
 ghost use Rattle.re_syntax.specs.Bytes.{only};
+ghost use Rattle.re_syntax.specs.Sets.{members};
 ghost use Rattle.re_needle.specs.Working.Needles.{run_of};
-ghost use Rattle.re_needle.specs.Working.Runs.{FindsRun, RunStandsAt, look_cost};
+ghost use Rattle.re_needle.specs.Working.Runs.{BeginsRun, FindsRun, RunStandsAt, look_cost};
 
 use crate::set_finder::SetFinder;
 use crate::text_finder::find_text;
 use memchr::memmem::Finder;
 use re_meter::Meter;
+use re_syntax::ByteSet;
+use std::alloc::{AllocError, Global};
+
+// How many sets of a run are looked for at most with those of other runs.
+const MOST_SETS: usize = 32;
 
 /// Looks for a string or a run of sets of bytes.
 #[derive(Drop)]
@@ -58,6 +64,17 @@ impl RunFinder {
         }
     }
 
+    /// The first sets of the run, as many as a search for sets may have. The one error is that memory
+    /// was refused.
+    pub fn sets(&self, alloc: Global) -> Result<Vec<ByteSet>, AllocError>
+        ensures { IfOk result (λ sets. BeginsRun (map members sets.items) (run_of self.now)) }
+    {
+        match self {
+            RunFinder::Text(finder) => sets_of(alloc, finder.needle()),
+            RunFinder::Sets(finder) => first_sets(alloc, finder.sets()),
+        }
+    }
+
     /// The string, where it looks for one.
     pub fn text(&self) -> Option<&[u8]>
         ensures { IfSome result (λ text. run_of self.now ≡ map only text.now) }
@@ -67,4 +84,24 @@ impl RunFinder {
             RunFinder::Sets(_) => None,
         }
     }
+}
+
+/// The sets of the first bytes of a string, one byte each. The one error is that memory was refused.
+pub fn sets_of(alloc: Global, text: &[u8]) -> Result<Vec<ByteSet>, AllocError>
+    ensures { IfOk result (λ sets. BeginsRun (map members sets.items) (map only text.now)) }
+{
+    let mut sets = Vec::new(alloc);
+    'bytes: for place in 0..text.len().min(MOST_SETS) {
+        sets.push(ByteSet::only(text[place]))?;
+    }
+    Ok(sets)
+}
+
+// The first sets.
+fn first_sets(alloc: Global, sets: &[ByteSet]) -> Result<Vec<ByteSet>, AllocError>
+    ensures { IfOk result (λ first. BeginsRun (map members first.items) (map members sets.now)) }
+{
+    let mut first = Vec::new(alloc);
+    first.extend_from_slice(&sets[..sets.len().min(MOST_SETS)])?;
+    Ok(first)
 }

@@ -92,6 +92,13 @@ impl SetFinder {
         stops <= MOST_STOPS
     }
 
+    /// The sets.
+    pub fn sets(&self) -> &[ByteSet]
+        ensures { result.now ≡ self.now }
+    {
+        &self.sets
+    }
+
     /// How many sets there are.
     pub fn len(&self) -> usize
         ensures { result ≡ length self.now }

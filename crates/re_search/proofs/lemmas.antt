@@ -10,6 +10,7 @@ pub mod KeptMatchers
 pub mod OneMatcher
 pub mod SearchedBlocks
 pub mod FilterLaws
+pub mod RunFilters
 pub mod PlainLaws
 pub mod KeptAnswers
 pub mod CourseLaws

@@ -10,7 +10,7 @@ mod searchers;
 mod several;
 
 pub use course::Course;
-pub use filter::{Filter, needed_strings};
+pub use filter::{Filter, needed_run, needed_strings};
 pub use plain::add_strings;
 pub use re_auto::Meter;
 pub use re_match::{Cached, Fixed, FixedSet, LineMatch, Matcher, Simulated};

@@ -8,7 +8,8 @@ ghost use Rattle.re_search.specs.Working.Matchers.{matched_expression, wants_who
 use crate::several::{assert_steps, block_of, ends_of};
 use re_auto::fresh_meter;
 use re_search::{
-    Filter, Fixed, FixedSet, LineMatch, Matcher, Searchers, Simulated, Syntax, needed_strings,
+    Filter, Fixed, FixedSet, LineMatch, Matcher, Searchers, Simulated, Syntax, needed_run,
+    needed_strings,
 };
 use re_syntax::{read_extended, split_file};
 use std::alloc::{AllocError, Global};
@@ -186,7 +187,7 @@ type Together = (
     Option<(usize, usize)>,
 );
 
-static TOGETHER: [Together; 6] = [
+static TOGETHER: [Together; 7] = [
     (
         b"ba+r\n",
         false,
@@ -212,6 +213,14 @@ static TOGETHER: [Together; 6] = [
         Some((1, 4)),
     ),
     (b"foo\nba+r\n", true, b"fo\nbr", None, 0, None),
+    (
+        b"zeb\nq[ui]x+\n",
+        false,
+        b"zix\nqub\nqixx",
+        Some((8, 12)),
+        1,
+        Some((0, 4)),
+    ),
     (b"", true, b"a\n", None, 0, None),
     (b"", false, b"a\n", None, 0, None),
 ];
@@ -275,10 +284,18 @@ fn assert_together(rt: &impl Abort, alloc: Global, row: &Together) -> Result<(),
     assert_asked(rt, alloc, &mut matchers, &none, row)
 }
 
+// Before the matchers a run is looked for that all need.
+fn assert_with_run(rt: &impl Abort, alloc: Global, row: &Together) -> Result<(), Fail> {
+    let mut matchers = all_made(alloc, row.0)?;
+    let needed = needed_run(alloc, &matchers)?;
+    assert_asked(rt, alloc, &mut matchers, &needed, row)
+}
+
 #[test]
 fn searchers_find_and_count_together(rt: HostRuntime) -> Result<(), Fail> {
     for row in together() {
         assert_together(&rt, rt.alloc(), row)?;
+        assert_with_run(&rt, rt.alloc(), row)?;
     }
     Ok(())
 }

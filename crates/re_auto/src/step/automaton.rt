@@ -131,7 +131,7 @@ impl Automaton {
     /// The first place, `place` or later, with whose byte a stretch inside a line can begin, or the
     /// line's end where there is none. Each byte before it counts as a built step: while no stretch
     /// is on its way, such a byte takes a set to itself.
-    #[inline]
+    #[inline(always)]
     pub fn next_beginning(&self, line: &[u8], place: usize, meter: &mut Meter) -> usize
         requires { place ≤ length line.now }
         ensures within { (place ≤ result) × (result ≤ length line.now) }

@@ -1,5 +1,5 @@
 -- Needles, and what their places say of a line.
-use Rattle.std.proofs.Common.{◌≡◌, ℕ, ◌+◌, ◌-◌, ◌≤◌, inl, Bool, false, IsTrue, List, [], ◌∷◌, ◌++◌, length, map, drop, Option, Some, None, refl, sym, subst, arith, true, inr, ◌∙◌}
+use Rattle.std.proofs.Common.{◌≡◌, ℕ, ◌+◌, ◌-◌, ◌≤◌, inl, Bool, false, IsTrue, List, [], ◌∷◌, ◌++◌, length, map, drop, Option, Some, None, refl, sym, subst, arith, true, inr, ◌∙◌, length-append}
 use Rattle.std.specs.Option.{is_some}
 use Rattle.std.proofs.lemmas.Bool.{false≢true}
 use Rattle.std.proofs.lemmas.List.{length-map}
@@ -11,12 +11,12 @@ use Rattle.re_syntax.specs.Parts.{IsFound, IsPart}
 use Rattle.re_syntax.proofs.lemmas.Decisions.{Any-first}
 use Rattle.re_needle.specs.declared.needle.Needle.{Needle}
 use Rattle.re_needle.specs.declared.run_finder.RunFinder.{RunFinder}
-use Rattle.re_needle.specs.Working.Runs.{FindsRun}
+use Rattle.re_needle.specs.Working.Runs.{BeginsRun, FindsRun}
 use Rattle.re_needle.specs.Working.Needles.{IsNeeded, RunIsNeeded, IsNeedleOf, run_of, IsSettled, LacksNeeded}
 use Rattle.re_needle.specs.Working.Outlines.{IsOutline}
 use Rattle.re_syntax.proofs.lemmas.SomeOfJoined.{Any-single}
 use Rattle.re_needle.proofs.lemmas.OutlineLaws.{run_needed, run_begins, just_run}
-use Rattle.re_needle.proofs.lemmas.RunLaws.{run_rest, run_whole, run_text, nowhere}
+use Rattle.re_needle.proofs.lemmas.RunLaws.{front_stands, run_rest, run_whole, run_text, text_run, nowhere}
 use Rattle.std.specs.Prelude.{◌↔◌}
 
 -- sets that are neighbours in an outline are a needle
@@ -35,6 +35,18 @@ pub text_needed : (finder : RunFinder) (text : Text) (e : Expression) → run_of
 text_needed finder text e is needed = λ line i j within h.
     let (k, low, high, o) = subst (λ run. RunIsNeeded run e) is needed line i j within h in
     (k, low, omega (arith, high, length-map text only), run_text line text k o)
+
+-- of a run that is needed the first sets are
+pub front_needed : (front run : List Bytes) (e : Expression) → BeginsRun front run → RunIsNeeded run e → RunIsNeeded front e
+front_needed front run e (rest, is) needed = λ line i j within h.
+    let (k, low, high, o) = subst (λ r. RunIsNeeded r e) is needed line i j within h in
+    (k, low, omega (arith, high, length-append front rest), front_stands line front rest k o)
+
+-- and so are the sets of a string's first bytes
+pub text_front : (front : List Bytes) (text : Text) (e : Expression) → BeginsRun front (map only text) → IsNeeded text e → RunIsNeeded front e
+text_front front text e begins needed = front_needed front (map only text) e begins (λ line i j within h.
+    let (k, low, high, o) = needed line i j within h in
+    (k, low, omega (arith, high, length-map text only), text_run line text k o))
 
 module _ (e : Expression) (needle : Needle) (of : IsNeedleOf e needle) (line : Text) where
   -- where a search from a place on does not find the needle, no stretch from there on is matched

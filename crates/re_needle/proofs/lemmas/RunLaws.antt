@@ -53,6 +53,14 @@ run_whole run line from k within o =
           subst (λ b. IsTrue (set_at run j b)) (get_or-drop from line (k + j) 0 ∙ ap (λ n. get_or line n 0) place) (o.takes j below);
     }
 
+-- a run stands where one does that begins with it
+pub front_stands : (line : Text) (front rest : List Bytes) (k : ℕ) → RunStandsAt line (front ++ rest) k → RunStandsAt line front k
+front_stands line front rest k o =
+    let fits : k + length (front ++ rest) ≤ length line = o.fits in record {
+      fits = omega (arith, length-append front rest);
+      takes = λ j below. subst (λ s. IsTrue (s (slice_index line (k + j)))) (get_or_append_left front rest nothing j below) (o.takes j (omega (arith, below, length-append front rest)));
+    }
+
 -- ---- a string is the run of its bytes alone
 
 its_set : (text : Text) (j : ℕ) → j < length text → set_at (map only text) j ≡ only (slice_index text j)

@@ -108,7 +108,7 @@ fn any_matches<M: LineMatch>(
     if matchers.is_empty() {
         return false;
     }
-    if filter.is_empty() {
+    if !filter.has_strings() {
         return is_matched(matchers, line, meter);
     }
     if filter.rules_out(line, meter) {

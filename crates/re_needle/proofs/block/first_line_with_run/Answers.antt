@@ -1,34 +1,11 @@
-use Rattle.std.proofs.Common.{◌≤◌, length, take, arith, length-take}
-use Rattle.std.specs.Prelude.{⊤}
 use Rattle.re_needle.specs.Working.Needles.{run_of}
-use Rattle.re_needle.proofs.lemmas.BlockLemmas.{passes_front_run, passes_whole_run, passed_within}
-use Rattle.re_needle.proofs.lemmas.Looks.{look_in_line, none_after}
 use Rattle.re_needle.proofs.block.first_line_with_run.Goals as goal
 
-pub returns-in_default-clause-passes : goal.returns-in_default-clause-passes
-returns-in_default-clause-passes c = rw c.nothing_in.ensures.start (passes_whole_run (run_of c.args.finder.now) c.args.block.now c.requires c.in_default.ensures.found)
-
-pub returns-in_default-clause-stops : goal.returns-in_default-clause-stops
-returns-in_default-clause-stops c = λ end. none_after c.args.block.now _ end _ c.nothing_in.ensures.start
-
-pub returns-in_default-clause-counted : goal.returns-in_default-clause-counted
-returns-in_default-clause-counted c = rw c.nothing_in.ensures.place c.in_default.ensures.counted
-
 pub returns-clause-passes : goal.returns-clause-passes
-returns-clause-passes c = passes_front_run (run_of c.args.finder.now) c.args.block.now c.in-Some.at c.line_start.result c.in-Some.ensures.found c.line_start.ensures.lines
+returns-clause-passes c = c.swept_at.ensures.passes (run_of c.args.finder.now) c.find-found.ensures.found
 
-pub returns-in_default-clause-low : goal.returns-in_default-clause-low
-returns-in_default-clause-low c = rw c.nothing_in.ensures.place tt
+pub returns-clause-found : goal.returns-clause-found
+returns-clause-found c = rw c.swept_at.ensures.place c.find-found.ensures.found
 
-pub returns-clause-low : goal.returns-clause-low
-returns-clause-low c = omega (arith, passed_within (λ _. ⊤) (take c.in-Some.at c.args.block.now) c.line_start.result c.line_start.ensures.lines, length-take c.in-Some.at c.args.block.now)
-
-pub returns-clause-stops : goal.returns-clause-stops
-returns-clause-stops c = λ end.
-    let block = c.args.block.now in
-    let fits : c.in-Some.at ≤ length block = let high = c.in-Some.ensures.found.0.high in omega (arith, high) in
-    let low : c.line_start.result ≤ c.in-Some.at = omega (arith, passed_within (λ _. ⊤) (take c.in-Some.at block) c.line_start.result c.line_start.ensures.lines, length-take c.in-Some.at block) in
-    look_in_line block c.line_start.result c.in-Some.at end fits low c.line_start.ensures.last
-
-pub returns-in_default-clause-found : goal.returns-in_default-clause-found
-returns-in_default-clause-found c = rw c.nothing_in.ensures.place c.in_default.ensures.found
+pub returns-clause-counted : goal.returns-clause-counted
+returns-clause-counted c = rw c.swept_at.ensures.place c.find-found.ensures.counted

@@ -1,0 +1,18 @@
+-- Runs that expressions need.
+use Rattle.std.proofs.Common.{◌≡◌, ℕ, ◌+◌, ◌<◌, ◌≤◌, [], length, arith}
+use Rattle.re_syntax.specs.Expression.{Expression}
+use Rattle.re_syntax.proofs.lemmas.HoldsDecided.{Holds-le}
+use Rattle.re_needle.specs.Working.Needles.{RunIsNeeded}
+
+-- the run of no set is everywhere
+pub none_needed : (e : Expression) → RunIsNeeded [] e
+none_needed e = λ line i j within h.
+    let le : i ≤ j = Holds-le line e i j h in (
+      i,
+      omega arith,
+      omega (arith, le),
+      record {
+        fits = omega (arith, le, within);
+        takes = λ n below. absurd (omega (arith, below));
+      },
+    )

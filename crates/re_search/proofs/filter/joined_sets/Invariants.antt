@@ -1,0 +1,9 @@
+use Rattle.std.proofs.Common.{ℕ, ◌<◌, length, map, get_or}
+use Rattle.re_syntax.specs.Sets.{members}
+use Rattle.re_needle.specs.Working.Needles.{RunIsNeeded}
+use Rattle.re_match.specs.declared.matcher.Matcher.{Matcher}
+use Rattle.re_match.specs.Working.Matchers.{matched_expression}
+use Rattle.re_search.proofs.filter.joined_sets.Given as goal
+
+abbrev pub invariant-matchers : goal.invariant-matchers
+invariant-matchers l = (k : ℕ) (d : Matcher) → k < l.place → k < length l.matchers → RunIsNeeded (map members l.sets.items) (matched_expression (get_or l.matchers k d))

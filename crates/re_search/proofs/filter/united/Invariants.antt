@@ -1,0 +1,9 @@
+use Rattle.std.proofs.Common.{◌≡◌, ℕ, ◌<◌, length, get_or}
+use Rattle.re_syntax.specs.Bytes.{union}
+use Rattle.re_syntax.specs.Sets.{members}
+use Rattle.re_syntax.specs.declared.bytes.ByteSet.{ByteSet}
+use Rattle.re_search.proofs.filter.united.Given as goal
+
+abbrev pub invariant-places : goal.invariant-places
+invariant-places l = (length l.sets.items ≡ l.place)
+    × ((j : ℕ) (d : ByteSet) → j < l.place → members (get_or l.sets.items j d) ≡ union (members (get_or l.one j d)) (members (get_or l.other j d)))
