@@ -13,15 +13,19 @@
 # make test-editor  tests the Emacs client on the built programs (needs Emacs 28)
 # make test-nvim  tests the Neovim client on the built programs (needs Neovim 0.7)
 # make evidence   writes docs/EVIDENCE.md: the newest run of each of the targets above
-# make install    copies the programs and their manual pages below $(DESTDIR)$(PREFIX), the Emacs client to
-#                 $(DESTDIR)$(SITE_LISP) and the Neovim client to $(DESTDIR)$(NVIM_SITE), if SITE_LISP and NVIM_SITE
-#                 name folders; EMACS compiles its client, where it is there; another grep that is there is kept,
-#                 unless FORCE=1 is given
-# make dist       packs the programs, their pages and the clients into an archive in build/
+# make install    copies the programs, stripped, with their manual pages and completions below $(DESTDIR)$(PREFIX), grep
+#                 by the name GREP_NAME; the Emacs client to $(DESTDIR)$(SITE_LISP) and the Neovim client to
+#                 $(DESTDIR)$(NVIM_SITE), if SITE_LISP and NVIM_SITE name folders; EMACS compiles its client, where it
+#                 is there; another grep that is there is kept, unless FORCE=1 is given; the symbols stay in build/debug
+# make install-occur  does so without grep
+# make uninstall  removes what `make install` copied, with the same words
+# make dist       packs archives into build/: the programs, their pages and the clients; their symbols; the sources
+# make deb        packs the programs for Debian into build/, grep as gaxgrep (needs dpkg-dev)
 # make clean      removes what make built; what rt keeps of its proofs is kept
 
 # DESTDIR can be set in the environment too. FORCE counts on the command line alone.
 PREFIX = /usr/local
+GREP_NAME = grep
 SITE_LISP =
 NVIM_SITE =
 FORCE =
@@ -29,7 +33,7 @@ EMACS = emacs
 NVIM = nvim
 
 .PHONY: all programs gate audit test test-program test-random test-growth test-changes test-memory test-editor test-nvim \
-    evidence dist install clean
+    evidence install install-occur uninstall dist deb clean
 
 all: programs
 
@@ -92,20 +96,38 @@ test-nvim: build/grep build/occur
 evidence:
 	tools/evidence_page.sh
 
+KEEP_OTHER_GREP = test "$(FORCE)" = 1 || tools/keep_other_grep.sh "$(DESTDIR)$(PREFIX)/bin/$(GREP_NAME)"
+
 install: build/grep build/occur
-	@test "$(FORCE)" = 1 || tools/keep_other_grep.sh "$(DESTDIR)$(PREFIX)/bin/grep"
-	install -d "$(DESTDIR)$(PREFIX)/bin" "$(DESTDIR)$(PREFIX)/share/man/man1"
-	install -m 755 build/grep "$(DESTDIR)$(PREFIX)/bin/grep"
-	install -m 755 build/occur "$(DESTDIR)$(PREFIX)/bin/occur"
-	install -m 644 man/grep.1 "$(DESTDIR)$(PREFIX)/share/man/man1/grep.1"
-	install -m 644 man/occur.1 "$(DESTDIR)$(PREFIX)/share/man/man1/occur.1"
+	@$(KEEP_OTHER_GREP)
+	tools/install.sh install "$(DESTDIR)$(PREFIX)" "$(GREP_NAME)" grep
+	$(MAKE) install-occur
+
+install-occur:
+	test -e build/occur || tools/build.sh occur
+	tools/install.sh install "$(DESTDIR)$(PREFIX)" "$(GREP_NAME)" occur
 	if test -n "$(SITE_LISP)"; then editors/emacs/install.sh "$(EMACS)" "$(DESTDIR)$(SITE_LISP)"; fi
 	if test -n "$(NVIM_SITE)"; then cd editors/nvim && for folder in plugin doc lua/live_occur; do \
 	    install -d "$(DESTDIR)$(NVIM_SITE)/$$folder" && \
 	    install -m 644 $$folder/*.* "$(DESTDIR)$(NVIM_SITE)/$$folder/" || exit; done; fi
 
+uninstall:
+	@$(KEEP_OTHER_GREP)
+	tools/install.sh remove "$(DESTDIR)$(PREFIX)" "$(GREP_NAME)" grep occur
+	if test -n "$(SITE_LISP)"; then cd "$(DESTDIR)$(SITE_LISP)" && \
+	    rm -f live-occur.el live-occur.elc live-occur-autoloads.el; fi
+	if test -n "$(NVIM_SITE)"; then cd "$(DESTDIR)$(NVIM_SITE)" && \
+	    rm -rf plugin/live_occur.lua doc/live-occur.txt lua/live_occur; fi
+
+# The time of all files in packages: that of the commit or, without git, of the file VERSION, which the archive of the
+# sources has kept.
+dist deb: export SOURCE_DATE_EPOCH ?= $(shell test -e .git && git log -1 --format=%ct || stat --format=%Y VERSION)
+
 dist: build/grep build/occur
 	tools/dist.sh
+
+deb: build/grep build/occur
+	tools/deb.sh
 
 clean:
 	rm -rf build

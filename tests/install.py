@@ -1,8 +1,8 @@
-"""Cases of `make install`: where it writes, and what becomes of a grep that is there; and of `make dist`:
-what it packs. They need GNU make.
+"""Cases of `make install`, `make install-occur` and `make uninstall`: where they write, what they call
+grep, and what becomes of a grep that is there. They need GNU make.
 
-It runs in a checkout that has the given grep as build/grep, so that nothing is built or proved, and
-some text as build/occur. All is in the folder of the case.
+They run in a checkout that has the given program in build/, so that nothing is built or proved. All is
+in the folder of the case.
 """
 
 from __future__ import annotations
@@ -10,48 +10,64 @@ from __future__ import annotations
 import os
 import shutil
 import subprocess
-import tarfile
 from pathlib import Path
 
-from program import SECONDS, Answer, Bench, Cases, Skipped, Verdict, all_of
+from program import SECONDS, Answer, Bench, Cases, Skipped, Verdict, all_of, finish
+from samples import REPLIES, SCRIPT, TWO_LINES
 
 REPOSITORY = Path(__file__).resolve().parent.parent
-OCCUR = b"occur"
-"""What stands for the built occur."""
-
 OTHER_GREP = b"#!/bin/sh\necho 'usage: grep [-abc] pattern [file ...]' >&2\nexit 2\n"
-INSTALLED = ["bin/grep", "bin/occur", "share/man/man1/grep.1", "share/man/man1/occur.1"]
+TEXTS = [f"share/doc/gaxtrel/{name}" for name in ("CHANGELOG.md", "LICENSE-APACHE", "LICENSE-MIT", "README.md")]
+
+
+def installed_of(name: str) -> list[str]:
+    """What is installed with a program of this name."""
+    return [f"bin/{name}", f"share/man/man1/{name}.1", f"share/bash-completion/completions/{name}",
+            f"share/fish/vendor_completions.d/{name}.fish", f"share/zsh/site-functions/_gaxtrel_{name}"]
+
+
+INSTALLED = sorted([*installed_of("grep"), *installed_of("occur"), *TEXTS])
 LUA = REPOSITORY / "editors/nvim/lua/live_occur"
 NVIM_CLIENT = ["doc/live-occur.txt", *sorted(f"lua/live_occur/{file.name}" for file in LUA.iterdir()),
                "plugin/live_occur.lua"]
-PACKED = ["LICENSE-APACHE", "LICENSE-MIT", "README", *INSTALLED[:2],
-          "share/emacs/site-lisp/live-occur.el", *INSTALLED[2:],
-          *(f"share/nvim/site/{name}" for name in NVIM_CLIENT)]
-CHECKED_OUT = ["LICENSE-APACHE", "LICENSE-MIT", "Makefile", "VERSION", "dist", "editors", "man", "tools"]
+CHECKED_OUT = ["CHANGELOG.md", "LICENSE-APACHE", "LICENSE-MIT", "Makefile", "README.md", "VERSION", "completions",
+               "dist", "editors", "man", "tools"]
 FAILED = 2
 """The exit status of make where a command failed."""
 
 grep_case = Cases("grep", "install.py")
-cases = all_of(grep_case)
+occur_case = Cases("occur", "install.py")
+cases = all_of(grep_case, occur_case)
 """All cases of this file."""
 
 
 def checkout(bench: Bench) -> Path:
-    """A checkout in which both programs are built."""
-    bench.write("checkout/build/occur", OCCUR)
-    shutil.copy(bench.program, bench.folder / "checkout/build/grep")
+    """A checkout in which the given program is built; where that is grep another program stands for occur."""
+    folder = bench.folder / "checkout"
+    if folder.exists():
+        return folder
+    (folder / "build").mkdir(parents=True)
+    shutil.copy(bench.program, folder / "build" / bench.name)
+    if bench.name == "grep":
+        shutil.copy(bench.program, folder / "build/occur")
     for name in CHECKED_OUT:
-        (bench.folder / "checkout" / name).symlink_to(REPOSITORY / name)
-    return bench.folder / "checkout"
+        copy = shutil.copytree if (REPOSITORY / name).is_dir() else shutil.copy2
+        copy(REPOSITORY / name, folder / name)
+    return folder
 
 
 def make(bench: Bench, *words: str, **variables: str) -> int:
     """Runs make in a checkout, and answers its exit status. Of the environment it has the path and
     these variables alone, and so no setting of a make above."""
+    return make_in(checkout(bench), *words, **variables)
+
+
+def make_in(folder: Path, *words: str, **variables: str) -> int:
+    """Runs make in a folder, as above."""
     if not shutil.which("make"):
         raise Skipped("no make")
     environment = {"PATH": os.environ["PATH"], **variables}
-    ran = subprocess.run(["make", "-s", *words], cwd=checkout(bench), env=environment, timeout=SECONDS,
+    ran = subprocess.run(["make", "-s", *words], cwd=folder, env=environment, timeout=SECONDS,
                          stdin=subprocess.DEVNULL, capture_output=True, check=False)
     return ran.returncode
 
@@ -73,6 +89,18 @@ def files_in(folder: Path) -> bytes:
     return "\n".join(found).encode()
 
 
+def listed(names: list[str]) -> bytes:
+    """Names as `files_in` gives them."""
+    return "\n".join(sorted(names)).encode()
+
+
+def found_by(program: Path) -> bytes:
+    """What a grep or an occur that is there finds in a text of two lines."""
+    words, stdin = ([], SCRIPT) if program.name == "occur" else (["a"], TWO_LINES)
+    process = subprocess.Popen([program, *words], stdin=subprocess.PIPE, stdout=subprocess.PIPE)
+    return finish(process, stdin).out
+
+
 def installed_over(bench: Bench, wanted: Answer, *words: str, **variables: str) -> Verdict:
     """Installs over the grep that is there. An answer is that grep's content then, the names of all
     files that are there, and the exit status."""
@@ -81,8 +109,11 @@ def installed_over(bench: Bench, wanted: Answer, *words: str, **variables: str) 
     return Verdict(wanted, Answer((there / "bin/grep").read_bytes(), files_in(there), status))
 
 
-def replaced(bench: Bench) -> Answer:
-    return Answer(bench.program.read_bytes(), "\n".join(INSTALLED).encode(), 0)
+def replaced(bench: Bench, *words: str) -> Verdict:
+    """Installs over the grep that is there, which then is this one."""
+    status = install(bench, *words)
+    there = bench.folder / "there"
+    return Verdict(Answer(TWO_LINES, listed(INSTALLED)), Answer(found_by(there / "bin/grep"), files_in(there), status))
 
 
 def kept(content: bytes) -> Answer:
@@ -95,7 +126,7 @@ def below_a_variable(bench: Bench) -> Verdict:
     status = install(bench, DESTDIR=str(bench.folder / "stage"))
     stage = bench.folder / "stage" / (bench.folder / "there").relative_to("/")
     outside = files_in(bench.folder / "there")
-    return Verdict(Answer("\n".join(INSTALLED).encode()), Answer(files_in(stage), outside, status))
+    return Verdict(Answer(listed(INSTALLED)), Answer(files_in(stage), outside, status))
 
 
 @grep_case("`make install` writes below DESTDIR alone, where its words set it.")
@@ -103,7 +134,7 @@ def below_a_word(bench: Bench) -> Verdict:
     status = install(bench, f"DESTDIR={bench.folder / 'stage'}")
     stage = bench.folder / "stage" / (bench.folder / "there").relative_to("/")
     outside = files_in(bench.folder / "there")
-    return Verdict(Answer("\n".join(INSTALLED).encode()), Answer(files_in(stage), outside, status))
+    return Verdict(Answer(listed(INSTALLED)), Answer(files_in(stage), outside, status))
 
 
 @grep_case("`make install` leaves another grep that is there as it is, and installs nothing.")
@@ -122,7 +153,7 @@ def no_program(bench: Bench) -> Verdict:
 @grep_case("`make install FORCE=1` replaces another grep.")
 def forced(bench: Bench) -> Verdict:
     put_grep(bench, OTHER_GREP)
-    return installed_over(bench, replaced(bench), "FORCE=1")
+    return replaced(bench, "FORCE=1")
 
 
 @grep_case("FORCE in the environment doesn't make `make install` replace another grep.")
@@ -134,7 +165,7 @@ def forced_by_a_variable(bench: Bench) -> Verdict:
 @grep_case("`make install` replaces this grep, in another build too.")
 def same_grep(bench: Bench) -> Verdict:
     put_grep(bench, bench.program.read_bytes() + b"\n")
-    return installed_over(bench, replaced(bench))
+    return replaced(bench)
 
 
 @grep_case("`make install` copies the clients of editors below DESTDIR, to the folders that are named.")
@@ -175,12 +206,90 @@ def not_compiled(bench: Bench) -> Verdict:
     return Verdict(Answer(b"live-occur.el"), Answer(files_in(bench.folder / "lisp"), b"", status))
 
 
-@grep_case("`make dist` packs both programs, their pages, the clients of editors, the licences and a README.")
-def packed(bench: Bench) -> Verdict:
-    status = make(bench, "dist")
-    version = (REPOSITORY / "VERSION").read_text(encoding="ascii").strip()
-    name = f"gaxtrel-{version}-x86_64-linux"
-    with tarfile.open(bench.folder / f"checkout/build/{name}.tar.gz") as archive:
-        files = [member.name for member in archive if member.isfile()]
-    wanted = "\n".join(f"{name}/{file}" for file in PACKED).encode()
-    return Verdict(Answer(wanted), Answer("\n".join(files).encode(), b"", status))
+NAMED = listed([*installed_of("gaxgrep"), *installed_of("occur"), *TEXTS])
+"""What is installed where grep is called gaxgrep."""
+
+
+@grep_case("`make install GREP_NAME=gaxgrep` installs grep beside another one, which stays as it is.")
+def named(bench: Bench) -> Verdict:
+    put_grep(bench, OTHER_GREP)
+    status = install(bench, "GREP_NAME=gaxgrep")
+    there = bench.folder / "there"
+    (there / "bin/grep").unlink()
+    return Verdict(Answer(TWO_LINES, NAMED), Answer(found_by(there / "bin/gaxgrep"), files_in(there), status))
+
+
+OTHER_NAMES = {"completions/gaxgrep": [b"complete -o filenames -F _gaxtrel_grep gaxgrep"],
+               "site-functions/_gaxtrel_gaxgrep": [b"#compdef gaxgrep"],
+               "vendor_completions.d/gaxgrep.fish": [b"complete -c gaxgrep -s v "],
+               "man1/gaxgrep.1": [b".Dt GAXGREP 1", b".Nm gaxgrep\n.Nd ", b"| gaxgrep -n ", b"GNU\n.Nm grep\n",
+                                  b".It Li grep: no pattern"],
+               "man1/occur.1": [b".Dt OCCUR 1", b".Xr gaxgrep 1 "]}
+"""Of texts that are installed with gaxgrep, what they have of its name, and of grep's."""
+
+
+@grep_case("The texts that are installed with `GREP_NAME=gaxgrep` call grep so, but not GNU grep.")
+def renamed(bench: Bench) -> Verdict:
+    status = install(bench, "GREP_NAME=gaxgrep")
+    share = bench.folder / "there/share"
+    texts = {name: next(share.rglob(name)).read_bytes() for name in OTHER_NAMES}
+    faults = [f"{name}: {part.decode()}" for name, parts in OTHER_NAMES.items()
+              for part in parts if part not in texts[name]]
+    faults += [name for name, text in texts.items() if b".Xr grep" in text or b"$ grep" in text]
+    return Verdict(Answer(), Answer("\n".join(faults).encode(), b"", status))
+
+
+@grep_case("`make uninstall` removes all that `make install` has installed, and nothing else.")
+def uninstalled(bench: Bench) -> Verdict:
+    words = ["GREP_NAME=gaxgrep", f"PREFIX={bench.folder / 'there'}", f"SITE_LISP={bench.folder / 'there/lisp'}",
+             f"NVIM_SITE={bench.folder / 'there/nvim'}"]
+    put_grep(bench, OTHER_GREP)
+    statuses = make(bench, "install", *words), make(bench, "uninstall", *words)
+    return Verdict(Answer(b"bin/grep (0, 0)"), Answer(files_in(bench.folder / "there") + f" {statuses}".encode()))
+
+
+@grep_case("`make uninstall` leaves another grep that is there as it is, and removes nothing.")
+def not_uninstalled(bench: Bench) -> Verdict:
+    put_grep(bench, OTHER_GREP)
+    bench.write("there/bin/occur", b"")
+    status = make(bench, "uninstall", f"PREFIX={bench.folder / 'there'}")
+    return Verdict(Answer(b"bin/grep\nbin/occur", b"", FAILED), Answer(files_in(bench.folder / "there"), b"", status))
+
+
+@occur_case("`make install-occur` installs occur alone, which needs no grep.")
+def occur_alone(bench: Bench) -> Verdict:
+    there = bench.folder / "there"
+    put_grep(bench, OTHER_GREP)
+    status = make(bench, "install-occur", f"PREFIX={there}")
+    wanted = listed(["bin/grep", *installed_of("occur"), *TEXTS])
+    return Verdict(Answer(REPLIES, wanted), Answer(found_by(there / "bin/occur"), files_in(there), status))
+
+
+# Symbols
+
+
+def sections_of(program: Path) -> set[str]:
+    """The names of a program's sections that tell of symbols."""
+    if not shutil.which("readelf"):
+        raise Skipped("no readelf")
+    ran = subprocess.run(["readelf", "-W", "-S", program], timeout=SECONDS, capture_output=True, check=True)
+    return {name for name in (".symtab", ".gnu_debuglink") if f" {name} ".encode() in ran.stdout}
+
+
+@grep_case("`make install` strips a program, and keeps its symbols in build/debug.")
+def stripped(bench: Bench) -> Verdict:
+    if not shutil.which("objcopy"):
+        raise Skipped("no objcopy")
+    status = install(bench)
+    names = [sorted(sections_of(bench.folder / file))
+             for file in ("checkout/build/debug/grep.debug", "there/bin/grep")]
+    wanted = [sorted(sections_of(bench.program)), [".gnu_debuglink"]]
+    return Verdict(Answer(str(wanted).encode()), Answer(str(names).encode(), b"", status))
+
+
+@grep_case("`make install` without objcopy installs programs as they are.")
+def not_stripped(bench: Bench) -> Verdict:
+    status = install(bench, OBJCOPY="no-such-objcopy")
+    same = (bench.folder / "there/bin/grep").read_bytes() == bench.program.read_bytes()
+    debug = files_in(bench.folder / "checkout/build/debug")
+    return Verdict(Answer(b"True"), Answer(f"{same}".encode() + debug, b"", status))

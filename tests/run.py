@@ -2,8 +2,9 @@
 """Runs built programs on the rows of tests/rows, the scripts of tests/scripts, the devices of
 tests/devices.py and tests/occur_devices.py, the inputs that are the output of tests/same_file.py,
 the processes of tests/processes.py, the live and long inputs of tests/live.py, the hostile texts of
-tests/hostile.py, the failing calls of tests/failed_calls.py, `make install` and `make dist` in
-tests/install.py, the pages of the repository in tests/pages.py, and the crates in tests/meters.py.
+tests/hostile.py, the failing calls of tests/failed_calls.py, `make install` in tests/install.py, what
+it completes in tests/completions.py, `make dist` and `make deb` in tests/packages.py, the pages of the
+repository in tests/pages.py, and the crates in tests/meters.py.
 
     tests/run.py GREP [OCCUR] [--only TEXT]
 
@@ -24,6 +25,7 @@ from collections import Counter
 from collections.abc import Iterable
 from pathlib import Path
 
+import completions
 import devices
 import failed_calls
 import hostile
@@ -31,6 +33,7 @@ import install
 import live
 import meters
 import occur_devices
+import packages
 import pages
 import processes
 import row
@@ -91,7 +94,8 @@ def all_cases() -> list[Case]:
     """The cases of all programs. No two have one name."""
     cases = [*row.cases(), *script.cases(), *devices.cases(), *live.cases(), *hostile.cases()]
     cases += [*same_file.cases(), *occur_devices.cases(), *processes.cases()]
-    cases += [*failed_calls.cases(), *install.cases(), *pages.cases(), *meters.cases()]
+    cases += [*failed_calls.cases(), *install.cases(), *completions.cases(), *packages.cases()]
+    cases += [*pages.cases(), *meters.cases()]
     names = Counter(case.name for case in cases)
     if twice := [name for name, count in names.items() if count > 1]:
         raise row.BadRow(f"names that stand twice: {twice}")

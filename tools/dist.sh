@@ -1,7 +1,12 @@
 #!/usr/bin/env bash
-# Packs build/grep and build/occur, their manual pages, the clients of editors and the licences into
-# build/gaxtrel-VERSION-x86_64-linux.tar.gz. The same programs, of one commit, make the same archive: no
-# Emacs compiles its client.
+# Packs three archives into build/, and writes the checksums of all that is packed there to build/SHA256SUMS:
+#
+#     gaxtrel-VERSION-x86_64-linux.tar.gz        the programs, with what is installed with them, and the clients of editors
+#     gaxtrel-VERSION-x86_64-linux-debug.tar.gz  their symbols, where a debugger looks for them beside the programs
+#     gaxtrel-VERSION.tar.gz                     the files that git knows or, without git, all that nothing has made
+#
+# All files get the time SOURCE_DATE_EPOCH. The same programs and sources make the same archives: no Emacs compiles its
+# client.
 set -euo pipefail
 cd "$(dirname "${BASH_SOURCE[0]}")/.."
 version=$(< VERSION)
@@ -9,10 +14,27 @@ name=gaxtrel-$version-x86_64-linux
 folder=$(mktemp -d)
 trap 'rm -rf "$folder"' EXIT
 
-make -s install DESTDIR= PREFIX="$folder/$name" SITE_LISP="$folder/$name/share/emacs/site-lisp" \
+# An archive of files and folders, with the words for tar that say which: pack NAME WORD..
+pack() {
+    tar --create --sort=name --owner=0 --group=0 --numeric-owner --mode=u=rwX,go=rX --mtime="@$SOURCE_DATE_EPOCH" \
+        "${@:2}" | gzip -9n > "build/$1.tar.gz"
+    echo "build/$1.tar.gz"
+}
+
+sources() {
+    if [[ -e .git ]]; then
+        git ls-files -z
+    else
+        find . -type d \( -path ./build -o -name out -o -name __pycache__ \) -prune -o \
+            ! -type d ! -path ./editors/nvim/doc/tags -printf '%P\0'
+    fi
+}
+
+make -s install DESTDIR= PREFIX="$folder/$name" GREP_NAME=grep SITE_LISP="$folder/$name/share/emacs/site-lisp" \
     NVIM_SITE="$folder/$name/share/nvim/site" EMACS=
-install -m 644 LICENSE-MIT LICENSE-APACHE "$folder/$name"
 sed "s/VERSION/$version/" dist/README > "$folder/$name/README"
-tar -C "$folder" --create --sort=name --owner=0 --group=0 --numeric-owner --mode=u=rwX,go=rX \
-    --mtime="@$(git log -1 --format=%ct 2> /dev/null || echo 0)" "$name" | gzip -9n > "build/$name.tar.gz"
-echo "build/$name.tar.gz"
+pack "$name" -C "$folder" "$name"
+pack "$name-debug" --transform="s|^\.|$name/bin/.debug|" -C build/debug .
+sources > "$folder/sources"
+pack "gaxtrel-$version" --transform="s|^|gaxtrel-$version/|S" --null --verbatim-files-from --files-from="$folder/sources"
+tools/checksums.sh

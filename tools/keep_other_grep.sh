@@ -12,8 +12,9 @@ if [[ ! -e $file && ! -L $file ]]; then exit 0; fi
 usage=$(usage_of build/grep)
 if [[ $usage == usage:* && -f $file && -x $file && $(usage_of "$file") == "$usage" ]]; then exit 0; fi
 cat >&2 << END
-$file is there, and is not this grep. It stays as it is, and nothing was installed.
+$file is there, and is not this grep. It stays as it is, and nothing was changed.
 Choose another place, as in:  make install PREFIX=\$HOME/.local
-To replace it all the same:   make install FORCE=1, with the same PREFIX
+Or another name, as in:       make install GREP_NAME=gaxgrep
+To replace it all the same:   make install FORCE=1, with the same PREFIX and GREP_NAME
 END
 exit 1

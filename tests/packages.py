@@ -1,0 +1,188 @@
+"""Cases of `make dist` and `make deb`: what they pack, and that it can be installed, run and removed.
+They need GNU make; some need git, and dpkg and lintian of Debian.
+
+They run in a checkout as those of tests/install.py.
+"""
+
+from __future__ import annotations
+
+import hashlib
+import os
+import shutil
+import subprocess
+import tarfile
+from pathlib import Path
+
+from install import (
+    INSTALLED,
+    NVIM_CLIENT,
+    OTHER_GREP,
+    REPOSITORY,
+    checkout,
+    files_in,
+    found_by,
+    listed,
+    make,
+    make_in,
+)
+from program import SECONDS, Answer, Bench, Cases, Skipped, Verdict, all_of
+from samples import TWO_LINES
+
+VERSION = (REPOSITORY / "VERSION").read_text(encoding="ascii").strip()
+PROGRAMS = f"gaxtrel-{VERSION}-x86_64-linux"
+"""The folder in the archive of the programs, and in that of their symbols."""
+
+SOURCES = f"gaxtrel-{VERSION}"
+CLIENTS = ["share/emacs/site-lisp/live-occur.el", *(f"share/nvim/site/{name}" for name in NVIM_CLIENT)]
+DATE = "1700000000"
+"""A time for the files in packages."""
+
+MADE = ["build/log/gate", "crates/re_syntax/out/rlib", "tests/__pycache__/run.pyc", "editors/nvim/doc/tags"]
+"""Files that no archive of the sources has."""
+
+grep_case = Cases("grep", "packages.py")
+cases = all_of(grep_case)
+"""All cases of this file."""
+
+
+def needs(*names: str) -> None:
+    """Skips the case where one of these programs is not there."""
+    for name in names:
+        if not shutil.which(name):
+            raise Skipped(f"no {name}")
+
+
+def unpacked(bench: Bench, name: str) -> Path:
+    """The folder to which an archive is unpacked."""
+    folder = bench.folder / "unpacked"
+    with tarfile.open(bench.folder / f"checkout/build/{name}.tar.gz") as archive:
+        archive.extractall(folder)
+    return folder
+
+
+@grep_case("`make dist` packs both programs, what is installed with them, the clients of editors and a README.")
+def packed(bench: Bench) -> Verdict:
+    status = make(bench, "dist")
+    folder = unpacked(bench, PROGRAMS) / PROGRAMS
+    wanted = listed([*INSTALLED, *CLIENTS, "README"])
+    return Verdict(Answer(TWO_LINES, wanted), Answer(found_by(folder / "bin/grep"), files_in(folder), status))
+
+
+@grep_case("`make dist` packs the symbols of both programs, where a debugger looks for them beside the programs.")
+def symbols(bench: Bench) -> Verdict:
+    needs("objcopy")
+    status = make(bench, "dist")
+    there = files_in(unpacked(bench, f"{PROGRAMS}-debug") / PROGRAMS)
+    return Verdict(Answer(b"bin/.debug/grep.debug\nbin/.debug/occur.debug"), Answer(there, b"", status))
+
+
+def sources_of(bench: Bench) -> list[str]:
+    """The names of all files in the archive of the sources."""
+    folder = unpacked(bench, SOURCES) / SOURCES
+    return [str(file.relative_to(folder)) for file in folder.rglob("*") if file.is_file()]
+
+
+@grep_case("`make dist` without git packs all sources, and nothing that was made of them.")
+def sources(bench: Bench) -> Verdict:
+    folder = checkout(bench)
+    wanted = [name for name in files_in(folder).decode().split("\n")
+              if not name.startswith("build/") and "__pycache__" not in name]
+    for name in MADE:
+        bench.write(f"checkout/{name}", b"")
+    status = make(bench, "dist")
+    return Verdict(Answer(listed(wanted)), Answer(listed(sources_of(bench)), b"", status))
+
+
+@grep_case("`make dist` packs the sources that git knows.")
+def known_sources(bench: Bench) -> Verdict:
+    needs("git")
+    known = ["Makefile", "VERSION", "tools/dist.sh"]
+    for words in (["init", "-q"], ["add", *known]):
+        subprocess.run(["git", *words], cwd=checkout(bench), timeout=SECONDS, check=True)
+    status = make(bench, "dist", f"SOURCE_DATE_EPOCH={DATE}")
+    return Verdict(Answer(listed(known)), Answer(listed(sources_of(bench)), b"", status))
+
+
+@grep_case("The packed sources install the programs, which run and are removed.")
+def installed_sources(bench: Bench) -> Verdict:
+    statuses = [make(bench, "dist")]
+    folder, there = unpacked(bench, SOURCES) / SOURCES, bench.folder / "there"
+    shutil.copytree(bench.folder / "checkout/build", folder / "build")
+    statuses.append(make_in(folder, "install", f"PREFIX={there}"))
+    found = found_by(there / "bin/grep")
+    statuses.append(make_in(folder, "uninstall", f"PREFIX={there}"))
+    return Verdict(Answer(TWO_LINES + b"[0, 0, 0]"), Answer(found + f"{statuses}".encode(), files_in(there)))
+
+
+@grep_case("`make dist` writes the checksums of what it packs.")
+def checksums(bench: Bench) -> Verdict:
+    status = make(bench, "dist")
+    build = bench.folder / "checkout/build"
+    archives = sorted(build.glob("*.tar.gz"))
+    wanted = [f"{hashlib.sha256(archive.read_bytes()).hexdigest()}  {archive.name}" for archive in archives]
+    given = (build / "SHA256SUMS").read_text(encoding="ascii").splitlines()
+    return Verdict(Answer(listed([*wanted, "3"])), Answer(listed([*given, f"{len(archives)}"]), b"", status))
+
+
+@grep_case("With one SOURCE_DATE_EPOCH `make dist` and `make deb` pack the same bytes, whatever the umask.")
+def same_bytes(bench: Bench) -> Verdict:
+    needs("dpkg-shlibdeps")
+    sums, statuses = [], []
+    for umask in (0o022, 0o077):
+        before = os.umask(umask)
+        try:
+            statuses.append(make(bench, "dist", "deb", SOURCE_DATE_EPOCH=DATE))
+        finally:
+            os.umask(before)
+        sums.append((bench.folder / "checkout/build/SHA256SUMS").read_bytes())
+    times = {member.mtime for member in tarfile.open(bench.folder / f"checkout/build/{SOURCES}.tar.gz")}
+    return Verdict(Answer(sums[0], DATE.encode() + b" [0, 0]"),
+                   Answer(sums[1], " ".join(map(str, [*times, statuses])).encode()))
+
+
+# For Debian
+
+
+def packed_deb(bench: Bench) -> Path:
+    """The package for Debian."""
+    needs("dpkg-shlibdeps")
+    if make(bench, "deb", SOURCE_DATE_EPOCH=DATE):
+        raise OSError("`make deb` has failed")
+    return bench.folder / f"checkout/build/gaxtrel_{VERSION}_amd64.deb"
+
+
+def dpkg(root: Path, *words: str | Path) -> None:
+    """Runs dpkg on a system of its own in a folder, in which the C library is missing."""
+    subprocess.run(["dpkg", f"--root={root}", "--force-depends", *words], timeout=SECONDS, capture_output=True,
+                   env={"PATH": os.environ["PATH"] + ":/usr/sbin:/sbin"}, check=True)
+
+
+def programs_in(root: Path) -> list[str]:
+    return sorted(file.name for file in root.glob("usr/bin/*"))
+
+
+@grep_case("The package for Debian is installed beside another grep, runs, and is removed.")
+def installed_deb(bench: Bench) -> Verdict:
+    package, root = packed_deb(bench), bench.folder / "root"
+    if os.geteuid():
+        raise Skipped("only root can install a package")
+    bench.write("root/usr/bin/grep", OTHER_GREP)
+    bench.write("root/var/lib/dpkg/status", b"")
+    for name in ("info", "updates"):
+        (root / "var/lib/dpkg" / name).mkdir()
+    dpkg(root, "--install", package)
+    with_it, found = programs_in(root), found_by(root / "usr/bin/gaxgrep")
+    dpkg(root, "--purge", "gaxtrel")
+    left = [str(file.relative_to(root)) for file in root.glob("usr/**/*") if file.is_file()]
+    wanted = [["gaxgrep", "grep", "occur"], ["usr/bin/grep"]]
+    return Verdict(Answer(TWO_LINES, str(wanted).encode()), Answer(found, str([with_it, left]).encode()))
+
+
+@grep_case("lintian finds no fault in the package for Debian.")
+def lintian(bench: Bench) -> Verdict:
+    needs("lintian")
+    package = packed_deb(bench)
+    words = ["lintian", "--allow-root", "--fail-on=error,warning,info,pedantic", "-I", "--pedantic", package]
+    ran = subprocess.run(words, timeout=3 * SECONDS, stdout=subprocess.PIPE, stderr=subprocess.DEVNULL,
+                         env={"PATH": os.environ["PATH"], "LC_ALL": "C.UTF-8"}, check=False)
+    return Verdict(Answer(), Answer(ran.stdout, b"", ran.returncode))

@@ -1,0 +1,37 @@
+#!/usr/bin/env bash
+# Installs built programs below FOLDER, stripped, with their manual pages and completions, and the licences, the README
+# and the changelog; or removes all of that:
+#
+#     tools/install.sh install|remove FOLDER GREP_NAME PROGRAM..
+#
+# GREP_NAME is what grep is called there. The pages speak of it by that name; its messages still begin with `grep:`.
+set -euo pipefail
+cd "$(dirname "${BASH_SOURCE[0]}")/.."
+verb=$1 folder=$2 grep_name=$3
+programs=("${@:4}")
+
+# Installs SOURCE with MODE as a file below the folder, or removes that: put FILE MODE SOURCE
+put() {
+    if [[ $verb == remove ]]; then rm -f "$folder/$1"; else install -D -m "$2" "$3" "$folder/$1"; fi
+}
+
+# A manual page. GNU grep, where .Nm stands for that too, keeps its name.
+page_of() {
+    local named='^\.(Nm|Xr|Ql|Dl .*[|$]) grep( .*)?$'
+    if [[ $grep_name == grep ]]; then cat "man/$1.1"; return; fi
+    sed -E "s/$named/.\1 $grep_name\2/; s/^\.Dt GREP/.Dt ${grep_name^^}/; /GNU$/ { n; s/^\.Nm/.Nm grep/ }" "man/$1.1"
+}
+
+completions_of() { sed -E "/^(complete|#compdef) /s/\bgrep\b/$grep_name/" "completions/$1.$2"; }
+
+for program in "${programs[@]}"; do
+    name=$program
+    if [[ $program == grep ]]; then name=$grep_name; fi
+    if [[ $verb == install ]]; then tools/strip.sh "$program"; fi
+    put "bin/$name" 755 "build/stripped/$program"
+    put "share/man/man1/$name.1" 644 <(page_of "$program")
+    put "share/bash-completion/completions/$name" 644 <(completions_of "$program" bash)
+    put "share/zsh/site-functions/_gaxtrel_$name" 644 <(completions_of "$program" zsh)
+    put "share/fish/vendor_completions.d/$name.fish" 644 <(completions_of "$program" fish)
+done
+for text in LICENSE-APACHE LICENSE-MIT README.md CHANGELOG.md; do put "share/doc/gaxtrel/$text" 644 "$text"; done
