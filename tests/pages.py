@@ -23,6 +23,7 @@ import count  # noqa: E402
 MOST_WORDS = {
     "README.md": 1_400,
     "CONTRIBUTING.md": 500,
+    "SECURITY.md": 650,
     "docs/GUARANTEES.md": 1_710,
     "docs/SPECIFICATION.md": 5_500,
     "docs/ARCHITECTURE.md": 3_350,
@@ -36,7 +37,7 @@ MOST_WORDS = {
     "tests/README.md": 1_030,
     "editors/emacs/README.md": 1_590,
     "editors/nvim/*.md": 1_500,
-    "*": 39_560,
+    "*": 40_200,
 }
 """How many words pages have at most, by the pattern of their names."""
 
