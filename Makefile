@@ -12,6 +12,7 @@
 #                 compiler and Python 3.11)
 # make test-editor  tests the Emacs client on the built programs (needs Emacs 28)
 # make test-nvim  tests the Neovim client on the built programs (needs Neovim 0.7)
+# make figures    makes docs/figures/*.svg of crates.txt and of tables of the pages
 # make evidence   writes docs/EVIDENCE.md: the newest run of each of the targets above
 # make install    copies the programs, stripped, with their manual pages and completions below $(DESTDIR)$(PREFIX), grep
 #                 by the name GREP_NAME; the Emacs client to $(DESTDIR)$(SITE_LISP) and the Neovim client to
@@ -33,7 +34,7 @@ EMACS = emacs
 NVIM = nvim
 
 .PHONY: all programs gate audit test test-program test-random test-growth test-changes test-memory test-editor test-nvim \
-    evidence install install-occur uninstall dist deb clean
+    figures evidence install install-occur uninstall dist deb clean
 
 all: programs
 
@@ -91,6 +92,9 @@ test-editor: build/grep build/occur
 test-nvim: build/grep build/occur
 	OCCUR=$(CURDIR)/build/occur GREP=$(CURDIR)/build/grep tools/evidence.sh test-nvim \
 	    $(NVIM) --headless -u NONE -i NONE -n -S editors/nvim/test/run.lua
+
+figures:
+	tools/figures.py
 
 # Each of the test targets above adds its run to build/evidence.tsv.
 evidence:

@@ -1,5 +1,5 @@
 """Cases of the pages of the repository: links and anchors, the number of words, numbers that a script
-counts, names of contracts, examples, manual pages. They need git, and run the programs for the examples
+counts, figures, names of contracts, examples, manual pages. They need git, and run the programs for the examples
 in README alone.
 """
 
@@ -19,6 +19,7 @@ REPOSITORY = Path(__file__).resolve().parent.parent
 sys.path.insert(0, str(REPOSITORY / "tools"))
 
 import count  # noqa: E402
+import figures  # noqa: E402
 
 MOST_WORDS = {
     "README.md": 1_400,
@@ -144,6 +145,17 @@ def counts_in_pages(bench: Bench) -> Verdict:
             faults += [f"{page}: {named}" for named in
                        re.findall(r"\b\d[\d,]+\d (?:functions|edits|cases|runs)\b", without_code(text))]
     return judged(faults)
+
+
+# Figures
+
+
+@case("The figures are those that tools/figures.py makes of crates.txt and the pages.")
+def drawn(bench: Bench) -> Verdict:
+    made = figures.figures()
+    there = {file.name: file.read_text(encoding="utf-8") for file in figures.FIGURES.iterdir()}
+    return judged([f"{name}: `make figures` makes another" for name in sorted({*made, *there})
+                   if made.get(name) != there.get(name)])
 
 
 # Definitions and contracts
