@@ -14,6 +14,7 @@ FIGURES = REPOSITORY / "docs/figures"
 sys.path.insert(0, str(REPOSITORY / "tools"))
 
 import crate_figure  # noqa: E402
+import speed_figure  # noqa: E402
 import walk_figure  # noqa: E402
 
 WALKS = {"search.svg": "The walk of a search", "splice.svg": "The walks of a splice and of its changes"}
@@ -27,7 +28,8 @@ def read(name: str) -> str:
 def figures() -> dict[str, str]:
     """All figures, by the names of their files."""
     walks = walk_figure.walks_of(read("docs/ARCHITECTURE.md"))
-    drawn = {"crates.svg": crate_figure.figure(read("crates.txt"))}
+    drawn = {"crates.svg": crate_figure.figure(read("crates.txt")),
+             "speed.svg": speed_figure.figure(read("docs/PERFORMANCE.md"))}
     for (name, title), walk in zip(WALKS.items(), walks, strict=True):
         drawn[name] = walk_figure.figure(walk, title)
     return drawn

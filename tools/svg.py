@@ -20,6 +20,7 @@ text { font: 13px ui-monospace, Menlo, Consolas, "DejaVu Sans Mono", monospace; 
 .faint { fill: none; stroke: #d1d9e0 }
 .first { fill: #0969da }
 .second { fill: #bc6c00 }
+.third { fill: #8c959f }
 @media (prefers-color-scheme: dark) {
 text { fill: #e6edf3 }
 .note { fill: #9198a1 }
