@@ -11,6 +11,7 @@ import os
 import pty
 import re
 import select
+import shlex
 import shutil
 import struct
 import subprocess
@@ -58,7 +59,7 @@ def bash_offers(folder: Path, line: str) -> set[str]:
         . {BASH_COMPLETION}
         __load_completion {words[0]}
         [[ $(complete -p {words[0]}) =~ -F\\ ([^ ]+) ]]
-        COMP_WORDS=({line.replace(" ", "' '").join("''")}) COMP_CWORD={len(words) - 1}
+        COMP_WORDS=({shlex.join(words)}) COMP_CWORD={len(words) - 1}
         ${{BASH_REMATCH[1]}} {words[0]}
         printf '%s\\n' "${{COMPREPLY[@]}}" """
     return set(said_by(folder, "bash", "--norc", "-c", script).split())

@@ -1,7 +1,7 @@
 #!/usr/bin/env bash
 # Packs three archives into build/, and writes the checksums of all that is packed there to build/SHA256SUMS:
 #
-#     gaxtrel-VERSION-x86_64-linux.tar.gz        the programs, with what is installed with them, and the clients of editors
+#     gaxtrel-VERSION-x86_64-linux.tar.gz        the programs, what is installed with them, and the clients of editors
 #     gaxtrel-VERSION-x86_64-linux-debug.tar.gz  their symbols, where a debugger looks for them beside the programs
 #     gaxtrel-VERSION.tar.gz                     the files that git knows or, without git, all that nothing has made
 #
@@ -36,5 +36,6 @@ sed "s/VERSION/$version/" dist/README > "$folder/$name/README"
 pack "$name" -C "$folder" "$name"
 pack "$name-debug" --transform="s|^\.|$name/bin/.debug|" -C build/debug .
 sources > "$folder/sources"
-pack "gaxtrel-$version" --transform="s|^|gaxtrel-$version/|S" --null --verbatim-files-from --files-from="$folder/sources"
+pack "gaxtrel-$version" --transform="s|^|gaxtrel-$version/|S" --null --verbatim-files-from \
+    --files-from="$folder/sources"
 tools/checksums.sh

@@ -74,7 +74,8 @@ def drawn_values(values: list[float], y: float, kind: str) -> list[str]:
     """A dot for each ratio, a bar at their mean, and the mean in figures."""
     middle = place_of(mean(values), RATIOS)
     dots = [dot((place_of(value, RATIOS), y), 3.5, kind, 0.45) for value in values]
-    return [*dots, rectangle((middle - 1.5, y - 8), 3, 16, kind), text((RIGHT + 20, y + SIZE / 3), f"{mean(values):.2f}")]
+    bar = rectangle((middle - 1.5, y - 8), 3, 16, kind)
+    return [*dots, bar, text((RIGHT + 20, y + SIZE / 3), f"{mean(values):.2f}")]
 
 
 def searches(page: str, top: float) -> tuple[list[str], float]:
