@@ -22,10 +22,10 @@ pack() {
 }
 
 sources() {
-    if [[ -e .git ]]; then
+    if [[ -e .git ]] && command -v git > /dev/null; then
         git ls-files -z
     else
-        find . -type d \( -path ./build -o -name out -o -name __pycache__ \) -prune -o \
+        find . -type d \( -path ./.git -o -path ./build -o -name out -o -name __pycache__ \) -prune -o \
             ! -type d ! -path ./editors/nvim/doc/tags -printf '%P\0'
     fi
 }

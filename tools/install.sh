@@ -31,6 +31,7 @@ for program in "${programs[@]}"; do
     put "bin/$name" 755 "build/stripped/$program"
     put "share/man/man1/$name.1" 644 <(page_of "$program")
     put "share/bash-completion/completions/$name" 644 <(completions_of "$program" bash)
+    # Not _grep, a function of zsh that completes egrep too.
     put "share/zsh/site-functions/_gaxtrel_$name" 644 <(completions_of "$program" zsh)
     put "share/fish/vendor_completions.d/$name.fish" 644 <(completions_of "$program" fish)
 done
