@@ -103,15 +103,19 @@ def known_sources(bench: Bench) -> Verdict:
     return Verdict(Answer(listed(known)), Answer(listed(sources_of(bench)), b"", status))
 
 
-@grep_case("The packed sources install the programs, which run and are removed.")
+@grep_case("The packed sources install the programs, which run and are removed, and pack the same archives.")
 def installed_sources(bench: Bench) -> Verdict:
     statuses = [make(bench, "dist")]
     folder, there = unpacked(bench, SOURCES) / SOURCES, bench.folder / "there"
-    shutil.copytree(bench.folder / "checkout/build", folder / "build")
-    statuses.append(make_in(folder, "install", f"PREFIX={there}"))
+    build, sums = folder / "build", (bench.folder / "checkout/build/SHA256SUMS").read_bytes()
+    build.mkdir()
+    for name in ("grep", "occur"):
+        shutil.copy(bench.folder / "checkout/build" / name, build)
+    statuses += [make_in(folder, "dist"), make_in(folder, "install", f"PREFIX={there}")]
     found = found_by(there / "bin/grep")
     statuses.append(make_in(folder, "uninstall", f"PREFIX={there}"))
-    return Verdict(Answer(TWO_LINES + b"[0, 0, 0]"), Answer(found + f"{statuses}".encode(), files_in(there)))
+    given = f"{(build / 'SHA256SUMS').read_bytes() == sums} {statuses}"
+    return Verdict(Answer(TWO_LINES + b"True [0, 0, 0, 0]"), Answer(found + given.encode(), files_in(there)))
 
 
 @grep_case("`make dist` writes the checksums of what it packs.")

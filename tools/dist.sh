@@ -35,7 +35,7 @@ make -s install DESTDIR= PREFIX="$folder/$name" GREP_NAME=grep SITE_LISP="$folde
 sed "s/VERSION/$version/" dist/README > "$folder/$name/README"
 pack "$name" -C "$folder" "$name"
 pack "$name-debug" --transform="s|^\.|$name/bin/.debug|" -C build/debug .
-sources > "$folder/sources"
+sources | LC_ALL=C sort --zero-terminated > "$folder/sources"
 pack "gaxtrel-$version" --transform="s|^|gaxtrel-$version/|S" --null --verbatim-files-from \
     --files-from="$folder/sources"
 tools/checksums.sh
