@@ -115,13 +115,15 @@ install-occur:
 	    install -d "$(DESTDIR)$(NVIM_SITE)/$$folder" && \
 	    install -m 644 $$folder/*.* "$(DESTDIR)$(NVIM_SITE)/$$folder/" || exit; done; fi
 
+# What of the clients is removed.
+EMACS_CLIENT = live-occur.el live-occur.elc live-occur-autoloads.el
+NVIM_CLIENT = plugin/live_occur.lua doc/live-occur.txt lua/live_occur
+
 uninstall:
 	@$(KEEP_OTHER_GREP)
 	tools/install.sh remove "$(DESTDIR)$(PREFIX)" "$(GREP_NAME)" grep occur
-	if test -n "$(SITE_LISP)"; then cd "$(DESTDIR)$(SITE_LISP)" && \
-	    rm -f live-occur.el live-occur.elc live-occur-autoloads.el; fi
-	if test -n "$(NVIM_SITE)"; then cd "$(DESTDIR)$(NVIM_SITE)" && \
-	    rm -rf plugin/live_occur.lua doc/live-occur.txt lua/live_occur; fi
+	test -z "$(SITE_LISP)" || rm -f $(foreach file,$(EMACS_CLIENT),"$(DESTDIR)$(SITE_LISP)/$(file)")
+	test -z "$(NVIM_SITE)" || rm -rf $(foreach file,$(NVIM_CLIENT),"$(DESTDIR)$(NVIM_SITE)/$(file)")
 
 # The time of all files in packages: that of the commit or, without git, of the file VERSION, which the archive of the
 # sources has kept.

@@ -35,6 +35,9 @@ CHECKED_OUT = ["CHANGELOG.md", "LICENSE-APACHE", "LICENSE-MIT", "Makefile", "REA
 FAILED = 2
 """The exit status of make where a command failed."""
 
+PATIENCE = 10 * SECONDS
+"""What makes packages, or looks at one, and takes longer has failed."""
+
 grep_case = Cases("grep", "install.py")
 occur_case = Cases("occur", "install.py")
 cases = all_of(grep_case, occur_case)
@@ -67,7 +70,7 @@ def make_in(folder: Path, *words: str, **variables: str) -> int:
     if not shutil.which("make"):
         raise Skipped("no make")
     environment = {"PATH": os.environ["PATH"], **variables}
-    ran = subprocess.run(["make", "-s", *words], cwd=folder, env=environment, timeout=SECONDS,
+    ran = subprocess.run(["make", "-s", *words], cwd=folder, env=environment, timeout=PATIENCE,
                          stdin=subprocess.DEVNULL, capture_output=True, check=False)
     return ran.returncode
 

@@ -17,6 +17,7 @@ from install import (
     INSTALLED,
     NVIM_CLIENT,
     OTHER_GREP,
+    PATIENCE,
     REPOSITORY,
     checkout,
     files_in,
@@ -187,6 +188,6 @@ def lintian(bench: Bench) -> Verdict:
     needs("lintian")
     package = packed_deb(bench)
     words = ["lintian", "--allow-root", "--fail-on=error,warning,info,pedantic", "-I", "--pedantic", package]
-    ran = subprocess.run(words, timeout=3 * SECONDS, stdout=subprocess.PIPE, stderr=subprocess.DEVNULL,
+    ran = subprocess.run(words, timeout=PATIENCE, stdout=subprocess.PIPE, stderr=subprocess.DEVNULL,
                          env={"PATH": os.environ["PATH"], "LC_ALL": "C.UTF-8"}, check=False)
     return Verdict(Answer(), Answer(ran.stdout, b"", ran.returncode))
