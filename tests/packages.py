@@ -158,7 +158,7 @@ def packed_deb(bench: Bench) -> Path:
 
 def dpkg(root: Path, *words: str | Path) -> None:
     """Runs dpkg on a system of its own in a folder, in which the C library is missing."""
-    subprocess.run(["dpkg", f"--root={root}", "--force-depends", *words], timeout=SECONDS, capture_output=True,
+    subprocess.run(["dpkg", f"--root={root}", "--force-depends", *words], timeout=PATIENCE, capture_output=True,
                    env={"PATH": os.environ["PATH"] + ":/usr/sbin:/sbin"}, check=True)
 
 

@@ -25,7 +25,7 @@ echo 'Source: gaxtrel' > "$folder/debian/control"
 needed=$(cd "$folder" && dpkg-shlibdeps -O root/usr/bin/* 2> /dev/null)
 size=$(find "$root/usr" -type f -printf '%s\n' | awk '{ sum += int(($1 + 1023) / 1024) } END { print sum }')
 sed "s/VERSION/$version/; s/NEEDED/${needed#*=}/; s/SIZE/$size/" dist/debian/control > "$root/DEBIAN/control"
-(cd "$root" && find usr -type f -print0 | sort -z | xargs -0 md5sum > DEBIAN/md5sums)
+(cd "$root" && find usr -type f -print0 | LC_ALL=C sort -z | xargs -0 md5sum > DEBIAN/md5sums)
 chmod -R u=rwX,go=rX "$root"
 dpkg-deb --root-owner-group --build "$root" "$package"
 tools/checksums.sh
