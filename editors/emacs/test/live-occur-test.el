@@ -1534,6 +1534,15 @@ Where BODY reports that it was killed, that is as it has to be."
      (delete-other-windows)
      ,@body))
 
+(defun live-occur-test--edited-list (pattern &optional buffers)
+  "A list of the lines that match PATTERN, of BUFFERS or of this buffer.
+Its rows are there, and can be edited."
+  (let ((list (live-occur pattern buffers)))
+    (live-occur-test--rows list)
+    (with-current-buffer list
+      (live-occur-edit-mode))
+    list))
+
 (ert-deftest live-occur-visits-lines ()
   (live-occur-test--with '("one\ntwo\nxtwo\n" "two\n")
     (live-occur-test--in-windows
@@ -2421,10 +2430,7 @@ Where BODY reports that it was killed, that is as it has to be."
 (ert-deftest live-occur-gives-up-all-but-the-buffers-part-of-a-line ()
   (live-occur-test--with '("one\n")
     (live-occur-test--in-windows
-      (let ((list (live-occur "o")))
-        (live-occur-test--rows list)
-        (with-current-buffer list
-          (live-occur-edit-mode))
+      (let ((list (live-occur-test--edited-list "o")))
         (live-occur-test--edit-row list 1 "X")
         (goto-char (point-min))
         (insert "Y")
@@ -2438,10 +2444,7 @@ Where BODY reports that it was killed, that is as it has to be."
 
 (ert-deftest live-occur-gives-an-edit-up-without-a-buffer-or-the-program ()
   (live-occur-test--with '("one\n" "so\n")
-    (let ((list (live-occur "o" buffers)))
-      (live-occur-test--rows list)
-      (with-current-buffer list
-        (live-occur-edit-mode))
+    (let ((list (live-occur-test--edited-list "o" buffers)))
       (live-occur-test--edit-row list 1 "X")
       (live-occur-test--edit-row list 2 "X")
       (kill-buffer (nth 1 buffers))
@@ -2524,10 +2527,7 @@ Where BODY reports that it was killed, that is as it has to be."
 (ert-deftest live-occur-gives-up-the-mark-of-modification-too ()
   (live-occur-test--with '("")
     (live-occur-test--with-file file "one\ntwo\n"
-      (let ((list (live-occur "o")))
-        (live-occur-test--rows list)
-        (with-current-buffer list
-          (live-occur-edit-mode))
+      (let ((list (live-occur-test--edited-list "o")))
         (live-occur-test--edit-row list 1 "X")
         (live-occur-test--edit-row list 2 "X")
         (ert-info ("one row is undone in the buffer")
@@ -2685,10 +2685,7 @@ up what the rows changed alone."
   (live-occur-test--with '("")
     (live-occur-test--with-file file "one\ntwo\nso\nfoo\n"
       (live-occur-test--in-windows
-        (let ((list (live-occur "o")))
-          (live-occur-test--rows list)
-          (with-current-buffer list
-            (live-occur-edit-mode))
+        (let ((list (live-occur-test--edited-list "o")))
           (live-occur-test--edit-row list 2 "X")
           (live-occur-test--edit-row list 3 "X")
           (should (equal (live-occur-test--marked list) '("2:Xtwo" "3:Xso")))
@@ -2848,10 +2845,7 @@ up what the rows changed alone."
 (ert-deftest live-occur-marks-rows-in-view ()
   (live-occur-test--with '("one\ntwo\n")
     (live-occur-test--in-windows
-      (let ((list (live-occur "o")))
-        (live-occur-test--rows list)
-        (with-current-buffer list
-          (live-occur-edit-mode))
+      (let ((list (live-occur-test--edited-list "o")))
         (live-occur-test--edit-row list 2 "X")
         (with-current-buffer list
           (run-hook-with-args 'pre-redisplay-functions (get-buffer-window list))
