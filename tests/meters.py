@@ -50,7 +50,7 @@ MAY_BE_QUICK = {
     "bytes without a stretch on its way, each a step": {"re_auto/beginnings.rt"},
     "the children of a node, each byte a step or passed": {"re_strings/trie.rt"},
     "splits lines": {"re_needle/newline.rt", "re_needle/block.rt", "grep_io/input/newlines.rt", "grep_io/input/window.rt",
-                     "grep_io/devices/sending.rt"},
+                     "grep_io/devices/byte_buffer.rt"},
     "looks at patterns, not at lines": {"re_search/filter.rt", "re_search/plain.rt"},
 }
 """The files that may name it, by the reason."""

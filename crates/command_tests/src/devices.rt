@@ -6,7 +6,7 @@ use grep_core::{
 use std::io::{Error, ErrorKind, Read, Write};
 use std::test::Fail;
 
-// The file `ab` and `cd`, of which reads fail after `left` bytes.
+// The file `ab` and `cd`, whose reads fail after `left` bytes.
 #[test]
 fn a_failed_read_is_answered_from_then_on(rt: HostRuntime) -> Result<(), Fail> {
     for (left, whole) in [(0, 0), (1, 0), (2, 0), (3, 1), (4, 1), (5, 1)] {
@@ -76,8 +76,8 @@ fn a_failed_flush_keeps_a_beginning(rt: HostRuntime) -> Result<(), Fail> {
     Ok(())
 }
 
-/// A device of which each write takes at most `step` bytes and puts a bar after them. The write
-/// after the first `good` ones fails, and those after it succeed.
+/// A device whose writes take at most `step` bytes each and put a bar after them. The write after
+/// the first `good` ones fails, and those after it succeed.
 #[derive(Drop)]
 struct Barred {
     bytes: Vec<u8>,

@@ -3,8 +3,9 @@ use crate::marks::{refuse, was_refused};
 use grep_cmd::{
     Content, MemoryFile, MemoryFiles, PatternSource, Request, matchers_of, read_words, run_grep,
 };
-use grep_core::{CountedWrite, Limited, RunFault, Status, Tally, search_all};
+use grep_core::{CountedWrite, Limited, RunFault, SearchRequest, Status, Tally, search_all};
 use re_auto::fresh_meter;
+use re_search::Filter;
 use std::alloc::{AllocError, Global};
 use std::process::Abort;
 use std::test::Fail;
@@ -93,7 +94,7 @@ pub fn broken_file<'a>(name: &'a str, bytes: &'a [u8]) -> MemoryFile<'a> {
     }
 }
 
-/// The same file, of which one read returns at most `step` bytes.
+/// The same file; one read of it returns at most `step` bytes.
 pub fn read_by<'a>(file: MemoryFile<'a>, step: usize) -> MemoryFile<'a> {
     let content = match file.content {
         Some(content) => Some(Content { step, ..content }),
@@ -212,11 +213,15 @@ pub fn searched_without<'a>(
     let sources = named(alloc, &request.files, files, input)?;
     let mut memory = MemoryFiles::new(&sources, Content::new(b""));
     refuse(alloc, n)?;
-    let answer = search_all(
+    let search = SearchRequest {
         alloc,
+        options: request.options,
+        filter: &Filter::none(),
+    };
+    let answer = search_all(
+        &search,
         &mut memory,
         &mut matchers,
-        &request.options,
         &mut devices.out,
         &mut devices.messages,
         &mut fresh_meter(),

@@ -1,4 +1,4 @@
-//! Marks between which a request for memory is refused.
+//! Marks between which an allocation fails.
 //!
 //! The library that tools/refuse_growths.sh loads before the C library takes requests of two sizes
 //! as commands. Without it each request is granted.

@@ -1,4 +1,4 @@
-//! Words and searches of which each request for memory is refused in turn.
+//! Words and searches, while each allocation fails in turn.
 //!
 //! Where no library refuses requests, as tools/refuse_growths.sh has it, each is granted, and each
 //! row is tried once.
@@ -114,7 +114,7 @@ fn written(
     Ok((output, messages))
 }
 
-/// Compares what a search gave with its row; whether it reported that a growth was refused.
+/// Compares what a search gave with its row; whether it reported that an allocation failed.
 fn assert_answer(
     rt: &impl Abort,
     alloc: Global,

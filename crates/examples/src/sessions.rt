@@ -4,16 +4,16 @@ use re_syntax::split_file;
 
 // crates/grep_session/README.md
 use grep_core::{CountedWrite, Status};
-use grep_session::Session;
+use grep_session::{NewLines, Session};
 use re_auto::fresh_meter;
 use std::alloc::Global;
 use std::test::Fail;
 
 /// Puts lines into an empty file, and writes what grep finds with `a`.
-fn found(alloc: Global, lines: Vec<Vec<u8>>, out: &mut impl CountedWrite) -> Result<Status, Fail> {
+fn found(alloc: Global, lines: NewLines, out: &mut impl CountedWrite) -> Result<Status, Fail> {
     let mut meter = fresh_meter();
     let mut session = Session::new(alloc, 256);
-    session.add_file(Vec::new(alloc), Vec::new(alloc), &mut meter)?;
+    session.add_file(Vec::new(alloc), NewLines::new(alloc), &mut meter)?;
     session.add_patterns(b"a", &mut meter)?;
     session.splice(0, 0, 0, lines, &mut meter)?;
     Ok(session.report(b"", out)?)
@@ -21,12 +21,12 @@ fn found(alloc: Global, lines: Vec<Vec<u8>>, out: &mut impl CountedWrite) -> Res
 // end
 
 /// The lines `ab`, `c` and `ca`.
-fn lines(alloc: Global) -> Result<Vec<Vec<u8>>, Fail> {
+fn lines(alloc: Global) -> Result<NewLines, Fail> {
     let mut lines = Vec::new(alloc);
     for line in split_file(b"ab\nc\nca\n") {
         lines.push(Vec::from_slice(alloc, line)?)?;
     }
-    Ok(lines)
+    Ok(NewLines::from_lines(alloc, &lines)?)
 }
 
 #[test]

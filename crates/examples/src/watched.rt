@@ -7,13 +7,13 @@ use std::alloc::Global;
 // crates/grep_live/README.md
 use grep_core::{CountedWrite, Status};
 use grep_live::Live;
-use grep_session::Meter;
+use grep_session::{Meter, NewLines};
 use std::test::Fail;
 
 /// Replaces line 1 of file 0, and writes what changed since the last call.
 fn replaced(
     session: &mut Live,
-    lines: Vec<Vec<u8>>,
+    lines: NewLines,
     meter: &mut Meter,
     out: &mut impl CountedWrite,
 ) -> Result<Status, Fail> {
@@ -23,12 +23,12 @@ fn replaced(
 // end
 
 /// The lines of a text.
-fn lines(alloc: Global, text: &[u8]) -> Result<Vec<Vec<u8>>, Fail> {
+fn lines(alloc: Global, text: &[u8]) -> Result<NewLines, Fail> {
     let mut lines = Vec::new(alloc);
     for line in split_file(text) {
         lines.push(Vec::from_slice(alloc, line)?)?;
     }
-    Ok(lines)
+    Ok(NewLines::from_lines(alloc, &lines)?)
 }
 
 /// A session of the lines `ab`, `c` and `ca` and the pattern `a`.

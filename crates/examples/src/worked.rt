@@ -1,4 +1,4 @@
-//! The two commands of which the bytes are worked by hand.
+//! The two commands whose bytes are worked by hand.
 use grep_core::Tally;
 use grep_utility::{run_broken, run_row};
 use re_auto::fresh_meter;

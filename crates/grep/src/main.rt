@@ -2,7 +2,7 @@
 #![tactic(auto)]
 
 mod disk;
-mod ending;
+mod exit;
 mod guard;
 
 ghost use Rattle.grep_core.specs.Run.{writer};
@@ -11,15 +11,16 @@ ghost use Rattle.grep_utility.specs.Words.{texts_of};
 ghost use Rattle.grep.specs.Exit.{ProgramGives, streams};
 
 use crate::disk::DiskFiles;
-use crate::ending::{finish, program};
+use crate::exit::{finish, program};
 use grep_core::{Buffered, CountedWrite, Tally, WholeLines};
 use grep_utility::{Files, run_grep};
 use re_auto::{Meter, fresh_meter};
 use std::alloc::Global;
 use std::process::ExitCode;
 
-/// Runs the command, sends the output that is still buffered, and returns the exit status.
-fn run_on_devices<F: Files, W: CountedWrite, M: CountedWrite>(
+/// Runs the command of these words, which follow the program's name, sends the output that is still
+/// buffered, and returns the exit status.
+fn run<F: Files, W: CountedWrite, M: CountedWrite>(
     alloc: Global,
     words: &[String],
     files: &mut F,
@@ -39,30 +40,30 @@ fn run_on_devices<F: Files, W: CountedWrite, M: CountedWrite>(
     finish(out, messages, found)
 }
 
-/// Runs the command of these words, which follow the program's name, on the devices of the system.
-/// Output is buffered, and sent before each read that may wait. A message is sent as a whole line.
-fn run(rt: &HostRuntime, words: &[String]) -> u8 {
+/// Runs the command on the words and the devices of the system. Output is buffered, and sent before
+/// each read that may wait. A message is sent as a whole line.
+fn main(rt: HostRuntime) -> ExitCode {
     let alloc = rt.alloc();
+    let words = match program().words(&rt) {
+        Ok(words) => words,
+        Err(status) => return ExitCode::from(status),
+    };
+    let words = words.get(1..).unwrap_or_default();
     let Ok(mut messages) = WholeLines::new(alloc, Tally::new(rt.stderr())) else {
-        return program().refuse_memory(&mut Tally::new(rt.stderr()));
+        return ExitCode::from(program().refuse_memory(&mut Tally::new(rt.stderr())));
     };
     let Ok(mut out) = Buffered::new(alloc, Tally::new(rt.stdout())) else {
-        return program().refuse_memory(&mut messages);
+        return ExitCode::from(program().refuse_memory(&mut messages));
     };
-    run_on_devices(
+    let mut files = DiskFiles::new(&rt);
+    let mut meter = fresh_meter();
+    let status = run(
         alloc,
         words,
-        &mut DiskFiles::new(rt),
+        &mut files,
         &mut out,
         &mut messages,
-        &mut fresh_meter(),
-    )
-}
-
-fn main(rt: HostRuntime) -> ExitCode {
-    let status = match program().words(&rt) {
-        Ok(words) => run(&rt, words.get(1..).unwrap_or_default()),
-        Err(status) => status,
-    };
+        &mut meter,
+    );
     ExitCode::from(status)
 }

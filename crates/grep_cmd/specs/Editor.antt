@@ -10,7 +10,7 @@ use Rattle.grep_core.specs.Files.{File, AreMeant}
 use Rattle.grep_live.specs.Hits.{Hit, View, AreHits}
 use Rattle.grep_live.specs.Marks.{Watched, new_watched}
 use Rattle.grep_live.specs.Changes.{Change, all_after}
-use Rattle.grep_live.specs.Following.{Follows, view_after}
+use Rattle.grep_live.specs.Follows.{Follows, view_after}
 use Rattle.grep_live.specs.Rows.{changes_rows}
 use Rattle.grep_cmd.specs.Script.{Step, does, reports, reports_changes, reports_page, is_bad}
 use Rattle.grep_cmd.specs.Script.{is_truncated}

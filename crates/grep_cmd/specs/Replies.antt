@@ -22,7 +22,7 @@ use Rattle.grep_cmd.specs.declared.script.ScriptEnd.TheVariants.{Clean, Refused}
 use Rattle.grep_cmd.specs.declared.script.ScriptFault.{ScriptFault}
 use Rattle.grep_cmd.specs.declared.script.ScriptFault.TheVariants.{Read, Write, Memory}
 use Rattle.grep_live.specs.Marks.{Watched, new_watched}
-use Rattle.grep_live.specs.Following.{Carries}
+use Rattle.grep_live.specs.Follows.{Carries}
 use Rattle.grep_cmd.specs.Script.{Step, does, reports, reports_changes, reports_page, is_bad}
 use Rattle.grep_cmd.specs.Script.{is_truncated, Steps, IsUnfinished, IsBegun}
 use Rattle.grep_cmd.specs.Show.{AreShown}
@@ -91,8 +91,8 @@ Replies (step ∷ steps) before replies after =
 
 -- ---- work
 
--- a command takes this many steps of search at most: none, or what its edit costs, where memory for a
--- line's list of ends was refused so often; what is no edit searches nothing
+-- a command takes this many steps of search at most: none, or what its edit costs, where the
+-- allocation for a line's list of ends failed so often; what is no edit searches nothing
 abbrev pub SearchesAtMost : Step → Inputs → ℕ → ℕ → Type 0
 SearchesAtMost (does edit) before refusals most =
     ((most ≡ 0) × (refusals ≡ 0)) ⊎ Costs refusals edit before most
@@ -142,7 +142,7 @@ pub record ReadsScript (known left : Option Text) (failed_before failed : ℕ)
   pub is_file : file ≡ file_of [] reading
   pub counted : failed ≡ count_more failed_before (failures_of reading)
 
--- a script of which some lines were read may be such a file
+-- a script may be such a file, after some of its lines were read
 pub record BeginsScript (known : Option Text) (failed_before failed : ℕ)
     (file : File) : Type 0 where
   pub reading : Reading
@@ -192,7 +192,7 @@ module _ {W : Type 0} (contents : W → Option Text) (failures : W → ℕ)
     pub work : SearchesTouched answers.steps replies answers.after begun spent
     pub goes : GoesOut contents failures old new (written [] replies)
 
-  -- a growth was refused: the lines that were read are those of all commands that were answered,
+  -- an allocation failed: the lines that were read are those of all commands that were answered,
   -- and the first of one more command or none of it
   pub record RunsOut : Type 0 where
     pub file : File

@@ -11,8 +11,8 @@ use Rattle.grep_core.specs.declared.options.Flag.{Flag}
 use Rattle.grep_core.specs.Files.{Ending, whole}
 use Rattle.grep_session.specs.Edits.{Edit, AddFile, AddMissing, DropFile, Splice, AddPatterns}
 use Rattle.grep_session.specs.Edits.{DropPattern, SetFlag, SetSyntax, SetContext}
-use Rattle.grep_utility.specs.declared.words.pieces.Meaning.{Meaning}
-use Rattle.grep_utility.specs.declared.words.pieces.Meaning.TheVariants as meaning
+use Rattle.grep_utility.specs.declared.words.tokens.Meaning.{Meaning}
+use Rattle.grep_utility.specs.declared.words.tokens.Meaning.TheVariants as meaning
 use Rattle.grep_utility.specs.Words.{meaning_of, number_of}
 
 -- ---- words

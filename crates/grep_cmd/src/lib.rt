@@ -2,13 +2,13 @@
 #![tactic(auto)]
 
 mod laws;
+mod reports;
 mod script;
-mod showing;
 
 pub use grep_utility::{
     Content, FAILED, Files, MemoryFile, MemoryFiles, MemoryReader, OUT_OF_MEMORY, PatternSource,
     Request, USAGE, UsageFault, WRITE_ERROR, matchers_of, read_words, run_grep, write_usage_fault,
 };
 pub use laws::editors_follow;
+pub use reports::show;
 pub use script::{ScriptEnd, ScriptFault, run_script};
-pub use showing::show;

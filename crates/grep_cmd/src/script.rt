@@ -1,11 +1,9 @@
 //! Scripts: commands to a session, line by line, and the replies to them.
-ghost use Rattle.std.specs.Prelude.{◌≡◌, ◌≢◌, ◌≤◌, [], Err};
+ghost use Rattle.std.specs.Prelude.{◌≡◌, ◌≢◌, ◌≤◌, Err};
 ghost use Rattle.re_syntax.specs.Profile.{most_states};
-ghost use Rattle.grep_io.specs.declared.input.lines.Stage.{Stage};
-ghost use Rattle.grep_live.specs.Marks.{new_watched};
 ghost use Rattle.grep_cmd.specs.declared.script.ScriptFault.{ScriptFault};
 ghost use Rattle.grep_cmd.specs.Replies.{GaveLines, ScriptGives};
-ghost use Rattle.grep_cmd.specs.Working.Answered.{FlushesAfter, HasRead};
+ghost use Rattle.grep_cmd.specs.Working.Answered.{FlushesAfter};
 
 mod answer;
 mod command;
@@ -38,43 +36,8 @@ pub enum ScriptFault {
     Read,
     /// A write failed.
     Write,
-    /// A growth was refused.
+    /// An allocation failed.
     Memory,
-}
-
-/// Answers the commands of a script, one after the other.
-fn answer_all<R: CountedRead, W: CountedWrite>(
-    alloc: Global,
-    lines: &mut Lines<R>,
-    session: &mut Live,
-    meter: &mut Meter,
-    out: &mut W,
-) -> Result<ScriptEnd, ScriptFault>
-    requires new_session { session.old ≡ new_watched }
-    requires none_ahead { lines.old.lines.ahead ≡ [] }
-    requires still_open { lines.old.lines.stage ≡ Stage.Open }
-    requires none_numbered { lines.old.number ≡ 0 }
-    ensures gives { ScriptGives W.contents W.failures
-        (HasRead R.remaining R.failures lines.old.lines.reader lines.new)
-        (R.remaining lines.old.lines.reader) (R.remaining lines.new.lines.reader)
-        (R.failures lines.old.lines.reader) (R.failures lines.new.lines.reader) meter.old meter.new
-        out.old out.new result }
-    ensures same_loan { R.loan lines.new.lines.reader ≡ R.loan lines.old.lines.reader }
-{
-    let mut end = ScriptEnd::Clean;
-    loop {
-        match next_line(lines, out) {
-            Ok(true) => {}
-            Ok(false) => return Ok(end),
-            Err(fault) => return Err(fault),
-        }
-        match answer_command(alloc, lines, session, meter, out) {
-            Ok(Answer::Accepted) => {}
-            Ok(Answer::Refused) => end = ScriptEnd::Refused,
-            Ok(Answer::Truncated) => return Ok(ScriptEnd::Refused),
-            Err(fault) => return Err(fault),
-        }
-    }
 }
 
 /// Sends the buffered replies, after a script that ended so.
@@ -130,7 +93,20 @@ pub fn run_script<R: CountedRead, W: CountedWrite>(
         Err(_reader) => return send_replies(Err(ScriptFault::Memory), writer),
     };
     let mut session = Live::new(alloc, states);
-    let ended = answer_all(alloc, &mut lines, &mut session, meter, writer);
+    let mut end = ScriptEnd::Clean;
+    let ended = loop {
+        match next_line(&mut lines, writer) {
+            Ok(true) => {}
+            Ok(false) => break Ok(end),
+            Err(fault) => break Err(fault),
+        }
+        match answer_command(alloc, &mut lines, &mut session, meter, writer) {
+            Ok(Answer::Accepted) => {}
+            Ok(Answer::Refused) => end = ScriptEnd::Refused,
+            Ok(Answer::Truncated) => break Ok(ScriptEnd::Refused),
+            Err(fault) => break Err(fault),
+        }
+    };
     let _reader = lines.into_reader();
     send_replies(ended, writer)
 }

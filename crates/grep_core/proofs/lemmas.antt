@@ -42,4 +42,4 @@ pub mod MatcherLemmas
 pub mod SameChoice
 pub mod BlockLines
 pub mod RecentLinesLemmas
-pub mod StretchLemmas
+pub mod SearchedBlockLemmas

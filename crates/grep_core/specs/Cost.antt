@@ -7,7 +7,7 @@ use Rattle.re_meter.specs.Meters.{Steps, Adds}
 use Rattle.re_syntax.specs.Bytes.{Text}
 use Rattle.re_syntax.specs.Expression.{Expression}
 use Rattle.re_syntax.specs.Parts.{AreParts}
-use Rattle.re_search.specs.Searching.{searches_for}
+use Rattle.re_search.specs.Searches.{searches_for}
 use Rattle.grep_core.specs.declared.options.Options.{Options}
 use Rattle.grep_core.specs.Files.{File}
 use Rattle.grep_core.specs.Output.{Form, parts, form}
@@ -18,7 +18,8 @@ search_cost matchers line = matchers * (length line + 1)
 
 module _ (es : List Expression) (options : Options) where
   -- how many searches of a line its parts cost: they are asked for once for each part and once
-  -- more, where parts are written; `refusals` says how often memory for the line's ends was refused
+  -- more, where parts are written; `refusals` says how often the allocation for the line's ends
+  -- failed
   abbrev pub PartsAsked : Form → Text → ℕ → ℕ → Type 0
   PartsAsked parts line refusals times =
       (ps : List (ℕ × ℕ)) × AreParts es line options.line_regexp ps ×

@@ -14,8 +14,8 @@ use Rattle.grep_core.specs.Cost.{FilesCost}
 abbrev pub IsOne : {A : Type 0} → (A → Type 0) → Type 0
 IsOne {A} P = (x : A) × P x × ((y : A) → P y → y ≡ x)
 
--- all expressions and files have one output, one list of messages and one status, and where no
--- memory is refused the search of them has one cost
+-- all expressions and files have one output, one list of messages and one status, and if no
+-- allocation fails the search of them has one cost
 pub record HasOneAnswer (options : Options) : Type 0 where
   pub one_output : (es : List Expression) (files : List File) → IsOne (Out es options files)
   pub one_list_of_messages : (es : List Expression) (files : List File) →
@@ -24,7 +24,7 @@ pub record HasOneAnswer (options : Options) : Type 0 where
   pub one_cost : (es : List Expression) (matchers : ℕ) (files : List File) →
       IsOne (FilesCost es options matchers files 0)
 
--- a search costs no more if no memory is refused, when the parts of a line cost at most four
+-- a search costs no more if no allocation fails, when the parts of a line cost at most four
 -- searches of it, than if it is, when each part of such a line costs one
 abbrev pub MemorySavesSteps : Options → Type 0
 MemorySavesSteps options =

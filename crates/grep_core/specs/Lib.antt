@@ -10,7 +10,7 @@ pub use Rattle.grep_io.specs.Counted
 pub use Rattle.grep_io.specs.Written
 pub use Rattle.grep_io.specs.Buffer
 pub use Rattle.grep_io.specs.Reading
-pub use Rattle.re_search.specs.Searching
+pub use Rattle.re_search.specs.Searches
 pub use Rattle.re_search.specs.Working.Filters
 -- what the contract of the whole command, or of the session, rests on
 pub mod Row

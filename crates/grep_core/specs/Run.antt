@@ -3,7 +3,6 @@ use Rattle.std.specs.Prelude.{◌≡◌, ℕ, suc, ◌+◌, ◌<◌, ◌≤◌, 
 use Rattle.std.specs.Prelude.{length, take, get_or, Option, Result, Ok, Err}
 use Rattle.std.specs.List.{AllZip}
 use Rattle.std.specs.Io.KnownBytes.{Appends}
-use Rattle.re_syntax.specs.declared.syntax.Syntax.{Syntax}
 use Rattle.re_syntax.specs.Bytes.{Text}
 use Rattle.re_syntax.specs.Expression.{Expression}
 use Rattle.re_search.specs.Meters.{Steps}
@@ -14,7 +13,7 @@ use Rattle.grep_core.specs.declared.status.RunFault.TheVariants.{Write, MessageW
 pub use Rattle.grep_io.specs.Counted.{count_more}
 use Rattle.grep_io.specs.Counted.{one_more}
 use Rattle.grep_core.specs.Choose.{IfHolds}
-use Rattle.grep_core.specs.Files.{File, whole, missing, HasSelected, AreMeant}
+use Rattle.grep_core.specs.Files.{File, whole, missing, HasSelected}
 use Rattle.grep_core.specs.Output.{Form, parts, lines, around, form, OutAs, Out, are_many, written}
 use Rattle.grep_core.specs.Messages.{FaultMet, Messages, StatusOf}
 use Rattle.grep_io.specs.Reading.{Source, Reading, IsReadingOf, file_of, failures_of, AreLeft}
@@ -102,8 +101,8 @@ module _ (es : List Expression) (options : Options) where
 abbrev pub first_lines : ℕ → File → File
 first_lines n file = record { name = file.name; lines = take n file.lines; ending = whole }
 
--- the file of which the first n lines were searched, as far as rows show it; there are none yet
--- under `-c`, `-l` and `-q`
+-- the file whose first n lines were searched, as far as rows show it; there are none yet under
+-- `-c`, `-l` and `-q`
 abbrev pub begun : Form → ℕ → File → List File
 begun lines n file = first_lines n file ∷ []
 begun parts n file = first_lines n file ∷ []
@@ -114,97 +113,87 @@ begun _ n file = []
 abbrev pub file_at : List File → ℕ → File
 file_at files k = get_or files k (record { name = []; lines = []; ending = missing })
 
--- ---- runs; the work of each is no more than the search of the files costs, and `given l`
--- says that readers that had l left were returned in the run
+-- ---- runs
 
-module _ (es : List Expression) (options : Options) (sources : List Source)
-    (given : List (Option Text) → Type 0) (old new : Devices) where
-  -- a whole run: output, messages and status are those of the files for which the sources stand
-  pub record Finishes (status : Status) : Type 0 where
+-- the lines that are due were written
+pub record WritesAll (Due : List Text → Type 0) (old new : Writer) : Type 0 where
+  pub text : List Text
+  pub due : Due text
+  pub all : TakesAll old new text
+
+-- the lines that were due first were written, and a beginning of those after them in all that are
+-- due
+pub record WritesPast (DueFirst Due : List Text → Type 0) (old new : Writer) : Type 0 where
+  pub first : List Text
+  pub due_first : DueFirst first
+  pub text : List Text
+  pub due : Due text
+  pub past : TakesPast old new first text
+
+module _ (es : List Expression) (options : Options) (sources : List Source) where
+  -- what the sources did, and what that was to a run that reached these of them: how often their
+  -- devices failed, and what was left of them, of which `given` holds; the work of the run is no
+  -- more than the search of all files costs
+  pub record Story (reached : List Source) (given : List (Option Text) → Type 0)
+      (old new : Devices) : Type 0 where
     pub readings : List Reading
     pub are_readings : AreReadings sources readings
-    pub output : List Text
-    pub is_output : Out es options (files_of sources readings) output
-    pub messages : List Text
-    pub are_messages : Messages es options (files_of sources readings) messages
-    pub is_status : StatusOf es options (files_of sources readings) status
-    pub wrote : TakesAll old.out new.out output
-    pub reported : TakesAll old.messages new.messages messages
     pub failures : ℕ
-    pub are_failures : FailuresMet es options sources readings failures
+    pub are_failures : FailuresMet es options reached readings failures
     pub counted : new.source_failures ≡ count_more old.source_failures failures
     pub left : List (Option Text)
-    pub are_left : LeftMet es options sources readings left
+    pub are_left : LeftMet es options reached readings left
     pub gave_back : given left
     pub steps : SearchesFiles es options (length es) (files_of sources readings) old.steps new.steps
 
-  -- a run that a failed write ended in source `at`: what is written of the sources before it was
-  -- written, and a beginning of what follows; no source after it was opened
-  pub record BreaksOff : Type 0 where
-    pub readings : List Reading
-    pub are_readings : AreReadings sources readings
-    pub at : ℕ
-    pub in_sources : at < length sources
-    pub output_before : List Text
-    pub is_before : OutAs es options (are_many (files_of sources readings)) (form options)
-        (take at (files_of sources readings)) output_before
-    pub output : List Text
-    pub is_output : Out es options (files_of sources readings) output
-    pub wrote : TakesPast old.out new.out output_before output
-    pub messages_before : List Text
-    pub are_before : Messages es options (take at (files_of sources readings)) messages_before
-    pub messages : List Text
-    pub are_messages : Messages es options (files_of sources readings) messages
-    pub reported : TakesPast old.messages new.messages messages_before messages
-    pub failures : ℕ
-    pub are_failures : FailuresMet es options (take (suc at) sources) readings failures
-    pub counted : new.source_failures ≡ count_more old.source_failures failures
-    pub left : List (Option Text)
-    pub are_left : LeftMet es options (take (suc at) sources) readings left
-    pub gave_back : given left
-    pub steps : SearchesFiles es options (length es) (files_of sources readings) old.steps new.steps
+  -- the output for some of the files for which the sources stand
+  abbrev pub OutOf : List Reading → List File → List Text → Type 0
+  OutOf readings files output =
+      OutAs es options (are_many (files_of sources readings)) (form options) files output
 
-  -- a run that ran out of memory after the first n lines of source k, whatever is written of them:
-  -- the output is that of the sources before it and of a source of these lines, the messages those
-  -- of the sources before it
-  pub record StopsAfter (k n : ℕ) : Type 0 where
-    pub readings : List Reading
-    pub are_readings : AreReadings sources readings
-    pub in_sources : k < length sources
-    pub in_file : n ≤ length (file_at (files_of sources readings) k).lines
-    pub output : List Text
-    pub is_output : OutAs es options (are_many (files_of sources readings)) (form options)
-        (take k (files_of sources readings)
-        ++ begun (form options) n (file_at (files_of sources readings) k)) output
-    pub messages : List Text
-    pub are_messages : Messages es options (take k (files_of sources readings)) messages
-    pub wrote : TakesAll old.out new.out output
-    pub reported : TakesAll old.messages new.messages messages
-    pub failures : ℕ
-    pub are_failures : FailuresMet es options (take k sources) readings failures
-    pub counted : new.source_failures ≡ count_more old.source_failures failures
-    pub left : List (Option Text)
-    pub rest : Option Text
-    pub are_left : LeftMet es options (take k sources) readings left
-    pub gave_back : given (left ++ rest ∷ [])
-    pub read : HasRead (source_at sources k) rest
-        (take n (file_at (files_of sources readings) k).lines)
-    pub steps : SearchesFiles es options (length es) (files_of sources readings) old.steps new.steps
+  -- `given l` says that readers that had l left were returned in the run
+  module _ (given : List (Option Text) → Type 0) (old new : Devices) where
+    -- a whole run: output, messages and status are those of the files for which the sources stand
+    pub record Finishes (status : Status) : Type 0 where
+      pub story : Story sources given old new
+      pub wrote : WritesAll (Out es options (files_of sources story.readings)) old.out new.out
+      pub reported : WritesAll (Messages es options (files_of sources story.readings)) old.messages
+          new.messages
+      pub is_status : StatusOf es options (files_of sources story.readings) status
 
-  -- what a run returns: a fault of a write exactly where a write failed
-  abbrev pub RunGives : Result Status RunFault → Type 0
-  RunGives (Ok status) = Finishes status
-  RunGives (Err Write) =
-      BreaksOff × (new.out.failures ≡ one_more old.out.failures) ×
-      (new.messages.failures ≡ old.messages.failures)
-  RunGives (Err MessageWrite) =
-      BreaksOff × (new.out.failures ≡ old.out.failures) ×
-      (new.messages.failures ≡ one_more old.messages.failures)
-  RunGives (Err (Memory k n)) = StopsAfter k n
+    -- a run that a failed write ended in source `at`: what is written of the sources before it was
+    -- written, and a beginning of what follows; no source after it was opened
+    pub record BreaksOff : Type 0 where
+      pub at : ℕ
+      pub in_sources : at < length sources
+      pub story : Story (take (suc at) sources) given old new
+      pub wrote : WritesPast (OutOf story.readings (take at (files_of sources story.readings)))
+          (Out es options (files_of sources story.readings)) old.out new.out
+      pub reported : WritesPast (Messages es options (take at (files_of sources story.readings)))
+          (Messages es options (files_of sources story.readings)) old.messages new.messages
 
--- a run for patterns: it is one for the expressions that they mean
-abbrev pub Runs : Syntax → Options → List Text → List Source → (List (Option Text) → Type 0) →
-    Devices → Devices → Result Status RunFault → Type 0
-Runs syntax options patterns sources given old new result =
-    (es : List Expression) × AreMeant syntax options patterns es ×
-    RunGives es options sources given old new result
+    -- a run that ran out of memory after the first n lines of source k, whatever is written of
+    -- them: the output is that of the sources before it and of a source of these lines, the
+    -- messages those of the sources before it; the reader of source k had `rest` left
+    pub record StopsAfter (k n : ℕ) : Type 0 where
+      pub in_sources : k < length sources
+      pub rest : Option Text
+      pub story : Story (take k sources) (λ left. given (left ++ rest ∷ [])) old new
+      pub in_file : n ≤ length (file_at (files_of sources story.readings) k).lines
+      pub read : HasRead (source_at sources k) rest
+          (take n (file_at (files_of sources story.readings) k).lines)
+      pub wrote : WritesAll (OutOf story.readings (take k (files_of sources story.readings)
+          ++ begun (form options) n (file_at (files_of sources story.readings) k))) old.out new.out
+      pub reported : WritesAll (Messages es options (take k (files_of sources story.readings)))
+          old.messages new.messages
+
+    -- what a run returns: a fault of a write exactly where a write failed
+    abbrev pub RunGives : Result Status RunFault → Type 0
+    RunGives (Ok status) = Finishes status
+    RunGives (Err Write) =
+        BreaksOff × (new.out.failures ≡ one_more old.out.failures) ×
+        (new.messages.failures ≡ old.messages.failures)
+    RunGives (Err MessageWrite) =
+        BreaksOff × (new.out.failures ≡ old.out.failures) ×
+        (new.messages.failures ≡ one_more old.messages.failures)
+    RunGives (Err (Memory k n)) = StopsAfter k n

@@ -13,6 +13,6 @@ pub mod Given
 pub mod Taken
 pub mod SameChoice
 pub mod MatcherLists
-pub mod Stretches
-pub mod StretchRows
+pub mod SearchedBlocks
+pub mod BlockRows
 pub mod ShownLines

@@ -4,14 +4,14 @@ ghost use Rattle.grep_core.specs.Laws.{HasOneAnswer, MeansOne, MemorySavesSteps,
 use crate::Options;
 use re_syntax::Syntax;
 
-/// All expressions and files have one output, one list of messages and one status, and where no
-/// memory is refused the search of them has one cost.
+/// All expressions and files have one output, one list of messages and one status, and if no
+/// allocation fails the search of them has one cost.
 #[tactic(auto, using(crate::proofs::lemmas::LawsHold::has_one_answer))]
 pub fn has_one_answer(_options: Options)
     ensures { HasOneAnswer _options }
 {}
 
-/// A search costs no more if no memory is refused than if it is.
+/// A search costs no more if no allocation fails than if one does.
 #[tactic(auto, using(crate::proofs::lemmas::LawsHold::memory_saves_steps))]
 pub fn memory_saves_steps(_options: Options)
     ensures { MemorySavesSteps _options }

@@ -39,8 +39,7 @@ pub trait Sources {
         requires { k < length (listed self.now) }
         ensures { result.now ≡ (source_at (listed self.now) k).name };
 
-    /// Opens the next source. `None` says that it could not be opened, which is counted as a
-    /// failure.
+    /// Opens the next source. `None`: it could not be opened, which is counted as a failure.
     fn open(&mut self, k: usize) -> Option<Self::Reader>
         requires place { k < length (listed self.old) }
         requires in_order { stands_at self.old k }

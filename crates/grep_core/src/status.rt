@@ -65,7 +65,7 @@ impl FileFound {
 #[derive(Clone, Copy, PartialEq, Eq, Debug, Drop)]
 pub enum SearchFault {
     Write,
-    /// A growth was refused after this number of lines.
+    /// An allocation failed after this number of lines.
     Memory(u64),
 }
 
@@ -98,7 +98,7 @@ pub enum RunFault {
     Write,
     /// A message could not be written. What was written is a beginning of the messages.
     MessageWrite,
-    /// A growth was refused in this source, counted from 0, when this number of its lines were
+    /// An allocation failed in this source, counted from 0, when this number of its lines were
     /// wholly done.
     Memory { source: usize, lines: u64 },
 }

@@ -66,9 +66,13 @@ AreLeft source (ends_after bytes) left = (rest : Option Text) × (left ≡ rest 
 abbrev pub OneLeft : Option Text → List (Option Text) → Type 0
 OneLeft rest left = left ≡ rest ∷ []
 
--- but for the last 65,536 bytes, the bytes are the beginning of one line
+-- how many bytes a buffer holds
+abbrev pub buffer_size : ℕ
+buffer_size = 65536
+
+-- but for the last ones, which a buffer holds, the bytes are the beginning of one line
 abbrev pub IsOneLineAndFew : Text → Type 0
-IsOneLineAndFew bytes = HasNoNewline (take (length bytes - 65536) bytes)
+IsOneLineAndFew bytes = HasNoNewline (take (length bytes - buffer_size) bytes)
 
 -- the reader of the source, which has `rest` left, gave these lines, and after them no more than is
 -- held of one line and one buffer

@@ -10,6 +10,6 @@ pub use devices::counted::{CountedRead, CountedWrite, Tally, WriteFault};
 pub use devices::limited::Limited;
 pub use devices::push::push_all;
 pub use devices::whole_lines::WholeLines;
-pub use input::lines::{Lines, ReadFault, Stage};
+pub use input::lines::{Block, Lines, ReadFault, Stage};
 pub use input::newlines::count_newlines;
 pub use input::window::lines_end;

@@ -16,7 +16,7 @@ use Rattle.grep_live.specs.Lists.{AllThree}
 use Rattle.grep_live.specs.Marks.{Watched, MarksAfter, MarksGiven}
 use Rattle.grep_live.specs.Changes.{Change, IsChange, AreWithin, is_idle}
 use Rattle.grep_live.specs.Rows.{change_rows, changes_rows}
-use Rattle.grep_live.specs.Writing.{all_known}
+use Rattle.grep_live.specs.Reported.{all_known}
 
 -- of files whose changes were all reported no row is written
 abbrev pub NothingTwice : Type 0

@@ -5,9 +5,9 @@ pub mod Lists
 pub mod Hits
 pub mod Marks
 pub mod Changes
-pub mod Following
+pub mod Follows
 pub mod Rows
-pub mod Writing
+pub mod Reported
 -- the public laws of the definitions
 pub mod Laws
 -- what other contracts are stated with, of private functions

@@ -1,4 +1,4 @@
 pub mod Fits
-pub mod Listing
-pub mod Paging
+pub mod LineHits
+pub mod PageRest
 pub mod Live

@@ -4,14 +4,14 @@ ghost use Rattle.re_syntax.specs.Expression.{Expression};
 ghost use Rattle.grep_core.specs.Run.{file_at};
 ghost use Rattle.grep_session.specs.Working.Kept.{span_places};
 ghost use Rattle.grep_live.specs.Hits.{Hit};
-ghost use Rattle.grep_live.specs.Working.Listing.{Mean, HitsBetween, IsFirst, IsPlaceAfter};
+ghost use Rattle.grep_live.specs.Working.LineHits.{Mean, HitsBetween, IsFirst, IsPlaceAfter};
 
-use crate::found::Found;
+use crate::placed_hit::PlacedHit;
 use grep_session::Session;
 
 /// Some lines of a file: those of file `k` from place `from` to place `to`.
 #[derive(Clone, Copy, Drop)]
-pub struct Stretch {
+pub struct LineRange {
     /// The number of the file.
     pub k: usize,
     /// The place of the first line.
@@ -21,7 +21,7 @@ pub struct Stretch {
 }
 
 /// The number of hits among some lines.
-pub fn count_hits(session: &Session, stretch: Stretch) -> usize
+pub fn count_hits(session: &Session, stretch: LineRange) -> usize
     requires in_order { stretch.from ≤ stretch.to }
     requires within { stretch.to ≤ length (file_at session.now.files stretch.k).lines }
     ensures { (es : List Expression) → Mean session.now es → (hits : List Hit) →
@@ -44,7 +44,7 @@ pub fn count_file(session: &Session, k: usize) -> usize
 }
 
 /// The first hit among some lines, and its place.
-pub fn first_hit(session: &Session, stretch: Stretch) -> Option<Found<'_>>
+pub fn first_hit(session: &Session, stretch: LineRange) -> Option<PlacedHit<'_>>
     requires in_order { stretch.from ≤ stretch.to }
     requires within { stretch.to ≤ length (file_at session.now.files stretch.k).lines }
     ensures within { IfSome result
@@ -62,7 +62,7 @@ pub fn first_hit(session: &Session, stretch: Stretch) -> Option<Found<'_>>
     let Some(hit) = session.hit(stretch.k, place) else {
         return None;
     };
-    Some(Found { place, hit })
+    Some(PlacedHit { place, hit })
 }
 
 /// The least place of file `k` before which there are `number` hits.

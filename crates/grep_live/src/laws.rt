@@ -1,19 +1,19 @@
 //! Laws of the definitions, as functions that do nothing.
 ghost use Rattle.grep_live.specs.Laws.{NothingTwice, OneSplice, OnlyTouched};
 
-/// Of files whose changes were all reported, no row is written.
+/// No row is written for files whose changes were all reported.
 #[tactic(auto, using(crate::proofs::lemmas::TwiceLemmas::nothing_twice))]
 pub fn nothing_twice()
     ensures { NothingTwice }
 {}
 
-/// Of one accepted splice since all changes were reported, rows are written of its file alone: they
-/// say which lines it replaced, by how many, and at most one hit for each new line.
+/// After one accepted splice since all changes were reported, rows are written for its file alone:
+/// they say which lines it replaced, by how many, and at most one hit for each new line.
 pub fn one_splice()
     ensures { OneSplice }
 {}
 
-/// Where edits since all changes were reported left the first and the last lines of a file as they
+/// If edits since all changes were reported left the first and the last lines of a file as they
 /// are, none of these is reported as replaced, and no hit is reported among them.
 pub fn only_touched()
     ensures { OnlyTouched }

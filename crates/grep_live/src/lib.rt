@@ -1,14 +1,14 @@
 //! A session that an editor watches: what changed since its last question, and pages of the hits.
 #![tactic(auto)]
 
-mod changing;
-mod found;
+mod change_rows;
 mod hits;
 mod laws;
 mod live;
 mod mark;
 mod marks;
-mod paging;
+mod page;
+mod placed_hit;
 mod rows;
 mod status;
 

@@ -2,12 +2,11 @@
 ghost use Rattle.std.specs.Prelude.{◌≡◌, ◌≤◌, []};
 ghost use Rattle.re_syntax.specs.Profile.{most_states};
 ghost use Rattle.grep_live.specs.Marks.{new_watched};
-ghost use Rattle.grep_live.specs.Following.{Follows};
+ghost use Rattle.grep_live.specs.Follows.{Follows};
 
 mod edits;
-mod giving;
-mod listing;
-mod reporting;
+mod lists;
+mod report;
 
 use crate::mark::Mark;
 use grep_session::Session;

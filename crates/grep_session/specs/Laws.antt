@@ -18,8 +18,7 @@ AreAlike (Ok a) (Err g) = ⊥
 AreAlike (Err f) (Ok b) = ⊥
 AreAlike (Err f) (Err g) = AreAlikeFaults f g
 
--- an edit has one outcome for its inputs, up to alike refusals, and one cost where no memory is
--- refused
+-- an edit has one outcome for its inputs, up to alike refusals, and one cost if no allocation fails
 pub record HasOneOutcome (edit : Edit) (old : Inputs) : Type 0 where
   pub one_outcome : (a b : Result Inputs EditFault) → Applies edit old a → Applies edit old b →
       AreAlike a b
@@ -28,7 +27,7 @@ pub record HasOneOutcome (edit : Edit) (old : Inputs) : Type 0 where
 abbrev pub EditsAreDetermined : Type 0
 EditsAreDetermined = (edit : Edit) (old : Inputs) → HasOneOutcome edit old
 
--- an edit costs no more if no memory is refused, when the parts of a line cost at most four searches
+-- an edit costs no more if no allocation fails, when the parts of a line cost at most four searches
 -- of it, than if it is, when each part of a line may cost one
 abbrev pub MemorySavesEditSteps : Type 0
 MemorySavesEditSteps =

@@ -10,7 +10,7 @@ use Rattle.re_syntax.specs.Lines.{HasNoNewline, list_of}
 use Rattle.re_syntax.specs.Parts.{AreParts}
 use Rattle.re_syntax.specs.Spelled.{IsMeant}
 use Rattle.grep_core.specs.Meters.{Steps, Adds}
-use Rattle.re_search.specs.Searching.{searches_for}
+use Rattle.re_search.specs.Searches.{searches_for}
 use Rattle.grep_core.specs.declared.options.Flag.{Flag}
 use Rattle.grep_core.specs.declared.options.Flag.TheVariants.{IgnoreCase, OnlyMatching, LineRegexp}
 use Rattle.grep_core.specs.declared.options.Options.{Options}
@@ -80,8 +80,8 @@ pairs_cost patterns (line ∷ lines) = search_cost patterns line + pairs_cost pa
 
 module _ (es : List Expression) (options : Options) where
   -- the cost of a line's parts under `-o`: all patterns search once for each part and once more,
-  -- but at most four times, unless memory for the line's list of ends was refused; `refusals` says
-  -- how often it was
+  -- but at most four times, unless the allocation for the line's list of ends failed; `refusals`
+  -- says how often it did
   abbrev pub PartsCostOf : Text → ℕ → ℕ → Type 0
   PartsCostOf line refusals cost =
       MatchBool options.only_matching
@@ -111,7 +111,8 @@ abbrev pub CostsAs : ℕ → Edit → Inputs → Result Inputs EditFault → ℕ
 CostsAs refusals edit old (Ok new) cost = CostsAccepted refusals edit old new cost
 CostsAs refusals edit old (Err fault) cost = (refusals ≡ 0) × (cost ≡ 0)
 
--- the cost of an edit of these inputs, where memory for a line's list of ends was refused so often
+-- the cost of an edit of these inputs, where the allocation for a line's list of ends failed so
+-- often
 abbrev pub Costs : ℕ → Edit → Inputs → ℕ → Type 0
 Costs refusals edit old cost =
     (outcome : Result Inputs EditFault) × Applies edit old outcome ×

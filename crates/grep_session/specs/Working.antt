@@ -1,13 +1,14 @@
 pub mod Kept
 pub mod Sessions
-pub mod Splicing
+pub mod SplicePlaces
 pub mod Found
-pub mod Reading
+pub mod PatternRefusals
 pub mod Again
 pub mod Effects
 pub mod Report
-pub mod Looking
+pub mod ListedParts
 pub mod Changed
+pub mod Copied
 pub mod Columns
 pub mod Counts
 pub mod Rooms

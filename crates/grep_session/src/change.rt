@@ -4,9 +4,9 @@
 #[derive(Clone, Copy, Drop)]
 pub enum Change {
     /// All patterns are others, and all is searched anew.
-    Anew,
+    Rebuild,
     /// The patterns stay, and the parts of all lines are searched.
-    PartsAlone,
+    PartsOnly,
     /// The patterns from this number on were added.
     Added(usize),
     /// The pattern with this number was removed.

@@ -6,22 +6,22 @@ ghost use Rattle.std.specs.Prelude.{IfOk, OnErr, vec_capacity};
 ghost use Rattle.re_syntax.specs.Expression.{Expression};
 ghost use Rattle.re_syntax.specs.Profile.{most_patterns};
 ghost use Rattle.re_search.specs.Working.Matchers.{matched_expression, wants_whole, room_of};
-ghost use Rattle.re_search.specs.Searching.{AllAnswer};
+ghost use Rattle.re_search.specs.Searches.{AllAnswer};
 ghost use Rattle.line_chunks.specs.Working.Chunks.{FitsColumn, all_of, line_text};
 ghost use Rattle.grep_session.specs.Working.Changed.{HasChanged, WasKept, WasFileKept, IsWithin};
 ghost use Rattle.grep_session.specs.Working.Changed.{ChangeCost, SearchesEach};
 ghost use Rattle.grep_session.specs.Working.Columns.{AddsColumns, IsAdded};
-ghost use Rattle.grep_session.specs.Working.Found.{IsColumn, chunks_of, chunks_of_files, lines_of_files};
+ghost use Rattle.grep_session.specs.Working.Found.{IsColumn, chunks_of_files, lines_of_files};
 ghost use Rattle.grep_session.specs.Working.Kept.{IsFileKept, kept_file};
-ghost use Rattle.re_search.specs.Searching.{SameMatchers};
+ghost use Rattle.re_search.specs.Searches.{SameMatchers};
 
 use crate::change::Change;
-use crate::finding::Search;
 use crate::found::put_columns;
 use crate::kept::KeptFile;
-use crate::matching::find_matches;
-use crate::parting::find_parts;
-use crate::pushing::push;
+use crate::line_matches::find_matches;
+use crate::line_parts::find_parts;
+use crate::search::SearchContext;
+use crate::vec_push::push;
 use grep_core::Options;
 use line_chunks::{Chunk, Found, KeptLines, Matches};
 use re_search::{LineMatch, Matcher, Meter};
@@ -33,8 +33,8 @@ fn is_same(change: Change, old: &Matches, new: &Matches) -> bool
 {
     match change {
         Change::Added(_) => old.len() == new.len(),
-        Change::Anew => false,
-        Change::PartsAlone => false,
+        Change::Rebuild => false,
+        Change::PartsOnly => false,
         Change::Dropped(_) => false,
     }
 }
@@ -42,7 +42,7 @@ fn is_same(change: Change, old: &Matches, new: &Matches) -> bool
 /// What is found in the lines of a chunk after a change of the patterns; `None` where it is what
 /// was found before.
 fn find_in_chunk<M: LineMatch>(
-    search: &Search,
+    search: &SearchContext,
     matchers: &mut [M],
     change: Change,
     chunk: &Chunk,
@@ -77,7 +77,7 @@ fn find_in_chunk<M: LineMatch>(
 
 /// Adds what is found in the chunks of a file after a change of the patterns.
 pub fn find_in_lines<M: LineMatch>(
-    search: &Search,
+    search: &SearchContext,
     matchers: &mut [M],
     change: Change,
     lines: &KeptLines,
@@ -106,39 +106,9 @@ pub fn find_in_lines<M: LineMatch>(
     Ok(())
 }
 
-/// Adds what is found in the chunks of a file, if it can be opened, after a change of the patterns.
-fn find_in_file<M: LineMatch>(
-    search: &Search,
-    matchers: &mut [M],
-    change: Change,
-    file: &KeptFile,
-    found: &mut Vec<Option<Found>>,
-    meter: &mut Meter,
-) -> Result<(), AllocError>
-    requires whole { AllAnswer search.now.options.line_regexp (map M.whole matchers.old) }
-    requires few { length matchers.old ≤ most_patterns }
-    requires within { IsWithin change (length matchers.old) }
-    ensures same_matchers { SameMatchers M.expression M.whole M.room matchers.old matchers.new }
-    ensures ok { IfOk result
-        (λ _.
-        AddsColumns change (map M.expression matchers.old) search.now.options
-        (chunks_of file.now) found.old.items found.new.items) }
-    ensures steps { (before changed : List Expression) →
-        HasChanged change (map M.expression matchers.old) before changed →
-        WasFileKept change before search.now.options file.now
-        → SearchesEach
-        (ChangeCost change changed (map M.expression matchers.old) search.now.options)
-        (kept_file file.now).lines meter.old meter.new }
-{
-    match &file.lines {
-        None => Ok(()),
-        Some(lines) => find_in_lines(search, matchers, change, lines, found, meter),
-    }
-}
-
 /// What is found in the chunks of all files, in order, after a change of the patterns.
 fn find_all<M: LineMatch>(
-    search: &Search,
+    search: &SearchContext,
     matchers: &mut [M],
     change: Change,
     files: &[KeptFile],
@@ -161,7 +131,10 @@ fn find_all<M: LineMatch>(
 {
     let mut found = Vec::new(search.alloc);
     for file in files {
-        find_in_file(search, matchers, change, file, &mut found, meter)?;
+        let Some(lines) = &file.lines else {
+            continue;
+        };
+        find_in_lines(search, matchers, change, lines, &mut found, meter)?;
     }
     Ok(found)
 }
@@ -197,7 +170,7 @@ pub fn find_columns(
         (ChangeCost change changed (map matched_expression matchers.old.items) options.now)
         (lines_of_files (map kept_file files.old.items)) meter.old meter.new }
 {
-    let search = Search {
+    let search = SearchContext {
         alloc,
         options: *options,
     };

@@ -1,7 +1,7 @@
 //! A line as an editor lists it.
 ghost use Rattle.std.specs.Prelude.{◌≡◌, ◌<◌, false, true, length, get_or, if◌then◌else◌, MatchOption};
 ghost use Rattle.line_chunks.specs.Working.Chunks.{all_of, line_text, no_line};
-ghost use Rattle.grep_session.specs.Working.Looking.{listed_spans};
+ghost use Rattle.grep_session.specs.Working.ListedParts.{listed_spans};
 ghost use Rattle.grep_session.specs.Working.Report.{is_selected};
 
 use crate::verdicts::is_selected;

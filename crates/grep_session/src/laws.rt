@@ -2,14 +2,14 @@
 ghost use Rattle.grep_session.specs.Headline.{AcceptedEditsDecide};
 ghost use Rattle.grep_session.specs.Laws.{EditsAreDetermined, MemorySavesEditSteps};
 
-/// An edit has one outcome for its inputs, up to what is reported of a refused pattern, and one cost
-/// where no memory is refused.
+/// An edit has one outcome for its inputs, up to what is reported of a refused pattern, and one
+/// cost if no allocation fails.
 #[tactic(auto, using(crate::proofs::lemmas::EditLaws::edits_are_determined))]
 pub fn edits_are_determined()
     ensures { EditsAreDetermined }
 {}
 
-/// An edit costs no more if no memory is refused than if it is.
+/// An edit costs no more if no allocation fails than if one does.
 pub fn memory_saves_edit_steps()
     ensures { MemorySavesEditSteps }
 {}

@@ -1,14 +1,36 @@
 //! Lines that a session is given.
-ghost use Rattle.std.specs.Prelude.{◌≡◌, [], ◌∷◌, ◌++◌, length, map, All, IfOk, OnErr, IfErr};
+ghost use Rattle.std.specs.Prelude.{◌≡◌, [], ◌∷◌, ◌++◌, length, map, All, IfOk, OnErr, MatchBool};
 ghost use Rattle.re_syntax.specs.Lines.{HasNoNewline};
 ghost use Rattle.line_chunks.specs.Working.Chunks.{all_of, line_text};
+ghost use Rattle.grep_session.specs.Working.Copied.{CopiesLines};
 
+use crate::fault::EditFault;
 use line_chunks::KeptLines;
 use std::alloc::{AllocError, Global};
 use std::marker::Model;
 
 /// How many bytes of lines a chunk has from which on it takes no further line.
 const CHUNK: u32 = 65_536;
+
+/// Whether a byte of the line is a newline.
+fn has_newline(line: &[u8]) -> bool
+    ensures { MatchBool result (HasNoNewline line.now → ⊥) (HasNoNewline line.now) }
+{
+    line.contains(&b'\n')
+}
+
+/// Whether some line has a newline in it.
+fn any_newline(lines: &[Vec<u8>]) -> bool
+    ensures { MatchBool result (All HasNoNewline (map (λ line. line.items) lines.now) → ⊥)
+        (All HasNoNewline (map (λ line. line.items) lines.now)) }
+{
+    for line in lines {
+        if has_newline(line) {
+            return true;
+        }
+    }
+    false
+}
 
 /// Lines for a session, in the chunks that its file will have. Contracts see the list of them; none
 /// has a newline in it.
@@ -44,6 +66,27 @@ impl NewLines {
         }
     }
 
+    /// Copies of the lines.
+    ///
+    /// # Errors
+    ///
+    /// `EditFault::LineHasNewline`, for which no memory is asked for, or `EditFault::Memory`.
+    pub fn from_lines(alloc: Global, lines: &[Vec<u8>]) -> Result<NewLines, EditFault>
+        ensures { CopiesLines (map (λ line. line.items) lines.now) result }
+    {
+        if any_newline(lines) {
+            return Err(EditFault::LineHasNewline);
+        }
+        let mut new = NewLines::new(alloc);
+        for line in lines {
+            match new.push(line) {
+                Ok(()) => {}
+                Err(_) => return Err(EditFault::Memory),
+            }
+        }
+        Ok(new)
+    }
+
     /// The number of lines.
     pub fn len(&self) -> usize
         ensures { result ≡ length self.now }
@@ -73,17 +116,4 @@ pub fn kept_of(given: NewLines) -> KeptLines
 {
     let NewLines { alloc: _, lines } = given;
     lines
-}
-
-/// Copies of the lines.
-pub fn copies_of(alloc: Global, texts: &[Vec<u8>]) -> Result<NewLines, AllocError>
-    requires { All HasNoNewline (map (λ text. text.items) texts.now) }
-    ensures ok { IfOk result (λ lines. lines ≡ map (λ text. text.items) texts.now) }
-    ensures memory { texts.now ≡ [] → IfErr result (λ _. ⊥) }
-{
-    let mut lines = NewLines::new(alloc);
-    for text in texts {
-        lines.push(text)?;
-    }
-    Ok(lines)
 }

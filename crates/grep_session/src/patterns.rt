@@ -4,7 +4,7 @@ ghost use Rattle.std.specs.Prelude.{vec_capacity, MatchBool, IfOk, OnErr};
 ghost use Rattle.re_syntax.specs.Lines.{list_of};
 ghost use Rattle.re_syntax.specs.Profile.{most_patterns};
 
-use crate::pushing::push;
+use crate::vec_push::push;
 use re_search::Matcher;
 use re_syntax::{MOST_PATTERNS, split_list};
 use std::alloc::{AllocError, Global};

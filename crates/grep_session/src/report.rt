@@ -1,5 +1,5 @@
-//! What grep writes for the kept files, and its status. No line is searched and no memory is asked
-//! for: all is computed from what is kept.
+//! What grep writes for the kept files, and its status. No line is searched and nothing is
+//! allocated: all is computed from what is kept.
 ghost use Rattle.std.specs.Prelude.{◌≡◌, All, List, map, length, nat_le, IfOk};
 ghost use Rattle.re_syntax.specs.Expression.{Expression};
 ghost use Rattle.grep_core.specs.Output.{written};

@@ -1,5 +1,5 @@
 //! A session.
-ghost use Rattle.std.specs.Prelude.{◌≡◌, ◌≢◌, ◌≤◌, ◌<◌, Ok, false, length, map};
+ghost use Rattle.std.specs.Prelude.{◌≡◌, ◌≢◌, ◌≤◌, ◌<◌, Ok, false, length};
 ghost use Rattle.std.specs.Prelude.{IsTrue, IfErr};
 ghost use Rattle.grep_session.specs.declared.fault.EditFault.TheVariants.{Memory};
 ghost use Rattle.grep_session.specs.Edits.{Edit, AddFile, AddMissing, DropFile, Splice};
@@ -12,24 +12,24 @@ ghost use Rattle.grep_session.specs.Touched.{TakesSteps, NeedsNoMemory, Touches,
 ghost use Rattle.grep_session.specs.Touched.{parts_alone, all_lines};
 ghost use Rattle.grep_session.specs.Working.Again.{ReadsAgain, AreReadable, read_as};
 
-mod giving;
-mod looking;
-mod reporting;
+mod outputs;
+mod queries;
 
 use crate::change::Change;
-use crate::choosing::{Effect, effect_of, is_same, option_of, with_option};
 use crate::columns::find_columns;
-use crate::dropping::{drop_column, put_back};
 use crate::fault::EditFault;
 use crate::kept::KeptFile;
-use crate::new_lines::copies_of;
+use crate::new_lines::NewLines;
+use crate::options::{Effect, effect_of, is_same, option_of, with_option};
+use crate::pattern_matchers::read_matchers;
 use crate::patterns::{add_matchers, add_texts, reserve_texts, texts_of, too_many};
-use crate::pushing::push;
-use crate::reading::read_matchers;
-use crate::splicing::{any_newline, find_place};
+use crate::removal::{drop_column, put_back};
+use crate::replaced_lines::{find_place, put_in};
+use crate::search::search_new;
+use crate::vec_push::push;
 use grep_core::{Context, Flag, Options};
 use re_search::{Matcher, Meter, Syntax};
-use std::alloc::{AllocError, Global};
+use std::alloc::Global;
 use std::marker::Model;
 
 /// Files and patterns, and what the patterns find in the lines of the files. A contract sees the
@@ -115,64 +115,66 @@ impl Session {
     ///
     /// # Errors
     ///
-    /// `EditFault::LineHasNewline`, or `EditFault::Memory`.
+    /// `EditFault::Memory`.
     pub fn add_file(
         &mut self,
         name: Vec<u8>,
-        lines: Vec<Vec<u8>>,
+        lines: NewLines,
         meter: &mut Meter,
     ) -> Result<(), EditFault>
-        ensures gives { EditGives (AddFile name.items (map (λ line. line.items) lines.items))
-            self.old self.new result }
-        ensures steps { TakesSteps (AddFile name.items (map (λ line. line.items) lines.items))
-            self.old meter.old meter.new }
-        ensures memory { NeedsNoMemory (AddFile name.items (map (λ line. line.items) lines.items))
-            self.old → IfErr result (λ fault. fault ≢ Memory) }
+        ensures gives { EditGives (AddFile name.items lines) self.old self.new result }
+        ensures steps { TakesSteps (AddFile name.items lines) self.old meter.old meter.new }
+        ensures memory { NeedsNoMemory (AddFile name.items lines) self.old →
+            IfErr result (λ fault. fault ≢ Memory) }
     {
-        if any_newline(&lines) {
-            return Err(EditFault::LineHasNewline);
-        }
-        let given = match copies_of(self.alloc, &lines) {
-            Ok(given) => given,
+        let kept = match search_new(self.alloc, &mut self.matchers, &self.options, lines, meter) {
+            Ok(kept) => kept,
             Err(_) => return Err(EditFault::Memory),
         };
-        self.add_lines(name, given, meter)
+        let file = KeptFile {
+            name,
+            lines: Some(kept),
+        };
+        match push(&mut self.files, file) {
+            Ok(()) => {}
+            Err(_) => return Err(EditFault::Memory),
+        }
+        Ok(())
     }
 
     /// Replaces `count` lines of file `k` from line `start` on with other lines. Only the new lines
-    /// are searched. If there are none, no memory is asked for.
+    /// are searched. If there are none, nothing is allocated.
     ///
     /// # Errors
     ///
-    /// `EditFault::NoSuchFile`, `EditFault::FileIsMissing`, `EditFault::OutOfRange`,
-    /// `EditFault::LineHasNewline`, or `EditFault::Memory`.
+    /// `EditFault::NoSuchFile`, `EditFault::FileIsMissing`, `EditFault::OutOfRange`, or
+    /// `EditFault::Memory`.
     pub fn splice(
         &mut self,
         k: usize,
         start: usize,
         count: usize,
-        lines: Vec<Vec<u8>>,
+        lines: NewLines,
         meter: &mut Meter,
     ) -> Result<(), EditFault>
-        ensures gives { EditGives (Splice k start count (map (λ line. line.items) lines.items))
-            self.old self.new result }
-        ensures steps { TakesSteps (Splice k start count (map (λ line. line.items) lines.items))
-            self.old meter.old meter.new }
-        ensures memory { NeedsNoMemory (Splice k start count (map (λ line. line.items) lines.items))
-            self.old → IfErr result (λ fault. fault ≢ Memory) }
+        ensures gives { EditGives (Splice k start count lines) self.old self.new result }
+        ensures steps { TakesSteps (Splice k start count lines) self.old meter.old meter.new }
+        ensures memory { NeedsNoMemory (Splice k start count lines) self.old →
+            IfErr result (λ fault. fault ≢ Memory) }
     {
         match find_place(&self.files, k, start, count) {
             Ok(()) => {}
             Err(fault) => return Err(fault),
         }
-        if any_newline(&lines) {
-            return Err(EditFault::LineHasNewline);
-        }
-        let given = match copies_of(self.alloc, &lines) {
-            Ok(given) => given,
+        let kept = match search_new(self.alloc, &mut self.matchers, &self.options, lines, meter) {
+            Ok(kept) => kept,
             Err(_) => return Err(EditFault::Memory),
         };
-        self.put_lines(k, start, count, given, meter)
+        match put_in(self.alloc, &mut self.files[k], start, count, &kept) {
+            Ok(()) => {}
+            Err(_) => return Err(EditFault::Memory),
+        }
+        Ok(())
     }
 
     /// Reads all patterns again, with another syntax or other options, and searches all lines anew.
@@ -203,7 +205,7 @@ impl Session {
             self.alloc,
             &mut matchers,
             &options,
-            Change::Anew,
+            Change::Rebuild,
             &mut self.files,
             meter,
         ) {
@@ -248,7 +250,7 @@ impl Session {
             self.alloc,
             &mut self.matchers,
             &options,
-            Change::PartsAlone,
+            Change::PartsOnly,
             &mut self.files,
             meter,
         ) {
@@ -298,8 +300,8 @@ impl Session {
         }
     }
 
-    /// Sets how many lines are shown around selected ones, or that none are. Nothing is searched,
-    /// and no memory is asked for.
+    /// Sets how many lines are shown around selected ones, or that none are. Nothing is searched or
+    /// allocated.
     pub fn set_context(&mut self, context: Option<Context>)
         ensures { EditGives {T = Unit {0}} (SetContext context) self.old self.new (Ok tt) }
     {
@@ -369,7 +371,7 @@ impl Session {
     }
 
     /// Removes pattern `p`; later patterns move up. Under `-o` the lines that it matched are
-    /// searched for their parts; otherwise no memory is asked for.
+    /// searched for their parts; otherwise nothing is allocated.
     ///
     /// # Errors
     ///
@@ -386,7 +388,7 @@ impl Session {
         if self.options.only_matching {
             return self.drop_with_parts(p, meter);
         }
-        self.drop_plain(p);
+        self.drop_without_parts(p);
         Ok(())
     }
 
@@ -416,8 +418,8 @@ impl Session {
         Ok(())
     }
 
-    /// Removes pattern `p` where no parts are kept; later patterns move up. No memory is asked for.
-    fn drop_plain(&mut self, p: usize)
+    /// Removes pattern `p` where no parts are kept; later patterns move up. Nothing is allocated.
+    fn drop_without_parts(&mut self, p: usize)
         requires within { p < length self.old.patterns }
         requires no_parts { self.old.options.only_matching ≡ false }
         ensures { self.new ≡ with_patterns (remove self.old.patterns p) self.old }

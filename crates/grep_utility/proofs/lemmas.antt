@@ -1,4 +1,4 @@
-pub mod PieceLemmas
+pub mod TokenLemmas
 pub mod WordLemmas
 pub mod NumberLemmas
 pub mod UsageLemmas

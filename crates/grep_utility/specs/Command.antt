@@ -82,10 +82,6 @@ module _ (asked : Asked) (folder : Folder) (texts : List Text) (given : List (Op
       MatchBool (nat_lt most_patterns (length texts))
       (GivesUp old new (too_many_patterns ∷ []) 0 status) (RefusesPattern ⊎ SearchesNamed)
 
-  -- or it was out of memory before the search
-  abbrev pub PatternsGive : Type 0
-  PatternsGive = DoesForPatterns ⊎ GivesUp old new (out_of_memory ∷ []) 0 status
-
 module _ (folder : Folder) (given : List (Option Text) → Type 0) (old new : Devices)
     (status : ℕ) where
   -- the pattern files are read, up to the first that can't be; their readers are returned before
@@ -97,10 +93,6 @@ module _ (folder : Folder) (given : List (Option Text) → Type 0) (old new : De
       ⊎ ((texts : List Text) × (read : List (Option Text)) × GivePatterns folder asked.sources texts
       × DoesForPatterns asked (folder_after_all folder asked.sources) texts (λ left. given (read ++ left))
       old new status)
-
-  -- or it was out of memory before the search
-  abbrev pub RequestGives : Asked → Type 0
-  RequestGives asked = DoesForRequest asked ⊎ GivesUp old new (out_of_memory ∷ []) 0 status
 
   -- what the command does for its words, unless it is out of memory before the search
   abbrev pub DoesForWords : List Text → Type 0

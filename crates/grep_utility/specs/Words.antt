@@ -29,10 +29,10 @@ use Rattle.grep_utility.specs.declared.words.Request.{Request}
 use Rattle.grep_utility.specs.declared.words.around.Side.{Side}
 use Rattle.grep_utility.specs.declared.words.around.Side.TheVariants.{After, Before, Both}
 use Rattle.grep_utility.specs.declared.words.around.Around.{Around}
-use Rattle.grep_utility.specs.declared.words.pieces.Argument.{Argument}
-use Rattle.grep_utility.specs.declared.words.pieces.Argument.TheVariants as argument
-use Rattle.grep_utility.specs.declared.words.pieces.Meaning.{Meaning}
-use Rattle.grep_utility.specs.declared.words.pieces.Meaning.TheVariants as meaning
+use Rattle.grep_utility.specs.declared.words.tokens.Argument.{Argument}
+use Rattle.grep_utility.specs.declared.words.tokens.Argument.TheVariants as argument
+use Rattle.grep_utility.specs.declared.words.tokens.Meaning.{Meaning}
+use Rattle.grep_utility.specs.declared.words.tokens.Meaning.TheVariants as meaning
 
 -- a pattern list, or the name of a pattern file
 pub data PatternsFrom : Type 0 where
@@ -47,14 +47,54 @@ pub record Asked : Type 0 where
   pub files : List Text
 
 -- an option with its argument, an operand, or a fault
-pub data Piece : Type 0 where
-  flag : Flag → Piece
-  reads_as : Syntax → Piece
-  source : PatternsFrom → Piece
+pub data Token : Type 0 where
+  flag : Flag → Token
+  reads_as : Syntax → Token
+  source : PatternsFrom → Token
   -- this number of lines is shown on a side of selected ones
-  around : Side → ℕ → Piece
-  operand : Text → Piece
-  fault : UsageFault → Piece
+  around : Side → ℕ → Token
+  operand : Text → Token
+  fault : UsageFault → Token
+
+-- ---- options
+
+-- what a character means as an option (XCU grep, OPTIONS; `A`, `B`, `C` and `o` after the GNU
+-- manual)
+unfoldable pub meaning_of : ℕ → Option Meaning
+meaning_of c =
+    if nat_eq c (byte "E") then Some (meaning.Syntax Extended) else
+    if nat_eq c (byte "F") then Some (meaning.Syntax Fixed) else
+    if nat_eq c (byte "c") then Some (meaning.Flag Count) else
+    if nat_eq c (byte "e") then Some (meaning.Takes argument.List) else
+    if nat_eq c (byte "f") then Some (meaning.Takes argument.File) else
+    if nat_eq c (byte "i") then Some (meaning.Flag IgnoreCase) else
+    if nat_eq c (byte "l") then Some (meaning.Flag FilesWithMatches) else
+    if nat_eq c (byte "n") then Some (meaning.Flag LineNumber) else
+    if nat_eq c (byte "q") then Some (meaning.Flag Quiet) else
+    if nat_eq c (byte "s") then Some (meaning.Flag NoMessages) else
+    if nat_eq c (byte "v") then Some (meaning.Flag InvertMatch) else
+    if nat_eq c (byte "x") then Some (meaning.Flag LineRegexp) else
+    if nat_eq c (byte "A") then Some (meaning.Takes (argument.Lines After)) else
+    if nat_eq c (byte "B") then Some (meaning.Takes (argument.Lines Before)) else
+    if nat_eq c (byte "C") then Some (meaning.Takes (argument.Lines Both)) else
+    if nat_eq c (byte "o") then Some (meaning.Flag OnlyMatching) else None
+
+-- neither of `-E` and `-F` follows the other (XCU grep, SYNOPSIS)
+abbrev pub may_follow : Syntax → Syntax → Bool
+may_follow Extended Fixed = false
+may_follow Fixed Extended = false
+may_follow _ _ = true
+
+abbrev pub with_flag : Flag → Options → Options
+with_flag Count options = record options { count = true }
+with_flag IgnoreCase options = record options { ignore_case = true }
+with_flag FilesWithMatches options = record options { files_with_matches = true }
+with_flag LineNumber options = record options { line_number = true }
+with_flag Quiet options = record options { quiet = true }
+with_flag NoMessages options = record options { no_messages = true }
+with_flag InvertMatch options = record options { invert_match = true }
+with_flag LineRegexp options = record options { line_regexp = true }
+with_flag OnlyMatching options = record options { only_matching = true }
 
 -- a number, as a script has it, is one decimal digit or more, of a value below 2 ^ 64
 abbrev pub number_of : Text → Option ℕ
@@ -73,36 +113,41 @@ lines_of [] = None
 lines_of (b ∷ rest) =
     if list_all (in_class Digit) (b ∷ rest) then Some (min (value (b ∷ rest)) most_around) else None
 
-abbrev pub around_from : ℕ → Side → Option ℕ → Piece
+abbrev pub around_from : ℕ → Side → Option ℕ → Token
 around_from letter side (Some count) = around side count
 around_from letter side None = fault (BadNumber letter)
 
+abbrev pub with_lines : Side → ℕ → Around → Around
+with_lines After count before = record before { after = Some count }
+with_lines Before count before = record before { before = Some count }
+with_lines Both count before = record before { both = Some count }
+
+abbrev pub either : Option ℕ → Option ℕ → Option ℕ
+either (Some count) _ = Some count
+either None other = other
+
+abbrev pub or_none : Option ℕ → ℕ
+or_none (Some count) = count
+or_none None = 0
+
+abbrev pub context_from : Option ℕ → Option ℕ → Option Context
+context_from None None = None
+context_from None (Some after) = Some (record { before = 0; after = after })
+context_from (Some before) after = Some (record { before = before; after = or_none after })
+
+-- on each side its own option takes precedence over `-C`; no lines are shown on a side without a
+-- number where the other has one
+abbrev pub context_of : Around → Option Context
+context_of numbers =
+    context_from (either numbers.before numbers.both) (either numbers.after numbers.both)
+
 -- the option of this letter with its argument
-abbrev pub with_argument : ℕ → Argument → Text → Piece
+abbrev pub with_argument : ℕ → Argument → Text → Token
 with_argument letter argument.List text = source (list text)
 with_argument letter argument.File text = source (file text)
 with_argument letter (argument.Lines side) text = around_from letter side (lines_of text)
 
--- what a character means as an option (XCU grep, OPTIONS; `A`, `B`, `C` and `o` after the GNU
--- manual)
-unfoldable pub meaning_of : ℕ → Option Meaning
-meaning_of c =
-    if nat_eq c (byte "A") then Some (meaning.Takes (argument.Lines After)) else
-    if nat_eq c (byte "B") then Some (meaning.Takes (argument.Lines Before)) else
-    if nat_eq c (byte "C") then Some (meaning.Takes (argument.Lines Both)) else
-    if nat_eq c (byte "E") then Some (meaning.Syntax Extended) else
-    if nat_eq c (byte "F") then Some (meaning.Syntax Fixed) else
-    if nat_eq c (byte "c") then Some (meaning.Flag Count) else
-    if nat_eq c (byte "e") then Some (meaning.Takes argument.List) else
-    if nat_eq c (byte "f") then Some (meaning.Takes argument.File) else
-    if nat_eq c (byte "i") then Some (meaning.Flag IgnoreCase) else
-    if nat_eq c (byte "l") then Some (meaning.Flag FilesWithMatches) else
-    if nat_eq c (byte "n") then Some (meaning.Flag LineNumber) else
-    if nat_eq c (byte "o") then Some (meaning.Flag OnlyMatching) else
-    if nat_eq c (byte "q") then Some (meaning.Flag Quiet) else
-    if nat_eq c (byte "s") then Some (meaning.Flag NoMessages) else
-    if nat_eq c (byte "v") then Some (meaning.Flag InvertMatch) else
-    if nat_eq c (byte "x") then Some (meaning.Flag LineRegexp) else None
+-- ---- words
 
 -- what a word is: `--` ends the options (Guideline 10), a hyphen and more is a group of options (4
 -- and 5), and `-` is an operand (13)
@@ -126,8 +171,8 @@ pub record Wanting : Type 0 where
 
 -- the options of a group and the pieces after it. The argument of an option is the rest of the
 -- group or, where there is none, the next word (Guidelines 6 and 7)
-module _ (following : Option Wanting → List Piece) where
-  abbrev pub group : List ℕ → List Piece
+module _ (following : Option Wanting → List Token) where
+  abbrev pub group : List ℕ → List Token
   group [] = following None
   group (c ∷ cs) = elim (meaning_of c) [
     | Some (meaning.Flag f) ↦ flag f ∷ group cs
@@ -140,7 +185,7 @@ module _ (following : Option Wanting → List Piece) where
   ]
 
 -- the pieces of words, where an option before them may take the first as its argument
-abbrev pub pieces : List Text → Option Wanting → List Piece
+abbrev pub pieces : List Text → Option Wanting → List Token
 pieces [] None = []
 pieces [] (Some w) = fault (MissingArgument w.letter) ∷ []
 pieces (word ∷ words) (Some w) = with_argument w.letter w.argument word ∷ pieces words None
@@ -150,91 +195,7 @@ pieces (word ∷ words) None = elim (word_of word) [
   | a_group cs ↦ group (pieces words) cs
 ]
 
--- neither of `-E` and `-F` follows the other (XCU grep, SYNOPSIS)
-abbrev pub may_follow : Syntax → Syntax → Bool
-may_follow Extended Fixed = false
-may_follow Fixed Extended = false
-may_follow _ _ = true
-
--- the first fault of pieces that follow this syntax
-abbrev pub first_fault : Syntax → List Piece → Option UsageFault
-first_fault before [] = None
-first_fault before (fault f ∷ ps) = Some f
-first_fault before (reads_as s ∷ ps) =
-    if may_follow before s then first_fault s ps else Some TwoSyntaxes
-first_fault before (_ ∷ ps) = first_fault before ps
-
--- the syntax that pieces leave, where this one was asked for before them
-abbrev pub syntax_after : Syntax → List Piece → Syntax
-syntax_after before [] = before
-syntax_after before (reads_as s ∷ ps) = syntax_after s ps
-syntax_after before (_ ∷ ps) = syntax_after before ps
-
-abbrev pub with_flag : Flag → Options → Options
-with_flag Count options = record options { count = true }
-with_flag IgnoreCase options = record options { ignore_case = true }
-with_flag FilesWithMatches options = record options { files_with_matches = true }
-with_flag LineNumber options = record options { line_number = true }
-with_flag OnlyMatching options = record options { only_matching = true }
-with_flag Quiet options = record options { quiet = true }
-with_flag NoMessages options = record options { no_messages = true }
-with_flag InvertMatch options = record options { invert_match = true }
-with_flag LineRegexp options = record options { line_regexp = true }
-
--- the options that pieces set beside those that were set before
-abbrev pub options_after : Options → List Piece → Options
-options_after before [] = before
-options_after before (flag f ∷ ps) = options_after (with_flag f before) ps
-options_after before (_ ∷ ps) = options_after before ps
-
-abbrev pub with_lines : Side → ℕ → Around → Around
-with_lines After count before = record before { after = Some count }
-with_lines Before count before = record before { before = Some count }
-with_lines Both count before = record before { both = Some count }
-
--- the numbers that `-A`, `-B` and `-C` have after pieces: the last one of each counts
-abbrev pub around_after : Around → List Piece → Around
-around_after before [] = before
-around_after before (around side count ∷ ps) = around_after (with_lines side count before) ps
-around_after before (_ ∷ ps) = around_after before ps
-
-abbrev pub either : Option ℕ → Option ℕ → Option ℕ
-either (Some count) _ = Some count
-either None other = other
-
-abbrev pub or_none : Option ℕ → ℕ
-or_none (Some count) = count
-or_none None = 0
-
-abbrev pub context_from : Option ℕ → Option ℕ → Option Context
-context_from None None = None
-context_from None (Some after) = Some (record { before = 0; after = after })
-context_from (Some before) after = Some (record { before = before; after = or_none after })
-
--- on each side its own option takes precedence over `-C`; no lines are shown on a side without a
--- number where the other has one
-abbrev pub context_of : Around → Option Context
-context_of numbers =
-    context_from (either numbers.before numbers.both) (either numbers.after numbers.both)
-
-abbrev pub sources_of : List Piece → List PatternsFrom
-sources_of [] = []
-sources_of (source s ∷ ps) = s ∷ sources_of ps
-sources_of (_ ∷ ps) = sources_of ps
-
-abbrev pub operands_of : List Piece → List Text
-operands_of [] = []
-operands_of (operand text ∷ ps) = text ∷ operands_of ps
-operands_of (_ ∷ ps) = operands_of ps
-
--- a request to which the pieces are added
-abbrev pub with_pieces : Asked → List Piece → Asked
-with_pieces before ps = record {
-  syntax = syntax_after before.syntax ps;
-  options = options_after before.options ps;
-  sources = before.sources ++ sources_of ps;
-  files = before.files ++ operands_of ps;
-}
+-- ---- operands
 
 -- without `-e` and `-f` the first operand is the pattern list (XCU grep, OPERANDS)
 abbrev pub with_patterns : Asked → List PatternsFrom → List Text → Result Asked UsageFault
@@ -248,11 +209,37 @@ completed a = with_patterns a a.sources a.files
 abbrev pub with_context : Option Context → Asked → Asked
 with_context context a = record a { options = record a.options { context = context } }
 
--- the first fault of the pieces, or what they ask for after this request and these numbers
-abbrev pub reads_on : Around → Asked → List Piece → Result Asked UsageFault
-reads_on numbers before ps = elim (first_fault before.syntax ps) [
-  | Some f ↦ Err f
-  | None ↦ completed (with_context (context_of (around_after numbers ps)) (with_pieces before ps))
+-- ---- all words
+
+-- what some words ask for: a request, and the last number that each of `-A`, `-B` and `-C` has
+pub record Draft : Type 0 where
+  pub asked : Asked
+  pub numbers : Around
+
+abbrev pub with_source : PatternsFrom → Asked → Asked
+with_source s a = record a { sources = a.sources ++ s ∷ [] }
+
+abbrev pub with_operand : Text → Asked → Asked
+with_operand text a = record a { files = a.files ++ text ∷ [] }
+
+-- one more option or operand, or its fault
+abbrev pub with_piece : Draft → Token → Result Draft UsageFault
+with_piece d (reads_as s) =
+    if may_follow d.asked.syntax s then Ok (record d { asked = record d.asked { syntax = s } })
+    else Err TwoSyntaxes
+with_piece d (flag f) =
+    Ok (record d { asked = record d.asked { options = with_flag f d.asked.options } })
+with_piece d (source s) = Ok (record d { asked = with_source s d.asked })
+with_piece d (around side count) = Ok (record d { numbers = with_lines side count d.numbers })
+with_piece d (operand text) = Ok (record d { asked = with_operand text d.asked })
+with_piece d (fault f) = Err f
+
+-- what the options and operands ask for besides, or the first fault
+abbrev pub reads_on : Draft → List Token → Result Asked UsageFault
+reads_on d [] = completed (with_context (context_of d.numbers) d.asked)
+reads_on d (p ∷ ps) = elim (with_piece d p) [
+  | Ok later ↦ reads_on later ps
+  | Err f ↦ Err f
 ]
 
 abbrev pub nothing_asked : Asked
@@ -279,7 +266,9 @@ no_numbers = record { after = None; before = None; both = None }
 
 -- what words ask for, or their first fault
 abbrev pub read : List Text → Result Asked UsageFault
-read words = reads_on no_numbers nothing_asked (pieces words None)
+read words = reads_on (record { asked = nothing_asked; numbers = no_numbers }) (pieces words None)
+
+-- ---- words and requests as the code has them
 
 abbrev pub given_source : PatternSource → PatternsFrom
 given_source (given.List text) = list (string_bytes text)

@@ -1,9 +1,10 @@
-pub mod Pieces
+pub mod Tokens
 pub mod Numbers
 pub mod Memory
 pub mod CollectedTexts
 pub mod Operands
-pub mod Serving
+pub mod ServingMatchers
+pub mod Prepared
 -- what the public laws say, of known files and of two commands worked by hand
 pub mod Returned
 pub mod Known

@@ -26,7 +26,7 @@ pub trait Files {
     /// the same for all that are none.
     ghost loan: { Self → ℕ } = { λ _. 0 };
 
-    /// A reader of standard input, of which no read has failed. From the second call on there is
+    /// A reader of standard input; none of its reads has failed. From the second call on there is
     /// nothing to read.
     fn standard(&mut self) -> Self::Reader
         ensures used { folder self.new ≡ input_used (folder self.old) }
@@ -36,8 +36,8 @@ pub trait Files {
         ensures none_back { Returns returned_readers self.old self.new [] }
         ensures same_loan { loan self.new ≡ loan self.old };
 
-    /// A reader of the file, from its first byte on, of which no read has failed. `None` says that
-    /// it could not be opened, which is counted as a failure.
+    /// A reader of the file, from its first byte on; none of its reads has failed. `None`: it could
+    /// not be opened, which is counted as a failure.
     fn open(&mut self, name: &str) -> Option<Self::Reader>
         ensures kept { folder self.new ≡ folder self.old }
         ensures opened { Opens Self.Reader.remaining Self.Reader.failures

@@ -4,14 +4,14 @@ ghost use Rattle.grep_utility.specs.Working.Worked.{RowFollows, BrokenFollows};
 
 use grep_core::Options;
 
-/// Without `-q` and `-l`, known sources of which no more failures are met than there are sources
+/// Without `-q` and `-l`, known sources in which no more failures are met than there are sources
 /// that cannot be opened were all read to their ends.
 pub fn failures_decide(_options: Options)
     ensures { CountDecides _options }
 {}
 
 /// Words that name known files, without `-q`, `-l` and `-f`, tell all that is written and the
-/// status, where as many failures of files are counted as there are files that cannot be opened.
+/// status, if as many failures of files are counted as there are files that cannot be opened.
 pub fn words_decide()
     ensures { WordsDecide }
 {}
@@ -22,7 +22,7 @@ pub fn row_follows()
     ensures { RowFollows }
 {}
 
-/// `grep -n a f`, worked by hand: what it writes for a file `f` of which reads fail after five bytes.
+/// `grep -n a f`, worked by hand: what it writes for a file `f` whose reads fail after five bytes.
 pub fn broken_follows()
     ensures { BrokenFollows }
 {}

@@ -48,7 +48,7 @@ fn add_matcher(matchers: &mut Vec<Matcher>, matcher: Matcher) -> Result<(), Allo
 /// # Errors
 ///
 /// The place of the first pattern that is refused, counted from 0, and why; or `FaultKind::Memory`
-/// at 0 where a growth is refused.
+/// at 0 if an allocation fails.
 pub fn matchers_of(
     alloc: Global,
     texts: &[u8],

@@ -73,7 +73,7 @@ impl<'a> Content<'a> {
         }
     }
 
-    /// A reader of the bytes, of which no read has failed.
+    /// A reader of the bytes; none of its reads has failed.
     fn reader(self) -> MemoryReader<'a>
         ensures { result ≡ fresh_reader self.entry }
     {
@@ -94,9 +94,9 @@ pub struct MemoryFile<'a> {
     pub content: Option<Content<'a>>,
 }
 
-/// Files in memory, and standard input. As [`Files`] they are opened by their names, of several of
-/// one name the first, and what is not among them cannot be opened. As [`Sources`] they are the
-/// list of the files in order, without standard input.
+/// Files in memory, and standard input. As [`Files`] they are opened by name: the first of several
+/// of one name. A name that is not among them cannot be opened. As [`Sources`] they are the list of
+/// the files in order, without standard input.
 #[derive(Debug, Drop)]
 pub struct MemoryFiles<'f, 'a> {
     pub files: &'f [MemoryFile<'a>],
@@ -111,7 +111,7 @@ pub struct MemoryFiles<'f, 'a> {
 }
 
 impl<'f, 'a> MemoryFiles<'f, 'a> {
-    /// These files, and this standard input, of which nothing was used.
+    /// These files, and this standard input, before anything is used.
     pub fn new(files: &'f [MemoryFile<'a>], input: Content<'a>) -> MemoryFiles<'f, 'a>
         ensures { result ≡ record {
           files = files.entry;

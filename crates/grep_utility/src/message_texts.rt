@@ -6,10 +6,13 @@ ghost use Rattle.grep_core.specs.Run.{Writer, writer, devices};
 ghost use Rattle.grep_core.specs.Written.{Writes};
 ghost use Rattle.grep_utility.specs.Command.{status_number, ReportsLines, EndsAfter};
 ghost use Rattle.grep_utility.specs.Working.CollectedTexts.{reported_of_patterns};
+ghost use Rattle.grep_utility.specs.Working.Prepared.{HasNumber, due_text};
 ghost use Rattle.grep_utility.specs.Texts.{usage_texts};
 
 use crate::files::display_name;
 use crate::patterns::PatternsFault;
+use crate::prepare::CommandFault;
+use crate::refusal::report_refused;
 use crate::texts::{FAILED, OUT_OF_MEMORY, WRITE_ERROR};
 use crate::usage::write_usage_fault;
 use crate::words::UsageFault;
@@ -56,11 +59,24 @@ fn write_unread<M: CountedWrite>(messages: &mut M, fault: PatternsFault) -> Resu
 }
 
 /// Reports patterns that were not read. A write that fails is not tried again.
-pub fn report_unread<M: CountedWrite>(messages: &mut M, fault: PatternsFault)
+fn report_unread<M: CountedWrite>(messages: &mut M, fault: PatternsFault)
     ensures { ReportsLines (writer M.contents M.failures messages.old)
         (writer M.contents M.failures messages.new) (reported_of_patterns fault.entry ∷ []) }
 {
     let _ = write_unread(messages, fault);
+}
+
+/// Reports why a command ends before its search. A write that fails is not tried again.
+pub fn report_fault<M: CountedWrite>(messages: &mut M, fault: CommandFault)
+    requires { HasNumber fault }
+    ensures { ReportsLines (writer M.contents M.failures messages.old)
+        (writer M.contents M.failures messages.new) (due_text fault.entry ∷ []) }
+{
+    match fault {
+        CommandFault::Unread(fault) => report_unread(messages, fault),
+        CommandFault::TooMany => report_line(messages, b"grep: too many patterns"),
+        CommandFault::Refused(place, fault) => report_refused(messages, place, fault),
+    }
 }
 
 /// The exit status of a search that reached its end.

@@ -16,7 +16,7 @@ fn digit_of(byte: u8) -> Option<usize>
     Some(usize::from(byte - b'0'))
 }
 
-/// The number that the word is: one decimal digit or more, of a value that a `usize` has.
+/// The number that the word spells, in one or more decimal digits, if it fits in a `usize`.
 pub fn read_number(word: &[u8]) -> Option<usize>
     ensures { result ≡ number_of word.now }
 {

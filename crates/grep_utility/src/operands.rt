@@ -16,7 +16,7 @@ pub struct Operands<'a, F: Files> {
 }
 
 impl<'a, F: Files> Operands<'a, F> {
-    /// The files that the words name, of which none was opened.
+    /// The files that the words name, none of which was opened.
     pub fn new(files: F, words: &'a [String]) -> Operands<'a, F>
         ensures files { result.files ≡ files }
         ensures words { result.words ≡ words.entry }

@@ -34,7 +34,7 @@ pub enum PatternsFault<'a> {
     /// A read of the pattern file that this word names failed, or it has more lines than can be
     /// numbered.
     Broken(&'a str),
-    /// A growth was refused.
+    /// An allocation failed.
     Memory,
 }
 
@@ -153,7 +153,7 @@ fn add_source<'a, F: Files>(
 ///
 /// Nothing is read after the first file that could not be opened or read, which
 /// `PatternsFault::Missing` and `PatternsFault::Broken` report. `PatternsFault::Memory` is returned
-/// where a growth is refused.
+/// if an allocation fails.
 pub fn read_patterns<'a, F: Files>(
     alloc: Global,
     files: &mut F,

@@ -18,7 +18,7 @@ pub struct Program {
     pub words_refused: &'static [u8],
     /// How the program is used.
     pub usage: &'static [u8],
-    /// Memory was refused.
+    /// An allocation failed.
     pub out_of_memory: &'static [u8],
 }
 
@@ -54,8 +54,8 @@ impl Program {
         fail(messages, self.out_of_memory)
     }
 
-    /// The words of the process, of which the first is the program's name. Without them the error is
-    /// the exit status, and standard error has the reason.
+    /// The words of the process, the first of which is the program's name. Without them the error
+    /// is the exit status, and standard error has the reason.
     pub fn words(&self, rt: &HostRuntime) -> Result<Vec<String>, u8> {
         match process_words(rt) {
             Ok(words) => Ok(words),

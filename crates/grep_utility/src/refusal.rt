@@ -71,7 +71,7 @@ fn write_number_and_kind<W: CountedWrite>(
 /// Writes the line on a pattern that is refused: its number, the kind of refusal and the place in
 /// the pattern, each after a text.
 ///
-/// Returns `WriteFault` where a write fails. It is not tried again.
+/// Returns `WriteFault` if a write fails. It is not tried again.
 pub fn write_pattern_refused<W: CountedWrite>(
     out: &mut W,
     front: &[u8],

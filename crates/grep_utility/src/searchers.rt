@@ -10,7 +10,7 @@ ghost use Rattle.re_search.specs.Reading.{IsOutOfMemory};
 ghost use Rattle.re_search.specs.Working.Matchers.{matched_expression};
 ghost use Rattle.grep_core.specs.Matchers.{IsFirstRefused};
 ghost use Rattle.grep_core.specs.Working.MatcherLists.{AreMatchers};
-ghost use Rattle.grep_utility.specs.Working.Serving.{ServeFor, IsJoined, AreReadAs};
+ghost use Rattle.grep_utility.specs.Working.ServingMatchers.{ServeFor, IsJoined, AreReadAs};
 
 use crate::matchers::matchers_of;
 use grep_core::Options;
@@ -86,7 +86,7 @@ pub fn has_more_than(most: usize, texts: &[u8]) -> bool
 }
 
 /// The strings that the patterns are read as, each followed by a newline, where one pass for all of
-/// them is quicker than a matcher for each pattern. `None` says nothing.
+/// them is quicker than a matcher for each pattern. `None`: unknown, or out of memory.
 fn strings_of(alloc: Global, texts: &[u8], syntax: Syntax, options: &Options) -> Option<Vec<u8>>
     ensures few { IfSome result (λ _. length texts.now + 1 < 2 ^ 32) }
     ensures some { IfSome result (λ _. 1 ≤ length (lines_of texts.now)) }
@@ -105,8 +105,8 @@ fn strings_of(alloc: Global, texts: &[u8], syntax: Syntax, options: &Options) ->
     Some(strings)
 }
 
-/// The strings that the patterns are read as, each followed by a newline. `None` if a pattern is not
-/// read so, or is too long where that counts, or if memory is refused.
+/// The strings that the patterns are read as, each followed by a newline. `None` if a pattern is
+/// not read so, or is too long where that counts, or if an allocation fails.
 fn read_strings(alloc: Global, texts: &[u8], syntax: Syntax, fold: bool) -> Option<Vec<u8>>
     ensures { IfSome result
         (λ strings. AreReadAs syntax fold (lines_of texts.now) (lines_of strings.items)) }
@@ -158,22 +158,22 @@ fn joined(alloc: Global, texts: &[u8], options: &Options) -> Result<Vec<Matcher>
     Ok(matchers)
 }
 
-/// What the matchers need, where these are several and each is known to need something: a run, or where
-/// they are many, strings. Where memory is refused for it it is left out.
+/// What several matchers need: a run of sets if they are few, strings if they are many. There is no
+/// filter for one matcher, if one of them isn't known to need anything, or if an allocation fails.
 fn needed_by(alloc: Global, matchers: &[Matcher]) -> Filter
     ensures { ForSome result (λ strings. AreNeeded strings (map matched_expression matchers.now)) }
 {
     if matchers.len() < 2 {
         return Filter::none();
     }
-    if matchers.len() <= FEW {
-        return match needed_run(alloc, matchers) {
-            Ok(needed) => needed,
-            Err(_) => Filter::none(),
-        };
-    }
-    match needed_strings(alloc, matchers) {
-        Ok(needed) => needed,
+    let needed = if matchers.len() <= FEW {
+        needed_run(alloc, matchers)
+    } else {
+        needed_strings(alloc, matchers)
+    };
+    match needed {
+        Ok(filter) => filter,
+        // An allocation failed. The search does without a filter.
         Err(_) => Filter::none(),
     }
 }

@@ -8,7 +8,7 @@ pub const USAGE: &[u8] =
     b"usage: grep [-E|-F] [-cilnoqsvx] [-A NUM] [-B NUM] [-C NUM] [-e LIST]... [-f FILE]... [LIST] \
     [FILE...]";
 
-/// Memory was refused.
+/// An allocation failed.
 pub const OUT_OF_MEMORY: &[u8] = b"grep: out of memory";
 
 /// Standard output could not be written.

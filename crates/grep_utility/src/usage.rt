@@ -64,7 +64,7 @@ fn write_usage_after<M: CountedWrite>(messages: &mut M, fault: UsageFault) -> Re
 /// Writes the line that reports the fault, and after it how the command is used, unless the fault
 /// is out of memory.
 ///
-/// Returns `WriteFault` where a write fails. It is not tried again.
+/// Returns `WriteFault` if a write fails. It is not tried again.
 pub fn write_usage_fault<M: CountedWrite>(
     messages: &mut M,
     fault: UsageFault,

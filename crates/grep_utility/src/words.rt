@@ -1,16 +1,16 @@
 //! The words of grep, and what they ask for (XBD 12.2; XCU grep, SYNOPSIS, OPTIONS, OPERANDS).
-ghost use Rattle.std.specs.Prelude.{◌≡◌, ◌∷◌, [], IfOk, MatchResult};
-ghost use Rattle.grep_utility.specs.Words.{AreRead, OrMemory, around_after, asked, completed};
-ghost use Rattle.grep_utility.specs.Words.{context_of, file, first_fault, list, may_follow};
-ghost use Rattle.grep_utility.specs.Words.{no_numbers, nothing_asked, operand, pieces, reads_on};
-ghost use Rattle.grep_utility.specs.Words.{source, texts_of, with_context, with_flag, with_pieces};
-ghost use Rattle.grep_utility.specs.Working.Pieces.{piece_of};
+ghost use Rattle.std.specs.Prelude.{◌≡◌, [], IfOk, MatchResult};
+ghost use Rattle.grep_utility.specs.Words.{AreRead, OrMemory, asked, completed, context_of, file, list};
+ghost use Rattle.grep_utility.specs.Words.{may_follow, no_numbers, nothing_asked, pieces, reads_on};
+ghost use Rattle.grep_utility.specs.Words.{texts_of, with_context, with_flag, with_operand, with_piece};
+ghost use Rattle.grep_utility.specs.Words.{with_source};
+ghost use Rattle.grep_utility.specs.Working.Tokens.{drafted, token_of};
 
 pub mod around;
-pub mod pieces;
+pub mod tokens;
 
 use crate::words::around::Around;
-use crate::words::pieces::{Piece, pieces_of};
+use crate::words::tokens::{Token, tokens_of};
 use grep_core::{Flag, Options};
 use re_syntax::Syntax;
 use std::alloc::{AllocError, Global};
@@ -28,7 +28,7 @@ pub enum UsageFault {
     TwoSyntaxes,
     /// There is no `-e`, no `-f` and no operand.
     NoPattern,
-    /// A growth was refused.
+    /// An allocation failed.
     Memory,
 }
 
@@ -75,11 +75,11 @@ fn set_flag(options: &mut Options, flag: Flag)
         Flag::IgnoreCase => options.ignore_case = true,
         Flag::FilesWithMatches => options.files_with_matches = true,
         Flag::LineNumber => options.line_number = true,
-        Flag::OnlyMatching => options.only_matching = true,
         Flag::Quiet => options.quiet = true,
         Flag::NoMessages => options.no_messages = true,
         Flag::InvertMatch => options.invert_match = true,
         Flag::LineRegexp => options.line_regexp = true,
+        Flag::OnlyMatching => options.only_matching = true,
     }
 }
 
@@ -98,7 +98,7 @@ impl Request {
     /// Adds an argument of `-e`.
     fn add_list(&mut self, alloc: Global, text: &str) -> Result<(), AllocError>
         ensures { IfOk result (λ _. asked self.new
-            ≡ with_pieces (asked self.old) (source (list text.now) ∷ [])) }
+            ≡ with_source (list text.now) (asked self.old)) }
     {
         self.sources
             .push(PatternSource::List(String::from_str(alloc, text)?))?;
@@ -108,7 +108,7 @@ impl Request {
     /// Adds an argument of `-f`.
     fn add_file(&mut self, alloc: Global, name: &str) -> Result<(), AllocError>
         ensures { IfOk result (λ _. asked self.new
-            ≡ with_pieces (asked self.old) (source (file name.now) ∷ [])) }
+            ≡ with_source (file name.now) (asked self.old)) }
     {
         self.sources
             .push(PatternSource::File(String::from_str(alloc, name)?))?;
@@ -118,7 +118,7 @@ impl Request {
     /// Adds an operand.
     fn add_operand(&mut self, alloc: Global, text: &str) -> Result<(), AllocError>
         ensures { IfOk result (λ _. asked self.new
-            ≡ with_pieces (asked self.old) (operand text.now ∷ [])) }
+            ≡ with_operand text.now (asked self.old)) }
     {
         self.files.push(String::from_str(alloc, text)?)?;
         Ok(())
@@ -126,7 +126,7 @@ impl Request {
 
     /// Without `-e` and `-f` the first operand is the pattern list.
     ///
-    /// Returns `NoPattern` where there is none, and `Memory` where a growth is refused.
+    /// Returns `NoPattern` where there is none, and `Memory` if an allocation fails.
     fn complete(mut self) -> Result<Request, UsageFault>
         ensures { MatchResult result
             (λ request. completed (asked self) ≡ Ok (asked request))
@@ -153,7 +153,7 @@ struct Draft {
 }
 
 impl Draft {
-    /// A request of which no word was read.
+    /// A request before any word is read.
     fn new(alloc: Global) -> Draft
         ensures numbers { result.around ≡ no_numbers }
         ensures nothing { asked result.request ≡ nothing_asked }
@@ -174,53 +174,48 @@ impl Draft {
     /// [`Draft::add`] does.
     fn add_words(&mut self, alloc: Global, words: &[String]) -> Result<(), UsageFault>
         ensures { MatchResult result
-            (λ _. completed (with_context (context_of self.new.around) (asked self.new.request))
-            ≡ reads_on self.old.around (asked self.old.request) (pieces (texts_of words.now) None))
+            (λ _. reads_on (drafted self.new) []
+            ≡ reads_on (drafted self.old) (pieces (texts_of words.now) None))
             (λ fault. OrMemory fault
-            (reads_on self.old.around (asked self.old.request) (pieces (texts_of words.now) None)
-            ≡ Err fault)) }
+            (reads_on (drafted self.old) (pieces (texts_of words.now) None) ≡ Err fault)) }
     {
-        for piece in pieces_of(words) {
-            self.add(alloc, piece?)?;
+        for item in tokens_of(words) {
+            let piece = item?;
+            self.add(alloc, piece)?;
         }
         Ok(())
     }
 
     /// Adds what an option or an operand asks for.
     ///
-    /// Returns `TwoSyntaxes` where one of `-E` and `-F` follows the other, and `Memory` where a
-    /// growth is refused.
-    fn add(&mut self, alloc: Global, piece: Piece) -> Result<(), UsageFault>
+    /// Returns `TwoSyntaxes` where one of `-E` and `-F` follows the other, and `Memory` if an
+    /// allocation fails.
+    fn add(&mut self, alloc: Global, piece: Token) -> Result<(), UsageFault>
         ensures { MatchResult result
-            (λ _. (first_fault self.old.request.syntax (piece_of (Ok piece.entry) ∷ []) ≡ None)
-            × (asked self.new.request
-            ≡ with_pieces (asked self.old.request) (piece_of (Ok piece.entry) ∷ []))
-            × (self.new.around ≡ around_after self.old.around (piece_of (Ok piece.entry) ∷ [])))
+            (λ _. with_piece (drafted self.old) (token_of (Ok piece.entry)) ≡ Ok (drafted self.new))
             (λ fault. OrMemory fault
-            (first_fault self.old.request.syntax (piece_of (Ok piece.entry) ∷ []) ≡ Some fault)) }
+            (with_piece (drafted self.old) (token_of (Ok piece.entry)) ≡ Err fault)) }
     {
         let request = &mut self.request;
         match piece {
-            Piece::Flag(flag) => set_flag(&mut request.options, flag),
-            Piece::Syntax(syntax) if goes_with(request.syntax, syntax) => request.syntax = syntax,
-            Piece::Syntax(_) => return Err(UsageFault::TwoSyntaxes),
-            Piece::List(text) => request.add_list(alloc, text)?,
-            Piece::File(name) => request.add_file(alloc, name)?,
-            Piece::Around(side, count) => self.around.set(side, count),
-            Piece::Operand(text) => request.add_operand(alloc, text)?,
+            Token::Flag(flag) => set_flag(&mut request.options, flag),
+            Token::Syntax(syntax) if goes_with(request.syntax, syntax) => request.syntax = syntax,
+            Token::Syntax(_) => return Err(UsageFault::TwoSyntaxes),
+            Token::List(text) => request.add_list(alloc, text)?,
+            Token::File(name) => request.add_file(alloc, name)?,
+            Token::Around(side, count) => self.around.set(side, count),
+            Token::Operand(text) => request.add_operand(alloc, text)?,
         }
         Ok(())
     }
 
     /// What all words ask for.
     ///
-    /// Returns `NoPattern` where there is no pattern, and `Memory` where a growth is refused.
+    /// Returns `NoPattern` where there is no pattern, and `Memory` if an allocation fails.
     fn complete(mut self) -> Result<Request, UsageFault>
         ensures { MatchResult result
-            (λ request. completed (with_context (context_of self.around) (asked self.request))
-            ≡ Ok (asked request))
-            (λ fault. OrMemory fault
-            (completed (with_context (context_of self.around) (asked self.request)) ≡ Err fault)) }
+            (λ request. reads_on (drafted self) [] ≡ Ok (asked request))
+            (λ fault. OrMemory fault (reads_on (drafted self) [] ≡ Err fault)) }
     {
         self.request.options.context = self.around.context();
         self.request.complete()
@@ -229,11 +224,11 @@ impl Draft {
 
 /// Reads the words that follow the name of the command.
 ///
-/// The first fault from the left is returned: `UnknownOption` where a character of a group of
-/// options is none, `MissingArgument` where nothing follows an option that has an argument,
-/// `BadNumber` where that of `-A`, `-B` or `-C` is no number, `TwoSyntaxes` where one of `-E` and
-/// `-F` follows the other; else `NoPattern` where there is no `-e`, no `-f` and no operand.
-/// `Memory` is returned where a growth is refused.
+/// The first fault from the left is returned: `UnknownOption` if a character of a group of options
+/// is not an option, `MissingArgument` if nothing follows an option that needs an argument,
+/// `BadNumber` if that of `-A`, `-B` or `-C` is not a number, `TwoSyntaxes` if one of `-E` and `-F`
+/// follows the other; otherwise `NoPattern` if there is no `-e`, no `-f` and no operand. `Memory`
+/// is returned if an allocation fails.
 pub fn read_words(alloc: Global, words: &[String]) -> Result<Request, UsageFault>
     ensures { AreRead (texts_of words.now) result }
 {

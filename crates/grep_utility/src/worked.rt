@@ -1,4 +1,4 @@
-//! Two commands on files in memory, of which the bytes are worked by hand.
+//! Two commands on files in memory, whose bytes are worked by hand.
 ghost use Rattle.std.specs.Prelude.{◌≡◌};
 ghost use Rattle.grep_core.specs.declared.status.Status.TheVariants.{Error};
 ghost use Rattle.grep_core.specs.Run.{writer, devices};
@@ -40,11 +40,11 @@ pub fn run_row<W: CountedWrite, M: CountedWrite>(
     (status, Files::failures(&files))
 }
 
-/// The command on a file `f`, of which reads give the lines `a` and `b` and the first byte of a third,
+/// The command on a file `f`, whose reads give the lines `a` and `b` and the first byte of a third,
 /// and then fail: its status, how many failures of files were counted, how many readers came back,
-/// and how many of their reads failed. For the words `-n a f`, where these three are one and no write
-/// failed, the output is `1:a`, the message says that a read of `f` failed, and the status is 2,
-/// unless memory ran out.
+/// and how many of their reads failed. For the words `-n a f`, where these three are one and no
+/// write failed, the output is `1:a`, the message says that a read of `f` failed, and the status is
+/// 2, unless memory ran out.
 pub fn run_broken<W: CountedWrite, M: CountedWrite>(
     alloc: Global,
     words: &[String],

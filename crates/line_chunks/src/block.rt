@@ -210,7 +210,7 @@ impl Block {
         number
     }
 
-    /// Removes the lines from `from` up to `to`. No memory is asked for.
+    /// Removes the lines from `from` up to `to`. Nothing is allocated.
     pub fn remove(&mut self, from: usize, to: usize)
         requires in_order { from ≤ to }
         requires within { to ≤ length self.old }

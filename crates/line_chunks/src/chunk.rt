@@ -210,7 +210,7 @@ impl Chunk {
         self.found = found;
     }
 
-    /// Removes pattern `p`; later patterns move up. No memory is asked for.
+    /// Removes pattern `p`; later patterns move up. Nothing is allocated.
     pub fn drop_number(&mut self, p: usize)
         ensures { self.new ≡ map (line_without p) self.old }
     {
@@ -237,7 +237,7 @@ impl Chunk {
         add_lines(&mut self.block, &mut self.found, other, from, to)
     }
 
-    /// Removes the lines from `from` up to `to`. No memory is asked for.
+    /// Removes the lines from `from` up to `to`. Nothing is allocated.
     pub fn remove(&mut self, from: usize, to: usize)
         requires in_order { from ≤ to }
         requires within { to ≤ length self.old }

@@ -7,7 +7,7 @@ ghost use Rattle.line_chunks.specs.Working.Sums.{chunks_of, AreSummed, IsSummedT
 
 use crate::chunk::Chunk;
 use crate::entries::{Entry, find_seam, lines_before, matched_before, sum_from};
-use crate::pieces::{Filling, Seams, build, size_at};
+use crate::new_chunks::{Filling, Seams, build, size_at};
 use std::alloc::{AllocError, Global};
 
 /// Adds a line to an entry's chunk.
@@ -308,8 +308,8 @@ fn drop_empty(entries: &mut Vec<Entry>, k: usize)
     remove_chunks(entries, k, k + 1);
 }
 
-/// Removes `count` lines from `start` on, and the chunks that are left without lines. No memory is
-/// asked for.
+/// Removes `count` lines from `start` on, and the chunks that are left without lines. Nothing is
+/// allocated.
 pub fn remove(entries: &mut Vec<Entry>, start: usize, count: usize)
     requires summed { AreSummed 0 0 entries.old.items }
     requires within { start + count ≤ length (all_of (chunks_of entries.old.items)) }

@@ -57,7 +57,7 @@ pub fn find_line(entries: &[Entry], place: usize) -> (usize, usize)
     (low, place - lines_before(entries, low))
 }
 
-/// The first chunk of which line `place` is one, or after whose lines it is the next.
+/// The first chunk that has line `place`, or after whose lines it comes next.
 pub fn find_seam(entries: &[Entry], place: usize) -> (usize, usize)
     requires summed { AreSummed 0 0 entries.now }
     requires within { place ≤ length (all_of (chunks_of entries.now)) }

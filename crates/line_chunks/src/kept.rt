@@ -11,14 +11,14 @@ use crate::columns::{drop_in_all, put_all};
 use crate::entries::{
     Entry, find_line, find_next, hits_to, lines_before, matched_before, sum_from,
 };
-use crate::pieces::Filling;
+use crate::new_chunks::Filling;
 use line_finds::Found;
 use re_syntax::Span;
 use std::alloc::{AllocError, Global};
 use std::marker::Model;
 use std::vec::IntoIter;
 
-/// The lines of a file with what is found in each, in chunks. It is seen as the list of its chunks.
+/// The lines of a file with what is found in each, in chunks. Contracts see the list of its chunks.
 #[derive(Drop)]
 pub struct KeptLines {
     entries: Vec<Entry>,
@@ -149,7 +149,7 @@ impl KeptLines {
     }
 
     /// Puts other lines in the place of `count` lines from `start` on. If there is no memory for
-    /// them all lines stay as they are; without new lines none is asked for.
+    /// them all lines stay as they are; without new lines nothing is allocated.
     pub fn splice(
         &mut self,
         alloc: Global,
@@ -179,7 +179,7 @@ impl KeptLines {
     }
 
     /// Replaces what is found in the lines of each chunk with the next of these; where that is
-    /// `None` it stays. No memory is asked for.
+    /// `None` it stays. Nothing is allocated.
     pub fn put_columns(&mut self, found: &mut IntoIter<Option<Found>>)
         requires { FitColumns self.old (into_iter_items found.old) }
         ensures lines { self.new ≡ with_columns self.old (into_iter_items found.old) }
@@ -191,7 +191,7 @@ impl KeptLines {
         sum_from(&mut self.entries, 0);
     }
 
-    /// Removes pattern `p` from what is found; later patterns move up. No memory is asked for.
+    /// Removes pattern `p` from what is found; later patterns move up. Nothing is allocated.
     pub fn drop_number(&mut self, p: usize)
         ensures { self.new ≡ map (map (line_without p)) self.old }
     {

@@ -8,7 +8,7 @@ mod chunks;
 mod columns;
 mod entries;
 mod kept;
-mod pieces;
+mod new_chunks;
 
 pub use chunk::Chunk;
 pub use kept::KeptLines;

@@ -106,7 +106,7 @@ impl Found {
         Ok(())
     }
 
-    /// Removes pattern `p`; later patterns move up. No memory is asked for.
+    /// Removes pattern `p`; later patterns move up. Nothing is allocated.
     pub fn drop_number(&mut self, p: usize)
         ensures size { self.new.size ≡ self.old.size }
         ensures finds { (k : ℕ) → finds_at self.new k ≡
@@ -140,7 +140,7 @@ impl Found {
         Ok(())
     }
 
-    /// Removes the lines from `from` up to `to`; later lines move up. No memory is asked for.
+    /// Removes the lines from `from` up to `to`; later lines move up. Nothing is allocated.
     pub fn remove(&mut self, from: usize, to: usize)
         requires in_order { from ≤ to }
         requires within { to ≤ self.old.size }

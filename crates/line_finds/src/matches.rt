@@ -72,7 +72,7 @@ impl Matches {
         push(&mut self.pairs, pair)
     }
 
-    /// Removes pattern `p`; later patterns move up. No memory is asked for.
+    /// Removes pattern `p`; later patterns move up. Nothing is allocated.
     pub fn drop_number(&mut self, p: usize)
         ensures numbers { (k : ℕ) → numbers_at k self.new ≡ without p (numbers_at k self.old) }
         ensures within { (size : ℕ) → AreBelow size self.old → AreBelow size self.new }
@@ -105,7 +105,7 @@ impl Matches {
         Ok(marks)
     }
 
-    /// Sets anew, for each of some lines, whether some pattern matches it. No memory is asked for.
+    /// Sets anew, for each of some lines, whether some pattern matches it. Nothing is allocated.
     pub(crate) fn renew_marks(&self, marks: &mut Vec<bool>)
         requires { AreBelow (length marks.old.items) self.now }
         ensures size { length marks.new.items ≡ length marks.old.items }
@@ -177,7 +177,7 @@ impl Matches {
         self.note(place, pair.number as usize)
     }
 
-    /// Removes the lines from `from` up to `to`; later lines move up. No memory is asked for.
+    /// Removes the lines from `from` up to `to`; later lines move up. Nothing is allocated.
     pub fn remove_lines(&mut self, from: usize, to: usize)
         requires { from ≤ to }
         ensures before { (k : ℕ) → k < from → numbers_at k self.new ≡ numbers_at k self.old }

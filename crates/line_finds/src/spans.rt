@@ -140,8 +140,8 @@ impl SpanLists {
         add_list(&mut self.spans, &mut self.ends, spans)
     }
 
-    /// Sets the list of line `k`, which is after those that have lists. Memory is asked for where
-    /// the list is not empty. After a refusal each line has the list that it had.
+    /// Sets the list of line `k`, which is after those that have lists. It allocates only if the
+    /// list is not empty. After a refusal each line has the list that it had.
     pub fn put(&mut self, k: usize, spans: &[Span]) -> Result<(), AllocError>
         requires { length self.old ≤ k }
         ensures put { IfOk result (λ _. (i : ℕ) →
@@ -157,7 +157,7 @@ impl SpanLists {
         self.push(spans)
     }
 
-    /// Removes the lists of the lines from `from` up to `to`. No memory is asked for.
+    /// Removes the lists of the lines from `from` up to `to`. Nothing is allocated.
     pub fn remove(&mut self, from: usize, to: usize)
         requires { from ≤ to }
         ensures { self.new ≡ take from self.old ++ drop to self.old }

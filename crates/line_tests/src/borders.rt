@@ -1,7 +1,7 @@
 //! Splices that begin and end at, before and after each border of chunks.
-use super::finding::kept_of;
+use super::comparison::assert_same;
+use super::findings::kept_of;
 use super::harness::splice_both;
-use super::judging::assert_same;
 use std::alloc::{AllocError, Global};
 use std::process::Abort;
 use std::test::Fail;
@@ -9,7 +9,7 @@ use std::test::Fail;
 /// The lines that are kept at first: six, in chunks of 4 bytes two in each.
 const LINES: [&[u8]; 6] = [b"a", b"b", b"ba", b"", b"c", b"d"];
 
-/// The lines that are put in, of which the first few are taken.
+/// The lines that are put in, the first few of which are taken.
 const NEW: [&[u8]; 3] = [b"xa", b"", b"y"];
 
 /// A list of lines.

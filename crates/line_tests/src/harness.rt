@@ -1,5 +1,5 @@
 //! Splices of lines in chunks and of a plain list.
-use super::finding::kept_of;
+use super::findings::kept_of;
 use line_chunks::KeptLines;
 use std::alloc::{AllocError, Global};
 

@@ -4,11 +4,11 @@
 #[cfg(test)]
 mod borders;
 #[cfg(test)]
-mod finding;
+mod comparison;
+#[cfg(test)]
+mod findings;
 #[cfg(test)]
 mod harness;
-#[cfg(test)]
-mod judging;
 #[cfg(test)]
 mod marks;
 #[cfg(test)]

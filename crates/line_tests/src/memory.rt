@@ -1,10 +1,10 @@
-//! A splice of which each request for memory is refused in turn, and one that makes none.
+//! A splice, while each allocation fails in turn, and one that allocates nothing.
 //!
 //! Where no library refuses requests, as tools/refuse_growths.sh has it, each is granted, and each
 //! splice is made once.
-use super::finding::kept_of;
+use super::comparison::assert_same;
+use super::findings::kept_of;
 use super::harness::{splice_kept, splice_plain};
-use super::judging::assert_same;
 use super::marks::{refuse, was_refused};
 use std::alloc::{AllocError, Global};
 use std::process::Abort;
@@ -26,8 +26,8 @@ fn texts_of(alloc: Global, count: usize) -> Result<Vec<Vec<u8>>, AllocError> {
     Ok(texts)
 }
 
-/// Puts `new` lines in the place of five over three chunks, while the N-th request for memory is
-/// refused; whether one was. Where the splice was refused for that, all is as it was.
+/// Puts `new` lines in the place of five over three chunks, while the N-th allocation fails;
+/// whether one did. Where the splice was refused for that, all is as it was.
 fn assert_refusal(rt: &impl Abort, alloc: Global, new: usize, n: usize) -> Result<bool, Fail> {
     let mut texts = texts_of(alloc, 12)?;
     let mut lines = kept_of(alloc, LIMIT, &texts, b"ab")?;

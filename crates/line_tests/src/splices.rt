@@ -1,7 +1,7 @@
 //! Splices at places that look random, also with patterns that go and come.
-use super::finding::find;
+use super::comparison::assert_same;
+use super::findings::find;
 use super::harness::splice_both;
-use super::judging::assert_same;
 use super::numbers::{Numbers, some_lines};
 use line_chunks::KeptLines;
 use std::alloc::Global;
@@ -11,7 +11,7 @@ use std::test::Fail;
 /// How many splices are made at each limit: at six limits 100,000 in all.
 const SPLICES: usize = 16_700;
 
-/// The letters of the patterns, of which some go and come.
+/// The letters of the patterns, some of which go and come.
 const LETTERS: [u8; 3] = [b'a', b'b', b'd'];
 
 /// Removes a pattern if there is one.

@@ -13,7 +13,7 @@ use Rattle.clap.specs.declared.error.Error.{Error}
 use Rattle.clap.specs.declared.error.kind.ErrorKind.TheVariants.{DisplayHelp, OutOfMemory}
 use Rattle.clap.specs.declared.parser.matches.Found.{Found}
 use Rattle.grep_utility.specs.Folder.{is_standard}
-use Rattle.occur.specs.declared.words.Request.{Request}
+use Rattle.occur.specs.declared.words.ScriptRequest.{ScriptRequest}
 use Rattle.occur.specs.declared.words.OccurFault.{OccurFault}
 use Rattle.occur.specs.declared.words.OccurFault.TheVariants as fault
 
@@ -44,7 +44,7 @@ HasStates found =
     (text : Text) × (one_text found (codes "states") ≡ Some text) × IsUnsignedIn 1 65536 text
 
 -- the request is what was found: the number that the option's text means, and the operand
-pub record IsChosenBy (rows : List Row) (request : Request) : Type 0 where
+pub record IsChosenBy (rows : List Row) (request : ScriptRequest) : Type 0 where
   pub number : Text
   pub has_number : one_of (codes "states") rows ≡ Some number
   pub states : request.states ≡ digits_value 10 (without_leading_plus number)
@@ -63,7 +63,7 @@ Explains error (fault.Words reported) = (reported ≡ error) × (kind_of error �
 
 -- words are accepted only if no kind of error is possible; a fault of the words has a possible
 -- kind, and any other fault is out of memory
-abbrev pub ExplainsAmong : Kinds → Result Request OccurFault → Type 0
+abbrev pub ExplainsAmong : Kinds → Result ScriptRequest OccurFault → Type 0
 ExplainsAmong kinds (Ok request) = kinds ≡ []
 ExplainsAmong kinds (Err fault.Memory) = ⊤
 ExplainsAmong kinds (Err (fault.Words error)) =
@@ -87,7 +87,7 @@ form_words name (Some number) (Some script) = name ∷ codes "--states" ∷ numb
 
 -- such words choose the number, or 256, and the script; they are refused only if the number is not
 -- from 1 to 65,536
-abbrev pub Reads : Option Text → Option Text → Result Request OccurFault → Type 0
+abbrev pub Reads : Option Text → Option Text → Result ScriptRequest OccurFault → Type 0
 Reads number script (Ok request) =
     (request.states ≡
     option_map_or (λ text. digits_value 10 (without_leading_plus text)) number 256) ×
@@ -97,7 +97,7 @@ Reads number script (Err (fault.Words error)) =
     IsSomeAnd number (λ text. IsUnsignedIn 1 65536 text → ⊥)
 
 -- the words ask for help, unless memory runs out
-abbrev pub AsksForHelp : Result Request OccurFault → Type 0
+abbrev pub AsksForHelp : Result ScriptRequest OccurFault → Type 0
 AsksForHelp (Ok request) = ⊥
 AsksForHelp (Err fault.Memory) = ⊤
 AsksForHelp (Err (fault.Words error)) = kind_of error ≡ DisplayHelp

@@ -1,23 +1,23 @@
 //! `occur`: runs a script that edits files, patterns and options, and asks what grep finds.
 #![tactic(auto)]
 
-mod ending;
+mod exit;
 mod help;
 mod words;
 
-ghost use Rattle.std.specs.Prelude.{◌≤◌};
+ghost use Rattle.std.specs.Prelude.{◌≤◌, IfOk};
 ghost use Rattle.re_syntax.specs.Profile.{most_states};
 ghost use Rattle.grep_core.specs.Run.{writer};
 ghost use Rattle.occur.specs.Exit.{ProgramGives, streams};
 
-use crate::ending::{end_script, program, refuse_script, words_status};
-use crate::words::{OccurFault, Request, occur_words};
+use crate::exit::{end_script, program, refuse_script, words_status};
+use crate::words::{OccurFault, ScriptRequest, occur_words};
 use clap::Error;
 use grep_cmd::{FAILED, ScriptFault, run_script};
 use grep_core::{Buffered, CountedRead, CountedWrite, Tally};
 use re_auto::{Meter, fresh_meter};
 use std::alloc::Global;
-use std::fs::Metadata;
+use std::fs::{File, Metadata};
 use std::os::unix::fs::MetadataExt;
 use std::process::ExitCode;
 use std::{fs, io};
@@ -61,50 +61,6 @@ fn run_on_devices<R: CountedRead, W: CountedWrite, M: CountedWrite>(
     end_script(messages, ended)
 }
 
-/// Runs the script from the reader, with its replies on standard output, and returns the exit
-/// status.
-fn run_from<R: CountedRead>(rt: &HostRuntime, reader: &mut R, states: usize) -> u8
-    requires least { 1 ≤ states }
-    requires most { states ≤ most_states }
-{
-    let mut messages = Tally::new(rt.stderr());
-    let Ok(mut out) = Buffered::new(rt.alloc(), Tally::new(rt.stdout())) else {
-        return program().refuse_memory(&mut messages);
-    };
-    let mut meter = fresh_meter();
-    run_on_devices(
-        rt.alloc(),
-        reader,
-        &mut out,
-        &mut messages,
-        states,
-        &mut meter,
-    )
-}
-
-/// Runs the script that the words ask for, and returns the exit status. A script that is standard
-/// output itself is not read. Standard output is identified before the script is opened: if it is
-/// closed, the script could take its number.
-fn run(rt: &HostRuntime, request: &Request) -> u8
-    requires least { 1 ≤ request.now.states }
-    requires most { request.now.states ≤ most_states }
-{
-    let output = fs::metadata(rt, "/dev/stdout");
-    let Some(name) = request.script_file() else {
-        if is_output(fs::metadata(rt, "/dev/stdin"), output) {
-            return refuse_output(rt);
-        }
-        return run_from(rt, &mut Tally::new(rt.stdin()), request.states);
-    };
-    let Ok(file) = fs::open(rt, name) else {
-        return refuse_script(&mut Tally::new(rt.stderr()), name);
-    };
-    if is_output(file.metadata(), output) {
-        return refuse_output(rt);
-    }
-    run_from(rt, &mut Tally::new(file), request.states)
-}
-
 /// Prints the help or the error when no script is run, and returns the exit status. If the help
 /// could not be written, that is reported.
 fn report_words(rt: &HostRuntime, error: &Error) -> u8 {
@@ -115,19 +71,96 @@ fn report_words(rt: &HostRuntime, error: &Error) -> u8 {
     }
 }
 
-/// Does what the words ask for, and returns the exit status.
-fn run_words(rt: &HostRuntime, words: &[String]) -> u8 {
-    match occur_words(rt.alloc(), words) {
-        Ok(request) => run(rt, &request),
-        Err(OccurFault::Words(error)) => report_words(rt, &error),
-        Err(OccurFault::Memory) => program().refuse_memory(&mut Tally::new(rt.stderr())),
+/// What the words ask for.
+///
+/// # Errors
+///
+/// The exit status, where they ask for no script. Their help was printed, or the cause reported.
+fn read_words(rt: &HostRuntime) -> Result<ScriptRequest, u8>
+    ensures least { IfOk result (λ request. 1 ≤ request.states) }
+    ensures most { IfOk result (λ request. request.states ≤ most_states) }
+{
+    let words = program().words(rt)?;
+    match occur_words(rt.alloc(), &words) {
+        Ok(request) => Ok(request),
+        Err(OccurFault::Words(error)) => Err(report_words(rt, &error)),
+        Err(OccurFault::Memory) => Err(program().refuse_memory(&mut Tally::new(rt.stderr()))),
     }
 }
 
+/// What is run.
+#[derive(Drop)]
+struct Script {
+    /// The file that has the script; none where it is standard input.
+    file: Option<File>,
+    /// How many states are kept for each pattern.
+    states: usize,
+}
+
+/// Opens the script that the words ask for. A script that is standard output itself is not read.
+/// Standard output is identified before the script is opened: if it is closed, the script could take
+/// its number.
+///
+/// # Errors
+///
+/// The exit status, where there is no script that can be read. The cause was reported.
+fn open_script(rt: &HostRuntime) -> Result<Script, u8>
+    ensures least { IfOk result (λ script. 1 ≤ script.states) }
+    ensures most { IfOk result (λ script. script.states ≤ most_states) }
+{
+    let request = read_words(rt)?;
+    let states = request.states;
+    let output = fs::metadata(rt, "/dev/stdout");
+    let Some(name) = request.script_file() else {
+        if is_output(fs::metadata(rt, "/dev/stdin"), output) {
+            return Err(refuse_output(rt));
+        }
+        return Ok(Script { file: None, states });
+    };
+    let Ok(file) = fs::open(rt, name) else {
+        return Err(refuse_script(&mut Tally::new(rt.stderr()), name));
+    };
+    if is_output(file.metadata(), output) {
+        return Err(refuse_output(rt));
+    }
+    let file = Some(file);
+    Ok(Script { file, states })
+}
+
 fn main(rt: HostRuntime) -> ExitCode {
-    let status = match program().words(&rt) {
-        Ok(words) => run_words(&rt, &words),
-        Err(status) => status,
+    let Script { file, states } = match open_script(&rt) {
+        Ok(script) => script,
+        Err(status) => return ExitCode::from(status),
+    };
+    let alloc = rt.alloc();
+    let mut messages = Tally::new(rt.stderr());
+    let Ok(mut out) = Buffered::new(alloc, Tally::new(rt.stdout())) else {
+        return ExitCode::from(program().refuse_memory(&mut messages));
+    };
+    let mut meter = fresh_meter();
+    let status = match file {
+        None => {
+            let mut input = Tally::new(rt.stdin());
+            run_on_devices(
+                alloc,
+                &mut input,
+                &mut out,
+                &mut messages,
+                states,
+                &mut meter,
+            )
+        }
+        Some(file) => {
+            let mut file = Tally::new(file);
+            run_on_devices(
+                alloc,
+                &mut file,
+                &mut out,
+                &mut messages,
+                states,
+                &mut meter,
+            )
+        }
     };
     ExitCode::from(status)
 }

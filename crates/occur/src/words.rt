@@ -17,14 +17,14 @@ use thiserror::Error;
 
 /// What the words ask for.
 #[derive(Debug, Drop)]
-pub struct Request {
+pub struct ScriptRequest {
     /// How many states are kept for each pattern.
     pub states: usize,
     /// The operand SCRIPT, as it was given.
     pub script: Option<String>,
 }
 
-impl Request {
+impl ScriptRequest {
     /// The file that has the script. There is none if the script is standard input, that is,
     /// without an operand or with `-` (XBD 12.2, Guideline 13).
     pub fn script_file(&self) -> Option<&str>
@@ -117,18 +117,18 @@ fn owned(alloc: Global, text: Option<&str>) -> Result<Option<String>, AllocError
 }
 
 /// The request, by what was found for the option and the operand.
-fn request_of(alloc: Global, matches: &ArgMatches<'_>) -> Result<Request, AllocError>
+fn request_of(alloc: Global, matches: &ArgMatches<'_>) -> Result<ScriptRequest, AllocError>
     requires { HasStates (found_of matches.now) }
     ensures states { IfOk result (λ request. (1 ≤ request.states) × (request.states ≤ 65536)) }
     ensures found { IfOk result (IsChosenBy (rows_of (found_of matches.now))) }
 {
     let states = matches.get_one::<usize>("states").unwrap();
     let script = owned(alloc, matches.get_str("script"))?;
-    Ok(Request { states, script })
+    Ok(ScriptRequest { states, script })
 }
 
 /// Parses the words with clap.
-fn parse_words(alloc: Global, words: &[String]) -> Result<Request, OccurFault>
+fn parse_words(alloc: Global, words: &[String]) -> Result<ScriptRequest, OccurFault>
     ensures states { IfOk result (λ request. (1 ≤ request.states) × (request.states ≤ 65536)) }
     ensures chosen { IfOk result (IsChosenBy (matches_of occur_app (texts_of words.now))) }
     ensures faults { ExplainsAmong (fault_of occur_app (texts_of words.now)) result }
@@ -137,8 +137,8 @@ fn parse_words(alloc: Global, words: &[String]) -> Result<Request, OccurFault>
     Ok(request_of(alloc, &matches)?)
 }
 
-/// Parses the words of the process, of which the first is the program's name.
-pub fn occur_words(alloc: Global, words: &[String]) -> Result<Request, OccurFault>
+/// Parses the words of the process, the first of which is the program's name.
+pub fn occur_words(alloc: Global, words: &[String]) -> Result<ScriptRequest, OccurFault>
     ensures states { IfOk result (λ request. (1 ≤ request.states) × (request.states ≤ 65536)) }
     ensures forms { (name : Text) (number script : Option Text)
         → texts_of words.now ≡ form_words name number script

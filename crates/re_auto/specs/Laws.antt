@@ -6,7 +6,7 @@ use Rattle.re_syntax.specs.Expression.{Expression}
 use Rattle.re_syntax.specs.Holds.{Holds}
 use Rattle.re_auto.specs.declared.mode.Mode.{Mode}
 use Rattle.re_auto.specs.Working.Positions.{is_end, PartHolds, part_of}
-use Rattle.re_auto.specs.Working.Stepping.{IsAfter}
+use Rattle.re_auto.specs.Working.SteppedSets.{IsAfter}
 use Rattle.re_syntax.specs.Working.BestStretches.{Least, IsBest}
 use Rattle.re_auto.specs.Working.Starts.{StartsAfter, IsNextStarts, Reported, IsMatched}
 use Rattle.re_syntax.specs.Working.BestStretches.{better}

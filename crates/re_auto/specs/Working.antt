@@ -1,5 +1,5 @@
 pub mod Positions
-pub mod Stepping
+pub mod SteppedSets
 pub mod Starts
 pub mod Bits
 pub mod Ranges
@@ -7,5 +7,5 @@ pub mod Beginnings
 pub mod Tables
 pub mod StateSets
 pub mod StartSets
-pub mod Building
+pub mod PartTables
 pub mod ByteClasses

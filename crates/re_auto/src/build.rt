@@ -3,7 +3,7 @@
 mod classes;
 mod count;
 mod ends;
-pub mod filling;
+pub mod fill;
 mod parts;
 mod rows;
 

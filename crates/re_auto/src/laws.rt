@@ -7,8 +7,8 @@ pub fn positions_decide()
     ensures { PositionsDecide }
 {}
 
-/// Least starts begin empty, are kept step by step, and are enough for the earliest and then
-/// longest stretch.
+/// Least starts begin empty, are kept step by step, and are enough for the leftmost-longest
+/// stretch.
 pub fn least_starts_are_enough()
     ensures begin { PassBegins }
     ensures stay { StartsStay }

@@ -47,7 +47,7 @@ pub struct Empty {
 }
 
 impl Empty {
-    ghost use Rattle.re_auto.specs.Working.Building.{empty_at};
+    ghost use Rattle.re_auto.specs.Working.PartTables.{empty_at};
 
     /// Nowhere.
     pub fn nowhere() -> Empty

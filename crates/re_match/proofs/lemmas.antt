@@ -1,5 +1,4 @@
 pub mod OneText
-pub mod ReadingLaws
 pub mod LiteralLaws
 pub mod NeededSets
 pub mod SetFolded
@@ -11,3 +10,4 @@ pub mod PartsWithin
 pub mod LaterParts
 pub mod SweptLines
 pub mod LookLaws
+pub mod SameLaws

@@ -1,4 +1,2 @@
--- what the contract of the whole command, or of the session, depends on
-pub mod Reading
--- the other terms of contracts: of this crate as a library, and of its private functions
+-- the terms of contracts: of this crate as a library, and of its private functions
 pub mod Working

@@ -1,6 +1,6 @@
+pub mod Same
 pub mod Literals
 pub mod Simulated
 pub mod CachedMatchers
-pub mod Matchers
 pub mod NextParts
-pub mod Sweeping
+pub mod Sweeps

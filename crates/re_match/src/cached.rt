@@ -3,24 +3,20 @@
 ghost use Rattle.std.specs.Prelude.{◌≡◌, ℕ, ◌+◌, ◌-◌, ◌<◌, ◌≤◌, ◌↔◌, [], ◌∷◌, false, IsTrue, IfOk};
 ghost use Rattle.std.specs.Prelude.{IfErr, IfSome, length, map};
 ghost use Rattle.std.specs.NonZero.{non_zero_usize_get};
-ghost use Rattle.re_syntax.specs.Expression.{expression_of};
+ghost use Rattle.re_syntax.specs.Working.Trees.{expression_of, members};
 ghost use Rattle.re_syntax.specs.Holds.{Matches};
-ghost use Rattle.re_syntax.specs.Lines.{lines_of};
 ghost use Rattle.re_needle.specs.Working.Needles.{IsNeeded, RunIsNeeded};
-ghost use Rattle.re_syntax.specs.Sets.{members};
-ghost use Rattle.re_auto.specs.Searching.{FindsPart};
+ghost use Rattle.re_auto.specs.Searches.{FindsPart};
 ghost use Rattle.re_meter.specs.Meters.{AddsAtMost, AddsUpTo};
-ghost use Rattle.re_needle.specs.Working.Blocks.{IsBlock};
-ghost use Rattle.re_needle.specs.Working.Blocks.{FindsMatched, next_cost};
 ghost use Rattle.re_steps.specs.Working.Stages.{Searches, mode_for};
 ghost use Rattle.re_ends.specs.Working.GreatestEnds.{AddsEnds, FoundPast};
-ghost use Rattle.re_match.specs.Working.CachedMatchers.{AnswersLine};
+ghost use Rattle.re_match.specs.Working.CachedMatchers.{AnswersLine, SameCached};
 
 use crate::line_match::LineMatch;
 use crate::simulated::Simulated;
-use crate::sweeps::{Sweep, Sweeps, count_by_sweeps, next_by_sweeps};
+use crate::sweeps::{Stop, Sweep, Sweeps, next_by_sweeps};
 use re_auto::Meter;
-use re_steps::{LineSearch, Outcome, Table};
+use re_steps::{LineSearch, Outcome, StepTable};
 use re_syntax::{ByteSet, Span};
 use std::alloc::{AllocError, Global};
 use std::marker::Model;
@@ -32,12 +28,12 @@ use std::num::NonZeroUsize;
 #[derive(Drop)]
 pub struct Cached {
     simulated: Simulated,
-    table: Table,
+    table: StepTable,
     alloc: Global,
 }
 
 impl Model for Cached {
-    ghost use Rattle.re_syntax.specs.Expression.{expression_of};
+    ghost use Rattle.re_syntax.specs.Working.Trees.{expression_of};
     ghost use Rattle.re_syntax.specs.contracts.tree.Tree as e;
     ghost use Rattle.re_auto.specs.contracts.step.state_set.StateSet as s;
     ghost use Rattle.std.specs.Coded.{codes};
@@ -64,8 +60,8 @@ impl Model for Cached {
 }
 
 impl Cached {
-    /// The matcher with an empty cache of at most `most` entries. If memory for the cache is
-    /// refused, the matcher is returned as it was.
+    /// The matcher with an empty cache of at most `most` entries. If the allocation for the cache
+    /// fails, the matcher is returned as it was.
     pub fn over(
         alloc: Global,
         simulated: Simulated,
@@ -76,7 +72,7 @@ impl Cached {
         ensures empty { IfOk result (λ c. c.cache.entries ≡ []) }
         ensures same { IfErr result (λ s. s ≡ simulated) }
     {
-        let Ok(table) = Table::new(alloc, simulated.automaton(), most) else {
+        let Ok(table) = StepTable::new(alloc, simulated.automaton(), most) else {
             return Err(simulated);
         };
         Ok(Cached {
@@ -86,8 +82,8 @@ impl Cached {
         })
     }
 
-    // The same in a box. If memory is refused, the matcher is returned without a cache.
-    pub(crate) fn boxed(
+    /// The same in a box. If an allocation fails, the matcher is returned without a cache.
+    pub fn boxed(
         alloc: Global,
         simulated: Simulated,
         most: NonZeroUsize,
@@ -122,15 +118,15 @@ impl Cached {
     }
 
     /// A string that every matched stretch has, if one is known.
-    pub(crate) fn needed(&self) -> Option<&[u8]>
+    pub fn needed(&self) -> Option<&[u8]>
         ensures { IfSome result (λ text. IsNeeded text.now (expression_of self.now.tree)) }
     {
         self.simulated.needed()
     }
 
-    /// The first sets of a run that every matched stretch has; none if no run is known. The one error
-    /// is that memory was refused.
-    pub(crate) fn needed_sets(&self, alloc: Global) -> Result<Vec<ByteSet>, AllocError>
+    /// The first sets of a run that every matched stretch has; none if no run is known. The only
+    /// error is that an allocation failed.
+    pub fn needed_sets(&self, alloc: Global) -> Result<Vec<ByteSet>, AllocError>
         ensures { IfOk result (λ sets. RunIsNeeded (map members sets.items) (expression_of self.now.tree)) }
     {
         self.simulated.needed_sets(alloc)
@@ -141,9 +137,7 @@ impl Cached {
     fn searched(&mut self, line: &[u8], meter: &mut Meter) -> bool
         ensures searches { Searches (expression_of self.old.tree) (mode_for self.old.whole) line.now
             self.old.cache self.new.cache meter.old meter.new result }
-        ensures same_tree { self.new.tree ≡ self.old.tree }
-        ensures same_whole { self.new.whole ≡ self.old.whole }
-        ensures same_most { self.new.most ≡ self.old.most }
+        ensures same { SameCached self.old self.new }
     {
         let asked = LineSearch {
             alloc: self.alloc,
@@ -163,28 +157,10 @@ impl Cached {
             }
         }
     }
-
-    // Whether the line is matched.
-    #[inline(always)]
-    fn search(&mut self, line: &[u8], meter: &mut Meter) -> bool
-        ensures reported { IsTrue result ↔
-            Matches (expression_of self.old.tree) line.now self.old.whole }
-        ensures same_tree { self.new.tree ≡ self.old.tree }
-        ensures same_whole { self.new.whole ≡ self.old.whole }
-        ensures steps { AddsAtMost (length line.now + 1) meter.old meter.new }
-        ensures counted { AnswersLine (expression_of self.old.tree) self.old.whole line.now
-            self.old.cache self.new.cache meter.old meter.new result }
-        ensures same_most { self.new.most ≡ self.old.most }
-    {
-        if let Some(reported) = self.simulated.settled(line, meter) {
-            return reported;
-        }
-        self.searched(line, meter)
-    }
 }
 
 impl LineMatch for Cached {
-    ghost use Rattle.re_syntax.specs.Expression.{expression_of};
+    ghost use Rattle.re_syntax.specs.Working.Trees.{expression_of};
 
     ghost expression = { λ c. expression_of c.tree };
 
@@ -192,26 +168,26 @@ impl LineMatch for Cached {
 
     ghost room = { λ c. c.most };
 
+    #[inline(always)]
     fn is_match(&mut self, line: &[u8], meter: &mut Meter) -> bool
         ensures reported { IsTrue result ↔
             Matches (expression_of self.old.tree) line.now self.old.whole }
-        ensures same_expression { expression_of self.new.tree ≡ expression_of self.old.tree }
-        ensures same_whole { self.new.whole ≡ self.old.whole }
         ensures steps { AddsAtMost (length line.now + 1) meter.old meter.new }
         ensures counted { AnswersLine (expression_of self.old.tree) self.old.whole line.now
             self.old.cache self.new.cache meter.old meter.new result }
-        ensures same_most { self.new.most ≡ self.old.most }
+        ensures same { SameCached self.old self.new }
     {
-        self.search(line, meter)
+        if let Some(reported) = self.simulated.settled(line, meter) {
+            return reported;
+        }
+        self.searched(line, meter)
     }
 
     fn is_match_by_steps(&mut self, line: &[u8], meter: &mut Meter) -> bool
         ensures reported { IsTrue result ↔
             Matches (expression_of self.old.tree) line.now self.old.whole }
-        ensures same_expression { expression_of self.new.tree ≡ expression_of self.old.tree }
-        ensures same_whole { self.new.whole ≡ self.old.whole }
         ensures steps { AddsUpTo (length line.now + 1) 0 meter.old meter.new }
-        ensures same_most { self.new.most ≡ self.old.most }
+        ensures same { SameCached self.old self.new }
     {
         self.searched(line, meter)
     }
@@ -220,8 +196,6 @@ impl LineMatch for Cached {
         requires { from ≤ length line.now }
         ensures reported { FindsPart (expression_of self.old.tree ∷ []) line.now self.old.whole from
             result }
-        ensures same_expression { expression_of self.new.tree ≡ expression_of self.old.tree }
-        ensures same_whole { self.new.whole ≡ self.old.whole }
         ensures steps { AddsAtMost (length line.now - from + 1) meter.old meter.new }
         ensures same { self.new ≡ self.old }
     {
@@ -235,39 +209,19 @@ impl LineMatch for Cached {
             (FoundPast (expression_of self.old.tree ∷ []) line.now self.old.whole) line.now ends.old
             ends.new }
         ensures same_spare { length spare.new ≡ length spare.old }
-        ensures same_expression { expression_of self.new.tree ≡ expression_of self.old.tree }
-        ensures same_whole { self.new.whole ≡ self.old.whole }
         ensures steps { AddsAtMost (length line.now + 1) meter.old meter.new }
         ensures same { self.new ≡ self.old }
     {
         self.simulated.add_ends(line, ends, spare, meter);
     }
 
-    fn next_matched(&mut self, block: &[u8], meter: &mut Meter) -> Option<Span>
-        requires { IsBlock block.now }
-        ensures reported { FindsMatched (expression_of self.old.tree) self.old.whole
-            (lines_of block.now) result }
-        ensures within { IfSome result
-            (λ at. (at.start ≤ at.end) × (at.end < length block.now)) }
-        ensures same_expression { expression_of self.new.tree ≡ expression_of self.old.tree }
-        ensures same_whole { self.new.whole ≡ self.old.whole }
-        ensures steps { AddsAtMost (next_cost block.now result) meter.old meter.new }
-        ensures same_most { self.new.most ≡ self.old.most }
-    {
+    fn next_matched(&mut self, block: &[u8], meter: &mut Meter) -> Option<Span> {
         next_by_sweeps(self, block, meter)
-    }
-
-    fn count_matched(&mut self, block: &[u8], meter: &mut Meter) -> u64 {
-        let Some(count) = self.simulated.known_count(block, meter) else {
-            return count_by_sweeps(self, block, meter);
-        };
-        meter.add_built(block.len() as u64);
-        count
     }
 }
 
 impl Sweeps for Cached {
-    ghost use Rattle.re_syntax.specs.Expression.{expression_of};
+    ghost use Rattle.re_syntax.specs.Working.Trees.{expression_of};
 
     ghost expression = { λ c. expression_of c.tree };
 
@@ -280,11 +234,12 @@ impl Sweeps for Cached {
         self.simulated.sweep(block, meter)
     }
 
-    fn search(&mut self, line: &[u8], meter: &mut Meter) -> bool {
-        Cached::search(self, line, meter)
-    }
-
-    fn search_by_steps(&mut self, line: &[u8], meter: &mut Meter) -> bool {
-        self.is_match_by_steps(line, meter)
+    #[inline(always)]
+    fn search_after(&mut self, stop: Stop, line: &[u8], meter: &mut Meter) -> bool {
+        match stop {
+            Stop::Unseen => self.is_match(line, meter),
+            Stop::Seen => self.is_match_by_steps(line, meter),
+            Stop::Matched => true,
+        }
     }
 }

@@ -2,13 +2,14 @@
 ghost use Rattle.std.specs.Prelude.{◌≡◌, ◌+◌, ◌-◌, ◌≤◌, ◌↔◌, [], ◌∷◌, true, false, IsTrue, IfOk};
 ghost use Rattle.std.specs.Prelude.{IfSome, ◌<◌, ◌⊎◌, length, map, drop};
 ghost use Rattle.re_syntax.specs.Holds.{Matches};
-ghost use Rattle.re_syntax.specs.Sets.{members};
-ghost use Rattle.re_needle.specs.Working.Needles.{RunIsNeeded};
+ghost use Rattle.re_syntax.specs.Working.Trees.{members};
+ghost use Rattle.re_needle.specs.Working.Needles.{IsNeeded, RunIsNeeded};
 ghost use Rattle.re_syntax.specs.Lines.{lines_of, HasNoNewline};
 ghost use Rattle.re_meter.specs.Meters.{Steps, AddsAtMost, AddsUpTo, many_built, many_passed};
 ghost use Rattle.re_match.specs.Working.Literals.{literal_expression, IsPartOfLines, part_cost};
 ghost use Rattle.re_match.specs.Working.Literals.{LooksFor, CountsLook};
-ghost use Rattle.re_auto.specs.Searching.{FindsPart};
+ghost use Rattle.re_match.specs.Working.Same.{SameMatcher};
+ghost use Rattle.re_auto.specs.Searches.{FindsPart};
 ghost use Rattle.re_needle.specs.Working.Blocks.{IsBlock, PassesUnmatched, CountsMatched};
 ghost use Rattle.re_needle.specs.Working.Blocks.{FindsMatched, FindsNext, next_cost};
 ghost use Rattle.re_needle.specs.Working.Blocks.{LooksOnce, StopsInLine};
@@ -17,7 +18,7 @@ ghost use Rattle.re_ends.specs.Working.GreatestEnds.{AddsEnds, FoundPast};
 
 use crate::front_ends::{add_line, bytes_to_part};
 use crate::line_match::LineMatch;
-use crate::sweeps::{Sweep, Sweeps, count_by_sweeps, next_by_sweeps};
+use crate::sweeps::{Stop, Sweep, Sweeps, next_by_sweeps};
 use memchr::memmem::Finder;
 use re_auto::Meter;
 use re_needle::{
@@ -46,8 +47,8 @@ impl Model for Fixed {
 }
 
 impl Fixed {
-    /// A matcher for the text, of which no byte is special. The one error is that memory was
-    /// refused.
+    /// A matcher for the text, in which no byte is special. The only error is that an allocation
+    /// failed.
     pub fn new(alloc: Global, text: &[u8], whole: bool) -> Result<Fixed, AllocError>
         ensures { IfOk result (λ f. f ≡ record { text = text.now; whole = whole }) }
     {
@@ -55,13 +56,44 @@ impl Fixed {
         Ok(Fixed { finder, whole })
     }
 
-    /// The sets of the string's first bytes, one byte each. The one error is that memory was refused.
-    pub(crate) fn needed_sets(&self, alloc: Global) -> Result<Vec<ByteSet>, AllocError>
+    /// The string, if it is not empty.
+    pub fn needed(&self) -> Option<&[u8]>
+        ensures { IfSome result (λ text. IsNeeded text.now (literal_expression self.now)) }
+    {
+        if self.is_empty() {
+            return None;
+        }
+        Some(self.finder.needle())
+    }
+
+    /// The sets of the string's first bytes, one byte each. The only error is that an allocation
+    /// failed.
+    pub fn needed_sets(&self, alloc: Global) -> Result<Vec<ByteSet>, AllocError>
         ensures { IfOk result
             (λ sets. RunIsNeeded (map members sets.items) (literal_expression self.now)) }
     {
         let sets = sets_of(alloc, self.finder.needle())?;
         Ok(sets)
+    }
+
+    /// How many lines of a block of whole lines are matched, like [`LineMatch::count_matched`]. Where
+    /// it is enough that a line has the string, each byte is passed at most once.
+    pub fn count_lines(&mut self, block: &[u8], meter: &mut Meter) -> u64
+        requires { IsBlock block.now }
+        ensures reported { CountsMatched (literal_expression self.old) self.old.whole
+            (lines_of block.now) result }
+        ensures same { SameMatcher literal_expression (λ f. f.whole) (λ f. 0) self.old self.new }
+        ensures steps { AddsAtMost (length block.now) meter.old meter.new }
+        ensures counted { IsPartOfLines self.old → 1 ≤ length self.old.text →
+            (passed : Steps) × AddsUpTo 0 (length block.now) meter.old passed
+            × (meter.new ≡ many_built (length block.now) passed) }
+    {
+        if !self.is_part() || self.is_empty() {
+            return self.count_matched(block, meter);
+        }
+        let count = count_by(&self.finder, block, meter);
+        meter.add_built(block.len() as u64);
+        count
     }
 
     // Whether the line is the string.
@@ -137,19 +169,6 @@ impl Fixed {
         next_line_with(&self.finder, block, meter)
     }
 
-    // How many lines of a block have the string, which is not empty and has no newline. Each byte is
-    // passed at most once.
-    fn count_lines(&self, block: &[u8], meter: &mut Meter) -> u64
-        requires block { IsBlock block.now }
-        requires part { IsPartOfLines self.now }
-        requires some { 1 ≤ length self.now.text }
-        ensures counted { CountsMatched (literal_expression self.now) self.now.whole
-            (lines_of block.now) result }
-        ensures steps { AddsUpTo 0 (length block.now) meter.old meter.new }
-    {
-        count_by(&self.finder, block, meter)
-    }
-
     // Looks for the first line of a block that has the string.
     fn candidate(&self, block: &[u8], meter: &mut Meter) -> Swept
         requires { IsBlock block.now }
@@ -210,10 +229,19 @@ impl Fixed {
         }
         add_occurrences(self.finder.needle(), line, ends, spare);
     }
+}
 
-    // Whether the line is matched.
+impl LineMatch for Fixed {
+    ghost use Rattle.re_match.specs.Working.Literals.{literal_expression};
+
+    ghost expression = { λ f. literal_expression f };
+
+    ghost whole = { λ f. f.whole };
+
+    ghost room = { λ f. 0 };
+
     #[inline(always)]
-    fn search(&mut self, line: &[u8], meter: &mut Meter) -> bool
+    fn is_match(&mut self, line: &[u8], meter: &mut Meter) -> bool
         ensures reported { IsTrue result ↔
             Matches (literal_expression self.old) line.now self.old.whole }
         ensures steps { AddsAtMost (length line.now + 1) meter.old meter.new }
@@ -228,34 +256,10 @@ impl Fixed {
         meter.add_built(line.len() as u64 + 1);
         found
     }
-}
-
-impl LineMatch for Fixed {
-    ghost use Rattle.re_match.specs.Working.Literals.{literal_expression};
-
-    ghost expression = { λ f. literal_expression f };
-
-    ghost whole = { λ f. f.whole };
-
-    ghost room = { λ f. 0 };
-
-    fn is_match(&mut self, line: &[u8], meter: &mut Meter) -> bool
-        ensures reported { IsTrue result ↔
-            Matches (literal_expression self.old) line.now self.old.whole }
-        ensures same_expression { literal_expression self.new ≡ literal_expression self.old }
-        ensures same_whole { self.new.whole ≡ self.old.whole }
-        ensures steps { AddsAtMost (length line.now + 1) meter.old meter.new }
-        ensures same { self.new ≡ self.old }
-        ensures counted { CountsLook self.old line.now (length line.now + 1) meter.old meter.new }
-    {
-        self.search(line, meter)
-    }
 
     fn is_match_by_steps(&mut self, line: &[u8], meter: &mut Meter) -> bool
         ensures reported { IsTrue result ↔
             Matches (literal_expression self.old) line.now self.old.whole }
-        ensures same_expression { literal_expression self.new ≡ literal_expression self.old }
-        ensures same_whole { self.new.whole ≡ self.old.whole }
         ensures steps { AddsUpTo (length line.now + 1) 0 meter.old meter.new }
         ensures same { self.new ≡ self.old }
     {
@@ -270,8 +274,6 @@ impl LineMatch for Fixed {
         requires { from ≤ length line.now }
         ensures reported { FindsPart (literal_expression self.old ∷ []) line.now self.old.whole from
             result }
-        ensures same_expression { literal_expression self.new ≡ literal_expression self.old }
-        ensures same_whole { self.new.whole ≡ self.old.whole }
         ensures steps { AddsAtMost (length line.now - from + 1) meter.old meter.new }
         ensures same { self.new ≡ self.old }
         ensures counted { CountsLook self.old (drop from line.now) (part_cost line.now from result)
@@ -288,8 +290,6 @@ impl LineMatch for Fixed {
         ensures added { AddsEnds (FoundPast (literal_expression self.old ∷ []) line.now self.old.whole) line.now
             ends.old ends.new }
         ensures same_spare { length spare.new ≡ length spare.old }
-        ensures same_expression { literal_expression self.new ≡ literal_expression self.old }
-        ensures same_whole { self.new.whole ≡ self.old.whole }
         ensures steps { AddsAtMost (length line.now + 1) meter.old meter.new }
         ensures same { self.new ≡ self.old }
     {
@@ -303,8 +303,7 @@ impl LineMatch for Fixed {
             (lines_of block.now) result }
         ensures within { IfSome result
             (λ at. (at.start ≤ at.end) × (at.end < length block.now)) }
-        ensures same_expression { literal_expression self.new ≡ literal_expression self.old }
-        ensures same_whole { self.new.whole ≡ self.old.whole }
+        ensures same { SameMatcher literal_expression (λ f. f.whole) (λ f. 0) self.old self.new }
         ensures steps { AddsAtMost (next_cost block.now result) meter.old meter.new }
         ensures counted { IsPartOfLines self.old →
             CountsLook self.old block.now (next_cost block.now result) meter.old meter.new }
@@ -315,25 +314,6 @@ impl LineMatch for Fixed {
         let found = self.next_line(block, meter);
         meter.add_built(bytes_to(block, found));
         found
-    }
-
-    fn count_matched(&mut self, block: &[u8], meter: &mut Meter) -> u64
-        requires { IsBlock block.now }
-        ensures reported { CountsMatched (literal_expression self.old) self.old.whole
-            (lines_of block.now) result }
-        ensures same_expression { literal_expression self.new ≡ literal_expression self.old }
-        ensures same_whole { self.new.whole ≡ self.old.whole }
-        ensures steps { AddsAtMost (length block.now) meter.old meter.new }
-        ensures counted { IsPartOfLines self.old → 1 ≤ length self.old.text →
-            (passed : Steps) × AddsUpTo 0 (length block.now) meter.old passed
-            × (meter.new ≡ many_built (length block.now) passed) }
-    {
-        if !self.is_part() || self.is_empty() {
-            return count_by_sweeps(self, block, meter);
-        }
-        let count = self.count_lines(block, meter);
-        meter.add_built(block.len() as u64);
-        count
     }
 }
 
@@ -352,11 +332,12 @@ impl Sweeps for Fixed {
         Sweep::seen(block, swept)
     }
 
-    fn search(&mut self, line: &[u8], meter: &mut Meter) -> bool {
-        Fixed::search(self, line, meter)
-    }
-
-    fn search_by_steps(&mut self, line: &[u8], meter: &mut Meter) -> bool {
-        self.is_match_by_steps(line, meter)
+    #[inline(always)]
+    fn search_after(&mut self, stop: Stop, line: &[u8], meter: &mut Meter) -> bool {
+        match stop {
+            Stop::Unseen => self.is_match(line, meter),
+            Stop::Seen => self.is_match_by_steps(line, meter),
+            Stop::Matched => true,
+        }
     }
 }

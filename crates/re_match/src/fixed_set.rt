@@ -8,21 +8,22 @@ ghost use Rattle.re_syntax.specs.Lines.{lines_of};
 ghost use Rattle.re_meter.specs.Meters.{Steps, AddsAtMost, AddsUpTo, many_built};
 ghost use Rattle.re_match.specs.Working.Literals.{any_literal, part_cost};
 ghost use Rattle.re_match.specs.Working.Literals.{LooksForAny, CountsAny, LooksForPart, ReachesPart};
-ghost use Rattle.re_match.specs.Working.Sweeping.{StopsAt};
+ghost use Rattle.re_match.specs.Working.Same.{SameMatcher};
+ghost use Rattle.re_match.specs.Working.Sweeps.{StopsAt};
 ghost use Rattle.re_match.specs.declared.sweeps.Stop.TheVariants.{Matched};
 ghost use Rattle.re_strings.specs.Working.Keys.{keys};
-ghost use Rattle.re_auto.specs.Searching.{FindsPart};
+ghost use Rattle.re_auto.specs.Searches.{FindsPart};
 ghost use Rattle.re_needle.specs.Working.Blocks.{IsBlock, IsLineFrom, PassesUnmatched};
 ghost use Rattle.re_needle.specs.Working.Blocks.{FindsMatched, next_cost};
 ghost use Rattle.re_ends.specs.Working.GreatestEnds.{AddsEnds, FoundPast};
 
 use crate::front_ends::{add_line, bytes_to_part};
 use crate::line_match::LineMatch;
-use crate::looks::Looks;
-use crate::sweeps::{Sweep, Sweeps, next_by_sweeps};
+use crate::scan_backoff::ScanBackoff;
+use crate::sweeps::{Stop, Sweep, Sweeps, next_by_sweeps};
 use re_auto::Meter;
 use re_needle::{LookCost, bytes_to, line_end, line_start};
-use re_strings::{Table, table_of};
+use re_strings::{AhoCorasick, table_of};
 use re_syntax::{Span, split_file};
 use std::alloc::{AllocError, Global};
 use std::marker::Model;
@@ -33,10 +34,10 @@ use std::marker::Model;
 #[derive(Drop)]
 pub struct FixedSet {
     texts: Vec<u8>,
-    table: Table,
+    table: AhoCorasick,
     has_empty: bool,
     whole: bool,
-    looks: Looks,
+    backoff: ScanBackoff,
 }
 
 impl Model for FixedSet {
@@ -62,7 +63,7 @@ impl Model for FixedSet {
 
 impl FixedSet {
     /// A matcher for the texts, the lines of `texts`, in which no byte is special. With `fold` both
-    /// cases of each letter are alike. The errors are that memory was refused, or that the texts
+    /// cases of each letter are alike. The errors are that an allocation failed, or that the texts
     /// have 2^32 beginnings or more.
     pub fn new(alloc: Global, texts: &[u8], fold: bool, whole: bool) -> Result<FixedSet, AllocError>
         ensures { IfOk result
@@ -98,7 +99,7 @@ impl FixedSet {
             table,
             has_empty,
             whole,
-            looks: Looks::new(LookCost::High),
+            backoff: ScanBackoff::new(LookCost::High),
         })
     }
 
@@ -233,23 +234,6 @@ impl FixedSet {
         }
         self.table.add_ends(line, ends);
     }
-
-    // Whether the line is matched.
-    #[inline(always)]
-    fn search(&mut self, line: &[u8], meter: &mut Meter) -> bool
-        ensures reported { IsTrue result ↔ Matches (any_literal self.old) line.now self.old.whole }
-        ensures steps { AddsAtMost (length line.now + 1) meter.old meter.new }
-        ensures same { self.new ≡ self.old }
-        ensures counted { CountsAny self.old line.now (length line.now + 1) meter.old meter.new }
-    {
-        if self.whole {
-            meter.add_built(line.len() as u64 + 1);
-            return self.is_line(line);
-        }
-        let found = self.stands_in(line, meter);
-        meter.add_built(line.len() as u64 + 1);
-        found
-    }
 }
 
 // The lines of a text, in order.
@@ -287,21 +271,24 @@ impl LineMatch for FixedSet {
 
     ghost room = { λ f. 0 };
 
+    #[inline(always)]
     fn is_match(&mut self, line: &[u8], meter: &mut Meter) -> bool
         ensures reported { IsTrue result ↔ Matches (any_literal self.old) line.now self.old.whole }
-        ensures same_expression { any_literal self.new ≡ any_literal self.old }
-        ensures same_whole { self.new.whole ≡ self.old.whole }
         ensures steps { AddsAtMost (length line.now + 1) meter.old meter.new }
         ensures same { self.new ≡ self.old }
         ensures counted { CountsAny self.old line.now (length line.now + 1) meter.old meter.new }
     {
-        self.search(line, meter)
+        if self.whole {
+            meter.add_built(line.len() as u64 + 1);
+            return self.is_line(line);
+        }
+        let found = self.stands_in(line, meter);
+        meter.add_built(line.len() as u64 + 1);
+        found
     }
 
     fn is_match_by_steps(&mut self, line: &[u8], meter: &mut Meter) -> bool
         ensures reported { IsTrue result ↔ Matches (any_literal self.old) line.now self.old.whole }
-        ensures same_expression { any_literal self.new ≡ any_literal self.old }
-        ensures same_whole { self.new.whole ≡ self.old.whole }
         ensures steps { AddsUpTo (length line.now + 1) 0 meter.old meter.new }
         ensures same { self.new ≡ self.old }
     {
@@ -315,8 +302,6 @@ impl LineMatch for FixedSet {
     fn find(&mut self, line: &[u8], from: usize, meter: &mut Meter) -> Option<Span>
         requires { from ≤ length line.now }
         ensures reported { FindsPart (any_literal self.old ∷ []) line.now self.old.whole from result }
-        ensures same_expression { any_literal self.new ≡ any_literal self.old }
-        ensures same_whole { self.new.whole ≡ self.old.whole }
         ensures steps { AddsAtMost (length line.now - from + 1) meter.old meter.new }
         ensures same { self.new ≡ self.old }
         ensures counted { (looked : Steps)
@@ -333,8 +318,6 @@ impl LineMatch for FixedSet {
         ensures added { AddsEnds (FoundPast (any_literal self.old ∷ []) line.now self.old.whole) line.now
             ends.old ends.new }
         ensures same_spare { length spare.new ≡ length spare.old }
-        ensures same_expression { any_literal self.new ≡ any_literal self.old }
-        ensures same_whole { self.new.whole ≡ self.old.whole }
         ensures steps { AddsAtMost (length line.now + 1) meter.old meter.new }
         ensures same { self.new ≡ self.old }
     {
@@ -348,8 +331,7 @@ impl LineMatch for FixedSet {
             result }
         ensures within { IfSome result
             (λ at. (at.start ≤ at.end) × (at.end < length block.now)) }
-        ensures same_expression { any_literal self.new ≡ any_literal self.old }
-        ensures same_whole { self.new.whole ≡ self.old.whole }
+        ensures same { SameMatcher any_literal (λ f. f.whole) (λ f. 0) self.old self.new }
         ensures steps { AddsAtMost (next_cost block.now result) meter.old meter.new }
         ensures counted { self.old.whole ≡ false →
             CountsAny self.old block.now (next_cost block.now result) meter.old meter.new }
@@ -373,20 +355,21 @@ impl Sweeps for FixedSet {
     ghost room = { λ f. 0 };
 
     fn sweep(&self, block: &[u8], meter: &mut Meter) -> Sweep {
-        if !self.looks.is_due() {
+        if !self.backoff.should_scan() {
             return Sweep::none();
         }
         let sweep = self.candidate(block, meter);
-        self.looks.note(sweep.start);
+        self.backoff.note(sweep.start);
         meter.add_built(sweep.start as u64);
         sweep
     }
 
-    fn search(&mut self, line: &[u8], meter: &mut Meter) -> bool {
-        FixedSet::search(self, line, meter)
-    }
-
-    fn search_by_steps(&mut self, line: &[u8], meter: &mut Meter) -> bool {
-        self.is_match_by_steps(line, meter)
+    #[inline(always)]
+    fn search_after(&mut self, stop: Stop, line: &[u8], meter: &mut Meter) -> bool {
+        match stop {
+            Stop::Unseen => self.is_match(line, meter),
+            Stop::Seen => self.is_match_by_steps(line, meter),
+            Stop::Matched => true,
+        }
     }
 }

@@ -3,18 +3,18 @@ ghost use Rattle.std.specs.Prelude.{length};
 ghost use Rattle.re_syntax.specs.Expression.{Expression};
 ghost use Rattle.re_syntax.specs.Holds.{Matches};
 ghost use Rattle.re_syntax.specs.Lines.{lines_of};
-ghost use Rattle.re_auto.specs.Searching.{FindsPart, AddsAtMost};
+ghost use Rattle.re_auto.specs.Searches.{FindsPart, AddsAtMost};
 ghost use Rattle.re_meter.specs.Meters.{AddsUpTo};
 ghost use Rattle.re_needle.specs.Working.Blocks.{IsBlock, CountsMatched};
 ghost use Rattle.re_needle.specs.Working.Blocks.{FindsMatched, next_cost};
 ghost use Rattle.re_ends.specs.Working.GreatestEnds.{AddsEnds, FoundPast};
+ghost use Rattle.re_match.specs.Working.Same.{SameMatcher};
 
 use re_auto::Meter;
-use re_needle::line_end;
 use re_syntax::Span;
 
-/// What decides whether a line is matched, and finds the parts of it that are. It is made for one
-/// expression, which no search changes.
+/// Decides whether a line is matched, and finds its matched parts. It is made for one expression,
+/// which no search changes.
 pub trait LineMatch {
     /// The expression that it is made for.
     ghost expression: { Self → Expression };
@@ -29,29 +29,22 @@ pub trait LineMatch {
     /// one more, and passes at most as many bytes.
     fn is_match(&mut self, line: &[u8], meter: &mut Meter) -> bool
         ensures reported { IsTrue result ↔ Matches (expression self.old) line.now (whole self.old) }
-        ensures same_expression { expression self.new ≡ expression self.old }
-        ensures same_whole { whole self.new ≡ whole self.old }
-        ensures same_room { room self.new ≡ room self.old }
+        ensures same { SameMatcher expression whole room self.old self.new }
         ensures steps { AddsAtMost (length line.now + 1) meter.old meter.new };
 
     /// The same by steps alone: no byte is passed. It is for a line that is likely to be matched, or
     /// that was looked over already.
     fn is_match_by_steps(&mut self, line: &[u8], meter: &mut Meter) -> bool
         ensures reported { IsTrue result ↔ Matches (expression self.old) line.now (whole self.old) }
-        ensures same_expression { expression self.new ≡ expression self.old }
-        ensures same_whole { whole self.new ≡ whole self.old }
-        ensures same_room { room self.new ≡ room self.old }
+        ensures same { SameMatcher expression whole room self.old self.new }
         ensures steps { AddsUpTo (length line.now + 1) 0 meter.old meter.new };
 
-    /// The part that begins earliest at `from` or later, and of those that begin there the
-    /// longest (XBD 9.1). It takes at most one step for each byte from `from` on and one more, and
-    /// passes at most as many bytes.
+    /// The leftmost-longest part that begins at `from` or later (XBD 9.1). It takes at most one
+    /// step for each byte from `from` on and one more, and passes at most as many bytes.
     fn find(&mut self, line: &[u8], from: usize, meter: &mut Meter) -> Option<Span>
         requires { from ≤ length line.now }
         ensures reported { FindsPart (expression self.old ∷ []) line.now (whole self.old) from result }
-        ensures same_expression { expression self.new ≡ expression self.old }
-        ensures same_whole { whole self.new ≡ whole self.old }
-        ensures same_room { room self.new ≡ room self.old }
+        ensures same { SameMatcher expression whole room self.old self.new }
         ensures steps { AddsAtMost (length line.now - from + 1) meter.old meter.new };
 
     /// Gives each place of the line the greatest end of the matched stretches that begin there and
@@ -64,9 +57,7 @@ pub trait LineMatch {
         ensures added { AddsEnds (FoundPast (expression self.old ∷ []) line.now (whole self.old))
             line.now ends.old ends.new }
         ensures same_spare { length spare.new ≡ length spare.old }
-        ensures same_expression { expression self.new ≡ expression self.old }
-        ensures same_whole { whole self.new ≡ whole self.old }
-        ensures same_room { room self.new ≡ room self.old }
+        ensures same { SameMatcher expression whole room self.old self.new }
         ensures steps { AddsAtMost (length line.now + 1) meter.old meter.new };
 
     /// The first line of a block of whole lines that is matched, by its place without its newline.
@@ -79,22 +70,8 @@ pub trait LineMatch {
             result }
         ensures within { IfSome result
             (λ at. (at.start ≤ at.end) × (at.end < length block.now)) }
-        ensures same_expression { expression self.new ≡ expression self.old }
-        ensures same_whole { whole self.new ≡ whole self.old }
-        ensures same_room { room self.new ≡ room self.old }
-        ensures steps { AddsAtMost (next_cost block.now result) meter.old meter.new }
-    {
-        let mut start = 0;
-        'lines: loop {
-            let Some(end) = line_end(block, start) else {
-                return None;
-            };
-            if self.is_match(&block[start..end], meter) {
-                return Some(Span { start, end });
-            }
-            start = end + 1;
-        }
-    }
+        ensures same { SameMatcher expression whole room self.old self.new }
+        ensures steps { AddsAtMost (next_cost block.now result) meter.old meter.new };
 
     /// How many lines of a block of whole lines are matched. It takes at most one step for each byte
     /// of the block, and passes each at most once.
@@ -102,9 +79,7 @@ pub trait LineMatch {
         requires { IsBlock block.now }
         ensures reported { CountsMatched (expression self.old) (whole self.old) (lines_of block.now)
             result }
-        ensures same_expression { expression self.new ≡ expression self.old }
-        ensures same_whole { whole self.new ≡ whole self.old }
-        ensures same_room { room self.new ≡ room self.old }
+        ensures same { SameMatcher expression whole room self.old self.new }
         ensures steps { AddsAtMost (length block.now) meter.old meter.new }
     {
         let mut count: u64 = 0;

@@ -1,26 +1,26 @@
 //! What is known of lines, parts and blocks by what each match contains.
-ghost use Rattle.std.specs.Prelude.{◌≡◌, ℕ, ◌+◌, ◌≤◌, IfOk, IfSome, IfNone, IsTrue, Some, length, map};
+ghost use Rattle.std.specs.Prelude.{◌≡◌, ℕ, ◌+◌, ◌≤◌, IfOk, IfSome, IsTrue, Some, length, map};
 ghost use Rattle.std.specs.Prelude.{slice_range};
-ghost use Rattle.re_syntax.specs.Expression.{Expression, expression_of};
-ghost use Rattle.re_syntax.specs.Lines.{lines_of, HasNoNewline};
+ghost use Rattle.re_syntax.specs.Expression.{Expression};
+ghost use Rattle.re_syntax.specs.Working.Trees.{expression_of, members};
+ghost use Rattle.re_syntax.specs.Lines.{HasNoNewline};
 ghost use Rattle.re_meter.specs.Meters.{AddsUpTo};
 ghost use Rattle.re_needle.specs.Working.Needles.{IsNeeded, IsNeedleOf, IsNeedleFor, RunIsNeeded};
 ghost use Rattle.re_needle.specs.Working.Needles.{run_of};
-ghost use Rattle.re_syntax.specs.Sets.{members};
 ghost use Rattle.re_needle.specs.Working.Needles.{IsSettled};
 ghost use Rattle.re_needle.specs.Working.Runs.{FindsRun};
-ghost use Rattle.re_match.specs.Working.Sweeping.{StopsAt, LooksOver};
+ghost use Rattle.re_match.specs.Working.Sweeps.{StopsAt, LooksOver};
 ghost use Rattle.re_match.specs.Working.NextParts.{IsSaid};
-ghost use Rattle.re_needle.specs.Working.Blocks.{IsBlock, PassesUnmatched, CountsMatched};
+ghost use Rattle.re_needle.specs.Working.Blocks.{IsBlock, PassesUnmatched};
 
-use crate::looks::Looks;
+use crate::scan_backoff::ScanBackoff;
 use crate::sweeps::Sweep;
 use re_auto::{Automaton, Meter};
 use re_needle::{
-    LookCost, Needle, RunFinder, Swept, count_lines_with, first_line_beginning_with,
-    first_line_with_run, has_no_newline,
+    LookCost, Needle, RunFinder, Swept, first_line_beginning_with, first_line_with_run,
+    has_no_newline,
 };
-use re_steps::{Tried, try_place};
+use re_steps::{Trial, try_place};
 use re_syntax::{ByteSet, Span, Tree};
 use std::alloc::{AllocError, Global};
 
@@ -38,17 +38,17 @@ pub enum NextPart {
 #[derive(Drop)]
 pub struct Prefilter {
     needle: Option<Needle>,
-    looks: Looks,
+    backoff: ScanBackoff,
 }
 
 impl Prefilter {
-    /// What each match of the tree contains. The one error is that memory was refused.
+    /// What each match of the tree contains. The only error is that an allocation failed.
     pub fn of(alloc: Global, tree: &Tree) -> Result<Prefilter, AllocError>
         ensures { IfOk result (λ p. IsNeedleFor (expression_of tree.now) p.needle) }
     {
         let needle = Needle::of(alloc, tree)?;
-        let looks = Looks::new(look_cost(&needle));
-        Ok(Prefilter { needle, looks })
+        let backoff = ScanBackoff::new(look_cost(&needle));
+        Ok(Prefilter { needle, backoff })
     }
 
     /// A string that every matched stretch has, if one is known.
@@ -65,8 +65,8 @@ impl Prefilter {
         }
     }
 
-    /// The first sets of a run that every matched stretch has; none if no run is known. The one error
-    /// is that memory was refused.
+    /// The first sets of a run that every matched stretch has; none if no run is known. The only
+    /// error is that an allocation failed.
     pub fn sets(&self, alloc: Global) -> Result<Vec<ByteSet>, AllocError>
         ensures { (e : Expression) → IsNeedleFor e self.now.needle →
             IfOk result (λ sets. RunIsNeeded (map members sets.items) e) }
@@ -133,27 +133,6 @@ impl Prefilter {
         Sweep::seen(block, swept)
     }
 
-    /// How many lines of a block of whole lines are matched, if it is enough to count those with a
-    /// string. Then each byte is passed at most once, else none.
-    pub fn count(&self, block: &[u8], whole: bool, meter: &mut Meter) -> Option<u64>
-        requires { IsBlock block.now }
-        ensures counted { (e : Expression) → IsNeedleFor e self.now.needle →
-            IfSome result (λ count. CountsMatched e whole (lines_of block.now) count) }
-        ensures none { IfNone result (meter.new ≡ meter.old) }
-        ensures steps { AddsUpTo 0 (length block.now) meter.old meter.new }
-    {
-        let Some(needle) = &self.needle else {
-            return None;
-        };
-        if whole || !needle.is_all {
-            return None;
-        }
-        match &needle.finder {
-            RunFinder::Text(finder) => count_lines_with(finder, block, meter),
-            RunFinder::Sets(_) => None,
-        }
-    }
-
     /// What is known of the next part of the line, where the whole line need not be matched. If each
     /// match begins with the needle, the needle's places are tried one after another.
     #[inline(always)]
@@ -196,11 +175,11 @@ impl Prefilter {
             StopsAt e whole block.now result }
         ensures steps { AddsUpTo result.start result.reached meter.old meter.new }
     {
-        if !self.looks.is_due() {
+        if !self.backoff.should_scan() {
             return Sweep::none();
         }
         let sweep = self.first_line(block, whole, meter);
-        self.looks.note(sweep.start);
+        self.backoff.note(sweep.start);
         meter.add_built(sweep.start as u64);
         sweep
     }
@@ -228,9 +207,9 @@ fn first_tried(
         };
         let start = place + passed;
         match try_place(automaton, line, start, passed + 1, meter) {
-            Tried::Ends(end) => return NextPart::Known(Some(Span { start, end })),
-            Tried::Fails => place = start + 1,
-            Tried::Open => return NextPart::Later(start),
+            Trial::Ends(end) => return NextPart::Known(Some(Span { start, end })),
+            Trial::Fails => place = start + 1,
+            Trial::Open => return NextPart::Later(start),
         }
     }
     NextPart::Known(None)

@@ -1,30 +1,27 @@
 //! Search by stepping an automaton over the line.
 ghost use Rattle.std.specs.Prelude.{◌≡◌, ◌+◌, ◌-◌, ◌≤◌, ◌↔◌, [], ◌∷◌, true, false, IsTrue, IfOk};
 ghost use Rattle.std.specs.Prelude.{IfErr, IfSome, IfNone, length, map};
-ghost use Rattle.re_syntax.specs.Expression.{expression_of};
+ghost use Rattle.re_syntax.specs.Working.Trees.{expression_of, members};
 ghost use Rattle.re_syntax.specs.Holds.{Matches, positions};
-ghost use Rattle.re_syntax.specs.Lines.{lines_of};
 ghost use Rattle.re_syntax.specs.Profile.{most_positions};
 ghost use Rattle.re_auto.specs.declared.build.BuildFault.TheVariants.{Memory};
 ghost use Rattle.re_auto.specs.Working.Tables.{IsRefused};
 ghost use Rattle.re_needle.specs.Working.Needles.{IsNeeded, RunIsNeeded};
-ghost use Rattle.re_syntax.specs.Sets.{members};
 ghost use Rattle.re_auto.specs.Working.StateSets.{IsMadeFor};
 ghost use Rattle.re_steps.specs.Working.Simulations.{AreSetsFor, AreStartsFor};
 ghost use Rattle.re_steps.specs.Working.Stages.{Cache, Searches, FinishesFrom};
 ghost use Rattle.re_needle.specs.Working.Needles.{IsSettled};
 ghost use Rattle.re_steps.specs.Working.Stages.{mode_for};
-ghost use Rattle.re_auto.specs.Searching.{FindsPart};
-ghost use Rattle.re_needle.specs.Working.Blocks.{IsBlock, CountsMatched};
+ghost use Rattle.re_auto.specs.Searches.{FindsPart};
 ghost use Rattle.re_meter.specs.Meters.{AddsAtMost, AddsUpTo, many_built};
-ghost use Rattle.re_match.specs.Working.Sweeping.{LooksOver};
+ghost use Rattle.re_match.specs.Working.Sweeps.{LooksOver};
 ghost use Rattle.re_ends.specs.Working.GreatestEnds.{AddsEnds, FoundPast};
 ghost use Rattle.re_ends.specs.Working.EndPairs.{AreEndsFor};
 
 use crate::front_ends::add_line;
 use crate::line_match::LineMatch;
 use crate::prefilter::{NextPart, Prefilter};
-use crate::sweeps::{Sweep, Sweeps, count_by_sweeps, next_by_sweeps};
+use crate::sweeps::{Stop, Sweep, Sweeps, next_by_sweeps};
 use re_auto::{Automaton, BuildFault, Meter, Mode, StateSet};
 use re_ends::EndPair;
 use re_steps::{SetPair, StartPair};
@@ -45,7 +42,7 @@ pub struct Simulated {
 }
 
 impl Model for Simulated {
-    ghost use Rattle.re_syntax.specs.Expression.{expression_of};
+    ghost use Rattle.re_syntax.specs.Working.Trees.{expression_of};
     ghost use Rattle.re_syntax.specs.contracts.tree.Tree as e;
     ghost use Rattle.re_needle.specs.Working.Needles.{IsNeedleFor};
     ghost use Rattle.re_match.specs.Working.Simulated.{TreeMatcher};
@@ -66,9 +63,9 @@ impl Model for Simulated {
 }
 
 impl Simulated {
-    /// A matcher for the tree. All memory that searches need is taken here. The errors are
-    /// `TooLarge`, exactly if the expression has more than 4,096 positions once its intervals are
-    /// written out, and `Memory`.
+    /// A matcher for the tree. All that searches need is allocated here. The errors are `TooLarge`,
+    /// exactly if the expression has more than 4,096 positions once its intervals are written out,
+    /// and `Memory`.
     pub fn new(alloc: Global, tree: Tree, whole: bool) -> Result<Simulated, BuildFault>
         ensures made { IfOk result (λ s. s ≡ record { tree = tree; whole = whole }) }
         ensures few { IfOk result (λ _. positions (expression_of tree) ≤ most_positions) }
@@ -105,15 +102,15 @@ impl Simulated {
     }
 
     /// A string that every matched stretch has, if one is known.
-    pub(crate) fn needed(&self) -> Option<&[u8]>
+    pub fn needed(&self) -> Option<&[u8]>
         ensures { IfSome result (λ text. IsNeeded text.now (expression_of self.now.tree)) }
     {
         self.prefilter.text()
     }
 
-    /// The first sets of a run that every matched stretch has; none if no run is known. The one error
-    /// is that memory was refused.
-    pub(crate) fn needed_sets(&self, alloc: Global) -> Result<Vec<ByteSet>, AllocError>
+    /// The first sets of a run that every matched stretch has; none if no run is known. The only
+    /// error is that an allocation failed.
+    pub fn needed_sets(&self, alloc: Global) -> Result<Vec<ByteSet>, AllocError>
         ensures { IfOk result (λ sets. RunIsNeeded (map members sets.items) (expression_of self.now.tree)) }
     {
         self.prefilter.sets(alloc)
@@ -179,32 +176,6 @@ impl Simulated {
             .search_from(&self.automaton, mode, set, line, from, meter)
     }
 
-    // How many lines of a block of whole lines are matched, if looks alone say so. Then each byte is
-    // passed at most once, else none.
-    pub(crate) fn known_count(&self, block: &[u8], meter: &mut Meter) -> Option<u64>
-        requires { IsBlock block.now }
-        ensures counted { IfSome result (λ count. CountsMatched (expression_of self.now.tree)
-            self.now.whole (lines_of block.now) count) }
-        ensures none { IfNone result (meter.new ≡ meter.old) }
-        ensures steps { AddsUpTo 0 (length block.now) meter.old meter.new }
-    {
-        self.prefilter.count(block, self.whole, meter)
-    }
-
-    // Whether the line is matched.
-    #[inline(always)]
-    fn search(&mut self, line: &[u8], meter: &mut Meter) -> bool
-        ensures reported { IsTrue result ↔
-            Matches (expression_of self.old.tree) line.now self.old.whole }
-        ensures steps { AddsAtMost (length line.now + 1) meter.old meter.new }
-        ensures same { self.new ≡ self.old }
-    {
-        if let Some(reported) = self.settled(line, meter) {
-            return reported;
-        }
-        self.step_over(line, meter)
-    }
-
     // The matched part if the whole line has to be matched.
     fn whole_line(&mut self, line: &[u8], from: usize, meter: &mut Meter) -> Option<Span>
         requires within { from ≤ length line.now }
@@ -213,7 +184,7 @@ impl Simulated {
         ensures same { self.new ≡ self.old }
         ensures steps { AddsAtMost (length line.now - from + 1) meter.old meter.new }
     {
-        if from > 0 || line.is_empty() || !self.search(line, meter) {
+        if from > 0 || line.is_empty() || !self.is_match(line, meter) {
             return None;
         }
         Some(Span {
@@ -248,7 +219,7 @@ impl Simulated {
     }
 }
 
-// The sets, the starts and the ends for the automaton. The one error is `Memory`.
+// The sets, the starts and the ends for the automaton. The only error is `Memory`.
 fn pairs_for(
     alloc: Global,
     automaton: &Automaton,
@@ -268,7 +239,7 @@ fn pairs_for(
 }
 
 impl LineMatch for Simulated {
-    ghost use Rattle.re_syntax.specs.Expression.{expression_of};
+    ghost use Rattle.re_syntax.specs.Working.Trees.{expression_of};
 
     ghost expression = { λ s. expression_of s.tree };
 
@@ -276,22 +247,22 @@ impl LineMatch for Simulated {
 
     ghost room = { λ s. 0 };
 
+    #[inline(always)]
     fn is_match(&mut self, line: &[u8], meter: &mut Meter) -> bool
         ensures reported { IsTrue result ↔
             Matches (expression_of self.old.tree) line.now self.old.whole }
-        ensures same_expression { expression_of self.new.tree ≡ expression_of self.old.tree }
-        ensures same_whole { self.new.whole ≡ self.old.whole }
         ensures steps { AddsAtMost (length line.now + 1) meter.old meter.new }
         ensures same { self.new ≡ self.old }
     {
-        self.search(line, meter)
+        if let Some(reported) = self.settled(line, meter) {
+            return reported;
+        }
+        self.step_over(line, meter)
     }
 
     fn is_match_by_steps(&mut self, line: &[u8], meter: &mut Meter) -> bool
         ensures reported { IsTrue result ↔
             Matches (expression_of self.old.tree) line.now self.old.whole }
-        ensures same_expression { expression_of self.new.tree ≡ expression_of self.old.tree }
-        ensures same_whole { self.new.whole ≡ self.old.whole }
         ensures steps { AddsUpTo (length line.now + 1) 0 meter.old meter.new }
         ensures same { self.new ≡ self.old }
     {
@@ -302,8 +273,6 @@ impl LineMatch for Simulated {
         requires { from ≤ length line.now }
         ensures reported { FindsPart (expression_of self.old.tree ∷ []) line.now self.old.whole from
             result }
-        ensures same_expression { expression_of self.new.tree ≡ expression_of self.old.tree }
-        ensures same_whole { self.new.whole ≡ self.old.whole }
         ensures steps { AddsAtMost (length line.now - from + 1) meter.old meter.new }
         ensures same { self.new ≡ self.old }
     {
@@ -319,13 +288,11 @@ impl LineMatch for Simulated {
             (FoundPast (expression_of self.old.tree ∷ []) line.now self.old.whole) line.now ends.old
             ends.new }
         ensures same_spare { length spare.new ≡ length spare.old }
-        ensures same_expression { expression_of self.new.tree ≡ expression_of self.old.tree }
-        ensures same_whole { self.new.whole ≡ self.old.whole }
         ensures steps { AddsAtMost (length line.now + 1) meter.old meter.new }
         ensures same { self.new ≡ self.old }
     {
         if self.whole {
-            let matched = self.search(line, meter);
+            let matched = self.is_match(line, meter);
             add_line(matched, line, ends);
             return;
         }
@@ -335,18 +302,10 @@ impl LineMatch for Simulated {
     fn next_matched(&mut self, block: &[u8], meter: &mut Meter) -> Option<Span> {
         next_by_sweeps(self, block, meter)
     }
-
-    fn count_matched(&mut self, block: &[u8], meter: &mut Meter) -> u64 {
-        let Some(count) = self.known_count(block, meter) else {
-            return count_by_sweeps(self, block, meter);
-        };
-        meter.add_built(block.len() as u64);
-        count
-    }
 }
 
 impl Sweeps for Simulated {
-    ghost use Rattle.re_syntax.specs.Expression.{expression_of};
+    ghost use Rattle.re_syntax.specs.Working.Trees.{expression_of};
 
     ghost expression = { λ s. expression_of s.tree };
 
@@ -359,11 +318,12 @@ impl Sweeps for Simulated {
         self.prefilter.sweep(block, self.whole, meter)
     }
 
-    fn search(&mut self, line: &[u8], meter: &mut Meter) -> bool {
-        Simulated::search(self, line, meter)
-    }
-
-    fn search_by_steps(&mut self, line: &[u8], meter: &mut Meter) -> bool {
-        self.is_match_by_steps(line, meter)
+    #[inline(always)]
+    fn search_after(&mut self, stop: Stop, line: &[u8], meter: &mut Meter) -> bool {
+        match stop {
+            Stop::Unseen => self.is_match(line, meter),
+            Stop::Seen => self.is_match_by_steps(line, meter),
+            Stop::Matched => true,
+        }
     }
 }

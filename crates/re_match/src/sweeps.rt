@@ -7,8 +7,9 @@ ghost use Rattle.re_syntax.specs.Lines.{lines_of};
 ghost use Rattle.re_meter.specs.Meters.{AddsAtMost, AddsUpTo};
 ghost use Rattle.re_match.specs.declared.sweeps.Stop.TheVariants.{Unseen, Seen, Matched};
 ghost use Rattle.re_needle.specs.Working.Runs.{look_cost};
-ghost use Rattle.re_match.specs.Working.Sweeping.{StopsAt, left_for};
-ghost use Rattle.re_needle.specs.Working.Blocks.{IsBlock, PassesUnmatched, CountsMatched};
+ghost use Rattle.re_match.specs.Working.Same.{SameMatcher};
+ghost use Rattle.re_match.specs.Working.Sweeps.{StopsAt, left_for};
+ghost use Rattle.re_needle.specs.Working.Blocks.{IsBlock, PassesUnmatched};
 ghost use Rattle.re_needle.specs.Working.Blocks.{FindsMatched, next_cost};
 
 use re_auto::Meter;
@@ -114,42 +115,14 @@ pub trait Sweeps {
         ensures stops { StopsAt (expression self.now) (whole self.now) block.now result }
         ensures steps { AddsUpTo result.start result.reached meter.old meter.new };
 
-    /// Whether the line is matched. A search of it takes at most one step for each of its bytes and
-    /// one more, and passes at most as many bytes.
-    fn search(&mut self, line: &[u8], meter: &mut Meter) -> bool
+    /// Whether the line is matched at which a sweep stopped. A line that it looked over is not looked
+    /// over again.
+    fn search_after(&mut self, stop: Stop, line: &[u8], meter: &mut Meter) -> bool
+        requires { stop ≡ Matched → Matches (expression self.old) line.now (whole self.old) }
         ensures reported { IsTrue result ↔ Matches (expression self.old) line.now (whole self.old) }
-        ensures same_expression { expression self.new ≡ expression self.old }
-        ensures same_whole { whole self.new ≡ whole self.old }
-        ensures same_room { room self.new ≡ room self.old }
-        ensures steps { AddsAtMost (length line.now + 1) meter.old meter.new };
-
-    /// The same by steps alone: no byte is passed.
-    fn search_by_steps(&mut self, line: &[u8], meter: &mut Meter) -> bool
-        ensures reported { IsTrue result ↔ Matches (expression self.old) line.now (whole self.old) }
-        ensures same_expression { expression self.new ≡ expression self.old }
-        ensures same_whole { whole self.new ≡ whole self.old }
-        ensures same_room { room self.new ≡ room self.old }
-        ensures steps { AddsUpTo (length line.now + 1) 0 meter.old meter.new };
-}
-
-// Whether the line is matched at which a sweep stopped. A line that it looked over is not looked over
-// again.
-#[inline(always)]
-fn is_matched_after<M: Sweeps>(matcher: &mut M, stop: Stop, line: &[u8], meter: &mut Meter) -> bool
-    requires { stop ≡ Matched → Matches (M.expression matcher.old) line.now (M.whole matcher.old) }
-    ensures reported { IsTrue result ↔
-        Matches (M.expression matcher.old) line.now (M.whole matcher.old) }
-    ensures same_expression { M.expression matcher.new ≡ M.expression matcher.old }
-    ensures same_whole { M.whole matcher.new ≡ M.whole matcher.old }
-    ensures same_room { M.room matcher.new ≡ M.room matcher.old }
-    ensures steps { AddsUpTo (length line.now + 1) (left_for stop (length line.now + 1)) meter.old
-        meter.new }
-{
-    match stop {
-        Stop::Unseen => matcher.search(line, meter),
-        Stop::Seen => matcher.search_by_steps(line, meter),
-        Stop::Matched => true,
-    }
+        ensures same { SameMatcher expression whole room self.old self.new }
+        ensures steps { AddsUpTo (length line.now + 1) (left_for stop (length line.now + 1))
+            meter.old meter.new };
 }
 
 /// The first line of a block of whole lines that is matched, like `LineMatch::next_matched`. Each
@@ -159,9 +132,7 @@ pub fn next_by_sweeps<M: Sweeps>(matcher: &mut M, block: &[u8], meter: &mut Mete
     ensures reported { FindsMatched (M.expression matcher.old) (M.whole matcher.old)
         (lines_of block.now) result }
     ensures within { IfSome result (λ at. (at.start ≤ at.end) × (at.end < length block.now)) }
-    ensures same_expression { M.expression matcher.new ≡ M.expression matcher.old }
-    ensures same_whole { M.whole matcher.new ≡ M.whole matcher.old }
-    ensures same_room { M.room matcher.new ≡ M.room matcher.old }
+    ensures same { SameMatcher M.expression M.whole M.room matcher.old matcher.new }
     ensures steps { AddsAtMost (next_cost block.now result) meter.old meter.new }
 {
     let mut start = 0;
@@ -171,30 +142,9 @@ pub fn next_by_sweeps<M: Sweeps>(matcher: &mut M, block: &[u8], meter: &mut Mete
         let Some(end) = line_end(block, from) else {
             return None;
         };
-        if is_matched_after(matcher, sweep.stop, &block[from..end], meter) {
+        if matcher.search_after(sweep.stop, &block[from..end], meter) {
             return Some(Span { start: from, end });
         }
         start = end + 1;
-    }
-}
-
-/// How many lines of a block of whole lines are matched, like `LineMatch::count_matched`.
-pub fn count_by_sweeps<M: Sweeps>(matcher: &mut M, block: &[u8], meter: &mut Meter) -> u64
-    requires { IsBlock block.now }
-    ensures reported { CountsMatched (M.expression matcher.old) (M.whole matcher.old)
-        (lines_of block.now) result }
-    ensures same_expression { M.expression matcher.new ≡ M.expression matcher.old }
-    ensures same_whole { M.whole matcher.new ≡ M.whole matcher.old }
-    ensures same_room { M.room matcher.new ≡ M.room matcher.old }
-    ensures steps { AddsAtMost (length block.now) meter.old meter.new }
-{
-    let mut count: u64 = 0;
-    let mut rest = block;
-    'lines: loop {
-        let Some(at) = next_by_sweeps(matcher, rest, meter) else {
-            return count;
-        };
-        count += 1;
-        rest = &rest[at.end + 1..];
     }
 }

@@ -2,7 +2,7 @@
 use Rattle.std.specs.Prelude.{◌≡◌, ℕ, zero, suc, ◌+◌, ◌-◌, ◌^◌, ◌≤◌, min}
 
 -- the steps that were computed, those that were found in a cache, the bytes that were passed, and
--- how often memory that saves work was refused
+-- how often an allocation of memory that saves work failed
 pub record Steps : Type 0 where
   pub built : ℕ
   pub reused : ℕ
@@ -69,12 +69,12 @@ pub record CountsAtMost (most_steps most_bytes : ℕ) (old new : Steps) : Type 0
   pub sum : new.built + new.reused ≤ old.built + old.reused + most_steps
   pub bytes : new.passed ≤ old.passed + most_bytes
 
--- the same, and memory was refused so often
+-- the same, and allocations failed so often
 pub record Adds (most_steps most_bytes refusals : ℕ) (old new : Steps) : Type 0 where
   pub counts : CountsAtMost most_steps most_bytes old new
   pub refused : new.refused ≡ refused_more refusals old.refused
 
--- the same, and no memory was refused
+-- the same, and no allocation failed
 abbrev pub AddsUpTo : ℕ → ℕ → Steps → Steps → Type 0
 AddsUpTo most_steps most_bytes old new = Adds most_steps most_bytes 0 old new
 

@@ -9,9 +9,9 @@ use std::alloc::Global;
 use std::marker::Model;
 
 /// The work of searches. A step is a byte over which a set of positions, or a table of strings, was
-/// advanced; a passed byte is one over which a search for a string, for many strings, or for a run of
-/// sets went. It also counts how often memory that saves work was refused. Each count stops at the
-/// greatest `u64`. Only [`fresh_meter`] makes a meter.
+/// advanced; a passed byte is one over which a search for a string, for many strings, or for a run
+/// of sets went. It also counts how often an allocation of memory that saves work failed. Each
+/// count stops at the greatest `u64`. Only [`fresh_meter`] makes a meter.
 #[derive(Drop)]
 pub struct Meter {
     built: u64,
@@ -51,7 +51,7 @@ impl Meter {
         self.passed
     }
 
-    /// How often memory that saves work was refused.
+    /// How often an allocation of memory that saves work failed.
     pub fn refused(&self) -> u64
         ensures { result ≡ self.now.refused }
     {

@@ -1,6 +1,6 @@
 //! Tests for sets of bytes by the bits that all their bytes share, as the two cases of a letter do.
 ghost use Rattle.std.specs.Prelude.{◌≡◌, ◌==◌, ◌↔◌, ◌+◌, ◌≤◌, IfSome, IsTrue, length, slice_index};
-ghost use Rattle.re_syntax.specs.Sets.{members};
+ghost use Rattle.re_syntax.specs.Working.Trees.{members};
 ghost use Rattle.re_needle.specs.Working.Runs.{AreAlike, HasBits, mark_of};
 ghost use Rattle.memchr.specs.Lanes.{HasLanes};
 

@@ -1,6 +1,6 @@
 //! Blocks of whole lines: finding one, passing over the first ones, and counting them, at once.
 ghost use Rattle.std.specs.Prelude.{◌≡◌, ◌+◌, ◌<◌, ◌≤◌, ◌↔◌, ◌++◌, ◌∷◌, IsTrue, IfSome};
-ghost use Rattle.std.specs.Prelude.{List, MatchOption, length, map, take, drop, ⊤, None, IfNone};
+ghost use Rattle.std.specs.Prelude.{List, MatchOption, length, map, take, drop, ⊤, None};
 ghost use Rattle.re_syntax.specs.Lines.{newline, lines_of, HasNoNewline};
 ghost use Rattle.re_needle.specs.Working.Blocks.{IsBlock, LineBegins, Lacks, PassesAll};
 ghost use Rattle.re_needle.specs.Working.Blocks.{StandsIn, HoldsOfMany, IsLineFrom, FindsNext};
@@ -8,7 +8,7 @@ ghost use Rattle.re_needle.specs.Working.Blocks.{next_cost, StopsInLine, LooksOn
 ghost use Rattle.re_meter.specs.Meters.{many_passed, AddsUpTo};
 ghost use Rattle.re_needle.specs.Working.Needles.{run_of};
 ghost use Rattle.re_syntax.specs.Bytes.{Bytes};
-ghost use Rattle.re_syntax.specs.Sets.{members};
+ghost use Rattle.re_syntax.specs.Working.Trees.{members};
 ghost use Rattle.re_needle.specs.Working.Runs.{BeginsWithout, LacksRun, FindsRun, look_cost};
 
 use crate::newline::first_newline;
@@ -199,21 +199,6 @@ pub fn bytes_to(block: &[u8], found: Option<Span>) -> u64
         Some(at) => at.end as u64 + 1,
         None => block.len() as u64,
     }
-}
-
-/// How many lines of a block of whole lines have the string. `None` if the string is empty or has a
-/// newline: then no byte is passed. Else each is passed at most once.
-pub fn count_lines_with(finder: &Finder<'_>, block: &[u8], meter: &mut Meter) -> Option<u64>
-    requires { IsBlock block.now }
-    ensures counted { IfSome result
-        (λ n. HoldsOfMany (StandsIn finder.now) (lines_of block.now) n) }
-    ensures none { IfNone result (meter.new ≡ meter.old) }
-    ensures steps { AddsUpTo 0 (length block.now) meter.old meter.new }
-{
-    if finder.needle().is_empty() || first_newline(finder.needle()).is_some() {
-        return None;
-    }
-    Some(count_by(finder, block, meter))
 }
 
 /// The same for a string that is not empty and has no newline.

@@ -1,7 +1,7 @@
 //! Which run of an outline is looked for. No contract depends on the choice.
 ghost use Rattle.std.specs.Prelude.{◌≡◌, ◌≤◌, length};
 
-use crate::mark::Mark;
+use crate::outline_item::OutlineItem;
 use crate::survey::{HALVED, Survey, rank_of};
 
 // From how many bytes on a run is long. If one of two runs is long, the longer one is taken; else
@@ -23,7 +23,7 @@ const LARGE: u32 = 65_536;
 
 /// What the marks of a run are.
 #[derive(Clone, Copy)]
-pub enum RunOf {
+pub enum RunKind {
     /// Single bytes.
     Bytes,
     /// Sets that few bytes of most texts are in.
@@ -72,9 +72,9 @@ impl Run {
 
     // Whether it takes precedence over the other, which begins at the same place or before. A
     // single byte never takes precedence over a single byte, but a single set may.
-    fn beats(self, other: Run, of: RunOf) -> bool {
+    fn beats(self, other: Run, of: RunKind) -> bool {
         if self.length == 1 && other.length == 1 {
-            return !matches!(of, RunOf::Bytes) && self.is_rarer(other);
+            return !matches!(of, RunKind::Bytes) && self.is_rarer(other);
         }
         if self.length >= LONG || other.length >= LONG || self.length < 2 || other.length < 2 {
             return self.length > other.length;
@@ -87,7 +87,7 @@ impl Run {
 }
 
 /// The run of such marks that is looked for.
-pub fn best_run(marks: &[Mark], of: RunOf) -> Run
+pub fn best_run(marks: &[OutlineItem], of: RunKind) -> Run
     ensures { result.start ≤ length marks.now }
 {
     let mut now = Run::at(0);
@@ -105,14 +105,14 @@ pub fn best_run(marks: &[Mark], of: RunOf) -> Run
 }
 
 /// How common the bytes of the mark are, if it may be one of such a run.
-pub fn mark_rank(mark: &Mark, of: RunOf) -> Option<u8> {
-    let Mark::Set(set) = mark else {
+pub fn mark_rank(mark: &OutlineItem, of: RunKind) -> Option<u8> {
+    let OutlineItem::Set(set) = mark else {
         return None;
     };
     match of {
-        RunOf::Bytes => Some(rank_of(set.one_byte()?)),
-        RunOf::SmallSets => rank_within(&Survey::of(set)?, SMALL),
-        RunOf::Sets => rank_within(&Survey::of(set)?, LARGE),
+        RunKind::Bytes => Some(rank_of(set.one_byte()?)),
+        RunKind::SmallSets => rank_within(&Survey::of(set)?, SMALL),
+        RunKind::Sets => rank_within(&Survey::of(set)?, LARGE),
     }
 }
 

@@ -6,12 +6,12 @@ mod block;
 mod choice;
 mod cost;
 mod lanes;
-mod leading;
-mod mark;
+mod leading_sets;
 mod needle;
 mod newline;
 mod nibbles;
 mod outline;
+mod outline_item;
 mod probes;
 mod run_finder;
 mod set_finder;
@@ -19,9 +19,8 @@ mod survey;
 mod text_finder;
 
 pub use block::{
-    Swept, bytes_to, count_by, count_lines_with, first_line_beginning_with, first_line_with,
-    first_line_with_run, first_line_with_sets, has_no_newline, line_end, line_start,
-    next_line_with,
+    Swept, bytes_to, count_by, first_line_beginning_with, first_line_with, first_line_with_run,
+    first_line_with_sets, has_no_newline, line_end, line_start, next_line_with,
 };
 pub use cost::LookCost;
 pub use needle::{Needle, one_byte};

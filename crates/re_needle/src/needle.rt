@@ -1,16 +1,16 @@
 //! What every match of an expression contains.
 ghost use Rattle.std.specs.Prelude.{◌≡◌, ◌≤◌, ◌++◌, List, Option, Some, IfOk, IfSome, length, map};
 ghost use Rattle.re_syntax.specs.Bytes.{Bytes, only};
-ghost use Rattle.re_syntax.specs.Expression.{Expression, byte, expression_of};
-ghost use Rattle.re_syntax.specs.Sets.{members};
+ghost use Rattle.re_syntax.specs.Expression.{Expression, byte};
+ghost use Rattle.re_syntax.specs.Working.Trees.{expression_of, members};
 ghost use Rattle.re_needle.specs.Working.Needles.{IsNeedleFor};
 ghost use Rattle.re_needle.specs.Working.Outlines.{IsOutline, shown};
 
-use crate::choice::{Run, RunOf, best_run};
+use crate::choice::{Run, RunKind, best_run};
 use crate::cost::LookCost;
-use crate::leading::leading_sets;
-use crate::mark::Mark;
+use crate::leading_sets::leading_sets;
 use crate::outline::add_outline;
+use crate::outline_item::OutlineItem;
 use crate::run_finder::RunFinder;
 use crate::set_finder::SetFinder;
 use crate::survey::rank_of;
@@ -45,34 +45,34 @@ impl Needle {
     /// texts or is all there is; one byte that is not common; a long run of sets of any size; a
     /// common byte, or a small set that is half as common as a byte of most lines; any run of small
     /// sets, be it of one. A choice has the sets that its branches begin with, and a set that is
-    /// repeated counts once for each time. `None` if there is none of these. The one error is that
-    /// memory was refused.
+    /// repeated counts once for each time. `None` if there is none of these. The only error is that
+    /// an allocation failed.
     pub fn of(alloc: Global, tree: &Tree) -> Result<Option<Needle>, AllocError>
         ensures { IfOk result (IsNeedleFor (expression_of tree.now)) }
     {
         let mut marks = Vec::new(alloc);
         add_outline(alloc, tree, &mut marks)?;
-        let bytes = best_run(&marks, RunOf::Bytes);
+        let bytes = best_run(&marks, RunKind::Bytes);
         if let Some(needle) = text_needle(alloc, &marks, bytes.start, 2)? {
             return Ok(Some(needle));
         }
-        let sets = best_run(&marks, RunOf::SmallSets);
-        if let Some(needle) = set_needle(alloc, &marks, sets.start, RunOf::SmallSets, 2, false)? {
+        let sets = best_run(&marks, RunKind::SmallSets);
+        if let Some(needle) = set_needle(alloc, &marks, sets.start, RunKind::SmallSets, 2, false)? {
             return Ok(Some(needle));
         }
         let single = single_needle(alloc, &marks, bytes, sets)?;
         if matches!(&single, Some(needle) if !needle.is_common) {
             return Ok(single);
         }
-        let wide = best_run(&marks, RunOf::Sets).start;
-        let found = set_needle(alloc, &marks, wide, RunOf::Sets, MANY_SETS, true)?;
+        let wide = best_run(&marks, RunKind::Sets).start;
+        let found = set_needle(alloc, &marks, wide, RunKind::Sets, MANY_SETS, true)?;
         if found.is_some() {
             return Ok(found);
         }
         if single.is_some() {
             return Ok(single);
         }
-        set_needle(alloc, &marks, sets.start, RunOf::SmallSets, 1, true)
+        set_needle(alloc, &marks, sets.start, RunKind::SmallSets, 1, true)
     }
 
     /// What the search for it over a block costs.
@@ -87,7 +87,7 @@ impl Needle {
 // The needle of the single bytes from a mark on, if there are at least `least`.
 fn text_needle(
     alloc: Global,
-    marks: &[Mark],
+    marks: &[OutlineItem],
     start: usize,
     least: usize,
 ) -> Result<Option<Needle>, AllocError>
@@ -115,7 +115,7 @@ fn text_needle(
 // half as common.
 fn single_needle(
     alloc: Global,
-    marks: &[Mark],
+    marks: &[OutlineItem],
     bytes: Run,
     sets: Run,
 ) -> Result<Option<Needle>, AllocError>
@@ -130,7 +130,7 @@ fn single_needle(
     if let Some(needle) = text_needle(alloc, marks, sets.start, 1)? {
         return Ok(Some(needle));
     }
-    set_needle(alloc, marks, sets.start, RunOf::SmallSets, 1, true)
+    set_needle(alloc, marks, sets.start, RunKind::SmallSets, 1, true)
 }
 
 // Whether the text is one byte that is on most lines of most texts.
@@ -142,9 +142,9 @@ fn is_common_byte(text: &[u8]) -> bool {
 // common, and is neither rare in most texts nor all there is.
 fn set_needle(
     alloc: Global,
-    marks: &[Mark],
+    marks: &[OutlineItem],
     start: usize,
-    of: RunOf,
+    of: RunKind,
     least: usize,
     is_common: bool,
 ) -> Result<Option<Needle>, AllocError>
@@ -173,7 +173,7 @@ fn set_needle(
 }
 
 // The bytes of the marks before the first that isn't a single byte.
-fn leading_bytes(alloc: Global, marks: &[Mark]) -> Result<Vec<u8>, AllocError>
+fn leading_bytes(alloc: Global, marks: &[OutlineItem]) -> Result<Vec<u8>, AllocError>
     ensures { IfOk result
         (λ bytes. (rest : List (Option Bytes)) ×
         (map shown marks.now ≡ map Some (map only bytes.items) ++ rest)) }
@@ -189,12 +189,12 @@ fn leading_bytes(alloc: Global, marks: &[Mark]) -> Result<Vec<u8>, AllocError>
 }
 
 // The byte of the mark, if it is a single byte.
-fn byte_of(mark: &Mark) -> Option<u8>
+fn byte_of(mark: &OutlineItem) -> Option<u8>
     ensures { IfSome result (λ b. shown mark.now ≡ Some (only b)) }
 {
     match mark {
-        Mark::Set(set) => set.one_byte(),
-        Mark::Stretch => None,
+        OutlineItem::Set(set) => set.one_byte(),
+        OutlineItem::Gap => None,
     }
 }
 

@@ -1,7 +1,7 @@
 //! Tests for sets of bytes by look-ups of a byte's halves. They are the same for all sets, so that
 //! many bytes are tested at once.
 ghost use Rattle.std.specs.Prelude.{◌≡◌, ◌<◌, ◌+◌, ◌≤◌, IfSome, length, slice_index};
-ghost use Rattle.re_syntax.specs.Sets.{members};
+ghost use Rattle.re_syntax.specs.Working.Trees.{members};
 ghost use Rattle.re_needle.specs.Working.Runs.{Covers, bits_of};
 ghost use Rattle.memchr.specs.Lanes.{HasLanes};
 

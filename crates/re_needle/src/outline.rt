@@ -1,12 +1,12 @@
 //! Outlines of expressions: the sets of bytes that every match has one after another.
 ghost use Rattle.std.specs.Prelude.{◌≡◌, ◌++◌, ◌∷◌, [], IfOk, IfSome, IsTrue, Some, map};
-ghost use Rattle.re_syntax.specs.Expression.{alt, cat, expression_of, one_of, repeat};
-ghost use Rattle.re_syntax.specs.Sets.{members};
+ghost use Rattle.re_syntax.specs.Expression.{alt, cat, one_of, repeat};
+ghost use Rattle.re_syntax.specs.Working.Trees.{expression_of, members};
 ghost use Rattle.re_needle.specs.Working.Outlines.{AddsOutline, AddsSets, AddsTurns, AreJoined};
 
-use crate::choice::RunOf;
-use crate::leading::leading_sets;
-use crate::mark::Mark;
+use crate::choice::RunKind;
+use crate::leading_sets::leading_sets;
+use crate::outline_item::OutlineItem;
 use re_syntax::{ByteSet, Tree};
 use std::alloc::{AllocError, Global};
 
@@ -15,14 +15,18 @@ const MOST_TURNS: u16 = 32;
 
 /// Adds the outline of the expression. It goes through groups and into what is repeated once or
 /// more. It has a mark for each time that a set is repeated at least, and the sets that the
-/// branches of a choice begin with. The one error is that memory was refused.
+/// branches of a choice begin with. The only error is that an allocation failed.
 #[cycle(outline)]
-pub fn add_outline(alloc: Global, tree: &Tree, marks: &mut Vec<Mark>) -> Result<(), AllocError>
+pub fn add_outline(
+    alloc: Global,
+    tree: &Tree,
+    marks: &mut Vec<OutlineItem>,
+) -> Result<(), AllocError>
     ensures { IfOk result
         (λ _. AddsOutline marks.old.items (expression_of tree.now) marks.new.items) }
 {
     match tree {
-        Tree::Set(set) => add_mark(marks, Mark::Set(*set)),
+        Tree::Set(set) => add_mark(marks, OutlineItem::Set(*set)),
         Tree::Cat(parts) => add_all(alloc, parts, marks),
         Tree::Alt(parts) => add_choice(alloc, parts, marks),
         Tree::Repeat(part, least, most) => {
@@ -30,18 +34,18 @@ pub fn add_outline(alloc: Global, tree: &Tree, marks: &mut Vec<Mark>) -> Result<
                 return add_repeated(marks, set, *least, *most);
             }
             if *least == 0 {
-                return add_mark(marks, Mark::Stretch);
+                return add_mark(marks, OutlineItem::Gap);
             }
             add_outline(alloc, part, marks)?;
-            add_mark(marks, Mark::Stretch)
+            add_mark(marks, OutlineItem::Gap)
         }
-        _ => add_mark(marks, Mark::Stretch),
+        _ => add_mark(marks, OutlineItem::Gap),
     }
 }
 
 /// Adds the outlines of parts that follow one another.
 #[cycle(outline)]
-fn add_all(alloc: Global, parts: &[Tree], marks: &mut Vec<Mark>) -> Result<(), AllocError>
+fn add_all(alloc: Global, parts: &[Tree], marks: &mut Vec<OutlineItem>) -> Result<(), AllocError>
     ensures { IfOk result
         (λ _. AddsOutline marks.old.items (cat (map expression_of parts.now)) marks.new.items) }
 {
@@ -54,7 +58,7 @@ fn add_all(alloc: Global, parts: &[Tree], marks: &mut Vec<Mark>) -> Result<(), A
 /// Adds the outline of a choice: the sets that its branches begin with, joined place by place as
 /// far as each branch has one, and a stretch.
 #[cycle(outline)]
-fn add_choice(alloc: Global, parts: &[Tree], marks: &mut Vec<Mark>) -> Result<(), AllocError>
+fn add_choice(alloc: Global, parts: &[Tree], marks: &mut Vec<OutlineItem>) -> Result<(), AllocError>
     ensures { IfOk result
         (λ _. AddsOutline marks.old.items (alt (map expression_of parts.now)) marks.new.items) }
 {
@@ -62,7 +66,7 @@ fn add_choice(alloc: Global, parts: &[Tree], marks: &mut Vec<Mark>) -> Result<()
     'parts: for i in 0..parts.len() {
         let mut branch = Vec::new(alloc);
         add_outline(alloc, &parts[i], &mut branch)?;
-        let sets = leading_sets(alloc, &branch, RunOf::SmallSets)?;
+        let sets = leading_sets(alloc, &branch, RunKind::SmallSets)?;
         if i == 0 {
             front = sets;
         } else {
@@ -70,7 +74,7 @@ fn add_choice(alloc: Global, parts: &[Tree], marks: &mut Vec<Mark>) -> Result<()
         }
     }
     add_sets(marks, &front)?;
-    add_mark(marks, Mark::Stretch)
+    add_mark(marks, OutlineItem::Gap)
 }
 
 // The set of the expression, if it is a set alone.
@@ -86,7 +90,7 @@ fn one_set(tree: &Tree) -> Option<ByteSet>
 // Adds the outline of a repeated set: one mark for each time that it is repeated at least, and a
 // stretch if it may be repeated more often.
 fn add_repeated(
-    marks: &mut Vec<Mark>,
+    marks: &mut Vec<OutlineItem>,
     set: ByteSet,
     least: u16,
     most: Option<u16>,
@@ -99,7 +103,7 @@ fn add_repeated(
     if turns == least && is_just(most, least) {
         return Ok(());
     }
-    add_mark(marks, Mark::Stretch)
+    add_mark(marks, OutlineItem::Gap)
 }
 
 // Whether there is a most, and it is `least`.
@@ -113,12 +117,12 @@ fn is_just(most: Option<u16>, least: u16) -> bool
 }
 
 // Adds `turns` marks for the set.
-fn add_turns(marks: &mut Vec<Mark>, set: ByteSet, turns: u16) -> Result<(), AllocError>
+fn add_turns(marks: &mut Vec<OutlineItem>, set: ByteSet, turns: u16) -> Result<(), AllocError>
     ensures { IfOk result
         (λ _. AddsTurns marks.old.items (members set) turns marks.new.items) }
 {
     'turns: for _turn in 0..turns {
-        marks.push(Mark::Set(set))?;
+        marks.push(OutlineItem::Set(set))?;
     }
     Ok(())
 }
@@ -135,17 +139,17 @@ fn join(front: &mut Vec<ByteSet>, sets: &[ByteSet])
 }
 
 // Adds a mark for each set.
-fn add_sets(marks: &mut Vec<Mark>, sets: &[ByteSet]) -> Result<(), AllocError>
+fn add_sets(marks: &mut Vec<OutlineItem>, sets: &[ByteSet]) -> Result<(), AllocError>
     ensures { IfOk result
         (λ _. AddsSets marks.old.items (map members sets.now) marks.new.items) }
 {
     'sets: for k in 0..sets.len() {
-        marks.push(Mark::Set(sets[k]))?;
+        marks.push(OutlineItem::Set(sets[k]))?;
     }
     Ok(())
 }
 
-fn add_mark(marks: &mut Vec<Mark>, mark: Mark) -> Result<(), AllocError>
+fn add_mark(marks: &mut Vec<OutlineItem>, mark: OutlineItem) -> Result<(), AllocError>
     ensures { IfOk result (λ _. marks.new.items ≡ marks.old.items ++ mark ∷ []) }
 {
     marks.push(mark)?;

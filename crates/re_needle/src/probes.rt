@@ -45,7 +45,7 @@ impl Probe {
 
 /// Which tests are tried at 32 places at once.
 #[derive(Clone, Copy, Drop)]
-pub enum Tried {
+pub enum ProbePlan {
     /// The first two, by bits.
     TwoBits,
     /// The first two, by look-ups.
@@ -54,7 +54,7 @@ pub enum Tried {
     All,
 }
 
-/// Four probes, of which some may be the same.
+/// Four probes; some may be the same.
 #[derive(Clone, Copy, Drop)]
 pub struct Probes {
     /// The first, which the fewest bytes pass.
@@ -66,7 +66,7 @@ pub struct Probes {
     /// The fourth.
     pub fourth: Probe,
     /// Which of their tests are tried.
-    pub tried: Tried,
+    pub tried: ProbePlan,
 }
 
 impl Probes {

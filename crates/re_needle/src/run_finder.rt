@@ -2,9 +2,9 @@
 ghost use Rattle.std.specs.Prelude.{◌≡◌, ◌↔◌, IsTrue, IfOk, IfSome, length, map, min};
 ghost use Rattle.re_meter.specs.Meters.{many_passed};
 ghost use Rattle.re_syntax.specs.Bytes.{only};
-ghost use Rattle.re_syntax.specs.Sets.{members};
+ghost use Rattle.re_syntax.specs.Working.Trees.{members};
 ghost use Rattle.re_needle.specs.Working.Needles.{run_of};
-ghost use Rattle.re_needle.specs.Working.Runs.{BeginsRun, FindsRun, RunStandsAt, look_cost};
+ghost use Rattle.re_needle.specs.Working.Runs.{FindsRun, RunStandsAt, front_of, look_cost};
 
 use crate::set_finder::SetFinder;
 use crate::text_finder::find_text;
@@ -13,7 +13,7 @@ use re_meter::Meter;
 use re_syntax::ByteSet;
 use std::alloc::{AllocError, Global};
 
-// How many sets of a run are looked for at most with those of other runs.
+// How many sets of a run are looked for at most where those of several runs are looked for at once.
 const MOST_SETS: usize = 32;
 
 /// Looks for a string or a run of sets of bytes.
@@ -64,10 +64,10 @@ impl RunFinder {
         }
     }
 
-    /// The first sets of the run, as many as a search for sets may have. The one error is that memory
-    /// was refused.
+    /// The first sets of the run, 32 at most, in their order. The one error is that an allocation
+    /// failed.
     pub fn sets(&self, alloc: Global) -> Result<Vec<ByteSet>, AllocError>
-        ensures { IfOk result (λ sets. BeginsRun (map members sets.items) (run_of self.now)) }
+        ensures { IfOk result (λ sets. map members sets.items ≡ front_of (run_of self.now)) }
     {
         match self {
             RunFinder::Text(finder) => sets_of(alloc, finder.needle()),
@@ -86,22 +86,23 @@ impl RunFinder {
     }
 }
 
-/// The sets of the first bytes of a string, one byte each. The one error is that memory was refused.
+/// A set for each of the first bytes of a string, 32 at most, with this byte alone. The one error is
+/// that an allocation failed.
 pub fn sets_of(alloc: Global, text: &[u8]) -> Result<Vec<ByteSet>, AllocError>
-    ensures { IfOk result (λ sets. BeginsRun (map members sets.items) (map only text.now)) }
+    ensures { IfOk result (λ sets. map members sets.items ≡ front_of (map only text.now)) }
 {
     let mut sets = Vec::new(alloc);
-    'bytes: for place in 0..text.len().min(MOST_SETS) {
+    'bytes: for place in 0..MOST_SETS.min(text.len()) {
         sets.push(ByteSet::only(text[place]))?;
     }
     Ok(sets)
 }
 
-// The first sets.
+// The first sets, 32 at most.
 fn first_sets(alloc: Global, sets: &[ByteSet]) -> Result<Vec<ByteSet>, AllocError>
-    ensures { IfOk result (λ first. BeginsRun (map members first.items) (map members sets.now)) }
+    ensures { IfOk result (λ first. map members first.items ≡ front_of (map members sets.now)) }
 {
     let mut first = Vec::new(alloc);
-    first.extend_from_slice(&sets[..sets.len().min(MOST_SETS)])?;
+    first.extend_from_slice(&sets[..MOST_SETS.min(sets.len())])?;
     Ok(first)
 }

@@ -2,14 +2,14 @@
 ghost use Rattle.std.specs.Prelude.{◌≡◌, ◌+◌, ◌<◌, ◌≤◌, ◌↔◌, IsTrue, IfSome, length, map};
 ghost use Rattle.memchr.specs.Find.{IsFirst};
 ghost use Rattle.memchr.specs.Lanes.{Marks};
-ghost use Rattle.re_syntax.specs.Sets.{members};
+ghost use Rattle.re_syntax.specs.Working.Trees.{members};
 ghost use Rattle.re_needle.specs.Working.Runs.{FindsRun, IsProbeOf, RunStandsAt, look_cost, set_at};
 ghost use Rattle.re_meter.specs.Meters.{many_passed};
 
 use crate::alike::Alike;
 use crate::lanes::{lowest, without};
 use crate::nibbles::Nibbles;
-use crate::probes::{Probe, Probes, Tried};
+use crate::probes::{Probe, ProbePlan, Probes};
 use crate::survey::{Survey, share_with};
 use crate::text_finder::bytes_over;
 use re_meter::Meter;
@@ -34,7 +34,7 @@ pub struct SetFinder {
 impl Model for SetFinder {
     ghost use Rattle.std.specs.Prelude.{List, map};
     ghost use Rattle.re_syntax.specs.declared.bytes.ByteSet.{ByteSet};
-    ghost use Rattle.re_syntax.specs.Sets.{members};
+    ghost use Rattle.re_syntax.specs.Working.Trees.{members};
     ghost use Rattle.re_needle.specs.Working.Runs.{AreProbesOf};
 
     ghost Value = { List ByteSet };
@@ -124,9 +124,9 @@ impl SetFinder {
         ensures within { IfSome result (λ place. place ≤ length line.now) }
     {
         match self.probes.tried {
-            Tried::TwoBits => self.find_by::<2, true>(line),
-            Tried::Two => self.find_by::<2, false>(line),
-            Tried::All => self.find_by::<4, false>(line),
+            ProbePlan::TwoBits => self.find_by::<2, true>(line),
+            ProbePlan::Two => self.find_by::<2, false>(line),
+            ProbePlan::All => self.find_by::<4, false>(line),
         }
     }
 
@@ -289,15 +289,15 @@ fn share_at(sets: &[ByteSet], place: usize) -> u64 {
 
 // Which tests are tried at 32 places at once. Two tests of bits are the cheapest. They do for two
 // letters, and where few places of most texts pass. Two look-ups do where few pass them.
-fn tried_of(sets: &[ByteSet], first: &Probe, second: &Probe) -> Tried {
+fn tried_of(sets: &[ByteSet], first: &Probe, second: &Probe) -> ProbePlan {
     let are_letters = first.alike.are_nearly_all() && second.alike.are_nearly_all();
     if are_letters || bit_stops(first, second) <= MOST_STOPS {
-        return Tried::TwoBits;
+        return ProbePlan::TwoBits;
     }
     if stops_of(sets, first, second) <= MOST_STOPS {
-        return Tried::Two;
+        return ProbePlan::Two;
     }
-    Tried::All
+    ProbePlan::All
 }
 
 // At about how many places in 65,536 bytes of most texts two tests of bits are passed.

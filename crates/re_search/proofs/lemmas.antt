@@ -14,3 +14,5 @@ pub mod RunFilters
 pub mod PlainLaws
 pub mod KeptAnswers
 pub mod CourseLaws
+pub mod PlainStrings
+pub mod ReadingLaws

@@ -1,26 +1,26 @@
 //! The search for the parts of one line, from the first to the last.
 ghost use Rattle.std.specs.Prelude.{◌≡◌, ◌+◌, ◌*◌, ◌≤◌, true, false, length};
 ghost use Rattle.re_syntax.specs.Bytes.{Text};
-ghost use Rattle.re_auto.specs.Searching.{FindsPart};
+ghost use Rattle.re_auto.specs.Searches.{FindsPart};
 ghost use Rattle.re_search.specs.declared.course.Known.TheVariants.{Nothing};
 ghost use Rattle.re_search.specs.Working.Courses.{AreEnds, HasTaken, IsCourseOf};
 ghost use Rattle.re_search.specs.Working.Sought.{Sought};
 
-use crate::kept::Answer;
+use crate::kept::PartAnswer;
 use re_auto::Meter;
 use re_syntax::Span;
 use std::alloc::Global;
 
-/// How the search for the parts of one line goes: up to which sum of steps, and which number of passed
-/// bytes, each part is searched for by itself, what is known of the line, and what the first matchers,
-/// as many as there was memory for, answered when they were asked.
+/// How the search for the parts of one line goes: the sum of steps and the number of passed bytes
+/// up to which each part is searched for by itself; what is known of the line; and the last answers
+/// of the first matchers, as many as there was memory for.
 #[derive(Drop)]
 pub struct Course {
     pub(crate) alloc: Global,
     pub(crate) limit: u128,
     pub(crate) byte_limit: u128,
     pub(crate) known: Known,
-    pub(crate) answers: Vec<Answer>,
+    pub(crate) answers: Vec<PartAnswer>,
 }
 
 /// What is known of the parts of a line.
@@ -35,10 +35,10 @@ pub enum Known {
 }
 
 impl Course {
-    /// Nothing is known of the line, and no part is searched yet. By itself each part is searched for
-    /// as long as no more steps are taken, and no more bytes passed, than `count` matchers may need to
-    /// search the line twice. Searches that each read one byte beyond their part don't need more. No
-    /// memory is taken.
+    /// Nothing is known of the line, and no part is searched yet. By itself each part is searched
+    /// for as long as no more steps are taken, and no more bytes passed, than `count` matchers may
+    /// need to search the line twice. Searches that each read one byte beyond their part don't need
+    /// more. Nothing is allocated.
     pub fn new(alloc: Global, count: usize, line: &[u8], meter: &Meter) -> Course
         ensures right { (sought : Sought) → IsCourseOf sought line.now result }
         ensures steps { HasTaken (count * (length line.now + 1)) meter.now 0 result meter.now }

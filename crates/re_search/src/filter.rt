@@ -6,20 +6,22 @@ ghost use Rattle.std.specs.Option.{ForSome};
 ghost use Rattle.re_syntax.specs.Expression.{Expression};
 ghost use Rattle.re_syntax.specs.Holds.{Matches};
 ghost use Rattle.re_syntax.specs.Lines.{lines_of, newline, HasNoNewline};
-ghost use Rattle.re_auto.specs.Searching.{AllAnswer, SameMatchers, DecidesMatchOfAll};
+ghost use Rattle.re_auto.specs.Searches.{AllAnswer, SameMatchers, DecidesMatchOfAll};
 ghost use Rattle.re_meter.specs.Meters.{AddsUpTo};
 ghost use Rattle.re_needle.specs.Working.Blocks.{IsBlock, PassesAll};
 ghost use Rattle.re_search.specs.Working.Blocks.{StopsNear};
 ghost use Rattle.re_search.specs.Working.Filters.{AreNeeded, NeedsOneOf, PassesByFilter, LacksAll};
 ghost use Rattle.re_search.specs.Working.Filters.{IsCoveredBy};
 ghost use Rattle.re_search.specs.declared.filter.Needed.{Needed};
-ghost use Rattle.re_syntax.specs.Sets.{members};
+ghost use Rattle.re_syntax.specs.Working.Trees.{members};
 ghost use Rattle.re_needle.specs.Working.Needles.{IsNeeded, RunIsNeeded};
-ghost use Rattle.re_match.specs.Working.Matchers.{matched_expression};
+ghost use Rattle.re_search.specs.Working.Matchers.{matched_expression};
+ghost use Rattle.re_match.specs.Working.Same.{SameMatcher};
 
+use crate::matcher::Matcher;
 use memchr::memchr;
 use re_auto::Meter;
-use re_match::{FixedSet, LineMatch, Looks, Matcher, Sweep};
+use re_match::{FixedSet, LineMatch, ScanBackoff, Sweep};
 use re_needle::{LookCost, SetFinder, first_line_with_sets};
 use re_syntax::ByteSet;
 use std::alloc::{AllocError, Global};
@@ -61,7 +63,7 @@ impl Needed {
 pub struct Filter {
     needed: Option<Needed>,
     likely: Cell<usize>,
-    looks: Looks,
+    backoff: ScanBackoff,
 }
 
 impl Model for Filter {
@@ -81,7 +83,7 @@ impl Filter {
         Filter {
             needed: None,
             likely: Cell::new(0),
-            looks: Looks::new(LookCost::High),
+            backoff: ScanBackoff::new(LookCost::High),
         }
     }
 
@@ -92,7 +94,7 @@ impl Filter {
         Filter {
             needed: Some(needed),
             likely: Cell::new(0),
-            looks: Looks::new(LookCost::High),
+            backoff: ScanBackoff::new(LookCost::High),
         }
     }
 
@@ -137,11 +139,11 @@ impl Filter {
         let Some(needed) = &self.needed else {
             return Sweep::none();
         };
-        if !self.looks.is_due() {
+        if !self.backoff.should_scan() {
             return Sweep::none();
         }
         let sweep = needed.first_line(block, meter);
-        self.looks.note(sweep.start);
+        self.backoff.note(sweep.start);
         meter.add_built(sweep.start as u64);
         sweep
     }
@@ -204,9 +206,7 @@ impl Filter {
 fn is_match<M: LineMatch>(matcher: &mut M, by_steps: bool, line: &[u8], meter: &mut Meter) -> bool
     ensures reported { IsTrue result ↔
         Matches (M.expression matcher.old) line.now (M.whole matcher.old) }
-    ensures same_expression { M.expression matcher.new ≡ M.expression matcher.old }
-    ensures same_whole { M.whole matcher.new ≡ M.whole matcher.old }
-    ensures same_room { M.room matcher.new ≡ M.room matcher.old }
+    ensures same { SameMatcher M.expression M.whole M.room matcher.old matcher.new }
     ensures steps { AddsUpTo (length line.now + 1) (if by_steps then 0 else length line.now + 1)
         meter.old meter.new }
 {
@@ -216,8 +216,8 @@ fn is_match<M: LineMatch>(matcher: &mut M, by_steps: bool, line: &[u8], meter: &
     matcher.is_match(line, meter)
 }
 
-/// Strings of which each line that some matcher matches has one. There are none if a matcher is not
-/// known to need a string. The one error is that memory was refused.
+/// Strings, one of which every matched line has. There are none if a matcher is not known to need a
+/// string. The only error is that an allocation failed.
 pub fn needed_strings(alloc: Global, matchers: &[Matcher]) -> Result<Filter, AllocError>
     ensures { IfOk result
         (λ filter.
@@ -230,8 +230,8 @@ pub fn needed_strings(alloc: Global, matchers: &[Matcher]) -> Result<Filter, All
     Ok(Filter::of(Needed::Strings(strings)))
 }
 
-/// A run of sets of bytes that each line has which some matcher matches. There is none if a matcher is
-/// not known to need a run, or if such runs are common. The one error is that memory was refused.
+/// A run of sets of bytes that every matched line has. There is none if a matcher is not known to
+/// need a run, or if such runs are common. The only error is that an allocation failed.
 pub fn needed_run(alloc: Global, matchers: &[Matcher]) -> Result<Filter, AllocError>
     ensures { IfOk result
         (λ filter. ForSome filter (λ needed. AreNeeded needed (map matched_expression matchers.now))) }

@@ -3,8 +3,9 @@
 ghost use Rattle.std.specs.Prelude.{Bool, ◌≡◌, ◌+◌, ◌-◌, ◌≤◌, ◌∷◌, [], IsTrue, IfSome, length};
 ghost use Rattle.re_syntax.specs.Bytes.{Text};
 ghost use Rattle.re_syntax.specs.Expression.{Expression};
-ghost use Rattle.re_auto.specs.Searching.{AddsAtMost, FindsPart};
+ghost use Rattle.re_auto.specs.Searches.{AddsAtMost, FindsPart};
 ghost use Rattle.re_search.specs.Working.Courses.{IsAnswer, KeepsOthers};
+ghost use Rattle.re_match.specs.Working.Same.{SameMatcher};
 
 use re_auto::Meter;
 use re_match::LineMatch;
@@ -12,7 +13,7 @@ use re_syntax::Span;
 
 /// The next part that a matcher found from a place on.
 #[derive(Clone, Copy, Drop)]
-pub struct Answer {
+pub struct PartAnswer {
     /// The place.
     pub from: usize,
     /// The part, if there is one.
@@ -24,7 +25,7 @@ pub struct Answer {
 pub fn ask<M: LineMatch>(
     matcher: &mut M,
     number: usize,
-    answers: &mut Vec<Answer>,
+    answers: &mut Vec<PartAnswer>,
     line: &[u8],
     from: usize,
     meter: &mut Meter,
@@ -34,9 +35,7 @@ pub fn ask<M: LineMatch>(
         answers.old.items number }
     ensures reported { FindsPart (M.expression matcher.old ∷ []) line.now (M.whole matcher.old) from
         result }
-    ensures same_expression { M.expression matcher.new ≡ M.expression matcher.old }
-    ensures same_whole { M.whole matcher.new ≡ M.whole matcher.old }
-    ensures same_room { M.room matcher.new ≡ M.room matcher.old }
+    ensures same { SameMatcher M.expression M.whole M.room matcher.old matcher.new }
     ensures right { IsAnswer (M.expression matcher.old) line.now (M.whole matcher.old)
         answers.new.items number }
     ensures others { KeepsOthers number answers.old.items answers.new.items }
@@ -46,12 +45,12 @@ pub fn ask<M: LineMatch>(
         return part;
     }
     let part = matcher.find(line, from, meter);
-    keep(answers, number, Answer { from, part });
+    keep(answers, number, PartAnswer { from, part });
     part
 }
 
 // The next part from a place on, if the answer with this number tells.
-fn kept_part(answers: &[Answer], number: usize, from: usize) -> Option<Option<Span>>
+fn kept_part(answers: &[PartAnswer], number: usize, from: usize) -> Option<Option<Span>>
     ensures { IfSome result
         (λ part. (e : Expression) (line : Text) (whole : Bool) →
         IsAnswer e line whole answers.now number → FindsPart (e ∷ []) line whole from part) }
@@ -67,7 +66,7 @@ fn kept_part(answers: &[Answer], number: usize, from: usize) -> Option<Option<Sp
 }
 
 // Whether an answer is the one from this place on too: no part begins before it.
-fn tells(answer: Answer, from: usize) -> bool
+fn tells(answer: PartAnswer, from: usize) -> bool
     ensures { IsTrue result → (e : Expression) (line : Text) (whole : Bool) →
         FindsPart (e ∷ []) line whole answer.from answer.part →
         FindsPart (e ∷ []) line whole from answer.part }
@@ -82,7 +81,7 @@ fn tells(answer: Answer, from: usize) -> bool
 }
 
 // Keeps an answer as the one with this number, if those before it are kept and there is memory.
-fn keep(answers: &mut Vec<Answer>, number: usize, answer: Answer)
+fn keep(answers: &mut Vec<PartAnswer>, number: usize, answer: PartAnswer)
     ensures right { (e : Expression) (line : Text) (whole : Bool) →
         IsAnswer e line whole answers.old.items number →
         FindsPart (e ∷ []) line whole answer.from answer.part →

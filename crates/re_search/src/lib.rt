@@ -5,15 +5,17 @@
 mod course;
 mod filter;
 mod kept;
+mod matcher;
 mod plain;
 mod searchers;
 mod several;
 
 pub use course::Course;
 pub use filter::{Filter, needed_run, needed_strings};
+pub use matcher::Matcher;
 pub use plain::add_strings;
 pub use re_auto::Meter;
-pub use re_match::{Cached, Fixed, FixedSet, LineMatch, Matcher, Simulated};
+pub use re_match::{Cached, Fixed, FixedSet, LineMatch, Simulated};
 pub use re_syntax::{Span, Syntax};
 pub use searchers::{Searchers, next_part};
 pub use several::parts;

@@ -1,10 +1,10 @@
 //! Matchers that are asked together.
 ghost use Rattle.std.specs.Prelude.{map};
 ghost use Rattle.std.specs.Option.{ForSome};
-ghost use Rattle.re_auto.specs.Searching.{AllAnswer};
+ghost use Rattle.re_auto.specs.Searches.{AllAnswer};
 ghost use Rattle.re_search.specs.Working.Filters.{AreNeeded};
 
-mod asking;
+mod matches;
 mod parts;
 
 use crate::filter::Filter;
@@ -12,8 +12,8 @@ pub use parts::next_part;
 use re_match::LineMatch;
 use std::alloc::Global;
 
-/// Matchers that are asked together, with a filter that is asked before them. They are lent: their
-/// owner has them again afterwards, the same but for what they keep of their searches.
+/// Matchers that are asked together, after a filter. They are borrowed: their owner gets them back
+/// unchanged, except for what they keep of their searches.
 ///
 /// All matchers agree on whether the whole line has to be matched, and a line without the strings
 /// of the filter is matched by none of them.

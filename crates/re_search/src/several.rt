@@ -4,21 +4,20 @@ ghost use Rattle.std.specs.Prelude.{ℕ, Bool, List, ◌≡◌, ◌+◌, ◌-◌
 ghost use Rattle.std.specs.Prelude.{map};
 ghost use Rattle.re_syntax.specs.Bytes.{Text};
 ghost use Rattle.re_syntax.specs.Expression.{Expression};
-ghost use Rattle.re_auto.specs.Searching.{FindsPart, FindsPartOfAll, DecidesMatchOfAll, AllAnswer};
-ghost use Rattle.re_auto.specs.Searching.{AddsAtMost, SameMatchers};
+ghost use Rattle.re_auto.specs.Searches.{FindsPart, FindsPartOfAll, DecidesMatchOfAll, AllAnswer};
+ghost use Rattle.re_auto.specs.Searches.{AddsAtMost, SameMatchers};
 ghost use Rattle.re_search.specs.Working.Courses.{AreAnswers};
 
-use crate::kept::{Answer, ask};
+use crate::kept::{PartAnswer, ask};
 use re_auto::Meter;
 use re_match::LineMatch;
 use re_syntax::Span;
 
-/// The next part of the line: of all stretches that are not empty, begin at `from` or later and are
-/// matched by some matcher, the one that begins earliest, and of those that begin there the longest
-/// (XBD 9.1). All matchers have to agree on whether the whole line has to be matched. Called with 0
-/// and then with the end of each part, it returns all parts of the line. It takes at most one step
-/// for each matcher and byte from `from` on, and one more for each matcher, and passes at most as many
-/// bytes.
+/// The next part of the line: the leftmost-longest of the stretches that are not empty, begin at
+/// `from` or later and are matched by some matcher (XBD 9.1). All matchers have to agree on whether
+/// the whole line has to be matched. Called with 0 and then with the end of each part, it returns
+/// all parts of the line. It takes at most one step for each matcher and byte from `from` on, and
+/// one more for each matcher, and passes at most as many bytes.
 pub fn parts<M: LineMatch>(
     matchers: &mut [M],
     line: &[u8],
@@ -46,7 +45,7 @@ pub fn parts<M: LineMatch>(
 pub(crate) fn parts_by_answers<M: LineMatch>(
     matchers: &mut [M],
     whole: bool,
-    answers: &mut Vec<Answer>,
+    answers: &mut Vec<PartAnswer>,
     line: &[u8],
     from: usize,
     meter: &mut Meter,

@@ -2,12 +2,13 @@
 ghost use Rattle.std.specs.Prelude.{◌≡◌, ℕ, suc, ◌-◌, ◌<◌, ◌≤◌, [], ◌∷◌, false, Some, IsTrue, IfOk};
 ghost use Rattle.std.specs.Prelude.{IfErr, length};
 ghost use Rattle.re_syntax.specs.Bytes.{Text};
-ghost use Rattle.re_syntax.specs.Expression.{Expression, expression_of};
+ghost use Rattle.re_syntax.specs.Expression.{Expression};
+ghost use Rattle.re_syntax.specs.Working.Trees.{expression_of};
 ghost use Rattle.re_auto.specs.declared.build.BuildFault.TheVariants.{Memory};
 ghost use Rattle.re_auto.specs.declared.mode.Mode.TheVariants.{Search};
 ghost use Rattle.re_meter.specs.Meters.{many_built};
 ghost use Rattle.re_auto.specs.Working.StartSets.{place_of};
-ghost use Rattle.re_auto.specs.Searching.{FindsPart};
+ghost use Rattle.re_auto.specs.Searches.{FindsPart};
 ghost use Rattle.re_meter.specs.Meters.{AddsUpTo};
 ghost use Rattle.re_steps.specs.Working.Simulations.{AreStartsFor, IsBestSpan, Carries};
 ghost use Rattle.re_syntax.specs.Working.BestStretches.{better_span};
@@ -25,7 +26,7 @@ pub struct StartPair {
 }
 
 impl StartPair {
-    /// Two starts for this automaton. The one error is `Memory`.
+    /// Two starts for this automaton. The only error is `Memory`.
     pub fn new(alloc: Global, automaton: &Automaton) -> Result<StartPair, BuildFault>
         ensures made { IfOk result (AreStartsFor (expression_of automaton.now)) }
         ensures refused { IfErr result (λ fault. fault ≡ Memory) }

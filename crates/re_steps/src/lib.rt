@@ -9,10 +9,10 @@ mod pairs;
 mod sets;
 mod stride;
 mod table;
-mod walking;
+mod walk;
 
 pub use least::StartPair;
-pub use lone::{Tried, try_place};
+pub use lone::{Trial, try_place};
 pub use sets::SetPair;
-pub use table::{LineSearch, Table};
-pub use walking::Outcome;
+pub use table::{LineSearch, StepTable};
+pub use walk::Outcome;

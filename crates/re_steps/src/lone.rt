@@ -1,7 +1,7 @@
 //! The longest matched stretch that begins at one place, where a set of positions is one word.
 ghost use Rattle.std.specs.Prelude.{◌≡◌, ℕ, ◌+◌, ◌<◌, ◌≤◌, ◌↔◌, ◌⊎◌, false, IsTrue};
 ghost use Rattle.std.specs.Prelude.{length, slice_index};
-ghost use Rattle.re_syntax.specs.Expression.{expression_of};
+ghost use Rattle.re_syntax.specs.Working.Trees.{expression_of};
 ghost use Rattle.re_syntax.specs.Holds.{positions};
 ghost use Rattle.re_auto.specs.Working.Bits.{InWord};
 ghost use Rattle.re_auto.specs.Working.Positions.{part_of, is_begin, is_end};
@@ -23,7 +23,7 @@ struct Followed {
 
 /// What is known of the matched stretches that begin at one place and are not empty.
 #[derive(Clone, Copy, Drop)]
-pub enum Tried {
+pub enum Trial {
     /// The longest ends here.
     Ends(usize),
     /// There is none.
@@ -41,7 +41,7 @@ pub fn try_place(
     start: usize,
     patience: usize,
     meter: &mut Meter,
-) -> Tried
+) -> Trial
     requires within { start < length line.now }
     requires some { 1 ≤ patience }
     ensures tried { IsTried (expression_of automaton.now) line.now start patience meter.old
@@ -50,17 +50,17 @@ pub fn try_place(
         meter.new }
 {
     if !automaton.has_one_word() {
-        return Tried::Open;
+        return Trial::Open;
     }
     let followed = follow(automaton, line, start, patience);
     meter.add_built((followed.place - start) as u64);
     if followed.last != start {
-        return Tried::Ends(followed.last);
+        return Trial::Ends(followed.last);
     }
     if followed.is_over {
-        return Tried::Fails;
+        return Trial::Fails;
     }
-    Tried::Open
+    Trial::Open
 }
 
 // Follows the stretches that begin at `start` as far as one of them goes, but no further than

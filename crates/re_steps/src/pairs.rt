@@ -90,7 +90,7 @@ impl Pairs {
     }
 
     /// Holds a cell at its place, where nothing is held. The cell that was held longest may be
-    /// removed for it. If memory is refused, nothing changes.
+    /// removed for it. If an allocation fails, nothing changes.
     pub fn put(&mut self, at: u32, cell: u32)
         requires within { at < length self.old.cells }
         requires known { cell < unknown }

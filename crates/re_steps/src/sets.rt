@@ -1,6 +1,6 @@
 //! Sets of positions on their way over a line.
 ghost use Rattle.std.specs.Prelude.{◌≡◌, ◌<◌, ◌≤◌, [], IfOk, IfErr, length};
-ghost use Rattle.re_syntax.specs.Expression.{expression_of};
+ghost use Rattle.re_syntax.specs.Working.Trees.{expression_of};
 ghost use Rattle.re_auto.specs.declared.build.BuildFault.TheVariants.{Memory};
 ghost use Rattle.re_auto.specs.declared.mode.Mode.TheVariants.{Search, Whole};
 ghost use Rattle.re_meter.specs.Meters.{many_built};
@@ -20,7 +20,7 @@ pub struct SetPair {
 }
 
 impl SetPair {
-    /// Two sets for this automaton. The one error is `Memory`.
+    /// Two sets for this automaton. The only error is `Memory`.
     pub fn new(alloc: Global, automaton: &Automaton) -> Result<SetPair, BuildFault>
         ensures made { IfOk result (AreSetsFor (expression_of automaton.now)) }
         ensures refused { IfErr result (λ fault. fault ≡ Memory) }

@@ -3,7 +3,7 @@ ghost use Rattle.std.specs.Prelude.{◌≡◌, ℕ, ◌+◌, ◌-◌, ◌*◌, �
 ghost use Rattle.std.specs.Prelude.{Some, IsTrue, IfOk, OnOk, IfSome, length, slice_get};
 ghost use Rattle.std.specs.Prelude.{slice_index};
 ghost use Rattle.std.specs.NonZero.{non_zero_usize_get};
-ghost use Rattle.re_syntax.specs.Expression.{expression_of};
+ghost use Rattle.re_syntax.specs.Working.Trees.{expression_of};
 ghost use Rattle.re_auto.specs.declared.step.state_set.StateSet.{StateSet as Set};
 ghost use Rattle.re_auto.specs.Working.StateSets.{IsMadeFor, IsSame, IsNowhere, IsNextSet};
 ghost use Rattle.re_steps.specs.Working.Rows.{IsKnownFor};
@@ -22,16 +22,16 @@ use std::num::NonZeroUsize;
 /// The bit that the cell of a set has, on top of its row, if a matched stretch ends there.
 pub const LIMIT: u32 = 1 << 30;
 
-/// Where on a line a matched stretch ends when the search is at a set.
+/// Where on a line a set of positions accepts.
 #[derive(Clone, Copy, Drop)]
-pub struct Mark {
+pub struct Acceptance {
     /// Before the line's end.
     pub inside: bool,
     /// At the line's end.
     pub at_end: bool,
 }
 
-/// What a search of a line goes by.
+/// Inputs of a line search.
 #[derive(Clone, Copy)]
 pub struct LineSearch<'a, 'l> {
     /// Where memory for what is kept comes from.
@@ -48,7 +48,7 @@ pub struct LineSearch<'a, 'l> {
 /// that is held has the row of the set after such a byte. Row 0 is that of the set without
 /// positions, the next that of a line's first place.
 #[derive(Drop)]
-pub struct Table {
+pub struct StepTable {
     /// The class of each byte.
     pub classes: Vec<u8>,
     /// How far apart rows lie.
@@ -56,7 +56,7 @@ pub struct Table {
     /// The sets.
     pub sets: IndexSet<StateSet>,
     /// Where matched stretches end, by the number of the set.
-    pub marks: Vec<Mark>,
+    pub marks: Vec<Acceptance>,
     /// The cells.
     pub pairs: Pairs,
     /// The set that was worked out last.
@@ -65,13 +65,13 @@ pub struct Table {
     pub pace: Pace,
 }
 
-impl Table {
+impl StepTable {
     /// A table without rows, for at most `most` pairs of sets of this automaton and bytes.
     pub fn new(
         alloc: Global,
         automaton: &Automaton,
         most: NonZeroUsize,
-    ) -> Result<Table, AllocError>
+    ) -> Result<StepTable, AllocError>
         ensures blank { IfOk result IsBlank }
         ensures made { IfOk result
             (λ table. IsMadeFor (expression_of automaton.now) table.scratch) }
@@ -79,7 +79,7 @@ impl Table {
     {
         let scratch = blank_set(alloc, automaton)?;
         let pairs = Pairs::new(alloc, most)?;
-        Ok(Table {
+        Ok(StepTable {
             classes: Vec::new(alloc),
             stride: Stride::for_width(0),
             sets: IndexSet::new(alloc),
@@ -134,7 +134,7 @@ impl Table {
         self.clear();
     }
 
-    // Makes the first two rows, in which nothing is held. If memory is refused, there are none.
+    // Makes the first two rows, in which nothing is held. If an allocation fails, there are none.
     fn begin(&mut self, asked: &LineSearch) -> bool
         requires blank { IsBlank self.old }
         ensures right { IsTrue result → IsRightFor asked.now self.new }
@@ -168,8 +168,8 @@ impl Table {
     }
 
     /// Removes all rows, then makes the first two and one for the scratch set, in which nothing is
-    /// held. Returns the cell that leads to that set. `None` if that does not pay or memory is
-    /// refused: then the table must not be used any more.
+    /// held. Returns the cell that leads to that set. `None` if that does not pay or an allocation
+    /// fails: then the table must not be used any more.
     #[inline(never)]
     pub fn begin_anew(&mut self, asked: &LineSearch) -> Option<u32>
         requires made { IsMadeFor (expression_of asked.now.automaton.now) self.old.scratch }
@@ -237,9 +237,10 @@ impl Table {
         Ok(number)
     }
 
-    // Whether there is room for one more row. There may be a few more sets than pairs.
+    // Whether there is room for one more row. There may be three more sets than pairs.
     fn has_room(&self) -> bool
-        ensures { IsTrue result → length self.now.pairs.cells + self.now.stride ≤ limit }
+        ensures cells { IsTrue result → length self.now.pairs.cells + self.now.stride ≤ limit }
+        ensures sets { IsTrue result → length self.now.sets.keys < self.now.pairs.most + 3 }
     {
         let fits = self.pairs.cells().len() <= LIMIT as usize - self.stride.width();
         fits & (self.sets.len() < self.pairs.most().saturating_add(3))
@@ -247,7 +248,7 @@ impl Table {
 
     /// The mark of the set of this number.
     #[inline(always)]
-    pub fn mark(&self, number: usize) -> Mark
+    pub fn mark(&self, number: usize) -> Acceptance
         requires { number < length self.now.marks.items }
         ensures { slice_get self.now.marks.items number ≡ Some result }
     {
@@ -258,7 +259,7 @@ impl Table {
     pub fn cell_of(&self, mode: Mode, number: usize) -> u32
         requires within { number < length self.now.marks.items }
         requires small { number * self.now.stride < limit }
-        ensures { (mark : Mark) → slice_get self.now.marks.items number ≡ Some mark →
+        ensures { (mark : Acceptance) → slice_get self.now.marks.items number ≡ Some mark →
             IsCellOf mode mark (number * self.now.stride) result }
     {
         let row = self.stride.row(number) as u32;
@@ -269,7 +270,7 @@ impl Table {
     }
 }
 
-// A set without positions. If memory is refused, the error says that alone.
+// A set without positions. If an allocation fails, the error says that alone.
 fn blank_set(alloc: Global, automaton: &Automaton) -> Result<StateSet, AllocError>
     ensures made { IfOk result (IsMadeFor (expression_of automaton.now)) }
     ensures nowhere { IfOk result IsNowhere }
@@ -281,11 +282,11 @@ fn blank_set(alloc: Global, automaton: &Automaton) -> Result<StateSet, AllocErro
 }
 
 // The mark of a set.
-fn mark_of(automaton: &Automaton, mode: Mode, set: &StateSet) -> Mark
+fn mark_of(automaton: &Automaton, mode: Mode, set: &StateSet) -> Acceptance
     requires { IsMadeFor (expression_of automaton.now) set.now }
     ensures { IsMarkOf (expression_of automaton.now) mode set.now result }
 {
-    Mark {
+    Acceptance {
         inside: automaton.accepts(mode, set, false),
         at_end: automaton.accepts(mode, set, true),
     }

@@ -4,10 +4,10 @@ ghost use Rattle.re_syntax.specs.Working.PutEnds.{AddsEnds};
 ghost use Rattle.re_strings.specs.Working.FixedSets.{IsTable, IsTableOf, Labels, Occurs, EndsWith};
 ghost use Rattle.re_strings.specs.Working.Keys.{keys};
 
+use crate::aho_corasick::{AhoCorasick, step};
 use crate::keys::key_of;
-use crate::table::{Table, step};
 
-impl Table {
+impl AhoCorasick {
     /// Gives each place of the line the greatest end of the strings, not the empty one, that begin
     /// there, if `ends` has no greater one. It goes over each byte once: its caller counts a step
     /// for each.

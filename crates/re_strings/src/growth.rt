@@ -29,8 +29,8 @@ pub struct Growth {
     pub first: Vec<u32>,
 }
 
-/// The beginnings of these strings, which are in order. The errors are that memory was refused, or
-/// that there are more than 2^32 - 1 beginnings.
+/// The beginnings of these strings, which are in order. The errors are that an allocation failed,
+/// or that there are more than 2^32 - 1 beginnings.
 pub fn grow(alloc: Global, strings: &[&[u8]]) -> Result<Growth, AllocError>
     requires { AreAscending (map (λ s. s.now) strings.now) }
     ensures rows { IfOk result

@@ -1,16 +1,16 @@
-//! The search for many strings at once (Aho and Corasick, 1975).
+//! The search for many strings at once by the Aho-Corasick algorithm.
 #![tactic(auto)]
 
+mod aho_corasick;
+mod build;
 mod ends;
 mod growth;
 mod keys;
 mod leaps;
 mod links;
-mod making;
-mod overlapping;
-mod table;
+mod occurrences;
 mod trie;
 
-pub use making::table_of;
-pub use overlapping::add_occurrences;
-pub use table::Table;
+pub use aho_corasick::AhoCorasick;
+pub use build::table_of;
+pub use occurrences::add_occurrences;

@@ -6,8 +6,8 @@ ghost use Rattle.re_strings.specs.Working.FixedSets.{AreFallbacks, AreFallbacksO
 ghost use Rattle.re_strings.specs.Working.FixedSets.{AreLinked, AreLinkedFor, Labels, StandsFor};
 ghost use Rattle.re_strings.specs.Working.FixedSets.{StepsOn, own_or};
 
+use crate::aho_corasick::step;
 use crate::keys::key_of;
-use crate::table::step;
 use crate::trie::Trie;
 use std::alloc::{AllocError, Global};
 

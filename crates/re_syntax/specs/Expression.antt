@@ -1,11 +1,6 @@
--- Regular expressions, apart from how they are written (XBD 9.3, 9.4), and the expression that a
--- `Tree` means.
+-- Regular expressions, apart from how they are written (XBD 9.3, 9.4).
 use Rattle.std.specs.Prelude.{ℕ, List, [], ◌∷◌, Option}
-use Rattle.re_syntax.specs.Sets.{members}
 use Rattle.re_syntax.specs.Bytes.{Bytes, only}
-use Rattle.re_syntax.specs.declared.tree.Tree.{Tree}
-use Rattle.re_syntax.specs.declared.tree.Tree.TheOpen.{Tree-F}
-use Rattle.re_syntax.specs.declared.tree.Tree.TheFolds.{fold-Tree}
 
 pub data Expression : Type 0 where
   empty : Expression
@@ -36,20 +31,6 @@ alt (e ∷ es) = alt_more e (alt es)
 
 abbrev pub byte : ℕ → Expression
 byte b = one_of (only b)
-
--- one node, with the expression of each child in its place
-abbrev pub node_expression : Tree-F Expression → Expression
-node_expression Tree-F.Empty = empty
-node_expression (Tree-F.Set s) = one_of (members s)
-node_expression (Tree-F.Not s) = none_of (members s)
-node_expression Tree-F.Begin = begin
-node_expression Tree-F.End = end
-node_expression (Tree-F.Cat parts) = cat parts.items
-node_expression (Tree-F.Alt parts) = alt parts.items
-node_expression (Tree-F.Repeat part least most) = repeat part.value least most
-
-abbrev pub expression_of : Tree → Expression
-expression_of = fold-Tree Expression node_expression
 
 -- no item is the empty expression, one item is itself, several are one after another
 abbrev pub sequence : List Expression → Expression

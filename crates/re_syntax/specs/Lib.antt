@@ -1,7 +1,6 @@
 -- the definitions that the contract of the whole command, or of the session, rests on
 pub mod Bytes
 pub mod Profile
-pub mod Sets
 pub mod Expression
 pub mod Holds
 pub mod Parts

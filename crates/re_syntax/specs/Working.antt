@@ -1,4 +1,5 @@
-pub mod Splitting
+pub mod Trees
+pub mod Splits
 pub mod Cursors
 pub mod Ahead
 pub mod IntervalSteps

@@ -2,8 +2,7 @@
 ghost use Rattle.std.specs.Prelude.{◌≡◌, ◌≢◌, ℕ, ◌≤◌, ◌++◌, ◌∷◌, Some, IfSome, IfNone, IfOk, IfErr};
 ghost use Rattle.std.specs.Prelude.{OnOk, MatchOption, MatchBool, codes, slice_get};
 ghost use Rattle.re_syntax.specs.Bytes.{Begins, class_name};
-ghost use Rattle.re_syntax.specs.Expression.{expression_of};
-ghost use Rattle.re_syntax.specs.Sets.{members};
+ghost use Rattle.re_syntax.specs.Working.Trees.{expression_of, members};
 ghost use Rattle.re_syntax.specs.Brackets.{Point, Element, Rest, IsBracket, IsBracketUpTo};
 ghost use Rattle.re_syntax.specs.Brackets.{IsOnlyBracket};
 ghost use Rattle.re_syntax.specs.Working.BracketSteps.{Stands, OpensNoClass, MayGoOn, HasNoPoint};

@@ -2,7 +2,8 @@
 ghost use Rattle.std.specs.Prelude.{◌≡◌, ◌≤◌, ◌<◌, ◌⊎◌, ◌∷◌, [], false, IfOk, IfErr, MatchOption};
 ghost use Rattle.std.specs.Prelude.{MatchBool, codes, length, take, drop, map};
 ghost use Rattle.re_syntax.specs.Bytes.{Begins};
-ghost use Rattle.re_syntax.specs.Expression.{Expression, expression_of};
+ghost use Rattle.re_syntax.specs.Expression.{Expression};
+ghost use Rattle.re_syntax.specs.Working.Trees.{expression_of};
 ghost use Rattle.re_syntax.specs.Extended.{Duplication};
 ghost use Rattle.re_syntax.specs.declared.syntax.Syntax.TheVariants.{Extended};
 ghost use Rattle.re_syntax.specs.Profile.{most_levels};

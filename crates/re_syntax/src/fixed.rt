@@ -1,5 +1,6 @@
 ghost use Rattle.std.specs.Prelude.{◌≡◌, IfOk, IfErr, map};
-ghost use Rattle.re_syntax.specs.Expression.{expression_of, sequence};
+ghost use Rattle.re_syntax.specs.Expression.{sequence};
+ghost use Rattle.re_syntax.specs.Working.Trees.{expression_of};
 ghost use Rattle.re_syntax.specs.Spelled.{IsSpelled, SpellsNoOther};
 ghost use Rattle.re_syntax.specs.declared.syntax.Syntax.TheVariants.{Fixed};
 

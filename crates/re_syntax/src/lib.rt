@@ -5,13 +5,13 @@ mod ahead;
 mod basic;
 mod bracket;
 mod bytes;
+mod case_fold;
 mod class;
 mod cursor;
 mod escape;
 mod extended;
 mod fault;
 mod fixed;
-mod folding;
 mod interval;
 mod laws;
 mod pieces;
@@ -25,11 +25,11 @@ mod tree;
 pub use basic::read_basic;
 pub use bracket::read_bracket;
 pub use bytes::ByteSet;
+pub use case_fold::fold;
 pub use class::Class;
 pub use extended::read_extended;
 pub use fault::{FaultKind, PatternFault};
 pub use fixed::read_fixed;
-pub use folding::fold;
 pub use laws::{
     brackets_are_unique, has_one_split, parts_are_unique, spells_one, standard_is_kept,
 };

@@ -1,7 +1,7 @@
 //! Blocks of whole lines: their next matched line, how many lines are matched, and the steps.
 ghost use Rattle.std.specs.Prelude.{Bool, false, IfOk, map};
 ghost use Rattle.std.specs.Option.{ForSome};
-ghost use Rattle.re_search.specs.Searching.{AllAnswer};
+ghost use Rattle.re_search.specs.Searches.{AllAnswer};
 ghost use Rattle.re_search.specs.Working.Filters.{AreNeeded};
 ghost use Rattle.re_search.specs.Working.Matchers.{matched_expression, wants_whole};
 
@@ -32,8 +32,8 @@ static EXACT: [Exact; 7] = [
     (b"x", false, b"a\nbx\nx", Some((2, 4)), 5, 2, 7),
     (b"x", false, b"xxx", Some((0, 3)), 4, 1, 4),
     (b"z", false, b"a\nbx\nx", None, 7, 0, 7),
-    // A look finds the empty text at each line's beginning, and steps go up to there.
-    (b"", false, b"\nx", Some((0, 0)), 1, 2, 1),
+    // The empty text is found at each line's beginning.
+    (b"", false, b"\nx", Some((0, 0)), 1, 2, 3),
     // A text with a newline is on no line.
     (b"b\nc", false, b"ab\ncd", None, 5, 0, 5),
     (b"x", true, b"ax\nx\nxx", Some((3, 4)), 5, 1, 8),
@@ -53,7 +53,7 @@ fn assert_exact(rt: &impl Abort, alloc: Global, row: &Exact) -> Result<(), Fail>
     assert_eq!(rt; ends_of(found), next, "{text:?} in {lines:?}");
     assert_steps(rt, &meter, next_steps, 0, lines);
     let mut meter = fresh_meter();
-    let counted = matcher.count_matched(&block, &mut meter);
+    let counted = matcher.count_lines(&block, &mut meter);
     assert_eq!(rt; counted, count, "{text:?} in {lines:?}");
     assert_steps(rt, &meter, count_steps, 0, lines);
     Ok(())

@@ -213,7 +213,7 @@ fn assert_gone_over(rt: &impl Abort, matcher: &mut Matcher, line: &[u8], row: &R
     assert_eq!(rt; steps, built.saturating_add(reused), "{:?}", row.0);
 }
 
-// Searches the line twice while the N-th request for memory is refused; whether one was.
+// Searches the line twice while the N-th allocation fails; whether one did.
 fn searched_without(
     rt: &impl Abort,
     alloc: Global,
@@ -228,8 +228,8 @@ fn searched_without(
     Ok(ask(alloc, WAS_REFUSED).is_err())
 }
 
-// Searches the line twice while the N-th request for memory is refused, and once more; whether one
-// was. The answers and the steps are as ever, and no more is held than may be.
+// Searches the line twice while the N-th allocation fails, and once more; whether one was. The
+// answers and the steps are as ever, and no more is held than may be.
 fn assert_searched_without(
     rt: &impl Abort,
     alloc: Global,
@@ -285,8 +285,8 @@ fn anchored() -> &'static [(&'static [u8], bool)] {
     &ANCHORED
 }
 
-// Makes the matcher of that pattern while the N-th request for memory is refused; whether one was.
-// There is room for it in the vector. A matcher that can't be made is out of memory.
+// Makes the matcher of that pattern while the N-th allocation fails; whether one did. There is room
+// for it in the vector. A matcher that can't be made is out of memory.
 fn added_without(
     rt: &impl Abort,
     alloc: Global,

@@ -1,6 +1,6 @@
 //! All parts of a line, in at most four searches of it, by steps and by passed bytes.
 ghost use Rattle.std.specs.Prelude.{false, map};
-ghost use Rattle.re_search.specs.Searching.{AllAnswer};
+ghost use Rattle.re_search.specs.Searches.{AllAnswer};
 ghost use Rattle.re_search.specs.Working.Matchers.{wants_whole};
 
 use crate::blocks::all_made;
@@ -109,8 +109,8 @@ fn all_parts_of_a_line_take_four_searches(rt: HostRuntime) -> Result<(), Fail> {
     Ok(())
 }
 
-// Searches for the parts of a line while the N-th request for memory is refused; whether one was. A
-// refusal is counted only where one came, and four searches are enough where none is counted.
+// Searches for the parts of a line while the N-th allocation fails; whether one did. A refusal is
+// counted only where one came, and four searches are enough where none is counted.
 fn searched_without(
     rt: &impl Abort,
     alloc: Global,

@@ -27,7 +27,7 @@ const WHOLE: Pattern = (Syntax::Basic, b"a*", false, true);
 
 const FIRST: Pattern = (Syntax::Basic, b"^a", false, false);
 
-static SEARCHES: [Search; 12] = [
+static SEARCHES: [Search; 13] = [
     (CHOICE, b"xabcde", true, 0, Some((1, 5)), 7),
     (CHOICE, b"xabcde", true, 2, Some((2, 4)), 5),
     (CHOICE, b"xabcde", true, 5, None, 2),
@@ -40,6 +40,15 @@ static SEARCHES: [Search; 12] = [
     (FIRST, b"aaa", true, 1, None, 3),
     (
         (Syntax::Fixed, b"aa", false, false),
+        b"aaa",
+        true,
+        1,
+        Some((1, 3)),
+        3,
+    ),
+    // A pattern that is one string is looked for as a fixed string is.
+    (
+        (Syntax::Basic, b"aa", false, false),
         b"aaa",
         true,
         1,
@@ -93,11 +102,11 @@ static NEEDED: [Search; 14] = [
     (IN_GROUPS, b"xbayabz", false, 0, None, 0),
     (RARE, b"the the", false, 0, None, 0),
     (
-        (Syntax::Basic, b"ab", false, false),
-        b"xabab",
+        (Syntax::Extended, b"a(bc)", false, false),
+        b"xabcabc",
         true,
         2,
-        Some((3, 5)),
+        Some((4, 7)),
         0,
     ),
     (

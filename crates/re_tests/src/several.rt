@@ -1,6 +1,6 @@
 //! One string, and several, as matchers.
 ghost use Rattle.std.specs.Prelude.{Bool, IfOk, map};
-ghost use Rattle.re_search.specs.Searching.{AllAnswer};
+ghost use Rattle.re_search.specs.Searches.{AllAnswer};
 ghost use Rattle.re_search.specs.Working.Blocks.{IsBlock};
 
 use re_auto::{Meter, fresh_meter};

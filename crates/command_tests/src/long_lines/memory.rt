@@ -1,4 +1,4 @@
-//! Lines of which each request for memory is refused in turn.
+//! Lines, while each allocation fails in turn.
 //!
 //! Where no library refuses requests, as tools/refuse_growths.sh has it, each is granted, and each
 //! text is read once.
@@ -11,7 +11,7 @@ use std::test::Fail;
 /// How many requests the lines of these texts make at most.
 const MOST: usize = 200;
 
-/// The lengths of the lines of each text, of which the last has no newline.
+/// The lengths of the lines of each text; the last line has no newline.
 static LENGTHS: [&[usize]; 3] = [
     &[100_000],
     &[0, 1, 65_535, 65_536, 65_537, 3, 131_072, 0, 131_073, 2],
@@ -44,7 +44,7 @@ fn assert_next(rt: &impl Abort, lines: &mut Lines<Tally<&[u8]>>, wanted: &[u8]) 
     first == Err(ReadFault::Memory)
 }
 
-/// Reads the lines of a text while the N-th request for memory is refused; whether one was.
+/// Reads the lines of a text while the N-th allocation fails; whether one did.
 fn assert_refused(rt: &impl Abort, alloc: Global, text: &[u8], n: usize) -> Result<bool, Fail> {
     let mut reported = false;
     refuse(alloc, n)?;

@@ -1,7 +1,7 @@
 //! How many states a session keeps.
 ghost use Rattle.std.specs.Prelude.{◌≤◌};
 
-use grep_session::{Caches, Session};
+use grep_session::{Caches, NewLines, Session};
 use re_auto::fresh_meter;
 use std::alloc::Global;
 use std::process::Abort;
@@ -18,6 +18,7 @@ fn searched(alloc: Global, states: usize) -> Result<Caches, Fail>
     session.add_patterns(b"ab*e\nab*t", &mut meter)?;
     let mut lines = Vec::new(alloc);
     lines.push(vec![in alloc; b'a'; 1_000]?)?;
+    let lines = NewLines::from_lines(alloc, &lines)?;
     session.add_file(Vec::new(alloc), lines, &mut meter)?;
     Ok(session.cached())
 }

@@ -1,6 +1,6 @@
 //! Edits of a session as data.
 use grep_core::{Context, Flag};
-use grep_session::{EditFault, Session};
+use grep_session::{EditFault, NewLines, Session};
 use re_search::{Meter, Syntax};
 use re_syntax::split_file;
 use std::alloc::{AllocError, Global};
@@ -71,13 +71,23 @@ pub fn handed_by(alloc: Global, edit: Edit) -> Result<Handed, AllocError> {
 }
 
 /// Makes the edit.
-pub fn make_edit(session: &mut Session, edit: Edit, handed: Handed, meter: &mut Meter) -> Answer {
+pub fn make_edit(
+    alloc: Global,
+    session: &mut Session,
+    edit: Edit,
+    handed: Handed,
+    meter: &mut Meter,
+) -> Answer {
     let Handed { name, lines } = handed;
     match edit {
-        Edit::AddFile(_, _) => session.add_file(name, lines, meter),
+        Edit::AddFile(_, _) => {
+            session.add_file(name, NewLines::from_lines(alloc, &lines)?, meter)
+        }
         Edit::AddMissing(_) => session.add_missing(name),
         Edit::DropFile(k) => session.drop_file(k),
-        Edit::Splice(k, start, count, _) => session.splice(k, start, count, lines, meter),
+        Edit::Splice(k, start, count, _) => {
+            session.splice(k, start, count, NewLines::from_lines(alloc, &lines)?, meter)
+        }
         Edit::AddPatterns(list) => session.add_patterns(list, meter),
         Edit::DropPattern(p) => session.drop_pattern(p, meter),
         Edit::SetFlag(flag, on) => session.set_flag(flag, on, meter),

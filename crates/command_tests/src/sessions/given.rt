@@ -35,9 +35,9 @@ fn spliced(rt: &impl Abort, alloc: Global) -> Result<Session, Fail> {
     assert_eq!(rt; session.add_patterns(b"a", &mut meter), DONE);
     let lines = given(alloc, b"ab\nc\nca\n")?;
     assert_eq!(rt; lines.len(), 3);
-    assert_eq!(rt; session.add_lines(Vec::new(alloc), lines, &mut meter), DONE);
+    assert_eq!(rt; session.add_file(Vec::new(alloc), lines, &mut meter), DONE);
     let lines = given(alloc, b"d\naa\n")?;
-    assert_eq!(rt; session.splice_lines(0, 1, 1, lines, &mut meter), DONE);
+    assert_eq!(rt; session.splice(0, 1, 1, lines, &mut meter), DONE);
     Ok(session)
 }
 
@@ -53,11 +53,11 @@ fn given_lines_are_searched(rt: HostRuntime) -> Result<(), Fail> {
 fn assert_given(rt: &impl Abort, alloc: Global, live: &mut Live) -> Result<(), Fail> {
     let mut meter = fresh_meter();
     let lines = given(alloc, b"ab\nc\nca\n")?;
-    assert_eq!(rt; live.add_lines(Vec::new(alloc), lines, &mut meter), DONE);
+    assert_eq!(rt; live.add_file(Vec::new(alloc), lines, &mut meter), DONE);
     let reply = b"h 0 0 0 3 2\nr 0 - ab\nr 2 - ca\n";
     assert_changes(rt, alloc, live, reply, Status::Selected);
     let lines = given(alloc, b"d\naa\n")?;
-    assert_eq!(rt; live.splice_lines(0, 1, 1, lines, &mut meter), DONE);
+    assert_eq!(rt; live.splice(0, 1, 1, lines, &mut meter), DONE);
     assert_changes(
         rt,
         alloc,

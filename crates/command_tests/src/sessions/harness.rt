@@ -97,7 +97,7 @@ pub fn assert_row(
     let before = observed(rt, alloc, session)?;
     let handed = handed_by(alloc, edit)?;
     let begun = steps_of(meter);
-    let given = make_edit(session, edit, handed, meter);
+    let given = make_edit(alloc, session, edit, handed, meter);
     let steps = steps_of(meter).saturating_sub(begun);
     assert_eq!(rt; given, answer, "{edit:?}");
     assert!(rt; steps <= most, "{edit:?}: {steps} steps");

@@ -1,4 +1,4 @@
-//! Edits of which each request for memory is refused in turn, and calls that make none.
+//! Edits, while each allocation fails in turn, and calls that allocate nothing.
 //!
 //! Where no library refuses requests, as tools/refuse_growths.sh has it, each is granted, and each
 //! edit is made once.
@@ -47,8 +47,8 @@ fn may_grow(row: Row) -> bool {
     }
 }
 
-/// Makes the edit of a row while its N-th request for memory is refused; whether one was. Where the
-/// edit was refused for that, the session is as before, and the edit is made again.
+/// Makes the edit of a row while its N-th allocation fails; whether one did. Where the edit was
+/// refused for that, the session is as before, and the edit is made again.
 fn assert_refusal(
     rt: &impl Abort,
     alloc: Global,
@@ -61,7 +61,7 @@ fn assert_refusal(
     let before = observed(rt, alloc, session)?;
     let handed = handed_by(alloc, edit)?;
     refuse(alloc, n)?;
-    let given = make_edit(session, edit, handed, meter);
+    let given = make_edit(alloc, session, edit, handed, meter);
     let refused = was_refused(alloc);
     assert!(rt; !refused || may_grow(row), "{edit:?}");
     if given == Err(EditFault::Memory) {

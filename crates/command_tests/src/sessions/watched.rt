@@ -1,5 +1,5 @@
 //! Sessions that an editor watches: changes that could not be written, and files that were not
-//! added since a request for memory was refused.
+//! added because an allocation failed.
 //!
 //! Where no library refuses requests, as tools/refuse_growths.sh has it, each is granted, and each
 //! file is added once.
@@ -8,7 +8,7 @@ use super::harness::{DONE, NO_SUCH_FILE, STATES};
 use crate::marks::{refuse, was_refused};
 use grep_core::{Limited, Status, Tally, WriteFault};
 use grep_live::Live;
-use grep_session::EditFault;
+use grep_session::{EditFault, NewLines};
 use re_auto::fresh_meter;
 use std::alloc::Global;
 use std::process::Abort;
@@ -45,8 +45,9 @@ pub fn assert_changes(
 }
 
 /// Makes an edit that adds a file or replaces lines.
-fn add_lines(live: &mut Live, edit: Edit, handed: Handed) -> Answer {
+fn add_lines(alloc: Global, live: &mut Live, edit: Edit, handed: Handed) -> Answer {
     let Handed { name, lines } = handed;
+    let lines = NewLines::from_lines(alloc, &lines)?;
     let mut meter = fresh_meter();
     match edit {
         Edit::AddFile(_, _) => live.add_file(name, lines, &mut meter),
@@ -58,7 +59,7 @@ fn add_lines(live: &mut Live, edit: Edit, handed: Handed) -> Answer {
 /// Makes an edit that is accepted.
 fn assert_added(rt: &impl Abort, alloc: Global, live: &mut Live, edit: Edit) -> Result<(), Fail> {
     let handed = handed_by(alloc, edit)?;
-    assert_eq!(rt; add_lines(live, edit, handed), DONE, "{edit:?}");
+    assert_eq!(rt; add_lines(alloc, live, edit, handed), DONE, "{edit:?}");
     Ok(())
 }
 
@@ -112,8 +113,8 @@ fn changes_that_were_not_written_are_reported_again(rt: HostRuntime) -> Result<(
     Ok(())
 }
 
-/// Adds a file after the others while the N-th request for memory is refused; whether one was.
-/// Where it was refused for that, no file was added and nothing changed, and it is added again.
+/// Adds a file after the others while the N-th allocation fails; whether one did. Where it was
+/// refused for that, no file was added and nothing changed, and it is added again.
 fn assert_file_refused(
     rt: &impl Abort,
     alloc: Global,
@@ -125,7 +126,7 @@ fn assert_file_refused(
     let handed = handed_by(alloc, edit)?;
     let before = live.status();
     refuse(alloc, n)?;
-    let given = add_lines(live, edit, handed);
+    let given = add_lines(alloc, live, edit, handed);
     let refused = was_refused(alloc);
     if given == Err(EditFault::Memory) {
         assert!(rt; refused, "{edit:?}, {n}");

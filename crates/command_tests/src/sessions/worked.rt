@@ -196,12 +196,12 @@ static ONE_FILE: [Row; 10] = [
 
 const CANNOT_OPEN: &[u8] = b"grep: m: cannot open\n";
 
-/// A line with a newline, which a bar means, is refused; other reasons take precedence over it.
+/// A line with a newline, which a bar means, is refused before the session is asked.
 static NEWLINES: [Row; 8] = [
     (AddFile("f", b"a\nb|c\n"), LINE_HAS_NEWLINE, b"", b"", 1, 0),
     (AddMissing("m"), DONE, b"", CANNOT_OPEN, 2, 0),
     (
-        Splice(0, 5, 0, b"a|\n"),
+        Splice(0, 5, 0, b"a\n"),
         FILE_IS_MISSING,
         b"",
         CANNOT_OPEN,
@@ -209,7 +209,7 @@ static NEWLINES: [Row; 8] = [
         0,
     ),
     (
-        Splice(1, 0, 0, b"a|b\n"),
+        Splice(1, 0, 0, b"a\n"),
         NO_SUCH_FILE,
         b"",
         CANNOT_OPEN,
@@ -218,7 +218,7 @@ static NEWLINES: [Row; 8] = [
     ),
     (AddFile("f", b"a\nb\n"), DONE, b"", CANNOT_OPEN, 2, 0),
     (
-        Splice(1, 3, 0, b"x|y\n"),
+        Splice(1, 3, 0, b"x\n"),
         OUT_OF_RANGE,
         b"",
         CANNOT_OPEN,

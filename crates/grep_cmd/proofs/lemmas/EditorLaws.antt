@@ -1,30 +1,11 @@
 -- The lists that an editor makes by the replies alone follow, and are the present hits.
 use Rattle.std.proofs.Common.{◌≡◌, ℕ, ◌+◌, ◌<◌, ◌≤◌, ◌^◌, min, true, false, true≢false, List, [], ◌∷◌, ◌++◌, length, take, drop, get_or, codes, Result, Ok, Err, refl, sym, ap, subst, ◌∙◌, inl, inr, arith, append_assoc}
-use Rattle.std.specs.Prelude.{◌-◌}
-use Rattle.std.specs.List.{list_any, sum_by}
+use Rattle.grep_cmd.proofs.Words.{◌-◌, list_any, sum_by, Text, Status, IfHolds, File, Inputs, EditFault, Edit, Mark, View, AreHits, Watched, new_watched, IsChange, all_after, FollowsFile, Follows, view_after, changes_rows, total_row, page_row, page_rows, all_hits, all_known, Step, does, reports, reports_changes, reports_page, is_bad, is_truncated, AreShown, with_margin, status_line, ReportsChanges, RepliesTo, Replies, IsAnswered, AnswersScript, cause, reply_to, IsHeld, bytes_of, has_status, EndsWithStatus, IsOneReply, ReadsChanges, ListsAfter, ListsAfterAll, ArePresent, Took, EditorsFollow}
 use Rattle.std.proofs.lemmas.Bool.{or_parts}
 use Rattle.std.proofs.lemmas.List.Elements.{All-nil}
 use Rattle.std.proofs.lemmas.List.Sums.{sum_by-cons}
-use Rattle.re_syntax.specs.Bytes.{Text}
-use Rattle.grep_core.specs.declared.status.Status.{Status}
 use Rattle.grep_core.specs.declared.status.Status.TheVariants as status
-use Rattle.grep_core.specs.Choose.{IfHolds}
-use Rattle.grep_core.specs.Files.{File, Inputs}
-use Rattle.grep_session.specs.declared.fault.EditFault.{EditFault}
-use Rattle.grep_session.specs.Edits.{Edit}
-use Rattle.grep_live.specs.declared.mark.Mark.{Mark}
-use Rattle.grep_live.specs.Hits.{View, AreHits}
-use Rattle.grep_live.specs.Marks.{Watched, new_watched}
-use Rattle.grep_live.specs.Changes.{IsChange, all_after}
-use Rattle.grep_live.specs.Following.{FollowsFile, Follows, view_after}
-use Rattle.grep_live.specs.Rows.{changes_rows, total_row, page_row, page_rows, all_hits}
-use Rattle.grep_live.specs.Writing.{all_known}
 use Rattle.grep_live.proofs.lemmas.ListLemmas.{three-length}
-use Rattle.grep_cmd.specs.Script.{Step, does, reports, reports_changes, reports_page, is_bad, is_truncated}
-use Rattle.grep_cmd.specs.Show.{AreShown, with_margin, status_line}
-use Rattle.grep_cmd.specs.Lists.{ReportsChanges}
-use Rattle.grep_cmd.specs.Replies.{RepliesTo, Replies, IsAnswered, AnswersScript, cause, reply_to}
-use Rattle.grep_cmd.specs.Editor.{IsHeld, bytes_of, has_status, EndsWithStatus, IsOneReply, ReadsChanges, ListsAfter, ListsAfterAll, ArePresent, Took, EditorsFollow}
 use Rattle.grep_cmd.proofs.lemmas.ReadingLaws.{first_same, rest_same, cut_same, one_reading}
 use Rattle.grep_cmd.proofs.lemmas.BroughtLaws.{brought, steps_bring}
 use Rattle.grep_cmd.proofs.lemmas.RowTests.{none_mapped, none_joined, none_changes}

@@ -1,13 +1,8 @@
 -- No line that was handed out has a newline.
 use Rattle.std.proofs.Common.{ℕ, List, [], ◌∷◌, ◌++◌, All, Option, subst}
 use Rattle.std.proofs.lemmas.List.Elements.{All-head, All-tail}
-use Rattle.re_syntax.specs.Bytes.{Text}
-use Rattle.re_syntax.specs.Lines.{HasNoNewline}
+use Rattle.grep_cmd.proofs.Words.{Text, HasNoNewline, Stage, Open, Ended, Failed, AreHanded, Numbered, HasHanded}
 use Rattle.re_syntax.proofs.lemmas.LinesLaws.{AreLines-lines_of}
-use Rattle.grep_io.specs.declared.input.lines.Stage.{Stage}
-use Rattle.grep_io.specs.declared.input.lines.Stage.TheVariants.{Open, Ended, Failed}
-use Rattle.grep_core.specs.Working.Handed.{AreHanded}
-use Rattle.grep_core.specs.Working.Numbered.{Numbered, HasHanded}
 
 free_lines : (stage : Stage) (given : Text) (handed : List Text) → AreHanded stage given handed → All HasNoNewline handed
 free_lines Open given handed h = h.1

@@ -1,22 +1,9 @@
 -- The replies to `changes` and `page`, with the status after them.
 use Rattle.std.proofs.Common.{◌≡◌, ℕ, [], ◌∷◌, ◌++◌, length, min, Option, Result, Ok, Err, IfOk, refl, sym, subst, append-nil}
-use Rattle.std.specs.Prelude.{◌-◌, ◌^◌}
-use Rattle.std.specs.Result.{IsErr}
-use Rattle.re_syntax.specs.Bytes.{Text}
-use Rattle.grep_core.specs.declared.status.Status.{Status}
-use Rattle.grep_core.specs.Files.{Inputs}
-use Rattle.grep_core.specs.Output.{written}
-use Rattle.grep_core.specs.Row.{output_line}
-use Rattle.grep_core.specs.Written.{Writes}
+use Rattle.grep_cmd.proofs.Words.{◌-◌, ◌^◌, IsErr, Text, Status, Inputs, written, output_line, Writes, Watched, all_after, changes_rows, total_row, page_rows, all_hits, WritesChanges, WritesPage, all_known, status_line, WritesReport, WritesHits}
 use Rattle.grep_core.proofs.lemmas.Exist.{StatusOf-exist}
 use Rattle.grep_session.proofs.lemmas.Writing.{if_ok, writes_err, writes_after, stops_before}
-use Rattle.grep_live.specs.Marks.{Watched}
-use Rattle.grep_live.specs.Changes.{all_after}
-use Rattle.grep_live.specs.Rows.{changes_rows, total_row, page_rows, all_hits}
-use Rattle.grep_live.specs.Writing.{WritesChanges, WritesPage, all_known}
 use Rattle.grep_live.proofs.lemmas.CatchLemmas.{all_follow}
-use Rattle.grep_cmd.specs.Show.{status_line}
-use Rattle.grep_cmd.specs.Lists.{WritesReport, WritesHits}
 
 -- where nothing is said of the value
 either_way : {P : Type 0} {T E : Type 0} (r : Result T E) → P → IfOk r (λ _. P)

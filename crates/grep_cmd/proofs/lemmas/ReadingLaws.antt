@@ -1,17 +1,10 @@
 -- The rows of changes are read in one way.
 use Rattle.std.proofs.Common.{◌≡◌, ℕ, zero, suc, ◌+◌, ◌/◌, ◌%◌, ◌^◌, ◌<◌, ◌≤◌, Bool, true, false, cond, eqb, List, [], ◌∷◌, ◌++◌, length, map, get_or, All, refl, sym, ap, subst, ◌∙◌, inl, inr, arith, append_assoc, length-append, pow-suc, lt-ltb, ne_eqb, if◌then◌else◌}
-use Rattle.std.specs.Fmt.{decimal, digits, digits_onto, digit_glyph}
-use Rattle.std.specs.Str.Parse.{digits_value}
+use Rattle.grep_cmd.proofs.Words.{decimal, digits_onto, digit_glyph, digits_value, Text, Status, Hit, View, Change, is_idle, spliced_hits, all_after, spaced, part_text, more_parts, parts_text, hit_row, change_row, changes_rows, status_line, IsHeld, IsHeldPart, IsHeldHit, IsHeldChange}
+use Rattle.std.specs.Fmt.{digits}
 use Rattle.std.proofs.lemmas.Bool.{cases_lt}
 use Rattle.std.proofs.lemmas.Fmt.{decimal_is_IsNumeral_wide, length-decimal-le}
 use Rattle.std.proofs.lemmas.List.Elements.{All-head, All-tail}
-use Rattle.re_syntax.specs.Bytes.{Text}
-use Rattle.grep_core.specs.declared.status.Status.{Status}
-use Rattle.grep_live.specs.Hits.{Hit, View}
-use Rattle.grep_live.specs.Changes.{Change, is_idle, spliced_hits, all_after}
-use Rattle.grep_live.specs.Rows.{spaced, part_text, more_parts, parts_text, hit_row, change_row, changes_rows}
-use Rattle.grep_cmd.specs.Show.{status_line}
-use Rattle.grep_cmd.specs.Editor.{IsHeld, IsHeldPart, IsHeldHit, IsHeldChange}
 
 -- ---- lists
 

@@ -1,11 +1,7 @@
--- Rows of a reply of which none passes a test.
+-- Rows of a reply, none of which passes a test.
 use Rattle.std.proofs.Common.{◌≡◌, ℕ, ◌+◌, true, false, Bool, ◌||◌, List, [], ◌∷◌, ◌++◌, map, refl, ap, ◌∙◌, if◌then◌else◌}
-use Rattle.std.specs.List.{list_any}
+use Rattle.grep_cmd.proofs.Words.{list_any, Text, Hit, Change, is_idle, hit_row, change_row, change_rows, changes_rows}
 use Rattle.std.proofs.lemmas.List.Folds.{list_any-append}
-use Rattle.re_syntax.specs.Bytes.{Text}
-use Rattle.grep_live.specs.Hits.{Hit}
-use Rattle.grep_live.specs.Changes.{Change, is_idle}
-use Rattle.grep_live.specs.Rows.{hit_row, change_row, change_rows, changes_rows}
 
 module _ (test : Text → Bool) where
   -- no row that is made of a value

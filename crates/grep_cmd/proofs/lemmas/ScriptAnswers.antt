@@ -2,33 +2,13 @@
 use Rattle.std.proofs.Common.{◌≡◌, ◌≢◌, ℕ, ◌+◌, ◌<◌, false, List, [], ◌∷◌, ◌++◌, length, min, get_or, take, drop, ◌-◌, ◌^◌, IfOk, nat_eq, if◌then◌else◌, Option, Some, Result, Ok, Err, IfErr, inl, inr, refl, sym, ap, ◌∙◌, subst, append_assoc, append-nil, codes, arith}
 use Rattle.std.proofs.lemmas.Bool.{false_from_ne_true, eqb-true}
 use Rattle.std.proofs.lemmas.List.{take_more, length-take}
-use Rattle.std.specs.List.{list_any}
-use Rattle.re_syntax.specs.Bytes.{Text}
-use Rattle.re_syntax.specs.Lines.{newline, joined}
-use Rattle.grep_core.specs.declared.status.Status.{Status}
+use Rattle.grep_cmd.proofs.Words.{list_any, Text, newline, joined, Status, Inputs, Adds, written, GoesOut, Numbered, HasHanded, EditFault, Edit, ScriptFault, Read, Write, Memory, Answer, Accepted, Truncated, Watched, changes_rows, total_row, page_row, page_rows, all_hits, AreShown, with_margin, status_line, ReportsChanges, ReportsPage, Step, counts, IsStep, line_command, RepliesTo, SearchesAtMost, reply_to, truncated, is_refusal, ReadsNext, TakesLines, FlushesFor, Replied, DoesStep, WantsLines, AnswersLine, answer_for, was_refused}
 use Rattle.grep_core.specs.declared.status.Status.TheVariants as status
-use Rattle.grep_core.specs.Files.{Inputs}
-use Rattle.grep_core.specs.Meters.{Adds, Steps as StepCounts}
-use Rattle.grep_core.specs.Output.{written}
-use Rattle.grep_core.specs.Row.{output_line}
-use Rattle.grep_core.specs.Written.{GoesOut, Writes}
-use Rattle.grep_core.specs.Working.Numbered.{Numbered, HasHanded}
+use Rattle.grep_core.specs.Meters.{Steps as StepCounts}
 use Rattle.grep_core.proofs.lemmas.RowLemmas.{goes_on, stops_later}
 use Rattle.grep_cmd.proofs.lemmas.RowTests.{none_mapped, none_joined, none_changes}
-use Rattle.grep_session.specs.declared.fault.EditFault.{EditFault}
 use Rattle.grep_session.specs.declared.fault.EditFault.TheVariants as fault
-use Rattle.grep_session.specs.Edits.{Edit}
-use Rattle.grep_cmd.specs.declared.script.ScriptFault.{ScriptFault}
-use Rattle.grep_cmd.specs.declared.script.ScriptFault.TheVariants.{Read, Write, Memory}
-use Rattle.grep_cmd.specs.declared.script.reply.Answer.{Answer}
-use Rattle.grep_cmd.specs.declared.script.reply.Answer.TheVariants.{Accepted, Refused, Truncated}
-use Rattle.grep_live.specs.Marks.{Watched}
-use Rattle.grep_live.specs.Rows.{changes_rows, total_row, page_row, page_rows, all_hits}
-use Rattle.grep_cmd.specs.Show.{AreShown, with_margin, status_line}
-use Rattle.grep_cmd.specs.Lists.{ReportsChanges, ReportsPage}
-use Rattle.grep_cmd.specs.Script.{Step, counts, IsStep, line_command}
-use Rattle.grep_cmd.specs.Replies.{RepliesTo, SearchesAtMost, reply_to, truncated, is_refusal}
-use Rattle.grep_cmd.specs.Working.Answered.{ReadsNext, TakesLines, FlushesFor, Replied, DoesStep, WantsLines, AnswersLine, answer_for, was_refused}
+use Rattle.grep_cmd.specs.declared.script.reply.Answer.TheVariants.{Refused}
 
 -- ---- lines joined
 
@@ -93,11 +73,6 @@ not_for_memory (Ok done) h = λ e. let no : ⊥ = cc in no
 not_for_memory (Err f) h = λ e. h (let same : f ≡ fault.Memory = cc in same)
 
 -- ---- replies
-
-module _ {W : Type 0} (contents : W → Option Text) (failures : W → ℕ) (old new : W) where
-  -- the bytes of a line are those of a list of one
-  pub replied_line : {T E : Type 0} (text : Text) (r : Result T E) → Writes contents failures old new (output_line [] text) r → Writes contents failures old new (written [] (text ∷ [])) r
-  replied_line text r h = subst (λ bytes. Writes contents failures old new bytes r) (sym (append-nil (output_line [] text))) h
 
 -- ---- the lines that a command takes
 

@@ -1,11 +1,7 @@
 -- The command of some words, by the first of them.
 use Rattle.std.proofs.Common.{◌≡◌, ℕ, true, false, List, [], ◌∷◌, bytes_eq, codes, Some, None, refl, ap, ◌∙◌}
 use Rattle.std.proofs.lemmas.Bool.{cond-true, cond-false}
-use Rattle.re_syntax.specs.Bytes.{Text}
-use Rattle.grep_session.specs.Edits.{Splice}
-use Rattle.grep_utility.specs.Words.{number_of}
-use Rattle.grep_cmd.specs.Script.{counts, command_of, file_command, missing_command, splice_from, splice_command, unnamed_command}
-use Rattle.grep_cmd.specs.Working.ScriptWords.{four_words}
+use Rattle.grep_cmd.proofs.Words.{Text, Splice, number_of, counts, command_of, file_command, missing_command, splice_from, splice_command, unnamed_command, four_words}
 
 pub command_none : command_of [] ≡ None
 unfolding command_of

@@ -1,33 +1,15 @@
 -- How a run of a script continues and ends.
 use Rattle.std.proofs.Common.{◌≡◌, ℕ, ◌<◌, ◌≤◌, true, false, List, [], ◌∷◌, ◌++◌, length, Option, Result, Ok, Err, arith, inl, inr, refl, sym, ap, ◌∙◌, subst, append_assoc, append-nil}
 use Rattle.std.proofs.lemmas.List.{length-append}
-use Rattle.std.specs.List.{list_any}
-use Rattle.re_syntax.specs.Bytes.{Text}
-use Rattle.re_syntax.specs.Lines.{HasNoNewline, lines_of}
+use Rattle.grep_cmd.proofs.Words.{list_any, Text, HasNoNewline, lines_of, File, Ending, whole, broken, written, file_of, most_lines, GoesOut, StopsWithin, Numbered, HasHanded, StandsAs, AreHanded, IsOneLineAndFew, Stage, Open, Ended, Failed, Watched, new_watched, ScriptFault, Read, Write, Memory, ScriptEnd, Clean, is_truncated, IsBegun, truncated, is_refusal, end_for, AnswersScript, ReadsScript, BeginsScript, GaveLines, SearchesTouched, StopsWriting, ScriptGives, HasRead, ReadsNext, FlushesFor, FlushesAfter, DoesStep, WantsLines, LosesLines, AnswersLine, AnsweredSoFar}
 use Rattle.re_syntax.proofs.lemmas.LinesLaws.{lines_of-terminated}
-use Rattle.grep_core.specs.Files.{File, Ending, whole, broken}
 use Rattle.grep_core.specs.Meters.{Steps as StepCounts}
-use Rattle.grep_core.specs.Output.{written}
-use Rattle.grep_core.specs.Reading.{file_of, most_lines}
-use Rattle.grep_core.specs.Written.{GoesOut, StopsWithin}
-use Rattle.grep_core.specs.Working.Numbered.{Numbered, HasHanded, StandsAs}
-use Rattle.grep_core.specs.Working.Handed.{AreHanded}
-use Rattle.grep_core.specs.Reading.{IsOneLineAndFew}
-use Rattle.grep_io.specs.declared.input.lines.Stage.{Stage}
-use Rattle.grep_io.specs.declared.input.lines.Stage.TheVariants.{Open, Ended, Failed}
 use Rattle.re_meter.proofs.lemmas.Adding.{adds_none}
 use Rattle.grep_core.proofs.lemmas.HandedLemmas.{begins_with}
 use Rattle.grep_core.proofs.lemmas.NumberedLemmas.{has_handed_none}
 use Rattle.grep_core.proofs.lemmas.RowLemmas.{goes_nowhere, goes_on, stops_later}
 use Rattle.grep_core.proofs.lemmas.WriterLaws.{written-append}
-use Rattle.grep_live.specs.Marks.{Watched, new_watched}
-use Rattle.grep_cmd.specs.declared.script.ScriptFault.{ScriptFault}
-use Rattle.grep_cmd.specs.declared.script.ScriptFault.TheVariants.{Read, Write, Memory}
-use Rattle.grep_cmd.specs.declared.script.ScriptEnd.{ScriptEnd}
-use Rattle.grep_cmd.specs.declared.script.ScriptEnd.TheVariants.{Clean, Refused}
-use Rattle.grep_cmd.specs.Script.{is_truncated, IsBegun}
-use Rattle.grep_cmd.specs.Replies.{truncated, is_refusal, end_for, AnswersScript, ReadsScript, BeginsScript, GaveLines, SearchesTouched, StopsWriting, ScriptGives}
-use Rattle.grep_cmd.specs.Working.Answered.{HasRead, ReadsNext, FlushesFor, FlushesAfter, DoesStep, WantsLines, LosesLines, AnswersLine, AnsweredSoFar}
+use Rattle.grep_cmd.specs.declared.script.ScriptEnd.TheVariants.{Refused}
 use Rattle.grep_cmd.proofs.lemmas.ScriptSteps.{done_push, done_steps, done_alone, replies_push, work_none, work_push, end_kept, end_refused}
 
 abbrev script_of : List Text → Ending → File
@@ -135,7 +117,7 @@ module _ {R W : Type 0} (remaining : R → Option Text) (failures : R → ℕ) (
         goes = goes_same old mid new (written [] s.replies) s.goes flushed;
       }
 
-      -- a growth was refused, with the next command or without it
+      -- an allocation failed, with the next command or without it
       pub runs_out : (first : List Text) → IsBegun first → IsOneLineAndFew next.lines.ahead → HasHanded remaining failures reader next (s.handed ++ first) → GoesOut contents write_failures mid new []
           → Gives next spent new (Err Memory)
       unfolding answers_so_far

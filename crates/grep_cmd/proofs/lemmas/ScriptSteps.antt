@@ -2,16 +2,10 @@
 use Rattle.std.proofs.Common.{◌≡◌, ℕ, ◌+◌, true, false, ◌||◌, if◌then◌else◌, List, [], ◌∷◌, ◌++◌, inl, refl, sym, ap, ◌∙◌, subst, append_assoc, append-nil, arith}
 use Rattle.std.proofs.lemmas.Bool.{or_right}
 use Rattle.std.proofs.lemmas.List.Folds.{list_any-append}
-use Rattle.std.specs.List.{list_any}
-use Rattle.re_syntax.specs.Bytes.{Text}
+use Rattle.grep_cmd.proofs.Words.{list_any, Text, Ending, Adds, Watched, new_watched, Clean, Step, IsStep, line_command, Steps, RepliesTo, Replies, SearchesAtMost, AllSearchAtMost, SearchesTouched, is_refusal, end_for, AreDone}
 use Rattle.re_meter.proofs.lemmas.Adding.{adds_none, all_both}
-use Rattle.grep_core.specs.Files.{Ending}
-use Rattle.grep_core.specs.Meters.{Adds, Steps as StepCounts}
-use Rattle.grep_live.specs.Marks.{Watched, new_watched}
-use Rattle.grep_cmd.specs.declared.script.ScriptEnd.TheVariants.{Clean, Refused}
-use Rattle.grep_cmd.specs.Script.{Step, IsStep, line_command, Steps}
-use Rattle.grep_cmd.specs.Replies.{RepliesTo, Replies, SearchesAtMost, AllSearchAtMost, SearchesTouched, is_refusal, end_for}
-use Rattle.grep_cmd.specs.Working.Answered.{AreDone}
+use Rattle.grep_core.specs.Meters.{Steps as StepCounts}
+use Rattle.grep_cmd.specs.declared.script.ScriptEnd.TheVariants.{Refused}
 
 -- one more step
 pub done_push : (lines : List Text) (steps : List Step) (line : Text) (taken : List Text) (step : Step) → AreDone lines steps → IsStep (line_command line) taken step

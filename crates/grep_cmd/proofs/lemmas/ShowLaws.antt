@@ -1,16 +1,8 @@
 -- What is shown is the output, the messages and the status, one after another.
 use Rattle.std.proofs.Common.{◌≡◌, ℕ, List, [], ◌∷◌, ◌++◌, codes, Option, Result, refl, sym, ap, subst, ◌∙◌, append-nil}
-use Rattle.std.specs.Result.{IsErr}
-use Rattle.re_syntax.specs.Bytes.{Text}
-use Rattle.grep_core.specs.declared.status.Status.{Status}
-use Rattle.grep_core.specs.Files.{Inputs}
-use Rattle.grep_core.specs.Output.{written}
-use Rattle.grep_core.specs.Row.{output_line}
-use Rattle.grep_core.specs.Written.{GoesOut, StopsWithin, Writes}
+use Rattle.grep_cmd.proofs.Words.{IsErr, Text, Status, Inputs, written, output_line, GoesOut, StopsWithin, Writes, GrepGives, ReportsAllInputs, status_line, with_margin, Shows}
 use Rattle.grep_core.proofs.lemmas.RowLemmas.{stops_early, stops_later, writes_last}
 use Rattle.grep_core.proofs.lemmas.WriterLaws.{written-append}
-use Rattle.grep_session.specs.Headline.{GrepGives, ReportsAllInputs}
-use Rattle.grep_cmd.specs.Show.{status_line, with_margin, Shows}
 use Rattle.grep_session.proofs.lemmas.HeadlineLaws.{one_report}
 use Rattle.grep_session.proofs.lemmas.Writing.{writes_err}
 

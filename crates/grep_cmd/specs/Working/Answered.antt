@@ -126,7 +126,7 @@ module _ {R : Type 0} (remaining : R → Option Text) (failures : R → ℕ) (re
     pub stands : StandsAs remaining failures reader now (handed ++ taken) broken
     pub idle : spent ≡ begun
 
-  -- a growth was refused for the command, of which these lines were taken
+  -- an allocation failed for the command; these of its lines were taken
   pub record RunsShort : Type 0 where
     pub taken : List Text
     pub asks : AsksForMemory (line_command line) taken
@@ -157,7 +157,7 @@ module _ {R : Type 0} (remaining : R → Option Text) (failures : R → ℕ) (re
 
 -- ---- the commands so far
 
--- the lines are these steps, of which none is truncated
+-- the lines are these steps, none of which is truncated
 abbrev pub AreDone : List Text → List Step → Type 0
 AreDone lines [] = lines ≡ []
 AreDone lines (step ∷ steps) =

@@ -13,11 +13,12 @@ ghost use Rattle.grep_cmd.specs.declared.script.reply.Answer.{Answer};
 ghost use Rattle.grep_cmd.specs.Show.{AreShown};
 ghost use Rattle.grep_cmd.specs.Lists.{ReportsChanges, ReportsPage};
 ghost use Rattle.grep_live.specs.Marks.{Watched};
-ghost use Rattle.grep_live.specs.Following.{Carries};
+ghost use Rattle.grep_live.specs.Follows.{Carries};
 ghost use Rattle.grep_cmd.specs.Replies.{reply_to};
 ghost use Rattle.grep_cmd.specs.Working.Answered.{AnswersLine, Replied, answer_for};
-ghost use Rattle.grep_cmd.specs.Working.Commands.{line_meant, file_meant, counted_meant};
+ghost use Rattle.grep_cmd.specs.Working.Commands.{line_meant, counted_meant};
 
+use crate::reports::{show, show_changes, show_page};
 use crate::script::ScriptFault;
 use crate::script::command::{
     Command, CountedCommand, CountedEdit, FileEdit, LineEdit, read_command,
@@ -25,10 +26,9 @@ use crate::script::command::{
 use crate::script::counted::take_lines;
 use crate::script::pattern_lines::{join_lines, take_texts};
 use crate::script::reply::{Answer, write_reply};
-use crate::showing::{show, show_changes, show_page};
 use grep_core::{CountedRead, CountedWrite, Lines, WriteFault, write_line};
 use grep_live::Live;
-use grep_session::{EditFault, Meter, NewLines};
+use grep_session::{EditFault, Meter};
 use std::alloc::{AllocError, Global};
 
 /// Makes an edit for which the command line is enough.
@@ -52,30 +52,7 @@ fn make_edit(session: &mut Live, edit: LineEdit, meter: &mut Meter) -> Result<()
     }
 }
 
-/// Puts the lines that an edit counts into a file.
-fn make_file_edit(
-    session: &mut Live,
-    edit: FileEdit,
-    lines: NewLines,
-    meter: &mut Meter,
-) -> Result<(), EditFault>
-    ensures gives { EditGives (file_meant edit lines) session.old.inputs session.new.inputs result }
-    ensures carries { Carries (file_meant edit lines) session.old session.new result }
-    ensures steps { TakesSteps (file_meant edit lines) session.old.inputs meter.old meter.new }
-    ensures memory { NeedsNoMemory (file_meant edit lines) session.old.inputs →
-        IfErr result (λ fault. fault ≢ Memory) }
-{
-    match edit {
-        FileEdit::Add(name) => session.add_lines(name, lines, meter),
-        FileEdit::Splice {
-            file,
-            start,
-            removed,
-        } => session.splice_lines(file, start, removed, lines, meter),
-    }
-}
-
-/// Adds the patterns that the lines are. They are joined first, for which a growth may be refused.
+/// Adds the patterns that the lines are. They are joined first; the allocation for that may fail.
 fn add_patterns(
     alloc: Global,
     session: &mut Live,
@@ -169,34 +146,6 @@ fn reply_to_page<W: CountedWrite>(
     }
 }
 
-/// Takes the lines that a command counts, puts them into a file, and writes the reply.
-fn answer_lines<R: CountedRead, W: CountedWrite>(
-    alloc: Global,
-    lines: &mut Lines<R>,
-    count: usize,
-    edit: FileEdit,
-    session: &mut Live,
-    meter: &mut Meter,
-    out: &mut W,
-) -> Result<Answer, ScriptFault>
-    requires { (reader : R) × (handed : List Text) ×
-        HasHanded R.remaining R.failures reader lines.old handed }
-    ensures answers { (reader : R) (handed : List Text) (line : Text) →
-        HasHanded R.remaining R.failures reader lines.old handed
-        → line_command line ≡ Some (counts count (file_meant edit))
-        → AnswersLine R.remaining R.failures reader handed line lines.new meter.old meter.new session.old session.new
-        W.contents W.failures out.old out.new result }
-    ensures held { IsOneLineAndFew lines.old.lines.ahead → IsOneLineAndFew lines.new.lines.ahead }
-    ensures same_loan { R.loan lines.new.lines.reader ≡ R.loan lines.old.lines.reader }
-{
-    let taken = match take_lines(alloc, lines, count, out) {
-        Ok(Some(taken)) => taken,
-        Ok(None) => return reply_with(b"refused Truncated", Answer::Truncated, out),
-        Err(fault) => return Err(fault),
-    };
-    reply_to_edit(make_file_edit(session, edit, taken, meter), out)
-}
-
 /// Takes the lines that a command counts, adds the patterns that they are, and writes the reply.
 fn answer_patterns<R: CountedRead, W: CountedWrite>(
     alloc: Global,
@@ -245,11 +194,24 @@ fn answer_counted<R: CountedRead, W: CountedWrite>(
     ensures same_loan { R.loan lines.new.lines.reader ≡ R.loan lines.old.lines.reader }
 {
     let CountedCommand { count, edit } = counted;
-    match edit {
-        CountedEdit::PutLines(edit) => {
-            answer_lines(alloc, lines, count, edit, session, meter, out)
+    let edit = match edit {
+        CountedEdit::PutLines(edit) => edit,
+        CountedEdit::AddPatterns => {
+            return answer_patterns(alloc, lines, count, session, meter, out);
         }
-        CountedEdit::AddPatterns => answer_patterns(alloc, lines, count, session, meter, out),
+    };
+    let taken = match take_lines(alloc, lines, count, out) {
+        Ok(Some(taken)) => taken,
+        Ok(None) => return reply_with(b"refused Truncated", Answer::Truncated, out),
+        Err(fault) => return Err(fault),
+    };
+    match edit {
+        FileEdit::Add(name) => reply_to_edit(session.add_file(name, taken, meter), out),
+        FileEdit::Splice {
+            file,
+            start,
+            removed,
+        } => reply_to_edit(session.splice(file, start, removed, taken, meter), out),
     }
 }
 

@@ -335,7 +335,7 @@ fn read_unnamed(word: &[u8], words: LineWords<'_>) -> Option<Command>
     read_listing(word, words)
 }
 
-/// The command of a line, where it is one. A growth may be refused for its name.
+/// The command of a line, where it is one. The allocation for its name may fail.
 pub fn read_command(alloc: Global, line: &[u8]) -> Result<Option<Command>, AllocError>
     ensures read { IfOk result (λ command. option_map meant command ≡ line_command line.now) }
     ensures short { IfErr result (λ _. AsksForMemory (line_command line.now) []) }

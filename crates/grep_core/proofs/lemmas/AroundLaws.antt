@@ -1,17 +1,9 @@
 -- The lines around selected ones: which are shown is decided, a file has one output of them, and
 -- none exactly where no line is selected.
 use Rattle.std.proofs.Common.{◌≡◌, ℕ, zero, suc, ◌+◌, ◌<◌, ◌≤◌, List, [], ◌∷◌, ◌++◌, length, get_or, Option, Any, inl, inr, refl, sym, ap, subst, ◌∙◌, arith}
-use Rattle.std.specs.List.{enumerate_from}
+use Rattle.grep_core.proofs.Words.{enumerate_from, Text, Expression, Context, Options, colon, hyphen, head, EachGives, Selected, group_separator, IsShown, BeginsGroup, IsRow, Shows, Groups}
 use Rattle.std.proofs.Math.Decide.{dec_le, map_dec}
-use Rattle.re_syntax.specs.Bytes.{Text}
-use Rattle.re_syntax.specs.Expression.{Expression}
 use Rattle.re_syntax.proofs.lemmas.Decisions.{dec_not, dec_both, dec_below, Any-none, Any-first, Any-later, Any-cases}
-use Rattle.grep_core.specs.declared.options.Context.{Context}
-use Rattle.grep_core.specs.declared.options.Options.{Options}
-use Rattle.grep_core.specs.Row.{colon, hyphen, head}
-use Rattle.grep_core.specs.Choose.{EachGives}
-use Rattle.grep_core.specs.Files.{Selected}
-use Rattle.grep_core.specs.Around.{group_separator, IsShown, BeginsGroup, IsRow, Shows, Groups}
 use Rattle.grep_core.proofs.lemmas.ChooseLaws.{same_value, IfHolds-both, IfHolds-exist, EachGives-determined, EachGives-exist, EachGives-nothing}
 use Rattle.grep_core.proofs.lemmas.Decided.{dec_selected}
 

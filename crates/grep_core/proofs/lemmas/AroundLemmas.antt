@@ -1,23 +1,11 @@
 -- A search that shows lines around selected ones: what is written of a file's first lines, one more
 -- line at a time.
 use Rattle.std.proofs.Common.{◌≡◌, ℕ, ◌+◌, ◌-◌, nat_lt, ◌<◌, ◌≤◌, ◌⊎◌, ◌↔◌, min, Bool, true, false, ◌&&◌, ◌||◌, IsTrue, Decides, List, [], ◌∷◌, ◌++◌, All, length, take, drop, inl, inr, refl, sym, ap, subst, ◌∙◌, append_assoc, arith, if◌then◌else◌}
-use Rattle.std.specs.List.{enumerate_from}
+use Rattle.grep_core.proofs.Words.{enumerate_from, Text, Expression, Context, Options, Progress, EachGives, Selected, group_separator, IsShown, BeginsGroup, Groups, around, shown_number, name_shown, rows_after, progress_from, next_shown, with_waiting, after_line, last_of, rows_around, row_by, rows_at}
 use Rattle.std.proofs.Math.Nat.{min-eq_left, min-eq_right}
 use Rattle.std.proofs.lemmas.Bool.{cases_lt, false≢true, lt-ltb, le-ltb, or_right, false_from_ne_true}
 use Rattle.std.proofs.lemmas.List.{length-append, length-take-le, length-drop, append-nil, take-append-drop, drop_at}
 use Rattle.std.proofs.lemmas.List.Elements.{All-nil, All-cons, All-append, All-drop}
-use Rattle.re_syntax.specs.Bytes.{Text}
-use Rattle.re_syntax.specs.Expression.{Expression}
-use Rattle.grep_core.specs.declared.options.Context.{Context}
-use Rattle.grep_core.specs.declared.options.Options.{Options}
-use Rattle.grep_core.specs.declared.output.around.Progress.{Progress}
-use Rattle.grep_core.specs.Choose.{EachGives}
-use Rattle.grep_core.specs.Files.{Selected}
-use Rattle.grep_core.specs.Around.{group_separator, IsShown, BeginsGroup, Groups}
-use Rattle.grep_core.specs.Output.{around, shown_number}
-use Rattle.grep_core.specs.Working.Requests.{name_shown}
-use Rattle.grep_core.specs.Working.Groups.{rows_after}
-use Rattle.grep_core.specs.Working.Progress.{progress_from, next_shown, with_waiting, after_line, last_of, rows_around, row_by, rows_at}
 use Rattle.grep_core.proofs.lemmas.ChooseLaws.{EachGives-append}
 use Rattle.grep_core.proofs.lemmas.Decided.{dec_selected}
 use Rattle.grep_core.proofs.lemmas.Verdicts.{decided_yes, decided_no}
@@ -248,8 +236,7 @@ module _ (es : List Expression) (options : Options) (many : Bool) (name : Text) 
         first = λ e. elim step [ inl s ↦ s.2 ∙ t.first e | inr s ↦ s.2 ];
       }
 
-  -- lines of which none is selected were passed, where no line is shown any more after a selected
-  -- one
+  -- lines without a selected one were passed, where no line is shown any more after a selected one
   pub tracks_passed : (p : Progress) (lines rows passed : List Text) → All (λ line. ¬ Selected es options line) passed → p.left ≡ 0 → Tracks p lines rows
       → Tracks (with_waiting (length passed) p) (lines ++ passed) rows
   tracks_passed p lines rows passed none left_none t =

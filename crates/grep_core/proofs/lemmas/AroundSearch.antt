@@ -1,33 +1,10 @@
--- A search of the lines of an open source of which lines around the selected ones are shown, one
--- more line at a time.
+-- A search of the lines of an open source, with lines around the selected ones, one more line at a
+-- time.
 use Rattle.std.proofs.Common.{◌≡◌, ℕ, ◌+◌, ◌-◌, ◌^◌, ◌<◌, ◌≤◌, Bool, true, false, IsTrue, Decides, List, [], ◌∷◌, ◌++◌, Option, Result, Ok, Err, length, refl, sym, ap, subst, ◌∙◌, append-nil, inl, inr, arith, if◌then◌else◌}
 use Rattle.std.proofs.lemmas.List.{length-append, length_push}
-use Rattle.std.specs.Result.{IsErrAnd}
-use Rattle.re_syntax.specs.Bytes.{Text}
-use Rattle.re_syntax.specs.Expression.{Expression}
+use Rattle.grep_core.proofs.Words.{IsErrAnd, Text, Expression, Options, Context, Progress, Open, FileFound, SearchFault, one_more, EachGives, Selected, around, form, GroupsOf, SelectedLines, open_source, most_lines, OneLeft, IsOneLineAndFew, HasRead, Writer, TakesAll, TakesFront, SearchesLines, file_so_far, LastLines, Numbered, HasHanded, AreUnselected, Waits, progress_from, next_shown, after_line, last_of, rows_at, leaves_early, BreaksSource, StopsSource, SearchGives, ShowStops}
 use Rattle.re_search.specs.Meters.{Steps}
-use Rattle.grep_core.specs.declared.options.Options.{Options}
-use Rattle.grep_core.specs.declared.options.Context.{Context}
-use Rattle.grep_core.specs.declared.output.around.Progress.{Progress}
-use Rattle.grep_io.specs.declared.input.lines.Stage.TheVariants.{Open}
-use Rattle.grep_core.specs.declared.status.FileFound.{FileFound}
-use Rattle.grep_core.specs.declared.status.SearchFault.{SearchFault}
 use Rattle.grep_core.specs.declared.status.SearchFault.TheVariants.{Write, Memory}
-use Rattle.grep_io.specs.Counted.{one_more}
-use Rattle.grep_core.specs.Choose.{EachGives}
-use Rattle.grep_core.specs.Files.{Selected}
-use Rattle.grep_core.specs.Output.{around, form, GroupsOf, SelectedLines}
-use Rattle.grep_io.specs.Reading.{open_source, most_lines, OneLeft, IsOneLineAndFew, HasRead}
-use Rattle.grep_core.specs.Run.{Writer, TakesAll, TakesFront}
-use Rattle.grep_core.specs.Cost.{SearchesLines}
-use Rattle.grep_io.specs.Working.Handed.{file_so_far}
-use Rattle.grep_core.specs.Working.LastLines.{LastLines}
-use Rattle.grep_io.specs.Working.Numbered.{Numbered, HasHanded}
-use Rattle.grep_core.specs.Working.Passed.{AreUnselected, Waits}
-use Rattle.grep_core.specs.Working.Progress.{progress_from, next_shown, after_line, last_of, rows_at}
-use Rattle.grep_core.specs.Working.Searched.{leaves_early, BreaksSource, StopsSource}
-use Rattle.grep_core.specs.Working.Given.{SearchGives}
-use Rattle.grep_core.specs.Working.ShownLines.{ShowStops}
 use Rattle.grep_core.proofs.lemmas.AroundLemmas.{Tracks, tracks_none, tracks_line, tracks_passed, tracked_groups, tracks_further}
 use Rattle.grep_core.proofs.lemmas.CostLaws.{unsearched_lines, searched_more_lines}
 use Rattle.grep_core.proofs.lemmas.ChooseLaws.{EachGives-one}

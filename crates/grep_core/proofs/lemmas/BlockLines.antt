@@ -5,12 +5,8 @@ use Rattle.std.proofs.Math.Seq.{take-append_seam, drop-append_seam}
 use Rattle.std.proofs.lemmas.Bool.{cases_lt}
 use Rattle.std.proofs.lemmas.List.{length-take, length-drop, get_or-drop, get_or_append_left, get_or-append-add, drop-drop, drop-append-le, take_more, take_all}
 use Rattle.std.proofs.lemmas.List.Elements.{All-drop}
-use Rattle.re_syntax.specs.Bytes.{Text}
-use Rattle.re_syntax.specs.Lines.{newline, terminated, lines_of, HasNoNewline}
+use Rattle.grep_core.proofs.Words.{Text, newline, terminated, lines_of, HasNoNewline, IsBlock, LastLines, with_lines, last_of}
 use Rattle.re_syntax.proofs.lemmas.LinesLaws.{lines_of-terminated, terminated-append}
-use Rattle.re_search.specs.Working.Blocks.{IsBlock}
-use Rattle.grep_core.specs.Working.LastLines.{LastLines, with_lines}
-use Rattle.grep_core.specs.Working.Progress.{last_of}
 use Rattle.grep_io.proofs.lemmas.WindowBlocks.{ends_in_newline, drop_past}
 use Rattle.grep_core.proofs.lemmas.WaitingRows.{length-last_of}
 

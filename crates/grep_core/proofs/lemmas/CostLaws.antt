@@ -2,19 +2,12 @@
 use Rattle.std.proofs.Common.{◌≡◌, ℕ, zero, suc, ◌+◌, ◌*◌, ◌≤◌, List, [], ◌∷◌, ◌++◌, length, map, refl, sym, ap, subst, ◌∙◌, arith, length-append}
 use Rattle.std.proofs.Math.Nat.{mul-le-mul_right}
 use Rattle.std.proofs.lemmas.List.{length-map}
-use Rattle.re_meter.specs.Meters.{Steps, Adds, AddsAtMost, refused_more}
+use Rattle.grep_core.proofs.Words.{Adds, refused_more, Text, Expression, newline, terminated, searches_for, Options, File, Form, nothing, names, counts, parts, lines, around, form, search_cost, PartsAsked, AsksParts, SearchesLine, LinesCost, FilesCost, SearchesLines, SearchesFiles}
+use Rattle.re_meter.specs.Meters.{Steps, AddsAtMost}
 use Rattle.re_meter.proofs.lemmas.Adding.{counts_both, all_within, all_both, adds_none, adds_within, adds_both}
 use Rattle.re_syntax.proofs.lemmas.LinesLaws.{terminated-append}
-use Rattle.re_syntax.specs.Bytes.{Text}
-use Rattle.re_syntax.specs.Expression.{Expression}
-use Rattle.re_syntax.specs.Lines.{newline, terminated}
 use Rattle.re_syntax.proofs.lemmas.PartsExist.{AreParts-exist}
 use Rattle.re_syntax.proofs.lemmas.PartsLaws.{ArePartsFrom-unique}
-use Rattle.re_search.specs.Searching.{searches_for}
-use Rattle.grep_core.specs.declared.options.Options.{Options}
-use Rattle.grep_core.specs.Files.{File}
-use Rattle.grep_core.specs.Output.{Form, nothing, names, counts, parts, lines, around, form}
-use Rattle.grep_core.specs.Cost.{search_cost, PartsAsked, AsksParts, SearchesLine, LinesCost, FilesCost, SearchesLines, SearchesFiles}
 
 -- what is at most a cost is at most a greater one
 pub cost_within : (few most refusals : ℕ) (old new : Steps) → few ≤ most → Adds few few refusals old new → Adds most most refusals old new
@@ -43,7 +36,7 @@ pub more_searches : (refusals few most : ℕ) → few ≤ most → searches_for 
 more_searches zero few most le = omega (arith, le)
 more_searches (suc refusals) few most le = le
 
--- nor do they where memory was refused
+-- nor do they if an allocation failed
 pub refused_searches : (refusals times : ℕ) → searches_for 0 times ≤ searches_for refusals times
 refused_searches zero times = omega arith
 refused_searches (suc refusals) times = omega arith
@@ -58,7 +51,7 @@ module _ (es : List Expression) (options : Options) (line : Text) where
   parts_exist lines = (0, (refl, refl))
   parts_exist (around context) = (0, (refl, refl))
 
-  -- they cost no less where memory was refused
+  -- they cost no less if an allocation failed
   fewest_asked : (shape : Form) (none refusals few most : ℕ) → none ≡ 0 → PartsAsked es options shape line none few → PartsAsked es options shape line refusals most → few ≤ most
   fewest_asked nothing none refusals few most is p q = omega (arith, p.1)
   fewest_asked names none refusals few most is p q = omega (arith, p.1)
@@ -97,7 +90,7 @@ module _ (es : List Expression) (options : Options) (matchers : ℕ) where
       let rest = lines_cost text in
       ((asked.0 + 1) * search_cost matchers line + rest.0, (0, 0, asked.0, rest.0, asked.1, rest.1, refl, refl))
 
-  -- they cost no less where memory was refused
+  -- they cost no less if an allocation failed
   fewest_lines : (text : List Text) (none refusals few most : ℕ) → none ≡ 0 → LinesCost es options matchers text none few → LinesCost es options matchers text refusals most → few ≤ most
   fewest_lines [] none refusals few most is p q = omega (arith, p.1)
   fewest_lines (line ∷ text) none refusals few most is p q =
@@ -181,7 +174,7 @@ module _ (es : List Expression) (options : Options) (matchers : ℕ) where
       let rest = files_cost files in
       (own.0 + rest.0, (0, 0, own.0, rest.0, own.1, rest.1, refl, refl))
 
-  -- they cost no less where memory was refused
+  -- they cost no less if an allocation failed
   pub fewest_files : (files : List File) (none refusals few most : ℕ) → none ≡ 0 → FilesCost es options matchers files none few → FilesCost es options matchers files refusals most → few ≤ most
   fewest_files [] none refusals few most is p q = omega (arith, p.1)
   fewest_files (file ∷ files) none refusals few most is p q =

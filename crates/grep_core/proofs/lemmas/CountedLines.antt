@@ -1,7 +1,6 @@
 -- How many of some lines have a property.
 use Rattle.std.proofs.Common.{ℕ, ◌-◌, ◌≤◌, inl, inr, List, [], ◌∷◌, length, arith}
-use Rattle.re_syntax.specs.Bytes.{Text}
-use Rattle.re_search.specs.Working.Blocks.{HoldsOfMany}
+use Rattle.grep_core.proofs.Words.{Text, HoldsOfMany}
 
 -- no more lines have a property than there are
 pub many_within : (P : Text → Type 0) (lines : List Text) (n : ℕ) → HoldsOfMany P lines n → n ≤ length lines

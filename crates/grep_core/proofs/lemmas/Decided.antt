@@ -1,13 +1,9 @@
 -- Whether a line is selected, and whether a file's fault is met, is decided.
 use Rattle.std.proofs.Common.{Bool, true, false, ◌||◌, IsTrue, List, refl}
-use Rattle.re_syntax.specs.Bytes.{Text}
-use Rattle.re_syntax.specs.Expression.{Expression}
+use Rattle.grep_core.proofs.Words.{Text, Expression, Options, File, Ending, whole, missing, broken, Matched, Selected, HasSelected, FaultMet, FaultMetBy, AnySelected}
 use Rattle.re_syntax.proofs.lemmas.Decisions.{dec_not, dec_both, dec_any, dec_IsTrue, dec_MatchBool}
 use Rattle.re_syntax.proofs.lemmas.HoldsDecided.{dec_matches}
 use Rattle.std.proofs.lemmas.Bool.{false≢true}
-use Rattle.grep_core.specs.declared.options.Options.{Options}
-use Rattle.grep_core.specs.Files.{File, Ending, whole, missing, broken, Matched, Selected, HasSelected}
-use Rattle.grep_core.specs.Messages.{FaultMet, FaultMetBy, AnySelected}
 
 module _ (es : List Expression) (options : Options) where
   -- whether some expression matches a line is decided

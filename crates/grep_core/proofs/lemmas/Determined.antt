@@ -1,17 +1,8 @@
 -- The output, the messages and the status are determined by the expressions, the options and the
 -- files.
 use Rattle.std.proofs.Common.{◌≡◌, ℕ, Bool, true, false, List, [], ◌∷◌, ◌++◌, sym, subst, ap, ◌∙◌, length, map, drop, slice_range, MatchBool}
-use Rattle.std.specs.Fmt.{decimal}
-use Rattle.re_syntax.specs.Bytes.{Text}
-use Rattle.re_syntax.specs.Expression.{Expression}
+use Rattle.grep_core.proofs.Words.{decimal, Text, Expression, Options, Status, colon, prefix, EachGives, File, Ending, whole, missing, broken, Form, nothing, names, counts, parts, lines, around, form, shown_name, shown_number, head_of, CountOf, RowsOf, PartRowsOf, PartsOfLine, GroupsOf, OutAs, Out, are_many, Reached, Message, Messages, StatusOf}
 use Rattle.re_syntax.proofs.lemmas.PartsLaws.{ArePartsFrom-unique}
-use Rattle.grep_core.specs.declared.options.Options.{Options}
-use Rattle.grep_core.specs.declared.status.Status.{Status}
-use Rattle.grep_core.specs.Row.{colon, prefix}
-use Rattle.grep_core.specs.Choose.{EachGives}
-use Rattle.grep_core.specs.Files.{File, Ending, whole, missing, broken}
-use Rattle.grep_core.specs.Output.{Form, nothing, names, counts, parts, lines, around, form, shown_name, shown_number, head_of, CountOf, RowsOf, PartRowsOf, PartsOfLine, GroupsOf, OutAs, Out, are_many}
-use Rattle.grep_core.specs.Messages.{Reached, Message, Messages, StatusOf}
 use Rattle.grep_core.proofs.lemmas.ChooseLaws.{same_value, IfHolds-both, EachGives-determined, Chosen-determined}
 use Rattle.grep_core.proofs.lemmas.AroundLaws.{Groups-determined}
 

@@ -1,25 +1,9 @@
 -- Where the search of the lines of a source ends: there is no next line, or the search is given up.
 use Rattle.std.proofs.Common.{◌≡◌, ℕ, Bool, IsTrue, List, [], Option, Some, Result, Ok, Err, length, sym, subst, ◌∙◌}
-use Rattle.std.specs.Result.{IsErrAnd}
-use Rattle.re_syntax.specs.Bytes.{Text}
-use Rattle.re_syntax.specs.Expression.{Expression}
+use Rattle.grep_core.proofs.Words.{IsErrAnd, Text, Expression, open_source, OneLeft, BeginsWith, Numbered, HasHanded, GoesOut, Options, FileEnd, Missing, Whole, Broken, Left, FileFound, SearchFault, SearchesLines, Writer, writer, SearchGives, leaves_early, BreaksSource, NextTaken}
 use Rattle.re_search.specs.Meters.{Steps}
-use Rattle.grep_io.specs.Reading.{open_source, OneLeft}
-use Rattle.grep_io.specs.Working.Handed.{BeginsWith}
-use Rattle.grep_io.specs.Working.Numbered.{Numbered, HasHanded}
-use Rattle.grep_io.specs.Written.{GoesOut}
 use Rattle.grep_io.proofs.lemmas.HandedLemmas.{begins_with, has_read}
-use Rattle.grep_core.specs.declared.options.Options.{Options}
-use Rattle.grep_core.specs.declared.status.FileEnd.{FileEnd}
-use Rattle.grep_core.specs.declared.status.FileEnd.TheVariants.{Missing, Whole, Broken, Left}
-use Rattle.grep_core.specs.declared.status.FileFound.{FileFound}
-use Rattle.grep_core.specs.declared.status.SearchFault.{SearchFault}
 use Rattle.grep_core.specs.declared.status.SearchFault.TheVariants.{Write, Memory}
-use Rattle.grep_core.specs.Cost.{SearchesLines}
-use Rattle.grep_core.specs.Run.{Writer, writer}
-use Rattle.grep_core.specs.Working.Given.{SearchGives}
-use Rattle.grep_core.specs.Working.Searched.{leaves_early, BreaksSource}
-use Rattle.grep_core.specs.Working.Taken.{NextTaken}
 use Rattle.grep_core.proofs.lemmas.LinesLemmas.{WritesLines, writes_sent, searches_whole, searches_broken, stops_after, breaks_after}
 use Rattle.grep_core.proofs.lemmas.WrittenLemmas.{TakesAll-written, TakesFront-written}
 
@@ -51,7 +35,7 @@ module _ {R W : Type 0} (remaining : R → Option Text) (failures : R → ℕ) (
     ends_as Missing none = absurd none
     ends_as Left none = absurd none
 
-    -- buffered output could not be sent, or a growth was refused
+    -- buffered output could not be sent, or an allocation failed
     pub stops_as : (fault : SearchFault) → Taken (Err fault) → Gives (Err fault)
     stops_as Write (h, stopped) =
         breaks_after es options many shown name (remaining reader) (remaining now.lines.reader) old _ _ began ended selected (failures reader) (failures now.lines.reader) h.hands.none_failed

@@ -1,19 +1,9 @@
 -- All expressions, options and files have their output, their messages and their status.
 use Rattle.std.proofs.Common.{◌≡◌, ℕ, Bool, true, false, IsTrue, List, [], ◌∷◌, ◌++◌, inl, inr, refl, length, map, drop, slice_range, MatchBool, Any}
-use Rattle.std.specs.Fmt.{decimal}
-use Rattle.re_syntax.specs.Bytes.{Text}
-use Rattle.re_syntax.specs.Expression.{Expression}
+use Rattle.grep_core.proofs.Words.{decimal, Text, Expression, Context, Options, Status, NoneSelected, Error, colon, prefix, EachGives, File, Ending, whole, missing, broken, Selected, HasSelected, Form, nothing, names, counts, parts, lines, around, form, shown_name, shown_number, head_of, numbered, SelectedLines, CountOf, RowsOf, PartRowsOf, PartsOfLine, GroupsOf, OutAs, Out, are_many, message, FaultMet, Reached, Message, Messages, AnySelected, StatusOf}
 use Rattle.re_syntax.proofs.lemmas.Decisions.{dec_any, dec_both, dec_IsTrue}
 use Rattle.re_syntax.proofs.lemmas.PartsExist.{AreParts-exist}
-use Rattle.grep_core.specs.declared.options.Context.{Context}
-use Rattle.grep_core.specs.declared.options.Options.{Options}
-use Rattle.grep_core.specs.declared.status.Status.{Status}
-use Rattle.grep_core.specs.declared.status.Status.TheVariants.{Selected as selected, NoneSelected, Error}
-use Rattle.grep_core.specs.Row.{colon, prefix}
-use Rattle.grep_core.specs.Choose.{EachGives}
-use Rattle.grep_core.specs.Files.{File, Ending, whole, missing, broken, Selected, HasSelected}
-use Rattle.grep_core.specs.Output.{Form, nothing, names, counts, parts, lines, around, form, shown_name, shown_number, head_of, numbered, SelectedLines, CountOf, RowsOf, PartRowsOf, PartsOfLine, GroupsOf, OutAs, Out, are_many}
-use Rattle.grep_core.specs.Messages.{message, FaultMet, Reached, Message, Messages, AnySelected, StatusOf}
+use Rattle.grep_core.specs.declared.status.Status.TheVariants.{Selected as selected}
 use Rattle.grep_core.proofs.lemmas.AroundLaws.{Groups-exist}
 use Rattle.grep_core.proofs.lemmas.ChooseLaws.{IfHolds-exist, EachGives-exist, Chosen-exist}
 use Rattle.grep_core.proofs.lemmas.Decided.{dec_selected, dec_has_selected, dec_any_selected, dec_stops, dec_fault_met}

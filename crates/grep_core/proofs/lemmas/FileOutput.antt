@@ -1,22 +1,9 @@
 -- The output for one file, by the rows of its lines and how many are selected.
 use Rattle.std.proofs.Common.{◌≡◌, ℕ, ◌+◌, nat_lt, ◌<◌, ◌⊎◌, Bool, true, false, Decides, List, [], ◌∷◌, ◌++◌, length, Any, refl, sym, ap, subst, ◌∙◌, inl, inr, arith, append-nil, if◌then◌else◌}
-use Rattle.std.specs.List.{enumerate_from}
+use Rattle.grep_core.proofs.Words.{enumerate_from, Text, Expression, Options, FileEnd, Missing, Whole, Broken, Left, IfHolds, Chosen, File, whole, Selected, HasSelected, Form, nothing, names, counts, parts, lines, around, OutAs, CountOf, RowsOf, PartRowsOf, GroupsOf, SelectedLines, begun, first_lines, file_so_far, GroupedAs, rows_after, IsPlain, LineRowsOf, RowsOfSelected, ending_of, count_line, summary_as}
 use Rattle.std.proofs.lemmas.Bool.{false≢true, lt-ltb, ltb-true}
 use Rattle.std.proofs.lemmas.List.{length_push}
-use Rattle.re_syntax.specs.Bytes.{Text}
-use Rattle.re_syntax.specs.Expression.{Expression}
 use Rattle.re_syntax.proofs.lemmas.Decisions.{Any-none, Any-first, Any-later, Any-cases}
-use Rattle.grep_core.specs.declared.options.Options.{Options}
-use Rattle.grep_core.specs.declared.status.FileEnd.{FileEnd}
-use Rattle.grep_core.specs.declared.status.FileEnd.TheVariants.{Missing, Whole, Broken, Left}
-use Rattle.grep_core.specs.Choose.{IfHolds, Chosen}
-use Rattle.grep_core.specs.Files.{File, whole, Selected, HasSelected}
-use Rattle.grep_core.specs.Output.{Form, nothing, names, counts, parts, lines, around, OutAs, CountOf, RowsOf, PartRowsOf, GroupsOf, SelectedLines}
-use Rattle.grep_core.specs.Run.{begun, first_lines}
-use Rattle.grep_io.specs.Working.Handed.{file_so_far}
-use Rattle.grep_core.specs.Working.Groups.{GroupedAs, rows_after}
-use Rattle.grep_core.specs.Working.OneLine.{IsPlain, LineRowsOf, RowsOfSelected}
-use Rattle.grep_core.specs.Working.Searched.{ending_of, count_line, summary_as}
 use Rattle.grep_core.proofs.lemmas.ChooseLaws.{EachGives-one}
 use Rattle.grep_core.proofs.lemmas.Exist.{OutAs-exist}
 use Rattle.grep_io.proofs.lemmas.FileLaws.{file_with}

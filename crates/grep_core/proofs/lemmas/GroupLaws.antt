@@ -2,18 +2,8 @@
 -- for others after them.
 use Rattle.std.proofs.Common.{◌≡◌, ℕ, Bool, true, false, Decides, List, [], ◌∷◌, ◌++◌, drop, inl, inr, refl, sym, ap, ◌∙◌, append-nil}
 use Rattle.std.proofs.lemmas.Bool.{false≢true}
-use Rattle.re_syntax.specs.Bytes.{Text}
-use Rattle.re_syntax.specs.Expression.{Expression}
+use Rattle.grep_core.proofs.Words.{Text, Expression, Context, Options, FileEnd, EachGives, File, HasSelected, AnySelected, Form, nothing, names, counts, parts, lines, around, shown_name, shown_number, GroupsOf, GroupedAs, rows_after, summary_as}
 use Rattle.re_syntax.proofs.lemmas.Decisions.{Any-none, Any-first, Any-later, Any-cases}
-use Rattle.grep_core.specs.declared.options.Context.{Context}
-use Rattle.grep_core.specs.declared.options.Options.{Options}
-use Rattle.grep_core.specs.declared.status.FileEnd.{FileEnd}
-use Rattle.grep_core.specs.Choose.{EachGives}
-use Rattle.grep_core.specs.Files.{File, HasSelected}
-use Rattle.grep_core.specs.Messages.{AnySelected}
-use Rattle.grep_core.specs.Output.{Form, nothing, names, counts, parts, lines, around, shown_name, shown_number, GroupsOf}
-use Rattle.grep_core.specs.Working.Groups.{GroupedAs, rows_after}
-use Rattle.grep_core.specs.Working.Searched.{summary_as}
 use Rattle.grep_core.proofs.lemmas.AroundLaws.{first_empty, second_empty, groups_none, groups_some}
 
 -- ---- what is written of such output
@@ -50,7 +40,7 @@ after_summary lines shown many name end selected rows = refl
 after_summary (around context) shown many name end selected rows =
     ap (rows_after (around context) shown) (append-nil rows) ∙ sym (append-nil (rows_after (around context) shown rows))
 
--- groups after others, of which there are some or none
+-- groups after some or no others
 two_written : (context : Context) (some : Bool) (rows more : List Text) → (some ≡ true → rows ≡ [] → ⊥) → (some ≡ false → rows ≡ [])
     → rows_after (around context) false (rows ++ more) ≡ rows_after (around context) false rows ++ rows_after (around context) some more
 two_written context true [] more there none = absurd (there refl refl)

@@ -1,22 +1,10 @@
 -- The groups of lines around selected ones, as a file has one more line, and what is written of
 -- them.
 use Rattle.std.proofs.Common.{◌≡◌, ℕ, ◌+◌, ◌<◌, ◌≤◌, ◌⊎◌, Bool, true, false, ◌&&◌, IsTrue, Decides, List, [], ◌∷◌, ◌++◌, All, length, inl, inr, refl, sym, ap, subst, ◌∙◌, append_assoc, arith, if◌then◌else◌}
-use Rattle.std.specs.List.{enumerate_from}
+use Rattle.grep_core.proofs.Words.{enumerate_from, Text, Expression, Context, Options, hyphen, IfHolds, EachGives, Selected, group_separator, IsShown, BeginsGroup, IsRow, Shows, around, shown_number, name_shown, rows_after, row_with, rows_around}
 use Rattle.std.proofs.lemmas.Bool.{false≢true}
 use Rattle.std.proofs.lemmas.List.{length-append}
 use Rattle.std.proofs.lemmas.List.Elements.{All-head, All-tail}
-use Rattle.re_syntax.specs.Bytes.{Text}
-use Rattle.re_syntax.specs.Expression.{Expression}
-use Rattle.grep_core.specs.declared.options.Context.{Context}
-use Rattle.grep_core.specs.declared.options.Options.{Options}
-use Rattle.grep_core.specs.Row.{hyphen}
-use Rattle.grep_core.specs.Choose.{IfHolds, EachGives}
-use Rattle.grep_core.specs.Files.{Selected}
-use Rattle.grep_core.specs.Around.{group_separator, IsShown, BeginsGroup, IsRow, Shows}
-use Rattle.grep_core.specs.Output.{around, shown_number}
-use Rattle.grep_core.specs.Working.Requests.{name_shown}
-use Rattle.grep_core.specs.Working.Groups.{rows_after}
-use Rattle.grep_core.specs.Working.Progress.{row_with, rows_around}
 use Rattle.grep_core.proofs.lemmas.ChooseLaws.{EachGives-one, EachGives-append}
 use Rattle.grep_core.proofs.lemmas.MoreLines.{enumerate_from-append}
 use Rattle.grep_core.proofs.lemmas.ShownLemmas.{EachGives-placed, shown_more, begins_at, begins_same, shows_same}
@@ -43,7 +31,7 @@ after_none context false = refl
 pub said_before : (before : Bool) → Decides before (IsTrue before ⊎ (◌≡◌ {A = List Text} [] [] → ⊥))
 said_before before = ((λ t. inl t), (λ h. elim h [ inl t ↦ t | inr n ↦ absurd (n refl) ]))
 
--- two lists of which the second is not empty
+-- two lists, the second of which is not empty
 pub more_nonempty : (xs ys zs : List Text) (y : Text) → xs ++ (ys ++ (zs ++ y ∷ [])) ≡ [] → ⊥
 more_nonempty xs ys zs y e =
     let bad : ⊥ = omega (arith, ap length e, length-append xs (ys ++ (zs ++ y ∷ [])), length-append ys (zs ++ y ∷ []), length-append zs (y ∷ [])) in

@@ -1,22 +1,13 @@
 -- The laws of the definitions: one output, one list of messages, one status, one cost of the
 -- search, and one meaning of the patterns.
 use Rattle.std.proofs.Common.{◌≡◌, Bool, [], ◌∷◌, refl, sym, ap, ◌∙◌, if◌then◌else◌}
-use Rattle.re_syntax.specs.declared.syntax.Syntax.{Syntax}
-use Rattle.re_syntax.specs.Bytes.{Text}
-use Rattle.re_syntax.specs.Expression.{Expression}
-use Rattle.re_syntax.specs.Holds.{folded}
-use Rattle.re_syntax.specs.Spelled.{IsMeant}
+use Rattle.grep_core.proofs.Words.{Syntax, Text, Expression, folded, IsMeant, Options, Out, Messages, StatusOf, FilesCost, IsOne, HasOneAnswer, MeansOne, MemorySavesSteps}
 use Rattle.re_syntax.proofs.lemmas.SpelledUnique.{spells_one}
-use Rattle.grep_core.specs.declared.options.Options.{Options}
-use Rattle.grep_core.specs.Output.{Out}
-use Rattle.grep_core.specs.Messages.{Messages, StatusOf}
-use Rattle.grep_core.specs.Cost.{FilesCost}
-use Rattle.grep_core.specs.Laws.{IsOne, HasOneAnswer, MeansOne, MemorySavesSteps}
 use Rattle.grep_core.proofs.lemmas.CostLaws.{files_cost, fewest_files, FilesCost-determined}
 use Rattle.grep_core.proofs.lemmas.Determined.{Out-determined, Messages-determined, StatusOf-determined}
 use Rattle.grep_core.proofs.lemmas.Exist.{Out-exist, Messages-exist, StatusOf-exist}
 
--- a value of which P holds is the one, where P holds of no two
+-- a value for which P holds is the one, if P holds for no two
 is_one : {A : Type 0} (P : A → Type 0) → (x : A) × P x → ((x y : A) → P x → P y → x ≡ y) → IsOne P
 is_one P found once = (found.0, found.1, λ y p. once y found.0 p found.1)
 

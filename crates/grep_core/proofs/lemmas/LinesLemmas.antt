@@ -1,31 +1,13 @@
 -- A search of the lines of an open source, one more line at a time, and what it says of the
 -- source's file.
-use Rattle.std.proofs.Common.{◌≡◌, ℕ, ◌+◌, ◌-◌, ◌^◌, nat_lt, ◌<◌, ◌≤◌, ◌⊎◌, Bool, true, false, ◌&&◌, IsTrue, Decides, List, [], ◌∷◌, ◌++◌, All, Option, length, min, take, refl, sym, ap, subst, ◌∙◌, append-nil, append_assoc, inl, inr, arith, Any, if◌then◌else◌}
+use Rattle.std.proofs.Common.{◌≡◌, ℕ, ◌+◌, ◌-◌, ◌*◌, ◌^◌, nat_lt, ◌<◌, ◌≤◌, ◌⊎◌, Bool, true, false, ◌&&◌, IsTrue, Decides, List, [], ◌∷◌, ◌++◌, All, Option, length, min, take, refl, sym, ap, subst, ◌∙◌, append-nil, append_assoc, inl, inr, arith, Any, if◌then◌else◌}
 use Rattle.std.proofs.Math.Seq.{take-append_seam}
 use Rattle.std.proofs.lemmas.Bool.{false≢true, cases_Bool, cases_lt, lt-ltb, le-ltb, cond-true, cond-false}
 use Rattle.std.proofs.lemmas.List.{length_push, length-append}
 use Rattle.std.proofs.lemmas.List.Elements.{All-head, All-tail}
-use Rattle.re_syntax.specs.Bytes.{Text}
-use Rattle.re_syntax.specs.Expression.{Expression}
+use Rattle.grep_core.proofs.Words.{Text, lines_of, Expression, HoldsOfMany, Options, Open, Whole, Broken, Left, one_more, Numbered, AreAhead, HasHanded, PassesNext, File, whole, broken, Matched, Selected, HasSelected, Form, nothing, names, counts, form, SelectedLines, FaultMet, open_source, file_of, failures_of, most_lines, OneLeft, HasRead, Writer, TakesAll, TakesFront, first_lines, GroupedAs, rows_after, StandsFor, BeginsWith, file_so_far, SearchesLine, SearchesLines, IsPlain, LineRowsOf, TakesLine, BreaksLine, RowsOfLines, TakesLines, BreaksLines, leaves_early, summary_as, BreaksSource, StopsSource, SearchesSource}
 use Rattle.re_search.specs.Meters.{Steps}
-use Rattle.re_search.specs.Working.Blocks.{HoldsOfMany}
-use Rattle.grep_core.specs.declared.options.Options.{Options}
-use Rattle.grep_io.specs.declared.input.lines.Stage.TheVariants.{Open}
-use Rattle.grep_core.specs.declared.status.FileEnd.TheVariants.{Whole, Broken, Left}
-use Rattle.grep_io.specs.Counted.{one_more}
-use Rattle.grep_io.specs.Working.Numbered.{Numbered, HasHanded}
-use Rattle.grep_core.specs.Files.{File, whole, broken, Selected, HasSelected}
-use Rattle.grep_core.specs.Output.{Form, nothing, names, counts, form, SelectedLines}
-use Rattle.grep_core.specs.Messages.{FaultMet}
-use Rattle.grep_io.specs.Reading.{open_source, file_of, failures_of, most_lines, OneLeft, HasRead}
-use Rattle.grep_core.specs.Run.{Writer, TakesAll, TakesFront, first_lines}
-use Rattle.grep_core.specs.Working.Groups.{GroupedAs, rows_after}
-use Rattle.grep_io.specs.Working.Handed.{StandsFor, BeginsWith, file_so_far}
-use Rattle.grep_core.specs.Cost.{SearchesLine, SearchesLines}
-use Rattle.grep_core.specs.Working.Passed.{AddsCounted}
-use Rattle.grep_core.specs.Working.OneLine.{IsPlain, LineRowsOf, TakesLine, BreaksLine}
-use Rattle.grep_core.specs.Working.StretchRows.{RowsOfLines, TakesLines, BreaksLines}
-use Rattle.grep_core.specs.Working.Searched.{leaves_early, summary_as, BreaksSource, StopsSource, SearchesSource}
+use Rattle.re_search.specs.Searches.{AddsAtMost}
 use Rattle.re_syntax.proofs.lemmas.SomeOfJoined.{Any-left}
 use Rattle.grep_core.proofs.lemmas.Verdicts.{decided_yes, decided_no, picked}
 use Rattle.grep_core.proofs.lemmas.Decided.{dec_fault_met}
@@ -33,7 +15,8 @@ use Rattle.grep_core.proofs.lemmas.CostLaws.{unsearched_lines, searched_one_line
 use Rattle.grep_core.proofs.lemmas.WriterLaws.{TakesAll-nothing, TakesAll-more, TakesFront-more, TakesFront-longer}
 use Rattle.grep_core.proofs.lemmas.OneLineLemmas.{line_passed, line_counted}
 use Rattle.grep_core.proofs.lemmas.CountedLines.{many_within}
-use Rattle.grep_core.proofs.lemmas.StretchLemmas.{found_within}
+use Rattle.grep_core.proofs.lemmas.PassedLines.{passed_block, counted_block, block_spent}
+use Rattle.grep_core.proofs.lemmas.SearchedBlockLemmas.{found_within}
 use Rattle.grep_core.proofs.lemmas.OneFile.{FaultMet-left, whole-failures}
 use Rattle.grep_core.proofs.lemmas.MoreLines.{SelectedLines-passed}
 use Rattle.grep_io.proofs.lemmas.HandedLemmas.{begins_with}
@@ -104,7 +87,7 @@ module _ (es : List Expression) (options : Options) (many shown : Bool) (name : 
     counted = chosen_count w.chosen (length lines + 1, line) selected found w.counted ∙ sym e;
   }
 
-  -- lines of which none is selected add none
+  -- lines without a selected one add none
   pub chosen_on : (ls ps : List Text) (chosen : List (ℕ × Text)) → All (λ line. ¬ Selected es options line) ps → SelectedLines es options many (file_so_far name ls) chosen → SelectedLines es options many (file_so_far name (ls ++ ps)) chosen
   chosen_on ls [] chosen none h = subst (λ xs. SelectedLines es options many (file_so_far name xs) chosen) (sym (append-nil ls)) h
   chosen_on ls (line ∷ ps) chosen none h =
@@ -367,24 +350,32 @@ module _ {R : Type 0} (remaining : R → Option Text) (failures : R → ℕ) (es
   pub begins : (now : Numbered R) (lines : List Text) → HasHanded remaining failures reader now lines → BeginsWith name (remaining reader) lines
   begins now lines h = begins_with remaining failures name reader now.lines lines h.hands h.few
 
-  -- some lines were passed where the selected ones are only counted
-  pub searched_counted : form options ≡ counts → (before now : Numbered R) (old new : Writer) (began mid ended : Steps) (selected more : ℕ) (s : SearchedSoFar before old new began mid selected) → AddsCounted remaining failures es options reader s.lines now mid ended selected more
-      → SearchedSoFar now old new began ended more
-  searched_counted asked before now old new began mid ended selected more s (count, p, added) =
-      let within = many_within (Selected es options) p.passed count p.selected in
-      let sum : selected + count ≡ more = omega (arith, added, within, s.few, s.handed.counted, p.handed_too.few, length-append s.lines p.passed) in
-      record {
-        lines = s.lines ++ p.passed;
-        handed = p.handed_too;
-        wrote = subst (WritesLines es options many shown name (s.lines ++ p.passed) old new) sum (writes_counted es options many shown name (counts_plain options asked) asked p.passed s.lines old new selected count s.wrote p.selected);
-        few = omega (arith, sum, within, s.few, s.handed.counted, p.handed_too.counted, length-append s.lines p.passed);
-        none_early = λ early. absurd (counts_late options asked early);
-        steps = searched_more_lines es options (length es) s.lines p.passed began mid ended s.steps p.steps;
-      }
+  -- a block was passed where the selected lines are only counted
+  module _ (before now : Numbered R) (block : Text) (count : ℕ) (ahead : AreAhead before block count) (passed : PassesNext remaining failures before now (lines_of (take (length block) before.lines.ahead)))
+      (old new : Writer) (began mid ended : Steps) (selected : ℕ) (s : SearchedSoFar before old new began mid selected) where
+    abbrev block_lines : List Text
+    block_lines = lines_of block
 
-  -- no line is numbered twice
-  pub counted_further : (before now : Numbered R) (lines : List Text) (began ended : Steps) (selected more : ℕ) → HasHanded remaining failures reader before lines → AddsCounted remaining failures es options reader lines now began ended selected more → before.number ≤ now.number
-  counted_further before now lines began ended selected more h (count, p, added) = omega (arith, h.counted, p.handed_too.counted, length-append lines p.passed)
+    handed_on : HasHanded remaining failures reader now (s.lines ++ block_lines)
+    handed_on = passed_block remaining failures reader s.lines before now block count ahead passed s.handed
+
+    -- no line is numbered twice
+    pub counted_further : before.number ≤ now.number
+    counted_further = omega (arith, s.handed.counted, handed_on.counted, length-append s.lines block_lines)
+
+    pub searched_counted : form options ≡ counts → (matched own more : ℕ) → HoldsOfMany (Matched es options) block_lines matched → AddsAtMost (length es * length block) mid ended → own ≡ (if options.invert_match then count - matched else matched) → more ≡ min (selected + own) (2 ^ 64 - 1) → SearchedSoFar now old new began ended more
+    searched_counted asked matched own more found spent own_is added =
+        let chosen = subst (HoldsOfMany (Selected es options) block_lines) (sym own_is) (counted_block es options block count matched ahead.counted found) in
+        let within = many_within (Selected es options) block_lines own chosen in
+        let sum : selected + own ≡ more = omega (arith, added, within, s.few, s.handed.counted, handed_on.few, length-append s.lines block_lines) in
+        record {
+          lines = s.lines ++ block_lines;
+          handed = handed_on;
+          wrote = subst (WritesLines es options many shown name (s.lines ++ block_lines) old new) sum (writes_counted es options many shown name (counts_plain options asked) asked block_lines s.lines old new selected own s.wrote chosen);
+          few = omega (arith, sum, within, s.few, s.handed.counted, handed_on.counted, length-append s.lines block_lines);
+          none_early = λ early. absurd (counts_late options asked early);
+          steps = searched_more_lines es options (length es) s.lines block_lines began mid ended s.steps (block_spent es options block mid ended ahead.whole spent);
+        }
 
   module _ (now : Numbered R) (old mid new : Writer) (began ended : Steps) (selected : ℕ) (s : SearchedSoFar now old mid began ended selected) where
     -- buffered output was sent

@@ -2,17 +2,7 @@
 use Rattle.std.proofs.Common.{◌≡◌, ℕ, ◌+◌, ◌<◌, List, [], ◌∷◌, ◌++◌, All, ◌⊎◌, inl, inr, length, map, take, get_or, refl, sym, ap, ◌∙◌, subst, arith}
 use Rattle.std.proofs.lemmas.List.{length_push, map-append}
 use Rattle.std.proofs.lemmas.List.Elements.{All-push}
-use Rattle.std.specs.List.{AllZip}
-use Rattle.re_syntax.specs.declared.fault.PatternFault.{PatternFault}
-use Rattle.re_syntax.specs.declared.syntax.Syntax.{Syntax}
-use Rattle.re_syntax.specs.Bytes.{Text}
-use Rattle.re_syntax.specs.Spelled.{IsMeant}
-use Rattle.re_search.specs.Matcher.{Matcher}
-use Rattle.re_search.specs.Reading.{IsSmallFor, IsReadable, IsRefusedFor, IsOutOfMemory}
-use Rattle.re_search.specs.Working.Matchers.{matched_expression, wants_whole}
-use Rattle.grep_core.specs.declared.options.Options.{Options}
-use Rattle.grep_core.specs.Matchers.{IsFirstRefused}
-use Rattle.grep_core.specs.Working.MatcherLists.{AreMatchers}
+use Rattle.grep_core.proofs.Words.{AllZip, PatternFault, Syntax, Text, IsMeant, Matcher, IsSmallFor, IsReadable, IsRefusedFor, IsOutOfMemory, matched_expression, wants_whole, Options, IsFirstRefused, AreMatchers}
 
 -- two lists, element by element, joined
 pub AllZip-append : {X Y : Type 0} (P : X → Y → Type 0) (xs vs : List X) (ys ws : List Y) → AllZip P xs ys → AllZip P vs ws → AllZip P (xs ++ vs) (ys ++ ws)

@@ -1,10 +1,6 @@
 -- The bytes of a message, written as a row.
 use Rattle.std.proofs.Common.{◌≡◌, ℕ, [], ◌∷◌, ◌++◌, Option, None, Some, Result, codes, sym, ap, ◌∙◌, append_assoc, append-nil, subst}
-use Rattle.re_syntax.specs.Bytes.{Text}
-use Rattle.re_syntax.specs.Lines.{newline}
-use Rattle.grep_core.specs.Row.{colon, head, output_line}
-use Rattle.grep_io.specs.Written.{Writes}
-use Rattle.grep_core.specs.Messages.{cannot_open, read_error}
+use Rattle.grep_core.proofs.Words.{Text, newline, colon, head, output_line, Writes, cannot_open, read_error}
 
 -- a message of `grep: `, the file's name, a colon and some text
 abbrev message_row : Text → Text → Text

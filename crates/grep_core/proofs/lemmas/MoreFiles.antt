@@ -2,12 +2,7 @@
 -- separator.
 use Rattle.std.proofs.Common.{Bool, false, List, ◌++◌, refl, sym, ◌∙◌}
 use Rattle.std.proofs.lemmas.List.{map-append}
-use Rattle.re_syntax.specs.Bytes.{Text}
-use Rattle.re_syntax.specs.Expression.{Expression}
-use Rattle.grep_core.specs.declared.options.Options.{Options}
-use Rattle.grep_core.specs.Files.{File}
-use Rattle.grep_core.specs.Output.{Form, nothing, names, counts, parts, lines, around, OutAs}
-use Rattle.grep_core.specs.Working.Groups.{GroupedAs, rows_after}
+use Rattle.grep_core.proofs.Words.{Text, Expression, Options, File, Form, nothing, names, counts, parts, lines, around, OutAs, GroupedAs, rows_after}
 use Rattle.grep_core.proofs.lemmas.ChooseLaws.{EachGives-append}
 use Rattle.grep_core.proofs.lemmas.Exist.{OutAs-exist, groups_exist}
 

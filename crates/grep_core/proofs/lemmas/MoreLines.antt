@@ -1,13 +1,7 @@
 -- What one more line of a file adds to its selected lines, its rows and the rows of its parts.
 use Rattle.std.proofs.Common.{◌≡◌, ℕ, ◌+◌, Bool, List, [], ◌∷◌, ◌++◌, sym, ap, subst, ◌∙◌, length, map, arith}
-use Rattle.std.specs.List.{enumerate_from}
+use Rattle.grep_core.proofs.Words.{enumerate_from, Text, Expression, Options, Ending, Selected, Chosen, head_of, numbered, SelectedLines, RowsOf, PartsOfLine, PartRowsOf}
 use Rattle.std.proofs.lemmas.List.{map-append}
-use Rattle.re_syntax.specs.Bytes.{Text}
-use Rattle.re_syntax.specs.Expression.{Expression}
-use Rattle.grep_core.specs.declared.options.Options.{Options}
-use Rattle.grep_core.specs.Files.{Ending, Selected}
-use Rattle.grep_core.specs.Choose.{Chosen}
-use Rattle.grep_core.specs.Output.{head_of, numbered, SelectedLines, RowsOf, PartsOfLine, PartRowsOf}
 use Rattle.grep_io.proofs.lemmas.FileLaws.{file_with}
 use Rattle.grep_core.proofs.lemmas.ChooseLaws.{EachGives-append, EachGives-end, EachGives-exist, Chosen-end, Chosen-passed, Chosen-exist}
 use Rattle.grep_core.proofs.lemmas.Decided.{dec_selected}

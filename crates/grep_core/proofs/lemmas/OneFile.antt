@@ -1,12 +1,6 @@
 -- A run over one source, by its lines: its output, messages, status and failures.
 use Rattle.std.proofs.Common.{◌≡◌, false, ◌⊎◌, ◌||◌, IsTrue, List, [], refl, ap, subst, ◌∙◌, arith, inl, inr}
-use Rattle.re_syntax.specs.Bytes.{Text}
-use Rattle.re_syntax.specs.Lines.{ended_lines_of}
-use Rattle.re_syntax.specs.Expression.{Expression}
-use Rattle.grep_core.specs.declared.options.Options.{Options}
-use Rattle.grep_core.specs.Files.{File, Ending, whole, broken, HasSelected}
-use Rattle.grep_core.specs.Messages.{FaultMet, FaultMetBy}
-use Rattle.grep_io.specs.Reading.{Reading, not_opened, fails_after, ends_after, up_to_limit, file_of, failures_of}
+use Rattle.grep_core.proofs.Words.{Text, ended_lines_of, Expression, Options, File, Ending, whole, broken, HasSelected, FaultMet, FaultMetBy, Reading, not_opened, fails_after, ends_after, up_to_limit, file_of, failures_of}
 use Rattle.grep_io.proofs.lemmas.FileLaws.{up_to_limit-beyond}
 
 -- ---- readings
@@ -33,9 +27,6 @@ module _ (es : List Expression) (options : Options) where
 -- ---- one file, without `-q`
 
 module _ (es : List Expression) (options : Options) (loud : options.quiet ≡ false) where
-  not_quiet : {P : Type 0} → IsTrue options.quiet × P → ⊥
-  not_quiet p = let e = p.0 in let no : ⊥ = cc (e, loud) in no
-
   module _ (name : Text) (ls : List Text) where
     abbrev ends : Ending → File
     ends ending = record { name = name; lines = ls; ending = ending }

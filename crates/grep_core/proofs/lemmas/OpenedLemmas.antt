@@ -2,30 +2,11 @@
 use Rattle.std.proofs.Common.{◌≡◌, ℕ, zero, suc, ◌≤◌, ◌⊎◌, Bool, true, false, List, [], ◌∷◌, length, take, Option, Result, Ok, Err, IfSome, refl, sym, ap, subst, ◌∙◌, inl, inr, arith}
 use Rattle.std.proofs.lemmas.Bool.{false≢true}
 use Rattle.std.proofs.KnownBytes.{Consumes-nil}
-use Rattle.std.specs.Io.KnownBytes.{Consumes}
-use Rattle.re_syntax.specs.Bytes.{Text}
-use Rattle.re_syntax.specs.Expression.{Expression}
+use Rattle.grep_core.proofs.Words.{Consumes, Text, Expression, Options, FileEnd, Missing, FileFound, SearchFault, one_more, Groups, Chosen, LineReader, File, Selected, Form, nothing, names, counts, parts, lines, around, form, shown_name, shown_number, numbered, Source, Reading, not_opened, fails_after, ends_after, open_source, IsReadingOf, file_of, failures_of, AreLeft, OneLeft, HasRead, Writer, TakesAll, TakesFront, first_lines, count_more, SearchGives, rows_after, IsPlain, LineRowsOf, CountsSource, BreaksSource, StopsSource, SearchesSource}
 use Rattle.re_syntax.proofs.lemmas.Decisions.{Any-none}
 use Rattle.re_syntax.proofs.lemmas.LinesLaws.{all_none, lines_of-terminated}
 use Rattle.re_search.specs.Meters.{Steps}
-use Rattle.grep_core.specs.declared.options.Options.{Options}
-use Rattle.grep_core.specs.declared.status.FileEnd.{FileEnd}
-use Rattle.grep_core.specs.declared.status.FileEnd.TheVariants.{Missing}
-use Rattle.grep_core.specs.declared.status.FileFound.{FileFound}
-use Rattle.grep_core.specs.declared.status.SearchFault.{SearchFault}
 use Rattle.grep_core.specs.declared.status.SearchFault.TheVariants.{Write, Memory}
-use Rattle.grep_io.specs.Counted.{one_more}
-use Rattle.grep_core.specs.Around.{Groups}
-use Rattle.grep_core.specs.Choose.{Chosen}
-use Rattle.grep_io.specs.Working.LineReader.{LineReader}
-use Rattle.grep_core.specs.Files.{File, Selected}
-use Rattle.grep_core.specs.Output.{Form, nothing, names, counts, parts, lines, around, form, shown_name, shown_number, numbered}
-use Rattle.grep_io.specs.Reading.{Source, Reading, not_opened, fails_after, ends_after, open_source, IsReadingOf, file_of, failures_of, AreLeft, OneLeft, HasRead}
-use Rattle.grep_core.specs.Run.{Writer, TakesAll, TakesFront, first_lines, count_more}
-use Rattle.grep_core.specs.Working.Given.{SearchGives}
-use Rattle.grep_core.specs.Working.Groups.{rows_after}
-use Rattle.grep_core.specs.Working.OneLine.{IsPlain, LineRowsOf}
-use Rattle.grep_core.specs.Working.Searched.{CountsSource, BreaksSource, StopsSource, SearchesSource}
 use Rattle.grep_core.proofs.lemmas.Verdicts.{decided_yes, decided_no}
 use Rattle.grep_core.proofs.lemmas.CostLaws.{unsearched_lines}
 use Rattle.grep_core.proofs.lemmas.WriterLaws.{TakesAll-nothing}

@@ -1,36 +1,13 @@
 -- The parts of a line that were written, one more part at a time.
-use Rattle.std.proofs.Common.{◌≡◌, ℕ, ◌+◌, ◌<◌, ◌≤◌, Bool, List, [], ◌∷◌, ◌++◌, Option, None, Some, IfSome, length, map, slice_range, refl, sym, ap, subst, ◌∙◌, append_assoc, append-nil, arith}
+use Rattle.std.proofs.Common.{◌≡◌, ℕ, ◌+◌, ◌≤◌, Bool, List, [], ◌∷◌, ◌++◌, length, map, slice_range, refl, sym, ap, subst, ◌∙◌, append_assoc, append-nil, arith}
 use Rattle.std.proofs.lemmas.List.{map-append, length_push, length-append}
-use Rattle.re_syntax.specs.Bytes.{Text}
-use Rattle.re_syntax.specs.Expression.{Expression}
-use Rattle.re_syntax.specs.Parts.{IsFound, IsPart, ArePartsFrom, AreParts}
+use Rattle.grep_core.proofs.Words.{Text, Expression, IsFound, IsPart, ArePartsFrom, AreParts, searches_for, Options, one_more, parts, form, head_of, Writer, TakesAll, TakesFront, file_so_far, RowsOfSelected, WritesSelected, BreaksSelected, search_cost, PartsAsked, AsksParts, Course, HasTaken, refusals}
 use Rattle.re_syntax.proofs.lemmas.PartsLaws.{IsPart-unique}
 use Rattle.re_syntax.proofs.lemmas.PartsExist.{AreParts-exist}
 use Rattle.re_search.specs.Meters.{Steps}
-use Rattle.re_search.specs.Searching.{FindsPart, searches_for}
-use Rattle.re_syntax.specs.declared.span.Span.{Span}
-use Rattle.grep_core.specs.declared.options.Options.{Options}
-use Rattle.grep_io.specs.Counted.{one_more}
-use Rattle.grep_core.specs.Output.{parts, form, head_of}
-use Rattle.grep_core.specs.Run.{Writer, TakesAll, TakesFront}
-use Rattle.grep_io.specs.Working.Handed.{file_so_far}
-use Rattle.grep_core.specs.Working.OneLine.{RowsOfSelected, WritesSelected, BreaksSelected}
-use Rattle.grep_core.specs.Cost.{search_cost, PartsAsked, AsksParts}
-use Rattle.re_search.specs.declared.course.Course.{Course}
-use Rattle.re_search.specs.Working.Courses.{HasTaken, refusals}
 use Rattle.re_search.proofs.lemmas.CourseLaws.{few_searches}
 use Rattle.grep_core.proofs.lemmas.CostLaws.{adds_for_more, more_searches}
 use Rattle.grep_core.proofs.lemmas.WriterLaws.{TakesAll-nothing, TakesAll-more, TakesFront-more, TakesFront-longer}
-
--- a part is not empty and lies within the line
-pub part_within : (es : List Expression) (line : Text) (whole : Bool) (from : ℕ) (found : Option Span) → FindsPart es line whole from found → IfSome found (λ part. (part.start < part.end) × (part.end ≤ length line))
-part_within es line whole from None none = tt
-part_within es line whole from (Some span) p = (p.found.not_empty, p.found.on_line)
-
--- and begins no earlier than it was asked for
-pub part_ahead : (es : List Expression) (line : Text) (whole : Bool) (from : ℕ) (found : Option Span) → FindsPart es line whole from found → IfSome found (λ part. from ≤ part.start)
-part_ahead es line whole from None none = tt
-part_ahead es line whole from (Some span) p = p.found.begins
 
 module _ (es : List Expression) (options : Options) (many : Bool) (name : Text) (number : ℕ) (line : Text) where
   -- the row of a part

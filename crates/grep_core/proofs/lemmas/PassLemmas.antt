@@ -1,10 +1,6 @@
 -- The rows that were written for the lines handed out, one more line at a time.
 use Rattle.std.proofs.Common.{ℕ, Bool, true, false, ◌||◌, Decides, [], ◌∷◌, Option, refl, sym, ◌∙◌, subst, append-nil}
-use Rattle.std.specs.Io.KnownBytes.{Appends}
-use Rattle.re_syntax.specs.Bytes.{Text}
-use Rattle.grep_core.specs.Row.{output_line}
-use Rattle.grep_io.specs.Written.{GoesOut, StopsWithin}
-use Rattle.grep_core.specs.Run.{writer, TakesAll, TakesFront}
+use Rattle.grep_core.proofs.Words.{Appends, Text, output_line, GoesOut, StopsWithin, writer, TakesAll, TakesFront}
 
 -- ---- writers
 

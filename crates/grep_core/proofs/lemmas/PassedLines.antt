@@ -1,23 +1,13 @@
 -- Lines that are passed at once.
-use Rattle.std.proofs.Common.{◌≡◌, ℕ, ◌+◌, ◌-◌, ◌*◌, ◌^◌, ◌<◌, ◌≤◌, Bool, true, false, List, [], ◌++◌, All, Option, length, take, refl, sym, ap, ◌∙◌, subst, arith, append_assoc, append-nil, length-append, if◌then◌else◌}
+use Rattle.std.proofs.Common.{◌≡◌, ℕ, ◌+◌, ◌-◌, ◌*◌, ◌≤◌, Bool, true, false, List, [], ◌++◌, All, Option, length, take, refl, sym, ap, ◌∙◌, subst, arith, append_assoc, length-append, if◌then◌else◌}
 use Rattle.std.proofs.Math.Seq.{take-append_seam}
-use Rattle.re_syntax.specs.Bytes.{Text}
-use Rattle.re_syntax.specs.Lines.{terminated, lines_of, HasNoNewline}
-use Rattle.re_syntax.specs.Expression.{Expression}
+use Rattle.grep_core.proofs.Words.{Text, terminated, lines_of, HasNoNewline, Expression, IsBlock, HoldsOfMany, Options, SearchesLines, Matched, Selected, most_lines, Numbered, AreAhead, HasHanded, PassesNext, IsNextOf}
 use Rattle.re_syntax.proofs.lemmas.LinesLaws.{lines_of-terminated, terminated-append}
 use Rattle.re_search.specs.Meters.{Steps}
-use Rattle.re_search.specs.Searching.{AddsAtMost}
-use Rattle.re_search.specs.Working.Blocks.{IsBlock, HoldsOfMany}
+use Rattle.re_search.specs.Searches.{AddsAtMost}
 use Rattle.re_search.proofs.lemmas.NextLines.{block_lines}
 use Rattle.re_search.proofs.lemmas.CountedBlocks.{counts_same}
-use Rattle.grep_core.specs.declared.options.Options.{Options}
-use Rattle.grep_core.specs.Cost.{SearchesLines}
-use Rattle.grep_core.specs.Files.{Matched, Selected}
-use Rattle.grep_io.specs.Reading.{most_lines}
-use Rattle.grep_io.specs.Working.Numbered.{Numbered, AreAhead, HasHanded, PassesNext}
-use Rattle.grep_core.specs.Working.Passed.{AddsCounted}
-use Rattle.grep_core.specs.Working.Stretches.{IsNextOf}
-use Rattle.grep_core.proofs.lemmas.CostLaws.{unsearched_lines, searched_bytes}
+use Rattle.grep_core.proofs.lemmas.CostLaws.{searched_bytes}
 use Rattle.grep_core.proofs.lemmas.CountedLines.{many_others}
 use Rattle.grep_io.proofs.lemmas.PassedLemmas.{HasHanded-pass}
 
@@ -28,25 +18,16 @@ passed_block remaining failures reader handed old new block count h next s =
     let taken : take (length block) old.lines.ahead ≡ block = ap (take (length block)) h.ahead ∙ take-append_seam block h.rest in
     subst (λ t. HasHanded remaining failures reader new (handed ++ lines_of t)) taken (next reader handed s)
 
--- all lines that are held are ahead, and it is known how many of them are selected
-pub counted_block : {R : Type 0} (es : List Expression) (options : Options) (now : Numbered R) (ready rest : Text) (count matched : ℕ) → IsBlock ready → now.lines.ahead ≡ ready ++ rest
-    → HoldsOfMany (Matched es options) (lines_of ready) matched → count ≡ length (lines_of ready) → now.number + count ≤ most_lines
-    → AreAhead now ready count × HoldsOfMany (Selected es options) (lines_of ready) (if options.invert_match then count - matched else matched)
-counted_block es options now ready rest count matched block is found counted few =
-    (record { rest = rest; ahead = is; whole = block; counted = counted; few = few }, selected options.invert_match refl)
+-- it is known how many of its lines are selected
+pub counted_block : (es : List Expression) (options : Options) (block : Text) (count matched : ℕ) → count ≡ length (lines_of block) → HoldsOfMany (Matched es options) (lines_of block) matched → HoldsOfMany (Selected es options) (lines_of block) (if options.invert_match then count - matched else matched)
+counted_block es options block count matched counted found = selected options.invert_match refl
   where
-    selected : (b : Bool) → options.invert_match ≡ b → HoldsOfMany (Selected es options) (lines_of ready) (if b then count - matched else matched)
+    selected : (b : Bool) → options.invert_match ≡ b → HoldsOfMany (Selected es options) (lines_of block) (if b then count - matched else matched)
     selected true inverts =
-        let others = many_others (Matched es options) (lines_of ready) matched found in
-        let same : length (lines_of ready) - matched ≡ count - matched = omega (arith, counted) in
-        counts_same (λ line. Matched es options line → ⊥) (Selected es options) (λ line s. rw inverts s) (λ line s. rw inverts at s) (lines_of ready) (count - matched) (subst (HoldsOfMany (λ line. Matched es options line → ⊥) (lines_of ready)) same others)
-    selected false plain = counts_same (Matched es options) (Selected es options) (λ line s. rw plain s) (λ line s. rw plain at s) (lines_of ready) matched found
-
--- where none is passed none is counted
-pub counted_none : {R : Type 0} (remaining : R → Option Text) (failures : R → ℕ) (es : List Expression) (options : Options) (reader : R) (handed : List Text) (now : Numbered R) (steps : Steps) (selected : ℕ) → selected < 2 ^ 64 → HasHanded remaining failures reader now handed
-    → AddsCounted remaining failures es options reader handed now steps steps selected selected
-counted_none remaining failures es options reader handed now steps selected small h =
-    (0, record { passed = []; selected = refl; handed_too = subst (HasHanded remaining failures reader now) (sym (append-nil handed)) h; steps = unsearched_lines es options (length es) [] steps }, omega (arith, small))
+        let others = many_others (Matched es options) (lines_of block) matched found in
+        let same : length (lines_of block) - matched ≡ count - matched = omega (arith, counted) in
+        counts_same (λ line. Matched es options line → ⊥) (Selected es options) (λ line s. rw inverts s) (λ line s. rw inverts at s) (lines_of block) (count - matched) (subst (HoldsOfMany (λ line. Matched es options line → ⊥) (lines_of block)) same others)
+    selected false plain = counts_same (Matched es options) (Selected es options) (λ line s. rw plain s) (λ line s. rw plain at s) (lines_of block) matched found
 
 -- each byte of a block was a step of each matcher at most
 pub block_spent : (es : List Expression) (options : Options) (ready : Text) (old new : Steps) → IsBlock ready → AddsAtMost (length es * length ready) old new → SearchesLines es options (length es) (lines_of ready) old new

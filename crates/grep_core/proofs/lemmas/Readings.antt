@@ -1,8 +1,6 @@
 -- What a source did, from what its reads gave.
 use Rattle.std.proofs.Common.{Bool, true, false, List, [], ◌∷◌, Option, Some, None, refl}
-use Rattle.re_syntax.specs.Bytes.{Text}
-use Rattle.grep_io.specs.Reading.{Source, Reading, not_opened, ends_after, IsReadingOf}
-use Rattle.grep_core.specs.Run.{AreReadings}
+use Rattle.grep_core.proofs.Words.{Text, Source, Reading, not_opened, ends_after, IsReadingOf, AreReadings}
 
 -- a source that was not looked at has done something
 pub IsReadingOf-exists : (source : Source) → (r : Reading) × IsReadingOf source r

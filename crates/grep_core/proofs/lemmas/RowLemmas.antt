@@ -1,10 +1,7 @@
 -- An output line that is written part by part.
 use Rattle.std.proofs.Common.{◌≡◌, ℕ, [], ◌∷◌, ◌++◌, Option, Result, sym, ap, ◌∙◌, append_assoc, subst}
-use Rattle.re_syntax.specs.Bytes.{Text}
-use Rattle.re_syntax.specs.Lines.{newline}
-use Rattle.grep_io.specs.Written.{GoesOut, Writes}
+use Rattle.grep_core.proofs.Words.{Text, newline, GoesOut, Writes, output_line}
 pub use Rattle.grep_io.proofs.lemmas.WriteLemmas.{goes_nowhere, goes_on, stops_early, stops_later, writes_no_more, writes_last, writes_then_nothing}
-use Rattle.grep_core.specs.Row.{output_line}
 
 -- the parts of an output line, grouped to the right
 output_line-parts : (margin front text : Text) → margin ++ (front ++ (text ++ newline ∷ [])) ≡ output_line margin (front ++ text)

@@ -3,26 +3,10 @@ use Rattle.std.proofs.Common.{◌≡◌, ℕ, zero, suc, ◌+◌, nat_lt, nat_le
 use Rattle.std.proofs.Math.Seq.{take-suc, take-append_seam, get_or-append_seam}
 use Rattle.std.proofs.lemmas.Bool.{false≢true, cond-true}
 use Rattle.std.proofs.lemmas.List.{length-append, length-take-le, take_all}
-use Rattle.re_syntax.specs.Bytes.{Text}
-use Rattle.re_syntax.specs.Expression.{Expression}
+use Rattle.grep_core.proofs.Words.{Text, Expression, Options, Status, RunFault, MessageWrite, FileEnd, one_more, IfHolds, File, missing, HasSelected, Form, nothing, names, counts, parts, lines, around, form, OutAs, Out, are_many, FaultMet, Stops, Reported, Messages, AnySelected, StatusOf, Source, Reading, IsReadingOf, file_of, failures_of, AreLeft, HasRead, Writer, Devices, TakesAll, TakesFront, TakesPast, files_of, AreReadings, FailuresMet, LeftMet, begun, file_at, count_more, Story, Finishes, BreaksOff, StopsAfter, RunGives, source_at, SearchesLines, SearchesFiles, GroupedAs, rows_after, is_fault, status_by, SourceGives, CountsSource, FinishesSource, BreaksSource, BreaksMessage, StopsSource}
 use Rattle.re_syntax.proofs.lemmas.Decisions.{Any-none, Any-first, Any-later, Any-cases}
-use Rattle.grep_core.specs.declared.options.Options.{Options}
 use Rattle.grep_core.specs.declared.status.Status.TheVariants.{Selected as selected}
-use Rattle.grep_core.specs.declared.status.Status.{Status}
-use Rattle.grep_core.specs.declared.status.RunFault.{RunFault}
-use Rattle.grep_core.specs.declared.status.RunFault.TheVariants.{Write, MessageWrite, Memory}
-use Rattle.grep_core.specs.declared.status.FileEnd.{FileEnd}
-use Rattle.grep_io.specs.Counted.{one_more}
-use Rattle.grep_core.specs.Choose.{IfHolds}
-use Rattle.grep_core.specs.Files.{File, missing, HasSelected}
-use Rattle.grep_core.specs.Output.{Form, nothing, names, counts, parts, lines, around, form, OutAs, Out, are_many}
-use Rattle.grep_core.specs.Messages.{FaultMet, Stops, Reported, Messages, AnySelected, StatusOf}
-use Rattle.grep_io.specs.Reading.{Source, Reading, IsReadingOf, file_of, failures_of, AreLeft, HasRead}
-use Rattle.grep_core.specs.Run.{Writer, Devices, TakesAll, TakesFront, TakesPast, files_of, AreReadings, FailuresMet, LeftMet, begun, file_at, count_more, Finishes, BreaksOff, StopsAfter, RunGives}
-use Rattle.grep_core.specs.Sources.{source_at}
-use Rattle.grep_core.specs.Cost.{SearchesLines, SearchesFiles}
-use Rattle.grep_core.specs.Working.Groups.{GroupedAs, rows_after}
-use Rattle.grep_core.specs.Working.Searched.{is_fault, status_by, SourceGives, CountsSource, FinishesSource, BreaksSource, BreaksMessage, StopsSource}
+use Rattle.grep_core.specs.declared.status.RunFault.TheVariants.{Write, Memory}
 use Rattle.re_syntax.proofs.lemmas.SomeOfJoined.{Any-left, Any-right, Any-append-cases, Any-single, none_more}
 use Rattle.grep_core.proofs.lemmas.CostLaws.{searched_without_steps, searched_up_to}
 use Rattle.grep_core.proofs.lemmas.Decided.{dec_stops}
@@ -70,30 +54,31 @@ cut_at (x ∷ xs) (suc k) d h = ap (λ l. x ∷ l) (cut_at xs k d (omega (arith,
 module _ (es : List Expression) (options : Options) (many : Bool) where
   -- output and messages for these sources were written, and the run continues
   pub record RunSoFar (before : List Source) (given : List (Option Text) → Type 0) (old new : Devices) (some faulty : Bool) : Type 0 where
-    pub readings : List Reading
-    pub are_readings : AreReadings before readings
+    pub story : Story es options before before given old new
     pub output : List Text
-    pub is_output : GroupedAs es options many (form options) (files_of before readings) output
+    pub is_output : GroupedAs es options many (form options) (files_of before story.readings) output
     pub wrote : TakesAll old.out new.out (rows_after (form options) false output)
     pub messages : List Text
-    pub are_reported : Reported es options (files_of before readings) messages
+    pub are_reported : Reported es options (files_of before story.readings) messages
     pub reported : TakesAll old.messages new.messages messages
-    pub goes_on : Any (Stops es options) (files_of before readings) → ⊥
-    pub some_reported : Decides some (AnySelected es options (files_of before readings))
-    pub faulty_reported : Decides faulty (Any (FaultMet es options) (files_of before readings))
-    pub failures : ℕ
-    pub are_failures : FailuresMet es options before readings failures
-    pub counted : new.source_failures ≡ count_more old.source_failures failures
-    pub left : List (Option Text)
-    pub are_left : LeftMet es options before readings left
-    pub gave_back : given left
-    pub steps : SearchesFiles es options (length es) (files_of before readings) old.steps new.steps
+    pub goes_on : Any (Stops es options) (files_of before story.readings) → ⊥
+    pub some_reported : Decides some (AnySelected es options (files_of before story.readings))
+    pub faulty_reported : Decides faulty (Any (FaultMet es options) (files_of before story.readings))
 
   -- no source was read yet
   pub run_none : (given : List (Option Text) → Type 0) → given [] → (d : Devices) → RunSoFar [] given d d false false
   run_none given none d = record {
-    readings = [];
-    are_readings = tt;
+    story = record {
+      readings = [];
+      are_readings = tt;
+      failures = 0;
+      are_failures = refl;
+      counted = refl;
+      left = [];
+      are_left = refl;
+      gave_back = none;
+      steps = searched_without_steps es options (length es) [] d.steps;
+    };
     output = [];
     is_output = nothing_written (form options);
     wrote = subst (TakesAll d.out d.out) (sym (after_nothing (form options) false)) (TakesAll-nothing d.out);
@@ -103,13 +88,6 @@ module _ (es : List Expression) (options : Options) (many : Bool) where
     goes_on = Any-none (Stops es options);
     some_reported = decided_no (Any-none (HasSelected es options));
     faulty_reported = decided_no (Any-none (FaultMet es options));
-    failures = 0;
-    are_failures = refl;
-    counted = refl;
-    left = [];
-    are_left = refl;
-    gave_back = none;
-    steps = searched_without_steps es options (length es) [] d.steps;
   }
     where
       nothing_written : (shape : Form) → GroupedAs es options many shape [] []
@@ -125,7 +103,7 @@ module _ (es : List Expression) (options : Options) (many : Bool) where
       (old mid : Devices) (some faulty : Bool) (s : RunSoFar before given old mid some faulty) where
     -- what was written for the first sources, and for this one
     wrote_both : (rows : List Text) → rows_after (form options) false (s.output ++ rows) ≡ rows_after (form options) false s.output ++ rows_after (form options) some rows
-    wrote_both rows = after_two es options many (form options) (files_of before s.readings) s.output rows some s.is_output s.some_reported
+    wrote_both rows = after_two es options many (form options) (files_of before s.story.readings) s.output rows some s.is_output s.some_reported
 
     takes_both : (new : Writer) (rows : List Text) → TakesAll mid.out new (rows_after (form options) some rows) → TakesAll old.out new (rows_after (form options) false (s.output ++ rows))
     takes_both new rows took =
@@ -135,12 +113,21 @@ module _ (es : List Expression) (options : Options) (many : Bool) where
     pub run_next : (new : Devices) (end : FileEnd) (found : ℕ) → FinishesSource es options many some source own_given mid new end found → (options.quiet && nat_lt 0 found) ≡ false → RunSoFar (before ++ source ∷ []) all_given old new (some || nat_lt 0 found) (faulty || is_fault end)
     run_next new end found f goes =
         let file = file_of source.name f.reading in
-        let files = files_of before s.readings in
-        let all : files_of (before ++ source ∷ []) (s.readings ++ f.reading ∷ []) ≡ files ++ file ∷ [] = files_of-append before (source ∷ []) s.readings (f.reading ∷ []) s.are_readings in
+        let files = files_of before s.story.readings in
+        let all : files_of (before ++ source ∷ []) (s.story.readings ++ f.reading ∷ []) ≡ files ++ file ∷ [] = files_of-append before (source ∷ []) s.story.readings (f.reading ∷ []) s.story.are_readings in
         let not_here : Stops es options file → ⊥ = not_both options.quiet (nat_lt 0 found) goes f.some in
         record {
-          readings = s.readings ++ f.reading ∷ [];
-          are_readings = AreReadings-append before (source ∷ []) s.readings (f.reading ∷ []) s.are_readings (f.is_reading, tt);
+          story = record {
+            readings = s.story.readings ++ f.reading ∷ [];
+            are_readings = AreReadings-append before (source ∷ []) s.story.readings (f.reading ∷ []) s.story.are_readings (f.is_reading, tt);
+            failures = s.story.failures + f.failures.own;
+            are_failures = FailuresMet-append es options before (source ∷ []) s.story.readings (f.reading ∷ []) s.story.failures f.failures.own s.story.are_readings s.goes_on s.story.are_failures (FailuresMet-one es options source f.reading f.failures.own f.failures.are_own);
+            counted = f.failures.counted ∙ ap (λ n. count_more n f.failures.own) s.story.counted ∙ sym (count_more-add old.source_failures s.story.failures f.failures.own);
+            left = s.story.left ++ f.failures.left;
+            are_left = LeftMet-append es options before (source ∷ []) s.story.readings (f.reading ∷ []) s.story.left f.failures.left s.story.are_readings s.goes_on s.story.are_left (LeftMet-one es options source f.reading f.failures.left f.failures.are_left);
+            gave_back = join s.story.left f.failures.left s.story.gave_back f.failures.gave_back;
+            steps = subst (λ fs. SearchesFiles es options (length es) fs old.steps new.steps) (sym all) (searched_up_to es options (length es) files file [] old.steps mid.steps new.steps s.story.steps f.steps);
+          };
           output = s.output ++ f.rows;
           is_output = subst (λ fs. GroupedAs es options many (form options) fs (s.output ++ f.rows)) (sym all) (GroupedAs-append es options many (form options) files (file ∷ []) s.output f.rows s.is_output f.are_rows);
           wrote = takes_both new.out f.rows f.wrote;
@@ -150,13 +137,6 @@ module _ (es : List Expression) (options : Options) (many : Bool) where
           goes_on = subst (λ fs. Any (Stops es options) fs → ⊥) (sym all) (none_more (Stops es options) files file s.goes_on not_here);
           some_reported = subst (λ fs. Decides (some || nat_lt 0 found) (AnySelected es options fs)) (sym all) (any_decides (HasSelected es options) files file some (nat_lt 0 found) s.some_reported f.some);
           faulty_reported = subst (λ fs. Decides (faulty || is_fault end) (Any (FaultMet es options) fs)) (sym all) (any_decides (FaultMet es options) files file faulty (is_fault end) s.faulty_reported f.fault);
-          failures = s.failures + f.failures.own;
-          are_failures = FailuresMet-append es options before (source ∷ []) s.readings (f.reading ∷ []) s.failures f.failures.own s.are_readings s.goes_on s.are_failures (FailuresMet-one es options source f.reading f.failures.own f.failures.are_own);
-          counted = f.failures.counted ∙ ap (λ n. count_more n f.failures.own) s.counted ∙ sym (count_more-add old.source_failures s.failures f.failures.own);
-          left = s.left ++ f.failures.left;
-          are_left = LeftMet-append es options before (source ∷ []) s.readings (f.reading ∷ []) s.left f.failures.left s.are_readings s.goes_on s.are_left (LeftMet-one es options source f.reading f.failures.left f.failures.are_left);
-          gave_back = join s.left f.failures.left s.gave_back f.failures.gave_back;
-          steps = subst (λ fs. SearchesFiles es options (length es) fs old.steps new.steps) (sym all) (searched_up_to es options (length es) files file [] old.steps mid.steps new.steps s.steps f.steps);
         }
 
     module _ (after : List Source) (is_many : many ≡ nat_le 2 (length (before ++ source ∷ after))) (r : Reading) (is_reading : IsReadingOf source r) where
@@ -165,13 +145,13 @@ module _ (es : List Expression) (options : Options) (many : Bool) where
       rest = AreReadings-exist after
 
       abbrev readings : List Reading
-      readings = s.readings ++ r ∷ rest.0
+      readings = s.story.readings ++ r ∷ rest.0
 
       abbrev file : File
       file = file_of source.name r
 
       abbrev first : List File
-      first = files_of before s.readings
+      first = files_of before s.story.readings
 
       abbrev following : List File
       following = files_of after rest.0
@@ -180,17 +160,17 @@ module _ (es : List Expression) (options : Options) (many : Bool) where
       all_sources = before ++ source ∷ after
 
       are_all : AreReadings all_sources readings
-      are_all = AreReadings-append before (source ∷ after) s.readings (r ∷ rest.0) s.are_readings (is_reading, rest.1)
+      are_all = AreReadings-append before (source ∷ after) s.story.readings (r ∷ rest.0) s.story.are_readings (is_reading, rest.1)
 
       all_files : files_of all_sources readings ≡ first ++ file ∷ following
-      all_files = files_of-append before (source ∷ after) s.readings (r ∷ rest.0) s.are_readings
+      all_files = files_of-append before (source ∷ after) s.story.readings (r ∷ rest.0) s.story.are_readings
 
       all_many : many ≡ are_many (files_of all_sources readings)
       all_many = is_many ∙ ap (nat_le 2) (sym (length-files_of all_sources readings are_all))
 
       -- the steps for the first sources and this one are within the cost of all
       spent : (new : Devices) → SearchesLines es options (length es) file.lines mid.steps new.steps → SearchesFiles es options (length es) (files_of all_sources readings) old.steps new.steps
-      spent new steps = subst (λ fs. SearchesFiles es options (length es) fs old.steps new.steps) (sym all_files) (searched_up_to es options (length es) first file following old.steps mid.steps new.steps s.steps steps)
+      spent new steps = subst (λ fs. SearchesFiles es options (length es) fs old.steps new.steps) (sym all_files) (searched_up_to es options (length es) first file following old.steps mid.steps new.steps s.story.steps steps)
 
       -- the first sources and this one
       up_to_here : take (suc (length before)) all_sources ≡ before ++ source ∷ []
@@ -207,7 +187,7 @@ module _ (es : List Expression) (options : Options) (many : Bool) where
 
       -- the first files are those of the first sources
       as_many : length first ≡ length before
-      as_many = length-files_of before s.readings s.are_readings
+      as_many = length-files_of before s.story.readings s.story.are_readings
 
       front : take (length before) (files_of all_sources readings) ≡ first
       front = ap (λ k. take k (files_of all_sources readings)) (sym as_many) ∙ ap (take (length first)) all_files ∙ take-append_seam first (file ∷ following)
@@ -222,39 +202,53 @@ module _ (es : List Expression) (options : Options) (many : Bool) where
       reported_before = subst (λ fs. Messages es options fs s.messages) (sym front) (Messages-reached es options first first s.messages (Reached-all es options first s.goes_on) s.are_reported)
 
       -- how often the devices failed in the first sources
-      met_before : FailuresMet es options (take (length before) all_sources) readings s.failures
+      met_before : FailuresMet es options (take (length before) all_sources) readings s.story.failures
       met_before =
-          subst (λ xs. FailuresMet es options xs readings s.failures) (sym (take-append_seam before (source ∷ after)))
-          (FailuresMet-longer es options before s.readings (r ∷ rest.0) s.failures s.are_readings s.are_failures)
+          subst (λ xs. FailuresMet es options xs readings s.story.failures) (sym (take-append_seam before (source ∷ after)))
+          (FailuresMet-longer es options before s.story.readings (r ∷ rest.0) s.story.failures s.story.are_readings s.story.are_failures)
 
       -- and in this one
-      met_here : (own : ℕ) → IfHolds (FaultMet es options file) (own ≡ failures_of r) (own ≡ 0) → FailuresMet es options (take (suc (length before)) all_sources) readings (s.failures + own)
+      met_here : (own : ℕ) → IfHolds (FaultMet es options file) (own ≡ failures_of r) (own ≡ 0) → FailuresMet es options (take (suc (length before)) all_sources) readings (s.story.failures + own)
       met_here own are_own =
           let these = before ++ source ∷ [] in
-          let here = FailuresMet-append es options before (source ∷ []) s.readings (r ∷ []) s.failures own s.are_readings s.goes_on s.are_failures (FailuresMet-one es options source r own are_own) in
-          let are = AreReadings-append before (source ∷ []) s.readings (r ∷ []) s.are_readings (is_reading, tt) in
+          let here = FailuresMet-append es options before (source ∷ []) s.story.readings (r ∷ []) s.story.failures own s.story.are_readings s.goes_on s.story.are_failures (FailuresMet-one es options source r own are_own) in
+          let are = AreReadings-append before (source ∷ []) s.story.readings (r ∷ []) s.story.are_readings (is_reading, tt) in
           let first_sources : take (suc (length before)) all_sources ≡ these = up_to_here in
-          subst (λ xs. FailuresMet es options xs readings (s.failures + own)) (sym first_sources)
-          (subst (λ rs. FailuresMet es options these rs (s.failures + own)) (append_assoc s.readings (r ∷ []) rest.0) (FailuresMet-longer es options these (s.readings ++ r ∷ []) rest.0 (s.failures + own) are here))
+          subst (λ xs. FailuresMet es options xs readings (s.story.failures + own)) (sym first_sources)
+          (subst (λ rs. FailuresMet es options these rs (s.story.failures + own)) (append_assoc s.story.readings (r ∷ []) rest.0) (FailuresMet-longer es options these (s.story.readings ++ r ∷ []) rest.0 (s.story.failures + own) are here))
 
       -- what the readers of the first sources had left
-      left_before : LeftMet es options (take (length before) all_sources) readings s.left
+      left_before : LeftMet es options (take (length before) all_sources) readings s.story.left
       left_before =
-          subst (λ xs. LeftMet es options xs readings s.left) (sym (take-append_seam before (source ∷ after)))
-          (LeftMet-longer es options before s.readings (r ∷ rest.0) s.left s.are_readings s.are_left)
+          subst (λ xs. LeftMet es options xs readings s.story.left) (sym (take-append_seam before (source ∷ after)))
+          (LeftMet-longer es options before s.story.readings (r ∷ rest.0) s.story.left s.story.are_readings s.story.are_left)
 
       -- and that of this one
-      left_here : (own : List (Option Text)) → AreLeft source r own → LeftMet es options (take (suc (length before)) all_sources) readings (s.left ++ own)
+      left_here : (own : List (Option Text)) → AreLeft source r own → LeftMet es options (take (suc (length before)) all_sources) readings (s.story.left ++ own)
       left_here own is_left =
           let these = before ++ source ∷ [] in
-          let here = LeftMet-append es options before (source ∷ []) s.readings (r ∷ []) s.left own s.are_readings s.goes_on s.are_left (LeftMet-one es options source r own is_left) in
-          let are = AreReadings-append before (source ∷ []) s.readings (r ∷ []) s.are_readings (is_reading, tt) in
+          let here = LeftMet-append es options before (source ∷ []) s.story.readings (r ∷ []) s.story.left own s.story.are_readings s.goes_on s.story.are_left (LeftMet-one es options source r own is_left) in
+          let are = AreReadings-append before (source ∷ []) s.story.readings (r ∷ []) s.story.are_readings (is_reading, tt) in
           let first_sources : take (suc (length before)) all_sources ≡ these = up_to_here in
-          subst (λ xs. LeftMet es options xs readings (s.left ++ own)) (sym first_sources)
-          (subst (λ rs. LeftMet es options these rs (s.left ++ own)) (append_assoc s.readings (r ∷ []) rest.0) (LeftMet-longer es options these (s.readings ++ r ∷ []) rest.0 (s.left ++ own) are here))
+          subst (λ xs. LeftMet es options xs readings (s.story.left ++ own)) (sym first_sources)
+          (subst (λ rs. LeftMet es options these rs (s.story.left ++ own)) (append_assoc s.story.readings (r ∷ []) rest.0) (LeftMet-longer es options these (s.story.readings ++ r ∷ []) rest.0 (s.story.left ++ own) are here))
 
-      counted_here : (new : Devices) (own : ℕ) → new.source_failures ≡ count_more mid.source_failures own → new.source_failures ≡ count_more old.source_failures (s.failures + own)
-      counted_here new own counted = counted ∙ ap (λ n. count_more n own) s.counted ∙ sym (count_more-add old.source_failures s.failures own)
+      counted_here : (new : Devices) (own : ℕ) → new.source_failures ≡ count_more mid.source_failures own → new.source_failures ≡ count_more old.source_failures (s.story.failures + own)
+      counted_here new own counted = counted ∙ ap (λ n. count_more n own) s.story.counted ∙ sym (count_more-add old.source_failures s.story.failures own)
+
+      -- what was done to the first sources and this one
+      abbrev story_here : (new : Devices) → CountsSource es options many some source own_given r mid.source_failures new.source_failures → SearchesLines es options (length es) file.lines mid.steps new.steps → Story es options all_sources (take (suc (length before)) all_sources) all_given old new
+      story_here new failed steps = record {
+        readings = readings;
+        are_readings = are_all;
+        failures = s.story.failures + failed.own;
+        are_failures = met_here failed.own failed.are_own;
+        counted = counted_here new failed.own failed.counted;
+        left = s.story.left ++ failed.left;
+        are_left = left_here failed.left failed.are_left;
+        gave_back = join s.story.left failed.left s.story.gave_back failed.gave_back;
+        steps = spent new steps;
+      }
 
       -- the output for the first sources and this one is a beginning of the output
       out_front : (rows : List Text) → GroupedAs es options many (form options) (file ∷ []) rows → (more : List Text) × Out es options (files_of all_sources readings) (rows_after (form options) false s.output ++ (rows_after (form options) some rows ++ more))
@@ -280,27 +274,23 @@ module _ (es : List Expression) (options : Options) (many : Bool) where
           let out = out_front rows is in
           let reported = Messages-front es options first (file ∷ following) s.messages s.goes_on s.are_reported in
           record {
-            readings = readings;
-            are_readings = are_all;
             at = length before;
             in_sources = within;
-            output_before = rows_after (form options) false s.output;
-            is_before = out_before;
-            output = rows_after (form options) false s.output ++ (rows_after (form options) some rows ++ out.0);
-            is_output = out.1;
-            wrote = TakesPast-more old.out mid.out new.out (rows_after (form options) false s.output) (rows_after (form options) some rows ++ out.0) s.wrote (TakesFront-longer mid.out new.out (rows_after (form options) some rows) out.0 front_here);
-            messages_before = s.messages;
-            are_before = reported_before;
-            messages = s.messages ++ reported.0;
-            are_messages = subst (λ fs. Messages es options fs (s.messages ++ reported.0)) (sym all_files) reported.1;
-            reported = subst (λ w. TakesPast old.messages w s.messages (s.messages ++ reported.0)) (sym same) (TakesPast-all old.messages mid.messages s.messages reported.0 s.reported);
-            failures = s.failures + failed.own;
-            are_failures = met_here failed.own failed.are_own;
-            counted = counted_here new failed.own failed.counted;
-            left = s.left ++ failed.left;
-            are_left = left_here failed.left failed.are_left;
-            gave_back = join s.left failed.left s.gave_back failed.gave_back;
-            steps = spent new steps;
+            story = story_here new failed steps;
+            wrote = record {
+              first = rows_after (form options) false s.output;
+              due_first = out_before;
+              text = rows_after (form options) false s.output ++ (rows_after (form options) some rows ++ out.0);
+              due = out.1;
+              past = TakesPast-more old.out mid.out new.out (rows_after (form options) false s.output) (rows_after (form options) some rows ++ out.0) s.wrote (TakesFront-longer mid.out new.out (rows_after (form options) some rows) out.0 front_here);
+            };
+            reported = record {
+              first = s.messages;
+              due_first = reported_before;
+              text = s.messages ++ reported.0;
+              due = subst (λ fs. Messages es options fs (s.messages ++ reported.0)) (sym all_files) reported.1;
+              past = subst (λ w. TakesPast old.messages w s.messages (s.messages ++ reported.0)) (sym same) (TakesPast-all old.messages mid.messages s.messages reported.0 s.reported);
+            };
           }
 
       -- the messages about the first sources and this one are a beginning of all messages
@@ -327,27 +317,23 @@ module _ (es : List Expression) (options : Options) (many : Bool) where
           let out = out_front rows is in
           let reported = says_front messages reported_too in
           record {
-            readings = readings;
-            are_readings = are_all;
             at = length before;
             in_sources = within;
-            output_before = rows_after (form options) false s.output;
-            is_before = out_before;
-            output = rows_after (form options) false s.output ++ (rows_after (form options) some rows ++ out.0);
-            is_output = out.1;
-            wrote = TakesPast-more old.out mid.out new.out (rows_after (form options) false s.output) (rows_after (form options) some rows ++ out.0) s.wrote (TakesFront-all mid.out new.out (rows_after (form options) some rows) out.0 took);
-            messages_before = s.messages;
-            are_before = reported_before;
-            messages = s.messages ++ (messages ++ reported.0);
-            are_messages = subst (Messages es options (files_of all_sources readings)) (append_assoc s.messages messages reported.0) reported.1;
-            reported = TakesPast-more old.messages mid.messages new.messages s.messages (messages ++ reported.0) s.reported (TakesFront-longer mid.messages new.messages messages reported.0 front_here);
-            failures = s.failures + failed.own;
-            are_failures = met_here failed.own failed.are_own;
-            counted = counted_here new failed.own failed.counted;
-            left = s.left ++ failed.left;
-            are_left = left_here failed.left failed.are_left;
-            gave_back = join s.left failed.left s.gave_back failed.gave_back;
-            steps = spent new steps;
+            story = story_here new failed steps;
+            wrote = record {
+              first = rows_after (form options) false s.output;
+              due_first = out_before;
+              text = rows_after (form options) false s.output ++ (rows_after (form options) some rows ++ out.0);
+              due = out.1;
+              past = TakesPast-more old.out mid.out new.out (rows_after (form options) false s.output) (rows_after (form options) some rows ++ out.0) s.wrote (TakesFront-all mid.out new.out (rows_after (form options) some rows) out.0 took);
+            };
+            reported = record {
+              first = s.messages;
+              due_first = reported_before;
+              text = s.messages ++ (messages ++ reported.0);
+              due = subst (Messages es options (files_of all_sources readings)) (append_assoc s.messages messages reported.0) reported.1;
+              past = TakesPast-more old.messages mid.messages new.messages s.messages (messages ++ reported.0) s.reported (TakesFront-longer mid.messages new.messages messages reported.0 front_here);
+            };
           }
 
       -- out of memory after n of its lines
@@ -358,28 +344,30 @@ module _ (es : List Expression) (options : Options) (many : Bool) where
           let here : file_at (files_of all_sources readings) (length before) ≡ file =
           ap (file_at (files_of all_sources readings)) (sym as_many) ∙ ap (λ fs. file_at fs (length first)) all_files ∙ get_or-append_seam first file following (record { name = []; lines = []; ending = missing }) in
           record {
-            readings = readings;
-            are_readings = are_all;
             in_sources = within;
-            in_file = subst (λ f. n ≤ length f.lines) (sym here) inside;
-            output = rows_after (form options) false (s.output ++ rows);
-            is_output = subst (λ m. OutAs es options m (form options) (take (length before) (files_of all_sources readings) ++ begun (form options) n (file_at (files_of all_sources readings) (length before))) (rows_after (form options) false (s.output ++ rows))) all_many
-                (subst (λ fs. OutAs es options many (form options) (fs ++ begun (form options) n (file_at (files_of all_sources readings) (length before))) (rows_after (form options) false (s.output ++ rows))) (sym front)
-                (subst (λ f. OutAs es options many (form options) (first ++ begun (form options) n f) (rows_after (form options) false (s.output ++ rows))) (sym here)
-                (grouped_out es options many (form options) (first ++ begun (form options) n file) (s.output ++ rows) first_rows)));
-            messages = s.messages;
-            are_messages = reported_before;
-            wrote = takes_both new.out rows took;
-            reported = subst (λ w. TakesAll old.messages w s.messages) (sym same) s.reported;
-            failures = s.failures;
-            are_failures = met_before;
-            counted = none_failed ∙ s.counted;
-            left = s.left;
             rest = last;
-            are_left = left_before;
-            gave_back = join s.left (last ∷ []) s.gave_back gives;
+            story = record {
+              readings = readings;
+              are_readings = are_all;
+              failures = s.story.failures;
+              are_failures = met_before;
+              counted = none_failed ∙ s.story.counted;
+              left = s.story.left;
+              are_left = left_before;
+              gave_back = join s.story.left (last ∷ []) s.story.gave_back gives;
+              steps = spent new steps;
+            };
+            in_file = subst (λ f. n ≤ length f.lines) (sym here) inside;
             read = subst (λ src. HasRead src last (take n (file_at (files_of all_sources readings) (length before)).lines)) (sym listed_here) (subst (λ f. HasRead source last (take n f.lines)) (sym here) read);
-            steps = spent new steps;
+            wrote = record {
+              text = rows_after (form options) false (s.output ++ rows);
+              due = subst (λ m. OutAs es options m (form options) (take (length before) (files_of all_sources readings) ++ begun (form options) n (file_at (files_of all_sources readings) (length before))) (rows_after (form options) false (s.output ++ rows))) all_many
+                  (subst (λ fs. OutAs es options many (form options) (fs ++ begun (form options) n (file_at (files_of all_sources readings) (length before))) (rows_after (form options) false (s.output ++ rows))) (sym front)
+                  (subst (λ f. OutAs es options many (form options) (first ++ begun (form options) n f) (rows_after (form options) false (s.output ++ rows))) (sym here)
+                  (grouped_out es options many (form options) (first ++ begun (form options) n file) (s.output ++ rows) first_rows)));
+              all = takes_both new.out rows took;
+            };
+            reported = record { text = s.messages; due = reported_before; all = subst (λ w. TakesAll old.messages w s.messages) (sym same) s.reported };
           }
 
       -- under `-q` a line of this source is selected
@@ -395,23 +383,29 @@ module _ (es : List Expression) (options : Options) (many : Bool) where
           let reached = Reached-stopped es options first following file s.goes_on here in
           let all_reported = Messages-reached es options (first ++ file ∷ following) (first ++ file ∷ []) (s.messages ++ messages) reached (Reported-append es options first (file ∷ []) s.messages messages s.are_reported reported_too) in
           record {
-            readings = readings;
-            are_readings = are_all;
-            output = rows_after (form options) false (s.output ++ rows);
-            is_output = subst (λ m. OutAs es options m (form options) (files_of all_sources readings) (rows_after (form options) false (s.output ++ rows))) all_many
-                (subst (λ fs. OutAs es options many (form options) fs (rows_after (form options) false (s.output ++ rows))) (regroup ∙ sym all_files) output);
-            messages = s.messages ++ messages;
-            are_messages = subst (λ fs. Messages es options fs (s.messages ++ messages)) (sym all_files) all_reported;
+            story = record {
+              readings = readings;
+              are_readings = are_all;
+              failures = s.story.failures + own;
+              are_failures = FailuresMet-append es options before (source ∷ after) s.story.readings (r ∷ rest.0) s.story.failures own s.story.are_readings s.goes_on s.story.are_failures (FailuresMet-stopped es options source after r rest.0 own here are_own);
+              counted = counted_here new own counted;
+              left = s.story.left ++ own_left;
+              are_left = LeftMet-append es options before (source ∷ after) s.story.readings (r ∷ rest.0) s.story.left own_left s.story.are_readings s.goes_on s.story.are_left (LeftMet-stopped es options source after r rest.0 own_left here is_left);
+              gave_back = join s.story.left own_left s.story.gave_back gives;
+              steps = spent new steps;
+            };
+            wrote = record {
+              text = rows_after (form options) false (s.output ++ rows);
+              due = subst (λ m. OutAs es options m (form options) (files_of all_sources readings) (rows_after (form options) false (s.output ++ rows))) all_many
+                  (subst (λ fs. OutAs es options many (form options) fs (rows_after (form options) false (s.output ++ rows))) (regroup ∙ sym all_files) output);
+              all = takes_both new.out rows took;
+            };
+            reported = record {
+              text = s.messages ++ messages;
+              due = subst (λ fs. Messages es options fs (s.messages ++ messages)) (sym all_files) all_reported;
+              all = TakesAll-more old.messages mid.messages new.messages s.messages messages s.reported reported;
+            };
             is_status = subst (λ fs. StatusOf es options fs selected) (sym all_files) (StatusOf-stopped es options first following file here.0 here.1);
-            wrote = takes_both new.out rows took;
-            reported = TakesAll-more old.messages mid.messages new.messages s.messages messages s.reported reported;
-            failures = s.failures + own;
-            are_failures = FailuresMet-append es options before (source ∷ after) s.readings (r ∷ rest.0) s.failures own s.are_readings s.goes_on s.are_failures (FailuresMet-stopped es options source after r rest.0 own here are_own);
-            counted = counted_here new own counted;
-            left = s.left ++ own_left;
-            are_left = LeftMet-append es options before (source ∷ after) s.readings (r ∷ rest.0) s.left own_left s.are_readings s.goes_on s.are_left (LeftMet-stopped es options source after r rest.0 own_left here is_left);
-            gave_back = join s.left own_left s.gave_back gives;
-            steps = spent new steps;
           }
 
     -- ---- the answers, for the sources as they are listed
@@ -453,31 +447,23 @@ module _ (es : List Expression) (options : Options) (many : Bool) where
   -- all sources were read
   pub run_all : (sources : List Source) (given : List (Option Text) → Type 0) (old new : Devices) (some faulty : Bool) → many ≡ nat_le 2 (length sources) → RunSoFar sources given old new some faulty → Finishes es options sources given old new (status_by some faulty)
   run_all sources given old new some faulty is_many s =
-      let files = files_of sources s.readings in
+      let files = files_of sources s.story.readings in
       record {
-        readings = s.readings;
-        are_readings = s.are_readings;
-        output = rows_after (form options) false s.output;
-        is_output = subst (λ m. OutAs es options m (form options) files (rows_after (form options) false s.output)) (is_many ∙ ap (nat_le 2) (sym (length-files_of sources s.readings s.are_readings))) (grouped_out es options many (form options) files s.output s.is_output);
-        messages = s.messages;
-        are_messages = Messages-reached es options files files s.messages (Reached-all es options files s.goes_on) s.are_reported;
+        story = s.story;
+        wrote = record {
+          text = rows_after (form options) false s.output;
+          due = subst (λ m. OutAs es options m (form options) files (rows_after (form options) false s.output)) (is_many ∙ ap (nat_le 2) (sym (length-files_of sources s.story.readings s.story.are_readings))) (grouped_out es options many (form options) files s.output s.is_output);
+          all = s.wrote;
+        };
+        reported = record { text = s.messages; due = Messages-reached es options files files s.messages (Reached-all es options files s.goes_on) s.are_reported; all = s.reported };
         is_status = status some faulty s.some_reported s.faulty_reported;
-        wrote = s.wrote;
-        reported = s.reported;
-        failures = s.failures;
-        are_failures = s.are_failures;
-        counted = s.counted;
-        left = s.left;
-        are_left = s.are_left;
-        gave_back = s.gave_back;
-        steps = s.steps;
       }
     where
       -- under `-q` the run would have stopped at a selected line
-      none_quiet : IsTrue options.quiet → AnySelected es options (files_of sources s.readings) → ⊥
-      none_quiet quiet any = s.goes_on (any_mapped (HasSelected es options) (Stops es options) (λ file has. (quiet, has)) (files_of sources s.readings) any)
+      none_quiet : IsTrue options.quiet → AnySelected es options (files_of sources s.story.readings) → ⊥
+      none_quiet quiet any = s.goes_on (any_mapped (HasSelected es options) (Stops es options) (λ file has. (quiet, has)) (files_of sources s.story.readings) any)
 
-      status : (a b : Bool) → Decides a (AnySelected es options (files_of sources s.readings)) → Decides b (Any (FaultMet es options) (files_of sources s.readings)) → StatusOf es options (files_of sources s.readings) (status_by a b)
+      status : (a b : Bool) → Decides a (AnySelected es options (files_of sources s.story.readings)) → Decides b (Any (FaultMet es options) (files_of sources s.story.readings)) → StatusOf es options (files_of sources s.story.readings) (status_by a b)
       status a true p q = StatusOf-error es options _ none_quiet (q.0 refl)
       status true false p q = StatusOf-selected es options _ (λ h. false≢true (q.1 h)) (p.0 refl)
       status false false p q = StatusOf-none es options _ (λ h. false≢true (q.1 h)) (λ h. false≢true (p.1 h))

@@ -1,28 +1,11 @@
 -- Expressions that hold on the same stretches give the same output, messages and status, and fewer
 -- of them cost no more.
-use Rattle.std.proofs.Common.{◌≡◌, ℕ, zero, suc, ◌+◌, ◌*◌, ◌≤◌, ◌↔◌, Bool, true, false, List, [], ◌∷◌, inl, inr, length, Any, MatchBool, Option, Result, Ok, Err, refl, arith, take, get_or}
-use Rattle.std.specs.List.{enumerate_from}
+use Rattle.std.proofs.Common.{◌++◌, ◌≡◌, ℕ, zero, suc, ◌+◌, ◌*◌, ◌≤◌, ◌↔◌, Bool, true, false, List, [], ◌∷◌, inl, inr, length, Any, MatchBool, Option, Result, Ok, Err, refl, arith, get_or}
+use Rattle.grep_core.proofs.Words.{enumerate_from, Text, Expression, alt, Holds, Matches, IsFound, IsPart, ArePartsFrom, Context, Options, Status, RunFault, MessageWrite, IsShown, BeginsGroup, Groups, IfHolds, EachGives, search_cost, PartsAsked, LinesCost, FilesCost, SearchesFiles, File, Ending, whole, missing, broken, Matched, Selected, HasSelected, FaultMetBy, FaultMet, Stops, Reached, Message, Messages, AnySelected, StatusOf, Form, nothing, names, counts, parts, lines, around, form, shown_name, shown_number, GroupsOf, SelectedLines, CountOf, RowsOf, PartsOfLine, PartRowsOf, OutAs, Source, Reading, file_of, Writer, WritesAll, Devices, FailuresMet, LeftMet, Story, BreaksOff, RunGives, IsSameChoice, ServesForOthers}
 use Rattle.std.proofs.Math.Nat.{mul-le-mul_left, mul-le-mul_right}
-use Rattle.re_syntax.specs.Bytes.{Text}
-use Rattle.re_syntax.specs.Expression.{Expression, alt}
-use Rattle.re_syntax.specs.Holds.{Holds, Matches}
-use Rattle.re_syntax.specs.Parts.{IsFound, IsPart, ArePartsFrom}
 use Rattle.re_syntax.proofs.lemmas.Decisions.{Any-first, Any-later, Any-cases, Any-none}
 use Rattle.re_search.specs.Meters.{Steps}
-use Rattle.grep_core.specs.declared.options.Context.{Context}
-use Rattle.grep_core.specs.declared.options.Options.{Options}
-use Rattle.grep_core.specs.declared.status.Status.{Status}
-use Rattle.grep_core.specs.declared.status.RunFault.{RunFault}
-use Rattle.grep_core.specs.declared.status.RunFault.TheVariants.{Write, MessageWrite, Memory}
-use Rattle.grep_core.specs.Around.{IsShown, BeginsGroup, Groups}
-use Rattle.grep_core.specs.Choose.{IfHolds, EachGives}
-use Rattle.grep_core.specs.Cost.{search_cost, PartsAsked, LinesCost, FilesCost, SearchesFiles}
-use Rattle.grep_core.specs.Files.{File, Ending, whole, missing, broken, Matched, Selected, HasSelected}
-use Rattle.grep_core.specs.Messages.{FaultMetBy, FaultMet, Stops, Reached, Message, Messages, AnySelected, StatusOf}
-use Rattle.grep_core.specs.Output.{Form, nothing, names, counts, parts, lines, around, form, shown_name, shown_number, GroupsOf, SelectedLines, CountOf, RowsOf, PartsOfLine, PartRowsOf, OutAs}
-use Rattle.grep_io.specs.Reading.{Source, Reading, file_of}
-use Rattle.grep_core.specs.Run.{Devices, FailuresMet, LeftMet, Finishes, BreaksOff, StopsAfter, RunGives}
-use Rattle.grep_core.specs.Working.SameChoice.{IsSameChoice, ServesForOthers}
+use Rattle.grep_core.specs.declared.status.RunFault.TheVariants.{Write, Memory}
 use Rattle.grep_core.proofs.lemmas.CostLaws.{cost_within}
 
 -- ---- what holds of some element
@@ -240,80 +223,54 @@ module _ (options : Options) where
 
     -- ---- runs
 
-    module _ (fewer : length ds ≤ length es) (sources : List Source) (given : List (Option Text) → Type 0) (old new : Devices) where
-      Finishes-same : (status : Status) → Finishes ds options sources given old new status → Finishes es options sources given old new status
-      Finishes-same status f = record {
-        readings = f.readings;
-        are_readings = f.are_readings;
-        output = f.output;
-        is_output = OutAs-same _ (form options) _ f.output f.is_output;
-        messages = f.messages;
-        are_messages = Messages-same _ f.messages f.are_messages;
-        is_status = StatusOf-same _ status f.is_status;
-        wrote = f.wrote;
-        reported = f.reported;
-        failures = f.failures;
-        are_failures = FailuresMet-same sources f.readings f.failures f.are_failures;
-        counted = f.counted;
-        left = f.left;
-        are_left = LeftMet-same sources f.readings f.left f.are_left;
-        gave_back = f.gave_back;
-        steps = SearchesFiles-same (length ds) (length es) fewer _ old.steps new.steps f.steps;
-      }
-
-      BreaksOff-same : BreaksOff ds options sources given old new → BreaksOff es options sources given old new
-      BreaksOff-same b = record {
-        readings = b.readings;
-        are_readings = b.are_readings;
-        at = b.at;
-        in_sources = b.in_sources;
-        output_before = b.output_before;
-        is_before = OutAs-same _ (form options) _ b.output_before b.is_before;
-        output = b.output;
-        is_output = OutAs-same _ (form options) _ b.output b.is_output;
-        messages_before = b.messages_before;
-        are_before = Messages-same _ b.messages_before b.are_before;
-        messages = b.messages;
-        are_messages = Messages-same _ b.messages b.are_messages;
-        wrote = b.wrote;
-        reported = b.reported;
-        failures = b.failures;
-        are_failures = FailuresMet-same (take (suc b.at) sources) b.readings b.failures b.are_failures;
-        counted = b.counted;
-        left = b.left;
-        are_left = LeftMet-same (take (suc b.at) sources) b.readings b.left b.are_left;
-        gave_back = b.gave_back;
-        steps = SearchesFiles-same (length ds) (length es) fewer _ old.steps new.steps b.steps;
-      }
-
-      StopsAfter-same : (k n : ℕ) → StopsAfter ds options sources given old new k n → StopsAfter es options sources given old new k n
-      StopsAfter-same k n s = record {
+    module _ (fewer : length ds ≤ length es) (sources : List Source) where
+      abbrev Story-same : (reached : List Source) (given : List (Option Text) → Type 0) (old new : Devices) → Story ds options sources reached given old new → Story es options sources reached given old new
+      Story-same reached given old new s = record {
         readings = s.readings;
         are_readings = s.are_readings;
-        in_sources = s.in_sources;
-        in_file = s.in_file;
-        output = s.output;
-        is_output = OutAs-same _ (form options) _ s.output s.is_output;
-        messages = s.messages;
-        are_messages = Messages-same _ s.messages s.are_messages;
-        wrote = s.wrote;
-        reported = s.reported;
         failures = s.failures;
-        are_failures = FailuresMet-same (take k sources) s.readings s.failures s.are_failures;
+        are_failures = FailuresMet-same reached s.readings s.failures s.are_failures;
         counted = s.counted;
         left = s.left;
-        rest = s.rest;
-        are_left = LeftMet-same (take k sources) s.readings s.left s.are_left;
+        are_left = LeftMet-same reached s.readings s.left s.are_left;
         gave_back = s.gave_back;
-        read = s.read;
         steps = SearchesFiles-same (length ds) (length es) fewer _ old.steps new.steps s.steps;
       }
 
-      pub RunGives-same : (result : Result Status RunFault) → RunGives ds options sources given old new result → RunGives es options sources given old new result
-      RunGives-same (Ok status) f = Finishes-same status f
-      RunGives-same (Err Write) b = (BreaksOff-same b.0, b.1, b.2)
-      RunGives-same (Err MessageWrite) b = (BreaksOff-same b.0, b.1, b.2)
-      RunGives-same (Err (Memory k n)) s = StopsAfter-same k n s
+      out_same : (many : Bool) (files : List File) (old new : Writer) → WritesAll (OutAs ds options many (form options) files) old new → WritesAll (OutAs es options many (form options) files) old new
+      out_same many files old new w = record { text = w.text; due = OutAs-same many (form options) files w.text w.due; all = w.all }
+
+      messages_same : (files : List File) (old new : Writer) → WritesAll (Messages ds options files) old new → WritesAll (Messages es options files) old new
+      messages_same files old new w = record { text = w.text; due = Messages-same files w.text w.due; all = w.all }
+
+      module _ (given : List (Option Text) → Type 0) (old new : Devices) where
+        BreaksOff-same : BreaksOff ds options sources given old new → BreaksOff es options sources given old new
+        BreaksOff-same b = record {
+          at = b.at;
+          in_sources = b.in_sources;
+          story = Story-same _ given old new b.story;
+          wrote = record { first = b.wrote.first; due_first = OutAs-same _ (form options) _ b.wrote.first b.wrote.due_first; text = b.wrote.text; due = OutAs-same _ (form options) _ b.wrote.text b.wrote.due; past = b.wrote.past };
+          reported = record { first = b.reported.first; due_first = Messages-same _ b.reported.first b.reported.due_first; text = b.reported.text; due = Messages-same _ b.reported.text b.reported.due; past = b.reported.past };
+        }
+
+        pub RunGives-same : (result : Result Status RunFault) → RunGives ds options sources given old new result → RunGives es options sources given old new result
+        RunGives-same (Ok status) f = record {
+          story = Story-same sources given old new f.story;
+          wrote = out_same _ _ old.out new.out f.wrote;
+          reported = messages_same _ old.messages new.messages f.reported;
+          is_status = StatusOf-same _ status f.is_status;
+        }
+        RunGives-same (Err Write) b = (BreaksOff-same b.0, b.1, b.2)
+        RunGives-same (Err MessageWrite) b = (BreaksOff-same b.0, b.1, b.2)
+        RunGives-same (Err (Memory k n)) s = record {
+          in_sources = s.in_sources;
+          rest = s.rest;
+          story = Story-same _ (λ left. given (left ++ s.rest ∷ [])) old new s.story;
+          in_file = s.in_file;
+          read = s.read;
+          wrote = out_same _ _ old.out new.out s.wrote;
+          reported = messages_same _ old.messages new.messages s.reported;
+        }
 
 -- a run for expressions that are the same choice as others, and no more, is a run for these
 pub serves_for_others : (options : Options) → ServesForOthers options

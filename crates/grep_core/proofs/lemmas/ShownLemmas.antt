@@ -1,16 +1,9 @@
 -- Which lines are shown around selected ones as a file has more lines, and what is shown of them.
 use Rattle.std.proofs.Common.{◌≡◌, ℕ, zero, suc, ◌+◌, ◌-◌, ◌<◌, ◌≤◌, ◌⊎◌, List, [], ◌∷◌, ◌++◌, All, Option, length, inl, inr, refl, sym, subst, arith}
-use Rattle.std.specs.List.{enumerate_from}
+use Rattle.grep_core.proofs.Words.{enumerate_from, Text, Expression, Context, Options, IfHolds, EachGives, Selected, IsShown, BeginsGroup, Shows}
 use Rattle.std.proofs.lemmas.Bool.{cases_lt}
 use Rattle.std.proofs.lemmas.List.{length-append, get_or_append_left, get_or-append_right, get_or_push}
 use Rattle.std.proofs.lemmas.List.Elements.{All-get_or}
-use Rattle.re_syntax.specs.Bytes.{Text}
-use Rattle.re_syntax.specs.Expression.{Expression}
-use Rattle.grep_core.specs.declared.options.Context.{Context}
-use Rattle.grep_core.specs.declared.options.Options.{Options}
-use Rattle.grep_core.specs.Choose.{IfHolds, EachGives}
-use Rattle.grep_core.specs.Files.{Selected}
-use Rattle.grep_core.specs.Around.{IsShown, BeginsGroup, Shows}
 
 -- ---- lists made from numbered elements
 

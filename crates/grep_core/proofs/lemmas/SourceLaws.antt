@@ -1,15 +1,7 @@
 -- The files of more sources, and how often the devices failed in them.
 use Rattle.std.proofs.Common.{◌≡◌, ℕ, zero, suc, ◌+◌, List, [], ◌∷◌, ◌++◌, inl, inr, Option, refl, sym, ap, subst, ◌∙◌, length, Any, arith, append-nil, append_assoc}
-use Rattle.re_syntax.specs.Expression.{Expression}
+use Rattle.grep_core.proofs.Words.{Expression, Options, one_more, IfHolds, FaultMet, Stops, Source, Reading, file_of, failures_of, AreLeft, files_of, AreReadings, FailuresMet, LeftMet, count_more, Returns, Text}
 use Rattle.re_syntax.proofs.lemmas.Decisions.{Any-first, Any-later}
-use Rattle.grep_core.specs.declared.options.Options.{Options}
-use Rattle.grep_io.specs.Counted.{one_more}
-use Rattle.grep_core.specs.Choose.{IfHolds}
-use Rattle.grep_core.specs.Messages.{FaultMet, Stops}
-use Rattle.grep_io.specs.Reading.{Source, Reading, file_of, failures_of, AreLeft}
-use Rattle.grep_core.specs.Run.{files_of, AreReadings, FailuresMet, LeftMet, count_more}
-use Rattle.grep_core.specs.Sources.{Returns}
-use Rattle.re_syntax.specs.Bytes.{Text}
 use Rattle.grep_core.proofs.lemmas.Decided.{dec_stops}
 
 -- readings of some sources, and of others after them

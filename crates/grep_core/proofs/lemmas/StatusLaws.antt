@@ -1,11 +1,8 @@
 -- The status, by whether a line was selected and whether a fault was met.
 use Rattle.std.proofs.Common.{IsTrue, List, ◌∷◌, ◌++◌, inl, inr, refl, Any}
-use Rattle.re_syntax.specs.Expression.{Expression}
+use Rattle.grep_core.proofs.Words.{Expression, Options, NoneSelected, Error, File, HasSelected, FaultMet, AnySelected, StatusOf}
 use Rattle.re_syntax.proofs.lemmas.Decisions.{dec_IsTrue, Any-first}
-use Rattle.grep_core.specs.declared.options.Options.{Options}
-use Rattle.grep_core.specs.declared.status.Status.TheVariants.{Selected as selected, NoneSelected, Error}
-use Rattle.grep_core.specs.Files.{File, HasSelected}
-use Rattle.grep_core.specs.Messages.{FaultMet, AnySelected, StatusOf}
+use Rattle.grep_core.specs.declared.status.Status.TheVariants.{Selected as selected}
 use Rattle.re_syntax.proofs.lemmas.SomeOfJoined.{Any-right}
 
 module _ (es : List Expression) (options : Options) where

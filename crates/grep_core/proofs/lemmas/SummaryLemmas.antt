@@ -1,22 +1,10 @@
 -- One source is done: its summary and its message, after the rows of its lines.
-use Rattle.std.proofs.Common.{◌≡◌, ℕ, Bool, true, false, Decides, IsTrue, List, [], ◌∷◌, ◌++◌, MatchBool, nat_le, length, refl, sym, ap, subst, ◌∙◌, inl, inr, Option}
+use Rattle.std.proofs.Common.{◌≡◌, ℕ, Bool, true, false, Decides, IsTrue, List, [], ◌∷◌, ◌++◌, MatchBool, nat_le, length, refl, sym, ap, subst, ◌∙◌, inl, inr, Option, Result, Ok, Err}
 use Rattle.std.proofs.lemmas.Bool.{false≢true, cases_Bool, cond-true, cond-false}
-use Rattle.re_syntax.specs.Bytes.{Text}
-use Rattle.re_syntax.specs.Lines.{lines_of, ended_lines_of}
-use Rattle.re_syntax.specs.Expression.{Expression}
+use Rattle.grep_core.proofs.Words.{Text, lines_of, ended_lines_of, Expression, Options, FileEnd, Missing, Whole, Broken, Left, FileFound, RunFault, MessageWrite, SearchFault, one_more, EachGives, File, Ending, whole, broken, form, message, FaultMet, Message, Reported, Source, Reading, not_opened, fails_after, ends_after, most_lines, up_to_limit, file_of, Devices, Writer, TakesAll, TakesFront, rows_after, SearchGives, is_fault, ending_of, summary_as, reported_of, SearchesSource, StopsSource, FinishesSource, BreaksSource, BreaksMessage, EndsSource, SourceGives}
 use Rattle.re_search.specs.Meters.{Steps}
-use Rattle.grep_core.specs.declared.options.Options.{Options}
-use Rattle.grep_core.specs.declared.status.FileEnd.{FileEnd}
-use Rattle.grep_core.specs.declared.status.FileEnd.TheVariants.{Missing, Whole, Broken, Left}
-use Rattle.grep_io.specs.Counted.{one_more}
-use Rattle.grep_core.specs.Choose.{EachGives}
-use Rattle.grep_core.specs.Files.{File, Ending, whole, broken}
-use Rattle.grep_core.specs.Output.{form}
-use Rattle.grep_core.specs.Messages.{message, FaultMet, Message, Reported}
-use Rattle.grep_io.specs.Reading.{Source, Reading, not_opened, fails_after, ends_after, most_lines, up_to_limit, file_of}
-use Rattle.grep_core.specs.Run.{Devices, Writer, TakesAll, TakesFront}
-use Rattle.grep_core.specs.Working.Groups.{rows_after}
-use Rattle.grep_core.specs.Working.Searched.{is_fault, ending_of, summary_as, reported_of, SearchesSource, FinishesSource, BreaksSource, BreaksMessage}
+use Rattle.grep_core.specs.declared.status.RunFault.TheVariants.{Write, Memory}
+use Rattle.grep_core.specs.declared.status.SearchFault.TheVariants as search_fault
 use Rattle.grep_core.proofs.lemmas.ChooseLaws.{EachGives-one}
 use Rattle.grep_core.proofs.lemmas.GroupLaws.{after_summary}
 use Rattle.grep_core.proofs.lemmas.WriterLaws.{TakesAll-more, TakesFront-more}
@@ -110,3 +98,22 @@ module _ (es : List Expression) (options : Options) where
         counted = failed;
         steps = s.steps;
       }
+
+module _ (es : List Expression) (options : Options) (many shown : Bool) (source : Source) (given : List (Option Text) → Type 0) (name : Text) (named : name ≡ source.name) (k : ℕ) (old new : Devices) (mid : Writer) where
+  -- the source is done, by what its search gave and what was written after it
+  source_ended : (found : Result FileFound SearchFault) (result : Result FileFound RunFault) → SearchGives es options many shown source given old.source_failures new.source_failures old.out mid old.steps new.steps found
+      → EndsSource options many name k mid new.out old.messages new.messages found result → SourceGives es options many shown source given k old new result
+  source_ended (Ok found) (Ok same) s e = subst (λ (f : FileFound). FinishesSource es options many shown source given old new f.end f.selected) (sym e.0) (source_done es options many shown source given name named found.end found.selected old new mid s e.1 e.2)
+  source_ended (Ok found) (Err Write) s e = (source_unwritten es options many shown source given name named found.end found.selected old.source_failures new.source_failures old.out mid new.out old.steps new.steps s e.0 e.1, e.2)
+  source_ended (Ok found) (Err MessageWrite) s e = source_unreported es options many shown source given name named found.end found.selected old new mid s e.0 e.1 e.2
+  source_ended (Ok found) (Err (Memory at n)) s e = absurd e
+  source_ended (Err search_fault.Write) result s e =
+      subst (SourceGives es options many shown source given k old new) (sym e.0) (subst (λ w. BreaksSource es options many shown source given old.source_failures new.source_failures old.out w old.steps new.steps) (sym e.1) s, e.2)
+  source_ended (Err (search_fault.Memory n)) result s e =
+      subst (SourceGives es options many shown source given k old new) (sym e.0) (refl, subst (λ w. StopsSource es options many shown source given n old.source_failures new.source_failures old.out w old.steps new.steps) (sym e.1) s, e.2)
+
+  -- the same for the options of all sources, of which its own are a copy
+  pub source_ended_as : (asked : Options) (all_many : Bool) → options ≡ asked → many ≡ all_many → (found : Result FileFound SearchFault) (result : Result FileFound RunFault)
+      → SearchGives es options many shown source given old.source_failures new.source_failures old.out mid old.steps new.steps found → EndsSource options many name k mid new.out old.messages new.messages found result → SourceGives es asked all_many shown source given k old new result
+  source_ended_as asked all_many same_options same_many found result s e =
+      subst (λ o. SourceGives es o all_many shown source given k old new result) same_options (subst (λ m. SourceGives es options m shown source given k old new result) same_many (source_ended found result s e))

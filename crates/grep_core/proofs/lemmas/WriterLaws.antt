@@ -2,9 +2,7 @@
 use Rattle.std.proofs.Common.{◌≡◌, List, [], ◌++◌, refl, sym, ap, ◌∙◌, append_assoc}
 use Rattle.std.proofs.lemmas.Grind.{flat_map-append}
 use Rattle.std.proofs.KnownBytes.{Appends-nil, Appends-trans}
-use Rattle.re_syntax.specs.Bytes.{Text}
-use Rattle.grep_core.specs.Output.{written}
-use Rattle.grep_core.specs.Run.{Writer, TakesAll, TakesFront, TakesPast}
+use Rattle.grep_core.proofs.Words.{Text, written, Writer, TakesAll, TakesFront, TakesPast}
 
 -- the bytes of some lines and of others after them
 pub written-append : (margin : Text) (xs ys : List Text) → written margin (xs ++ ys) ≡ written margin xs ++ written margin ys

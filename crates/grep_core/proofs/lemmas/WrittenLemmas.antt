@@ -1,11 +1,6 @@
 -- Bytes that were written, as output lines after a margin.
 use Rattle.std.proofs.Common.{ℕ, [], ◌∷◌, ◌++◌, List, Option, Result, sym, append_assoc, append-nil, subst}
-use Rattle.re_syntax.specs.Bytes.{Text}
-use Rattle.re_syntax.specs.Lines.{newline}
-use Rattle.grep_core.specs.Row.{output_line}
-use Rattle.grep_core.specs.Output.{written}
-use Rattle.grep_core.specs.Run.{writer, TakesAll, TakesFront}
-use Rattle.grep_io.specs.Written.{GoesOut, StopsWithin, Writes}
+use Rattle.grep_core.proofs.Words.{Text, newline, output_line, written, writer, TakesAll, TakesFront, GoesOut, StopsWithin, Writes}
 use Rattle.grep_core.proofs.lemmas.RowLemmas.{goes_nowhere, stops_early, writes_last}
 
 module _ {W : Type 0} (contents : W → Option Text) (failures : W → ℕ) where

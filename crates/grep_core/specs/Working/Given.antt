@@ -14,7 +14,7 @@ use Rattle.grep_core.specs.Working.Searched.{SearchesSource, BreaksSource, Stops
 module _ (es : List Expression) (options : Options) (many shown : Bool) (source : Source)
     (given : List (Option Text) → Type 0) (failed_before failed : ℕ) (old new : Writer)
     (began ended : Steps) where
-  -- the source was searched; or a write failed; or a growth was refused after n lines
+  -- the source was searched; or a write failed; or an allocation failed after n lines
   abbrev pub SearchGives : Result FileFound SearchFault → Type 0
   SearchGives (Ok found) = SearchesSource es options many shown source given failed_before failed
       old new began ended found.end found.selected

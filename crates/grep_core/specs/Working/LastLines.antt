@@ -1,4 +1,4 @@
--- The last lines of a file that are not shown, of which no more are held than may be shown.
+-- The last lines of a file that are not shown; no more are held than may be shown.
 use Rattle.std.specs.Prelude.{ℕ, List, ◌++◌}
 use Rattle.re_syntax.specs.Bytes.{Text}
 use Rattle.grep_core.specs.Working.Progress.{last_of}

@@ -2,10 +2,10 @@
 use Rattle.std.specs.Prelude.{◌≡◌, List, length, map, All}
 use Rattle.re_syntax.specs.declared.syntax.Syntax.{Syntax}
 use Rattle.re_syntax.specs.Bytes.{Text}
-use Rattle.re_search.specs.Matcher.{Matcher}
+use Rattle.re_search.specs.declared.matcher.Matcher.{Matcher}
 use Rattle.re_search.specs.Reading.{IsReadable}
 use Rattle.re_search.specs.Working.Matchers.{matched_expression, wants_whole}
-use Rattle.re_search.specs.Searching.{AllAnswer}
+use Rattle.re_search.specs.Searches.{AllAnswer}
 use Rattle.grep_core.specs.declared.options.Options.{Options}
 use Rattle.grep_core.specs.Files.{AreMeant}
 

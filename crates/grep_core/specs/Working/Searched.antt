@@ -11,6 +11,8 @@ use Rattle.grep_core.specs.declared.status.FileEnd.TheVariants.{Missing, Whole, 
 use Rattle.grep_core.specs.declared.status.FileFound.{FileFound}
 use Rattle.grep_core.specs.declared.status.RunFault.{RunFault}
 use Rattle.grep_core.specs.declared.status.RunFault.TheVariants.{Write, MessageWrite, Memory}
+use Rattle.grep_core.specs.declared.status.SearchFault.{SearchFault}
+use Rattle.grep_core.specs.declared.status.SearchFault.TheVariants as search_fault
 use Rattle.grep_core.specs.declared.status.Status.{Status}
 use Rattle.grep_core.specs.declared.status.Status.TheVariants.{Selected, NoneSelected, Error}
 use Rattle.grep_io.specs.Counted.{one_more}
@@ -30,7 +32,7 @@ use Rattle.grep_core.specs.Cost.{SearchesLines}
 abbrev pub leaves_early : Options → Bool
 leaves_early options = options.quiet || options.files_with_matches
 
--- a file that was not opened, or of which a read failed
+-- a file that was not opened, or has a failed read
 abbrev pub is_fault : FileEnd → Bool
 is_fault Missing = true
 is_fault Whole = false
@@ -67,6 +69,28 @@ reported_of silent end name = if silent then [] else message (ending_of end) nam
 -- the status of a run that did not stop on its way: a fault takes precedence over a selected line
 abbrev pub status_by : Bool → Bool → Status
 status_by some faulty = if faulty then Error else if some then Selected else NoneSelected
+
+-- what is due after the rows of the lines of source k was written: what follows them and the
+-- message, or a beginning of these where a write failed; nothing where its search was given up
+module _ (options : Options) (many : Bool) (name : Text) (k : ℕ)
+    (old new messages_old messages_new : Writer) where
+  abbrev pub EndsSource : Result FileFound SearchFault → Result FileFound RunFault → Type 0
+  EndsSource (Ok found) (Ok same) =
+      (same ≡ found) ×
+      TakesAll old new (summary_as (form options) many name found.end found.selected) ×
+      TakesAll messages_old messages_new (reported_of options.no_messages found.end name)
+  EndsSource (Ok found) (Err Write) =
+      TakesFront old new (summary_as (form options) many name found.end found.selected) ×
+      (new.failures ≡ one_more old.failures) × (messages_new ≡ messages_old)
+  EndsSource (Ok found) (Err MessageWrite) =
+      TakesAll old new (summary_as (form options) many name found.end found.selected) ×
+      TakesFront messages_old messages_new (reported_of options.no_messages found.end name) ×
+      (messages_new.failures ≡ one_more messages_old.failures)
+  EndsSource (Ok found) (Err (Memory at n)) = ⊥
+  EndsSource (Err search_fault.Write) result =
+      (result ≡ Err Write) × (new ≡ old) × (messages_new ≡ messages_old)
+  EndsSource (Err (search_fault.Memory n)) result =
+      (result ≡ Err (Memory k n)) × (new ≡ old) × (messages_new ≡ messages_old)
 
 -- `began` and `ended` are what was counted before and after the search, which is no more than that
 -- of the file's lines costs.

@@ -14,8 +14,8 @@ module _ {R W : Type 0} (remaining : R → Option Text) (failures : R → ℕ)
     (contents : W → Option Text) (write_failures : W → ℕ) (reader : R) (handed : List Text)
     (now : Numbered R) (old new : W) where
   -- after these lines a line was handed out; or they are all; or a read failed, or there is one
-  -- more than can be numbered; or buffered output could not be sent before a read; or a growth was
-  -- refused, and nothing is lost
+  -- more than can be numbered; or buffered output could not be sent before a read; or an allocation
+  -- failed, and nothing is lost
   abbrev pub NextTaken : Result (Option FileEnd) SearchFault → Type 0
   NextTaken (Ok None) = HasHanded remaining failures reader now (handed ++ now.lines.line ∷ []) ×
       IsOneLineAndFew now.lines.ahead × GoesOut contents write_failures old new []

@@ -1,8 +1,8 @@
-//! The search of one source of which lines around the selected ones are shown.
+//! The search of one source, with lines around the selected ones.
 ghost use Rattle.std.specs.Prelude.{◌≡◌, ◌⊎◌, ◌-◌, ◌≤◌, ℕ, [], ◌∷◌, ◌++◌, length, Err, IfOk};
 ghost use Rattle.std.specs.Prelude.{if◌then◌else◌};
 ghost use Rattle.re_syntax.specs.Lines.{lines_of};
-ghost use Rattle.re_search.specs.Working.Asking.{SameSearchers, asks_whole, expressions_by};
+ghost use Rattle.re_search.specs.Working.Searchers.{SameSearchers, asks_whole, expressions_by};
 ghost use Rattle.re_search.specs.Working.Blocks.{IsBlock};
 ghost use Rattle.grep_core.specs.Around.{group_separator};
 ghost use Rattle.grep_core.specs.Row.{output_line};
@@ -22,9 +22,9 @@ use crate::output::request::FileRequest;
 use crate::output::rows::write_separator;
 use crate::search::file::count_found;
 use crate::search::held::next_held;
-use crate::search::matching::is_selected;
+use crate::search::next_line::take_next;
 use crate::search::recent::RecentLines;
-use crate::search::taking::take_next;
+use crate::search::selection::is_selected;
 use crate::status::{FileEnd, FileFound, SearchFault};
 use grep_io::{CountedRead, CountedWrite, Lines, ReadFault, Stage, WriteFault};
 use re_search::{LineMatch, Meter, Searchers};

@@ -1,27 +1,30 @@
 //! The search of one source.
-ghost use Rattle.std.specs.Prelude.{◌≡◌, ℕ, ◌+◌, ◌-◌, ◌^◌, ◌<◌, [], nat_lt, length, Err, IfOk};
+ghost use Rattle.std.specs.Prelude.{◌≡◌, ℕ, ◌+◌, ◌-◌, ◌^◌, ◌<◌, List, [], nat_lt, length, Err, IfOk};
 ghost use Rattle.std.specs.Prelude.{false, if◌then◌else◌};
-ghost use Rattle.re_search.specs.Working.Asking.{SameSearchers, asks_whole, expressions_by};
-ghost use Rattle.grep_core.specs.Output.{form};
+ghost use Rattle.re_search.specs.Working.Searchers.{SameSearchers, asks_whole, expressions_by};
+ghost use Rattle.grep_core.specs.Output.{form, written};
 ghost use Rattle.grep_io.specs.Reading.{open_source, OneLeft};
-ghost use Rattle.grep_core.specs.Run.{writer};
+ghost use Rattle.grep_io.specs.Written.{Writes};
+ghost use Rattle.grep_core.specs.Run.{writer, devices};
 ghost use Rattle.grep_core.specs.Sources.{source_at, Returns};
 ghost use Rattle.grep_core.specs.Working.OneLine.{IsPlain};
 ghost use Rattle.grep_core.specs.Working.Given.{SearchGives};
+ghost use Rattle.grep_core.specs.Working.Searched.{summary_as, EndsSource, SourceGives};
 
 use crate::output::request::FileRequest;
+use crate::output::summary::{report_fault, write_summary};
 use crate::search::around::{Surroundings, search_around};
-use crate::search::counting::count_lines;
-use crate::search::held::{next_held, write_stretch};
+use crate::search::count::count_lines;
+use crate::search::held::{next_held, write_searched};
 use crate::search::line::search_line;
-use crate::search::requests::SourceRequest;
-use crate::search::taking::take_next;
+use crate::search::next_line::take_next;
+use crate::search::requests::{SearchRequest, SourceRequest};
 use crate::sources::Sources;
-use crate::status::{FileEnd, FileFound, SearchFault};
+use crate::status::{FileEnd, FileFound, RunFault, SearchFault};
 use grep_io::{CountedRead, CountedWrite, Lines, ReadFault, Stage, WriteFault};
 use re_search::{LineMatch, Meter, Searchers};
 
-/// One more, where a line was found.
+/// One more, if a line was found.
 pub fn count_found(selected: u64, found: bool) -> u64
     requires { selected < 2 ^ 64 - 1 }
     ensures { result ≡ (if found then selected + 1 else selected) }
@@ -56,7 +59,7 @@ fn search_lines<R: CountedRead, M: LineMatch, W: CountedWrite>(
     let mut selected: u64 = 0;
     'lines: loop {
         let stretch = next_held(lines, searchers, asked, meter);
-        let found = write_stretch(&stretch, searchers, request, lines.number(), out, meter)?;
+        let found = write_searched(&stretch, searchers, request, lines.number(), out, meter)?;
         let (bytes, count, goes_on) = (stretch.bytes, stretch.count, stretch.line.is_some());
         lines.pass(bytes, count);
         selected = selected.saturating_add(found);
@@ -82,7 +85,7 @@ fn search_lines<R: CountedRead, M: LineMatch, W: CountedWrite>(
     }
 }
 
-// Searches the lines of a reader, from the first on, as the options ask.
+/// Searches the lines of a reader, from the first on, and writes the rows that the options ask for.
 fn search_opened<R: CountedRead, M: LineMatch, W: CountedWrite>(
     source: &SourceRequest,
     lines: &mut Lines<R>,
@@ -109,49 +112,108 @@ fn search_opened<R: CountedRead, M: LineMatch, W: CountedWrite>(
     let Some(context) = request.options.shown_around() else {
         return search_lines(lines, searchers, request, out, meter);
     };
-    let mut surroundings = Surroundings::new(source.request.alloc, context, source.shown);
+    let mut surroundings = Surroundings::new(source.search.alloc, context, source.shown);
     search_around(&mut surroundings, lines, searchers, request, out, meter)
 }
 
-/// Opens the next source, searches its lines and returns its reader.
-pub fn search_file<S: Sources, M: LineMatch, W: CountedWrite>(
+/// Writes what follows the rows of a source's lines. If a message about the source is due, buffered
+/// output is sent first, so that output and messages are in order if both are sent to one place.
+fn end_output<W: CountedWrite>(
+    request: &FileRequest,
+    found: FileFound,
+    out: &mut W,
+) -> Result<(), WriteFault>
+    ensures { Writes W.contents W.failures out.old out.new (written []
+        (summary_as (form request.now.options) request.now.many request.now.name.now found.end
+        found.selected)) result }
+{
+    write_summary(request, found, out, b"")?;
+    if request.options.no_messages | !found.end.is_fault() {
+        return Ok(());
+    }
+    out.flush()
+}
+
+/// Writes what is due for a source once its lines were searched: what follows their rows, and the
+/// message, or why the run is given up.
+fn end_source<W: CountedWrite, N: CountedWrite>(
+    request: &FileRequest,
+    place: usize,
+    found: Result<FileFound, SearchFault>,
+    out: &mut W,
+    messages: &mut N,
+) -> Result<FileFound, RunFault>
+    ensures { EndsSource request.now.options request.now.many request.now.name.now place
+        (writer W.contents W.failures out.old) (writer W.contents W.failures out.new)
+        (writer N.contents N.failures messages.old) (writer N.contents N.failures messages.new)
+        found result }
+{
+    let found = match found {
+        Ok(found) => found,
+        Err(SearchFault::Write) => return Err(RunFault::Write),
+        Err(SearchFault::Memory(lines)) => return Err(RunFault::Memory {
+            source: place,
+            lines,
+        }),
+    };
+    match end_output(request, found, out) {
+        Ok(()) => {}
+        Err(WriteFault) => return Err(RunFault::Write),
+    }
+    let silent = request.options.no_messages;
+    match report_fault(silent, request.name, found.end, messages, b"") {
+        Ok(()) => Ok(found),
+        Err(WriteFault) => Err(RunFault::MessageWrite),
+    }
+}
+
+/// Opens the next source, searches its lines and returns its reader; writes its output and its
+/// message.
+pub fn search_source<S: Sources, M: LineMatch, W: CountedWrite, N: CountedWrite>(
     source: &SourceRequest,
     sources: &mut S,
     searchers: &mut Searchers<'_, '_, M>,
     out: &mut W,
+    messages: &mut N,
     meter: &mut Meter,
-) -> Result<FileFound, SearchFault>
+) -> Result<FileFound, RunFault>
     requires place { source.now.place < length (S.listed sources.old) }
     requires in_order { S.stands_at sources.old source.now.place }
-    requires whole { asks_whole searchers.old ≡ source.now.request.options.line_regexp }
+    requires whole { asks_whole searchers.old ≡ source.now.search.now.options.line_regexp }
     ensures listed { S.listed sources.new ≡ S.listed sources.old }
     ensures next { S.stands_at sources.new (source.now.place + 1) }
     ensures same_loan { S.loan sources.new ≡ S.loan sources.old }
-    ensures given { SearchGives (expressions_by M.expression searchers.old)
-        source.now.request.options source.now.many source.now.shown
-        (source_at (S.listed sources.old) source.now.place) (Returns S.returned_readers sources.old sources.new)
-        (S.failures sources.old) (S.failures sources.new)
-        (writer W.contents W.failures out.old) (writer W.contents W.failures out.new)
-        meter.old meter.new result }
+    ensures given { SourceGives (expressions_by M.expression searchers.old)
+        source.now.search.now.options source.now.many source.now.shown
+        (source_at (S.listed sources.old) source.now.place)
+        (Returns S.returned_readers sources.old sources.new) source.now.place
+        (devices (writer W.contents W.failures out.old) (writer N.contents N.failures messages.old)
+        (S.failures sources.old) meter.old)
+        (devices (writer W.contents W.failures out.new) (writer N.contents N.failures messages.new)
+        (S.failures sources.new) meter.new)
+        result }
     ensures same { SameSearchers M.expression M.whole M.room searchers.old searchers.new }
 {
-    let Some(reader) = sources.open(source.place) else {
+    let place = source.place;
+    let Some(reader) = sources.open(place) else {
+        let missing = source.of_file(sources.name(place));
         let end = FileEnd::Missing;
-        return Ok(FileFound { end, selected: 0 });
+        let found = Ok(FileFound { end, selected: 0 });
+        return end_source(&missing, place, found, out, messages);
     };
-    let mut lines = match Lines::new(source.request.alloc, reader) {
+    let mut lines = match Lines::new(source.search.alloc, reader) {
         Ok(lines) => lines,
         Err(reader) => {
             sources.close(reader);
-            return Err(SearchFault::Memory(0));
+            return Err(RunFault::Memory {
+                source: place,
+                lines: 0,
+            });
         }
     };
-    let request = FileRequest {
-        options: source.request.options,
-        many: source.many,
-        name: sources.name(source.place),
-    };
+    let request = source.of_file(sources.name(place));
     let found = search_opened(source, &mut lines, searchers, &request, out, meter);
+    let ended = end_source(&request, place, found, out, messages);
     sources.close(lines.into_reader());
-    found
+    ended
 }

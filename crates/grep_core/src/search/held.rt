@@ -2,19 +2,19 @@
 ghost use Rattle.std.specs.Prelude.{◌≡◌, ◌⊎◌, ◌*◌, ◌+◌, ◌^◌, ◌<◌, List, length, false, true, IfOk, OnErr};
 ghost use Rattle.re_syntax.specs.Bytes.{Text};
 ghost use Rattle.re_syntax.specs.Lines.{terminated};
-ghost use Rattle.re_search.specs.Searching.{AddsAtMost};
+ghost use Rattle.re_search.specs.Searches.{AddsAtMost};
 ghost use Rattle.re_search.specs.Meters.{Steps};
-ghost use Rattle.re_search.specs.Working.Asking.{SameSearchers, asks_whole, expressions_by};
-ghost use Rattle.re_search.specs.Working.Asking.{sought_by};
+ghost use Rattle.re_search.specs.Working.Searchers.{SameSearchers, asks_whole, expressions_by};
+ghost use Rattle.re_search.specs.Working.Searchers.{sought_by};
 ghost use Rattle.grep_core.specs.Cost.{SearchesLines};
 ghost use Rattle.grep_core.specs.Run.{writer};
 ghost use Rattle.grep_core.specs.Working.OneLine.{IsBare};
-ghost use Rattle.grep_core.specs.Working.Stretches.{IsDivided, IsNextOf};
-ghost use Rattle.grep_core.specs.Working.StretchRows.{TakesLines, BreaksLines};
+ghost use Rattle.grep_core.specs.Working.SearchedBlocks.{IsDivided, IsNextOf};
+ghost use Rattle.grep_core.specs.Working.BlockRows.{TakesLines, BreaksLines};
 
 use crate::output::request::FileRequest;
 use crate::search::line::write_selected;
-use crate::search::stretch::Stretch;
+use crate::search::searched_block::SearchedBlock;
 use grep_io::{CountedRead, CountedWrite, Lines, WriteFault, count_newlines, push_all};
 use re_search::{LineMatch, Meter, Searchers};
 
@@ -25,7 +25,7 @@ pub fn next_held<'a, R: CountedRead, M: LineMatch>(
     searchers: &mut Searchers<'_, '_, M>,
     asked: bool,
     meter: &mut Meter,
-) -> Stretch<'a>
+) -> SearchedBlock<'a>
     ensures divided { (before : List Text) × (all : List Text)
         × IsDivided (sought_by M.expression searchers.old) result before all
         × IsNextOf lines.now all }
@@ -36,7 +36,7 @@ pub fn next_held<'a, R: CountedRead, M: LineMatch>(
 {
     let block = lines.ready();
     if !lines.may_number(block.len()) || !asked {
-        return Stretch {
+        return SearchedBlock {
             before: &[],
             before_count: 0,
             line: None,
@@ -46,7 +46,7 @@ pub fn next_held<'a, R: CountedRead, M: LineMatch>(
     }
     let Some(at) = searchers.next_matched(block, meter) else {
         let count = count_newlines(block);
-        return Stretch {
+        return SearchedBlock {
             before: block,
             before_count: count,
             line: None,
@@ -56,7 +56,7 @@ pub fn next_held<'a, R: CountedRead, M: LineMatch>(
     };
     let before = &block[..at.start];
     let before_count = count_newlines(before);
-    Stretch {
+    SearchedBlock {
         before,
         before_count,
         line: Some(&block[at.start..at.end]),
@@ -68,8 +68,8 @@ pub fn next_held<'a, R: CountedRead, M: LineMatch>(
 /// Writes the rows of the selected lines of a stretch, and returns how many they are. `number` lines
 /// are before it. Its lines are not searched again. Under `-v` its lines before the matched one are
 /// selected, and are written as they are.
-pub fn write_stretch<M: LineMatch, W: CountedWrite>(
-    stretch: &Stretch,
+pub fn write_searched<M: LineMatch, W: CountedWrite>(
+    stretch: &SearchedBlock,
     searchers: &mut Searchers<'_, '_, M>,
     request: &FileRequest,
     number: u64,

@@ -1,6 +1,6 @@
 //! One line: whether it is selected, and what is written for it.
 ghost use Rattle.std.specs.Prelude.{◌≡◌, length, IfOk, OnErr};
-ghost use Rattle.re_search.specs.Working.Asking.{SameSearchers, asks_whole, expressions_by};
+ghost use Rattle.re_search.specs.Working.Searchers.{SameSearchers, asks_whole, expressions_by};
 ghost use Rattle.grep_core.specs.Output.{form, parts};
 ghost use Rattle.grep_core.specs.Run.{writer};
 ghost use Rattle.grep_core.specs.Cost.{AsksParts, SearchesLine};
@@ -9,7 +9,7 @@ ghost use Rattle.grep_core.specs.Working.OneLine.{BreaksLine};
 
 use crate::options::Form;
 use crate::output::request::FileRequest;
-use crate::search::matching::is_selected;
+use crate::search::selection::is_selected;
 use grep_io::{CountedWrite, WriteFault};
 use re_search::{LineMatch, Meter, Searchers};
 

@@ -110,7 +110,7 @@ impl RecentLines {
     /// Adds a line; the oldest is removed if the limit is reached. If no line held before was
     /// shorter, nothing is allocated.
     ///
-    /// Returns `AllocError` if a growth is refused. The lines are then as before.
+    /// Returns `AllocError` if an allocation fails. The lines are then as before.
     pub fn push(&mut self, line: &[u8]) -> Result<(), AllocError>
         ensures ok { IfOk result (λ _. self.new ≡ with_lines self.old (line.now ∷ [])) }
         ensures err { OnErr result (self.new ≡ self.old) }
@@ -136,7 +136,7 @@ impl RecentLines {
 
     /// Adds lines, each with its newline. No more of them are looked at than can be held.
     ///
-    /// Returns `AllocError` if a growth is refused. Some of the lines may be held then.
+    /// Returns `AllocError` if an allocation fails. Some of the lines may be held then.
     pub fn push_block(&mut self, block: &[u8]) -> Result<(), AllocError>
         requires { IsBlock block.now }
         ensures { IfOk result (λ _. self.new ≡ with_lines self.old (lines_of block.now)) }

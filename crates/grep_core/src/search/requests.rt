@@ -1,6 +1,8 @@
 //! What a search is asked to do.
+ghost use Rattle.std.specs.Prelude.{◌≡◌};
 
 use crate::options::Options;
+use crate::output::request::FileRequest;
 use re_search::Filter;
 use std::alloc::Global;
 
@@ -15,11 +17,11 @@ pub struct SearchRequest<'a> {
     pub filter: &'a Filter,
 }
 
-/// What the search of each source is asked to do.
+/// What the search of a source is asked to do.
 #[derive(Clone, Copy)]
-pub struct SourceRequest<'a> {
-    /// What is asked of the search.
-    pub request: SearchRequest<'a>,
+pub struct SourceRequest<'a, 'f> {
+    /// What is asked of the search of all sources.
+    pub search: &'a SearchRequest<'f>,
     /// The source's place among all, counted from 0.
     pub place: usize,
     /// Whether there are two sources or more: rows and counts then begin with the source's name.
@@ -27,4 +29,19 @@ pub struct SourceRequest<'a> {
     /// Whether a line of an earlier source is selected: where lines around selected ones are shown,
     /// a separator is then written before the first group.
     pub shown: bool,
+}
+
+impl SourceRequest<'_, '_> {
+    /// What is asked of the source's lines, by its name.
+    pub fn of_file<'n>(&self, name: &'n [u8]) -> FileRequest<'n>
+        ensures options { result.options ≡ self.now.search.now.options }
+        ensures many { result.many ≡ self.now.many }
+        ensures name { result.name ≡ name.entry }
+    {
+        FileRequest {
+            options: self.search.options,
+            many: self.many,
+            name,
+        }
+    }
 }

@@ -2,11 +2,8 @@
 use Rattle.std.proofs.Common.{◌≡◌, ◌+◌, ◌-◌, ◌≤◌, ◌⊎◌, inl, inr, nat_le, List, [], ◌∷◌, ◌++◌, All, refl, sym, ap, ◌∙◌, length, length-append, take, append_assoc, arith}
 use Rattle.std.proofs.Math.Seq.{take-append-add, take-append_seam}
 use Rattle.std.proofs.lemmas.Bool.{cases_Bool, cond-true, cond-false, le-leb, lt-leb}
-use Rattle.re_syntax.specs.Bytes.{Text}
-use Rattle.re_syntax.specs.Lines.{newline, lines_of, HasNoNewline, terminated}
+use Rattle.grep_io.proofs.Words.{Text, newline, lines_of, HasNoNewline, terminated, File, Ending, broken, most_lines, up_to_limit}
 use Rattle.re_syntax.proofs.lemmas.LinesLaws.{lines_of-line, all_head, all_tail}
-use Rattle.grep_io.specs.File.{File, Ending, broken}
-use Rattle.grep_io.specs.Reading.{most_lines, up_to_limit}
 
 -- a file of this name with these lines
 abbrev pub file_with : Text → List Text → Ending → File
@@ -29,7 +26,7 @@ up_to_limit-over name lines more line ending full =
     let kept : take most_lines (lines ++ line ∷ more) ≡ lines = ap (λ n. take n (lines ++ line ∷ more)) (sym full) ∙ take-append_seam lines (line ∷ more) in
     cond-false _ _ _ (lt-leb (length (lines ++ line ∷ more)) most_lines (omega (arith, over))) ∙ ap (λ ls. file_with name ls broken) kept
 
--- a file of which some lines were read begins with them, and a failed read is the only other ending
+-- a file some of whose lines were read begins with them, and a failed read is the only other ending
 -- that it can have
 pub up_to_limit-beyond : (name : Text) (lines more : List Text) (ending : Ending) → length lines ≤ most_lines →
     (kept : List Text) × (end : Ending) × (up_to_limit name (lines ++ more) ending ≡ file_with name (lines ++ kept) end) × ((end ≡ ending) ⊎ (end ≡ broken))

@@ -4,12 +4,7 @@ use Rattle.std.proofs.KnownBytes.{append_known-grown, Keeps-trans}
 use Rattle.std.proofs.Math.Seq.{take-append-add, drop-append_seam}
 use Rattle.std.proofs.lemmas.List.{take_all, take-take, take-append-le}
 use Rattle.std.proofs.lemmas.List.Elements.{All-append, All-drop, All-nil}
-use Rattle.std.specs.Io.KnownBytes.{Keeps, Appends, append_known}
-use Rattle.re_syntax.specs.Bytes.{Text}
-use Rattle.re_syntax.specs.Lines.{newline, HasNoNewline}
-use Rattle.grep_io.specs.Counted.{one_more, Counts, PushAppends}
-use Rattle.grep_io.specs.Buffer.{BufferedWriter, SendsSome, all_contents}
-use Rattle.grep_io.specs.Working.Sent.{SendsFront, SendsLine}
+use Rattle.grep_io.proofs.Words.{Keeps, Appends, append_known, Text, newline, HasNoNewline, one_more, Counts, PushAppends, BufferedWriter, SendsSome, all_contents, SendsFront, SendsLine}
 use Rattle.grep_io.proofs.lemmas.BufferLemmas.{kept_by_some}
 
 -- the first bytes of two texts, more than the first text has

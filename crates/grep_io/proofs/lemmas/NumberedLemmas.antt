@@ -1,12 +1,7 @@
 -- What a call for the next line hands out of a reader of numbered lines.
 use Rattle.std.proofs.Common.{◌≡◌, ◌≢◌, ℕ, ◌+◌, ◌<◌, List, [], ◌∷◌, ◌++◌, Option, ap, ◌∙◌, sym, arith}
 use Rattle.std.proofs.lemmas.List.{length_push}
-use Rattle.re_syntax.specs.Bytes.{Text}
-use Rattle.grep_io.specs.declared.input.lines.Stage.TheVariants.{Open, Ended}
-use Rattle.grep_io.specs.File.{whole, broken}
-use Rattle.grep_io.specs.Reading.{most_lines}
-use Rattle.grep_io.specs.Working.LineReader.{HandsOut, IsUsedUp, IsCutOff, RunsOutOfMemory}
-use Rattle.grep_io.specs.Working.Numbered.{Numbered, HasHanded, StandsAs}
+use Rattle.grep_io.proofs.Words.{Text, Open, Ended, whole, broken, most_lines, HandsOut, IsUsedUp, IsCutOff, RunsOutOfMemory, Numbered, HasHanded, StandsAs}
 use Rattle.grep_io.proofs.lemmas.HandedLemmas.{HandsLines-none, HandsLines-line, HandsLines-stays, stands_whole, stands_broken, stands_cut, still_open}
 
 module _ {R : Type 0} (remaining : R → Option Text) (failures : R → ℕ) where
@@ -39,7 +34,7 @@ module _ {R : Type 0} (remaining : R → Option Text) (failures : R → ℕ) whe
     next_is_past full h =
         λ name. stands_cut remaining failures name reader new.lines handed new.lines.line (HandsLines-line remaining failures reader old.lines new.lines handed s.hands h) (s.counted ∙ sym same ∙ full)
 
-    -- a growth was refused
+    -- an allocation failed
     pub next_is_refused : old.lines.stage ≢ Ended → RunsOutOfMemory remaining failures old.lines new.lines → HasHanded remaining failures reader new handed
     next_is_refused apart h =
         let was_open = still_open old.lines.stage s.hands.given handed s.hands.are_handed apart in

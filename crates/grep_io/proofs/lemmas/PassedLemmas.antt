@@ -1,23 +1,13 @@
 -- Whole lines that are passed in one sweep.
 use Rattle.std.proofs.Common.{◌≡◌, ℕ, zero, suc, ◌+◌, ◌-◌, ◌≤◌, List, [], ◌∷◌, ◌++◌, All, Option, length, take, drop, get_or, refl, sym, ap, ◌∙◌, subst, arith, length-append}
 use Rattle.std.proofs.KnownBytes.{Consumes-trans, Keeps-refl, prepend_known-read}
-use Rattle.std.specs.Prelude.{⊤}
+use Rattle.grep_io.proofs.Words.{⊤, prepend_known, Consumes, Keeps, IsAtEnd, Text, newline, terminated, lines_of, HasNoNewline, IsBlock, PassesAll, is_byte, places, Stage, Open, Ended, Failed, most_lines, AreHanded, HandsLines, LineReader, to_come, IsStageOf, Numbered, AreAhead, HasHanded, PassesNext}
 use Rattle.std.proofs.Math.Seq.{take-append_seam}
 use Rattle.std.proofs.lemmas.Bool.{cond-true, cond-false}
 use Rattle.std.proofs.lemmas.List.{get_or-drop, drop-drop, append-nil, nil_from_length}
 use Rattle.std.proofs.lemmas.List.Elements.{All-append}
-use Rattle.std.specs.Io.KnownBytes.{prepend_known, Consumes, Keeps, IsAtEnd}
-use Rattle.re_syntax.specs.Bytes.{Text}
-use Rattle.re_syntax.specs.Lines.{newline, terminated, lines_of, HasNoNewline}
 use Rattle.re_syntax.proofs.lemmas.LinesLaws.{lines_of-terminated, first_differs, rest_has_none, all_head, all_tail, terminated-append}
-use Rattle.re_needle.specs.Working.Blocks.{IsBlock, PassesAll}
-use Rattle.memchr.specs.Find.{is_byte, places, places_from}
-use Rattle.grep_io.specs.declared.input.lines.Stage.{Stage}
-use Rattle.grep_io.specs.declared.input.lines.Stage.TheVariants.{Open, Ended, Failed}
-use Rattle.grep_io.specs.Reading.{most_lines}
-use Rattle.grep_io.specs.Working.Handed.{AreHanded, HandsLines}
-use Rattle.grep_io.specs.Working.LineReader.{LineReader, to_come, IsStageOf}
-use Rattle.grep_io.specs.Working.Numbered.{Numbered, AreAhead, HasHanded, PassesNext}
+use Rattle.memchr.specs.Find.{places_from}
 
 -- ---- newlines are counted
 

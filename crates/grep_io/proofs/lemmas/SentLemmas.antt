@@ -2,13 +2,7 @@
 use Rattle.std.proofs.Common.{◌≡◌, ◌≢◌, ℕ, ◌+◌, ◌≤◌, [], ◌∷◌, ◌++◌, Option, length, take, drop, sym, ap, ◌∙◌, arith, eq-eqb, eqb-true, length-drop, take-append-drop, subst}
 use Rattle.std.proofs.lemmas.List.{take_more, take-take, get_or-drop}
 use Rattle.std.proofs.lemmas.List.Elements.{All-from_get_or}
-use Rattle.std.specs.Io.KnownBytes.{Appends}
-use Rattle.memchr.specs.Find.{Nowhere, NoneAfter, Passes, is_byte}
-use Rattle.re_syntax.specs.Bytes.{Text}
-use Rattle.re_syntax.specs.Lines.{newline, HasNoNewline}
-use Rattle.grep_io.specs.Counted.{one_more}
-use Rattle.grep_io.specs.Buffer.{SendsSome}
-use Rattle.grep_io.specs.Working.Sent.{EndsRows, SendsFront}
+use Rattle.grep_io.proofs.Words.{Appends, Nowhere, NoneAfter, Passes, is_byte, Text, newline, HasNoNewline, one_more, SendsSome, EndsRows, SendsFront}
 
 -- where no newline is found there is none
 pub no_row_ends : (bytes : Text) → Nowhere (Passes (is_byte newline) bytes) 0 (length bytes) → HasNoNewline bytes

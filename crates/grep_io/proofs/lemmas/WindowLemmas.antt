@@ -4,9 +4,7 @@ use Rattle.std.proofs.Math.Seq.{take-append-add}
 use Rattle.std.proofs.lemmas.Bool.{cases_lt}
 use Rattle.std.proofs.lemmas.List.{length-append, take-append-le, length-take, take-take, drop-take, drop-drop}
 use Rattle.std.proofs.lemmas.List.Elements.{All-append, All-take, All-tail}
-use Rattle.re_syntax.specs.Bytes.{Text}
-use Rattle.re_syntax.specs.Lines.{newline, HasNoNewline}
-use Rattle.grep_io.specs.Reading.{IsOneLineAndFew}
+use Rattle.grep_io.proofs.Words.{Text, newline, HasNoNewline, IsOneLineAndFew}
 
 -- the first k bytes of a range are a range
 front_of_range : (buffer : Text) (start end k : ℕ) → start + k ≤ end → take k (slice_range buffer start end) ≡ slice_range buffer start (start + k)

@@ -4,7 +4,7 @@ use Rattle.std.specs.Io.KnownBytes.{prepend_known, Keeps, Consumes, IsAtEnd}
 use Rattle.re_syntax.specs.Bytes.{Text}
 use Rattle.re_syntax.specs.Lines.{newline, HasNoNewline}
 use Rattle.grep_io.specs.Counted.{one_more}
-use Rattle.grep_io.specs.Reading.{IsOneLineAndFew}
+use Rattle.grep_io.specs.Reading.{buffer_size, IsOneLineAndFew}
 use Rattle.grep_io.specs.declared.input.lines.Stage.{Stage}
 use Rattle.grep_io.specs.declared.input.lines.Stage.TheVariants.{Open, Ended, Failed}
 
@@ -41,7 +41,7 @@ module _ {R : Type 0} (remaining : R → Option Text) (failures : R → ℕ) whe
     pub was_open : old.stage ≡ Open
     pub no_newline : HasNoNewline new.line
     pub taken : IsLineOf old new new.stage
-    pub few_held : length new.ahead ≤ 65536
+    pub few_held : length new.ahead ≤ buffer_size
     pub none_failed : failures new.reader ≡ failures old.reader
 
   -- nothing was to come, and once that is known no more is asked of the reader
@@ -63,7 +63,7 @@ module _ {R : Type 0} (remaining : R → Option Text) (failures : R → ℕ) whe
     pub counted : old.stage ≡ Open → failures new.reader ≡ one_more (failures old.reader)
     pub untouched : old.stage ≡ Failed → new.reader ≡ old.reader
 
-  -- a growth was refused: nothing is lost, and the next call continues with the same line
+  -- an allocation failed: nothing is lost, and the next call continues with the same line
   pub record RunsOutOfMemory (old new : LineReader R) : Type 0 where
     pub still_open : new.stage ≡ Open
     pub kept : Keeps (to_come old) (to_come new)

@@ -39,7 +39,7 @@ module _ {R : Type 0} (remaining : R → Option Text) (failures : R → ℕ) whe
       (failures now.lines.reader) handed ending
 
   -- after these lines a line was handed out; or they are all; or a read failed, or there is one
-  -- more than can be numbered; or a growth was refused, and nothing is lost
+  -- more than can be numbered; or an allocation failed, and nothing is lost
   abbrev pub NextIs : R → List Text → Numbered R → Result Bool ReadFault → Type 0
   NextIs reader handed now (Ok true) = HasHanded reader now (handed ++ now.lines.line ∷ [])
   NextIs reader handed now (Ok false) = StandsAs reader now handed whole

@@ -5,8 +5,8 @@ ghost use Rattle.grep_io.specs.Counted.{one_more};
 ghost use Rattle.grep_io.specs.Buffer.{Sends, all_contents};
 ghost use Rattle.grep_io.specs.Working.Sent.{SendsRows};
 
+use crate::devices::byte_buffer::{collect_text, rows_end, send_front};
 use crate::devices::counted::{CountedWrite, WriteFault};
-use crate::devices::sending::{collect_text, rows_end, send_front};
 use std::alloc::{AllocError, Global};
 use std::marker::Model;
 
@@ -38,7 +38,7 @@ impl<W> Model for Buffered<W> {
 }
 
 impl<W> Buffered<W> {
-    /// Nothing waits. Where memory is refused the inner writer is dropped.
+    /// Nothing waits. If an allocation fails, the inner writer is dropped.
     pub fn new(alloc: Global, inner: W) -> Result<Buffered<W>, AllocError>
     where
         W: Drop,

@@ -6,7 +6,7 @@ ghost use Rattle.grep_io.specs.Written.{Writes};
 use std::io::{Read, Write};
 use std::marker::Model;
 
-/// A reader of which each read that fails is counted, and is not tried again.
+/// A reader whose failed reads are counted, and not tried again.
 pub trait CountedRead {
     /// The bytes that reads will give from here on, where they are known.
     ghost remaining: { Self → Option (List ℕ) } = { λ _. None };
@@ -37,7 +37,7 @@ pub trait CountedRead {
 #[derive(Clone, Copy, Debug, PartialEq, Eq)]
 pub struct WriteFault;
 
-/// A writer of which each write that fails is counted, and is not tried again.
+/// A writer whose failed writes are counted, and not tried again.
 pub trait CountedWrite {
     /// The bytes that the writer holds, where they are known.
     ghost contents: { Self → Option (List ℕ) } = { λ _. None };
@@ -48,8 +48,8 @@ pub trait CountedWrite {
     /// How many of the bytes are buffered and not yet sent to the device.
     ghost waiting: { Self → ℕ } = { λ _. 0 };
 
-    /// One write of bytes of which there is at least one. It takes at least one of them, in order
-    /// from the first, and says how many; `None` says that it failed and took none.
+    /// One write of at least one byte. It takes at least one of them, in order from the first, and
+    /// says how many; `None` says that it failed and took none.
     fn push(&mut self, from: &[u8]) -> Option<usize>
         requires { 0 < length from.now }
         ensures some_taken { IfSome result (λ n. 0 < n) }
@@ -122,7 +122,7 @@ impl<T> Model for Tally<T> {
 }
 
 impl<T> Tally<T> {
-    /// The device, of which nothing has failed yet.
+    /// The device, before any failure.
     pub fn new(device: T) -> Tally<T>
         ensures { result ≡ record { device = device; failed = 0 } }
     {

@@ -7,8 +7,8 @@ ghost use Rattle.grep_io.specs.Counted.{PushAppends, Counts, one_more};
 ghost use Rattle.grep_io.specs.Buffer.{Sends, all_contents};
 ghost use Rattle.grep_io.specs.Working.Sent.{SendsLine};
 
+use crate::devices::byte_buffer::{collect_text, rows_end, send_front, take_off};
 use crate::devices::counted::{CountedWrite, WriteFault};
-use crate::devices::sending::{collect_text, rows_end, send_front, take_off};
 use std::alloc::{AllocError, Global};
 use std::marker::Model;
 
@@ -44,7 +44,7 @@ impl<W> Model for WholeLines<W> {
 }
 
 impl<W> WholeLines<W> {
-    /// Nothing waits. Where memory is refused the inner writer is dropped.
+    /// Nothing waits. If an allocation fails, the inner writer is dropped.
     pub fn new(alloc: Global, inner: W) -> Result<WholeLines<W>, AllocError>
     where
         W: Drop,

@@ -1,5 +1,5 @@
 // The lines that a reader gives, one at a time, and their numbers.
-ghost use Rattle.std.specs.Prelude.{◌≡◌, ◌+◌, ◌≤◌, [], ◌++◌, Ok, Err, IfOk, IfErr, IfSome, MatchBool};
+ghost use Rattle.std.specs.Prelude.{◌≡◌, ◌+◌, ◌≤◌, [], ◌++◌, Ok, Err, IfOk, IfErr, MatchBool};
 ghost use Rattle.std.specs.Prelude.{IsTrue, false, length, take};
 ghost use Rattle.re_syntax.specs.Bytes.{Text};
 ghost use Rattle.re_syntax.specs.Lines.{lines_of};
@@ -20,7 +20,7 @@ use std::marker::Model;
 pub enum ReadFault {
     /// A read failed, in this call or in an earlier one.
     Device,
-    /// A growth was refused. Nothing is lost, and the next call continues with the same line.
+    /// An allocation failed. Nothing is lost, and the next call continues with the same line.
     Memory,
 }
 
@@ -44,6 +44,15 @@ pub enum Stage {
     Ended,
     /// A read failed.
     Failed,
+}
+
+/// Whole lines, in one piece.
+#[derive(Clone, Copy)]
+pub struct Block<'a> {
+    /// The lines, each with its newline.
+    pub bytes: &'a [u8],
+    /// How many they are.
+    pub count: u64,
 }
 
 /// The lines of a reader (XBD 3.206; a last line may lack its newline). 65,536 bytes are asked of
@@ -79,8 +88,8 @@ impl<R: CountedRead> Model for Lines<R> {
 }
 
 impl<R: CountedRead> Lines<R> {
-    /// The lines of the reader, of which nothing is read yet. The reader is returned if memory is
-    /// refused.
+    /// The lines of the reader, from which nothing was read yet. The reader is returned if the
+    /// allocation fails.
     pub fn new(alloc: Global, reader: R) -> Result<Lines<R>, R>
         ensures ok { IfOk result
             (λ lines. lines ≡ record {
@@ -139,17 +148,20 @@ impl<R: CountedRead> Lines<R> {
         self.number
     }
 
-    /// The number of lines in a block of whole lines, or `None` if not all can still be numbered.
-    pub fn count(&self, block: &[u8]) -> Option<u64>
-        requires { IsBlock block.now }
-        ensures { IfSome result (λ count. (count ≡ length (lines_of block.now))
-            × (self.now.number + count ≤ most_lines)) }
+    /// The next lines, each with its newline, as far as they are held in one piece, and how many
+    /// they are; none if not all of them can still be numbered.
+    pub fn ready_lines(&self) -> Block<'_>
+        ensures { AreAhead self.now result.bytes.now result.count }
     {
-        let count = count_newlines(block);
+        let bytes = self.ready();
+        let count = count_newlines(bytes);
         if count > u64::MAX - self.number {
-            return None;
+            return Block {
+                bytes: &[],
+                count: 0,
+            };
         }
-        Some(count)
+        Block { bytes, count }
     }
 
     /// Whether that many lines more can still be numbered.

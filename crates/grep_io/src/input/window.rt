@@ -8,8 +8,8 @@ ghost use Rattle.re_needle.specs.Working.Blocks.{IsBlock, PassesAll};
 ghost use Rattle.grep_io.specs.Counted.{PullConsumes, Counts};
 ghost use Rattle.grep_io.specs.Working.Refilled.{Refilled};
 ghost use Rattle.grep_io.specs.Reading.{IsOneLineAndFew};
-ghost use Rattle.grep_io.specs.Working.Held.{HasWholeLine, waiting, shown_line};
-ghost use Rattle.grep_io.specs.Working.Held.{ShownFits};
+ghost use Rattle.grep_io.specs.Working.Held.{HasWholeLine, waiting, last_line};
+ghost use Rattle.grep_io.specs.Working.Held.{LastLineFits};
 
 use crate::devices::counted::CountedRead;
 use memchr::memrchr;
@@ -22,7 +22,7 @@ const ROOM: usize = 65_536;
 
 // Where the line is that was handed out last.
 #[derive(Clone, Copy)]
-enum Shown {
+enum LastLine {
     Nothing,
     // In the buffer, from the first place up to the second.
     Short(usize, usize),
@@ -51,18 +51,18 @@ pub struct Window {
     last: usize,
     end: usize,
     spill: Vec<u8>,
-    shown: Shown,
+    shown: LastLine,
 }
 
 impl Model for Window {
     ghost use Rattle.std.specs.Prelude.{◌++◌, slice_range, vec_len};
-    ghost use Rattle.grep_io.specs.Working.Held.{Held, waiting, shown_line, IsSound};
+    ghost use Rattle.grep_io.specs.Working.Held.{Held, waiting, last_line, IsSound};
 
     ghost Value = { Held };
 
     ghost view = { λ a. record {
       ahead = waiting a.shown a.spill.items ++ slice_range a.buffer.items a.start a.end;
-      line = shown_line a.shown a.spill.items a.buffer.items;
+      line = last_line a.shown a.spill.items a.buffer.items;
     } };
 
     ghost invariant = { λ a. IsSound a.buffer.items a.start a.last a.end a.shown a.spill.items };
@@ -81,7 +81,7 @@ impl Window {
             last: 0,
             end: 0,
             spill: Vec::new(alloc),
-            shown: Shown::Nothing,
+            shown: LastLine::Nothing,
         })
     }
 
@@ -90,9 +90,9 @@ impl Window {
         ensures { result.now ≡ self.now.line }
     {
         match self.shown {
-            Shown::Nothing => &[],
-            Shown::Short(from, to) => &self.buffer[from..to],
-            Shown::Long => &self.spill,
+            LastLine::Nothing => &[],
+            LastLine::Short(from, to) => &self.buffer[from..to],
+            LastLine::Long => &self.spill,
         }
     }
 
@@ -101,7 +101,7 @@ impl Window {
         ensures { result ≡ length self.now.ahead }
     {
         let spilled = match self.shown {
-            Shown::Long => 0,
+            LastLine::Long => 0,
             _ => self.spill.len(),
         };
         spilled + (self.end - self.start)
@@ -132,7 +132,7 @@ impl Window {
         ensures line { self.new.line ≡ [] }
     {
         empty_where_shown(&mut self.spill, self.shown);
-        self.shown = Shown::Nothing;
+        self.shown = LastLine::Nothing;
         if count > 0 {
             self.start += count - self.spill.len();
             self.spill.clear();
@@ -145,7 +145,7 @@ impl Window {
         ensures line { self.new.line ≡ [] }
     {
         empty_where_shown(&mut self.spill, self.shown);
-        self.shown = Shown::Nothing;
+        self.shown = LastLine::Nothing;
     }
 
     /// Hands out the next line, where its newline is ahead.
@@ -160,7 +160,7 @@ impl Window {
         ensures err_few { OnErr result (IsOneLineAndFew self.new.ahead) }
     {
         empty_where_shown(&mut self.spill, self.shown);
-        self.shown = Shown::Nothing;
+        self.shown = LastLine::Nothing;
         let Some(length) = first_newline(&self.buffer[self.start..self.end]) else {
             return Ok(false);
         };
@@ -183,7 +183,7 @@ impl Window {
         ensures same_loan { R.loan reader.new ≡ R.loan reader.old }
     {
         empty_where_shown(&mut self.spill, self.shown);
-        self.shown = Shown::Nothing;
+        self.shown = LastLine::Nothing;
         self.spill
             .extend_from_slice(&self.buffer[self.start..self.end])?;
         self.start = 0;
@@ -192,7 +192,7 @@ impl Window {
         match pull_over(reader, &mut self.buffer) {
             None => Ok(Refill::Failed),
             Some(0) => {
-                self.shown = Shown::Long;
+                self.shown = LastLine::Long;
                 Ok(Refill::Ended)
             }
             Some(count) => {
@@ -230,29 +230,29 @@ pub fn lines_end(bytes: &[u8]) -> usize
 }
 
 // Shows the line that begins with what was spilled and continues in the buffer.
-fn show(buffer: &[u8], from: usize, to: usize, spill: &mut Vec<u8>) -> Result<Shown, AllocError>
+fn show(buffer: &[u8], from: usize, to: usize, spill: &mut Vec<u8>) -> Result<LastLine, AllocError>
     requires ordered { from ≤ to }
     requires within { to ≤ length buffer.now }
     requires short { to ≤ 65536 }
-    ensures line { IfOk result (λ shown. shown_line shown spill.new.items buffer.now
+    ensures line { IfOk result (λ shown. last_line shown spill.new.items buffer.now
         ≡ spill.old.items ++ slice_range buffer.now from to) }
     ensures none_waiting { IfOk result (λ shown. waiting shown spill.new.items ≡ []) }
-    ensures fits { IfOk result ShownFits }
+    ensures fits { IfOk result LastLineFits }
     ensures err { OnErr result (spill.new.items ≡ spill.old.items) }
 {
     if spill.is_empty() {
-        return Ok(Shown::Short(from, to));
+        return Ok(LastLine::Short(from, to));
     }
     spill.extend_from_slice(&buffer[from..to])?;
-    Ok(Shown::Long)
+    Ok(LastLine::Long)
 }
 
 // Forgets what was spilled where it is the line that was handed out.
-fn empty_where_shown(spill: &mut Vec<u8>, shown: Shown)
+fn empty_where_shown(spill: &mut Vec<u8>, shown: LastLine)
     ensures { spill.new.items ≡ waiting shown spill.old.items }
 {
     match shown {
-        Shown::Long => spill.clear(),
+        LastLine::Long => spill.clear(),
         _ => {}
     }
 }

@@ -4,32 +4,8 @@ use Rattle.std.proofs.Math.ListN.{set}
 use Rattle.std.proofs.lemmas.List.{drop_all, append-nil, length-append}
 use Rattle.std.proofs.lemmas.List.Edits.{remove-append_right}
 use Rattle.std.proofs.lemmas.Bool.{cases_lt}
-use Rattle.std.specs.Prelude.{Option, slice_set}
-use Rattle.std.specs.List.{remove, splice}
-use Rattle.std.specs.Result.{IfOk, IfErr}
-use Rattle.re_syntax.specs.declared.syntax.Syntax.{Syntax}
-use Rattle.re_syntax.specs.Bytes.{Text}
-use Rattle.re_syntax.specs.Lines.{list_of}
-use Rattle.re_syntax.specs.Expression.{Expression}
-use Rattle.grep_core.specs.declared.options.Flag.{Flag}
-use Rattle.grep_core.specs.declared.options.Flag.TheVariants.{Count, IgnoreCase, FilesWithMatches, LineNumber, OnlyMatching, Quiet, NoMessages, InvertMatch, LineRegexp}
-use Rattle.grep_core.specs.declared.options.Context.{Context}
-use Rattle.grep_core.specs.declared.options.Options.{Options}
-use Rattle.grep_core.specs.Choose.{IfHolds}
-use Rattle.grep_core.specs.Files.{File, Inputs, AreMeant, Selected}
-use Rattle.grep_core.specs.Run.{file_at}
-use Rattle.grep_session.specs.declared.fault.EditFault.{EditFault}
-use Rattle.grep_session.specs.declared.fault.EditFault.TheVariants.{NoSuchFile, FileIsMissing, OutOfRange, LineHasNewline, NoSuchPattern, Pattern, TooManyPatterns, Memory}
-use Rattle.grep_session.specs.Edits.{Edit, AddFile, AddMissing, DropFile, Splice, AddPatterns, DropPattern, SetFlag, SetSyntax, SetContext, Applies, EditGives, Reads, with_option, with_files, with_patterns, with_context, whole_file, missing_file, spliced}
-use Rattle.grep_session.specs.Listed.{ListedParts}
+use Rattle.grep_live.proofs.Words.{Option, slice_set, remove, splice, IfOk, IfErr, Syntax, Text, list_of, Expression, Flag, Count, IgnoreCase, FilesWithMatches, LineNumber, OnlyMatching, Quiet, NoMessages, InvertMatch, LineRegexp, Context, Options, IfHolds, File, Inputs, AreMeant, Selected, file_at, EditFault, NoSuchFile, FileIsMissing, OutOfRange, LineHasNewline, NoSuchPattern, Pattern, TooManyPatterns, Memory, Edit, AddFile, AddMissing, DropFile, Splice, AddPatterns, DropPattern, SetFlag, SetSyntax, SetContext, Applies, EditGives, Reads, with_option, with_files, with_patterns, with_context, whole_file, missing_file, spliced, ListedParts, Mark, AllThree, Hit, View, HitsFrom, hits_before, hits_from, Watched, new_mark, mark_at, touched, lost, marks_by_flag, MarksAfter, MarksGiven, FollowsFile, Follows, view_after, Carries, Fits, AreFit}
 use Rattle.grep_session.proofs.lemmas.AllPatternsRead.{with_same}
-use Rattle.grep_live.specs.declared.mark.Mark.{Mark}
-use Rattle.grep_live.specs.Lists.{AllThree}
-use Rattle.grep_live.specs.Hits.{Hit, View, HitsFrom}
-use Rattle.grep_live.specs.Changes.{hits_before, hits_from}
-use Rattle.grep_live.specs.Marks.{Watched, new_mark, mark_at, touched, lost, marks_by_flag, MarksAfter, MarksGiven}
-use Rattle.grep_live.specs.Following.{FollowsFile, Follows, view_after, Carries}
-use Rattle.grep_live.specs.Working.Fits.{Fits, AreFit}
 use Rattle.grep_live.proofs.lemmas.ListLemmas.{zip-append, zip-remove, zip-set, zip-map, zip-at, zip-length, three-append, three-remove, three-set, three-map, three-weaker}
 use Rattle.grep_live.proofs.lemmas.HitLemmas.{before_none, hits_from_none}
 use Rattle.grep_live.proofs.lemmas.MarkLemmas.{fits_touched, length-splice, spliced_front, spliced_back}

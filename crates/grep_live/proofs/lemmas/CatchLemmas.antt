@@ -1,30 +1,9 @@
 -- What is reported makes each view that follows the present hits, and it follows then.
 use Rattle.std.proofs.Common.{◌≡◌, ℕ, ◌+◌, ◌-◌, ◌<◌, ◌≤◌, List, [], ◌∷◌, ◌++◌, length, map, take, drop, get_or, Option, Result, Ok, Err, refl, sym, ap, subst, ◌∙◌, inl, arith}
 use Rattle.std.proofs.Math.ListN.{set}
-use Rattle.std.specs.Prelude.{slice_range}
-use Rattle.std.specs.Result.{MatchResult}
+use Rattle.grep_live.proofs.Words.{slice_range, MatchResult, Text, Expression, Status, File, Inputs, Selected, StatusOf, written, file_at, Writes, IsStatusOfInputs, ListedParts, Mark, AllThree, Hit, View, HitsFrom, Hits, AreHits, Watched, whole_mark, new_mark, mark_at, Change, IsChange, AreWithin, hits_before, hits_from, after, all_after, FollowsFile, Follows, changes_rows, all_known, WritesChanges, Fits, AreFit, Mean}
 use Rattle.std.proofs.lemmas.List.{drop_more, take_more, set_at, take_all, drop_all, length-take-le, get_or-map, append-nil, append_assoc}
-use Rattle.re_syntax.specs.Bytes.{Text}
-use Rattle.re_syntax.specs.Expression.{Expression}
-use Rattle.grep_core.specs.declared.status.Status.{Status}
-use Rattle.grep_core.specs.Files.{File, Inputs, Selected}
-use Rattle.grep_core.specs.Messages.{StatusOf}
-use Rattle.grep_core.specs.Output.{written}
-use Rattle.grep_core.specs.Run.{file_at}
-use Rattle.grep_core.specs.Written.{Writes}
 use Rattle.grep_core.proofs.lemmas.LawsHold.{means_one}
-use Rattle.grep_session.specs.Headline.{IsStatusOfInputs}
-use Rattle.grep_session.specs.Listed.{ListedParts}
-use Rattle.grep_live.specs.declared.mark.Mark.{Mark}
-use Rattle.grep_live.specs.Lists.{AllThree}
-use Rattle.grep_live.specs.Hits.{Hit, View, HitsFrom, Hits, AreHits}
-use Rattle.grep_live.specs.Marks.{Watched, whole_mark, new_mark, mark_at}
-use Rattle.grep_live.specs.Changes.{Change, IsChange, AreWithin, hits_before, hits_from, after, all_after}
-use Rattle.grep_live.specs.Following.{FollowsFile, Follows}
-use Rattle.grep_live.specs.Rows.{changes_rows}
-use Rattle.grep_live.specs.Writing.{all_known, WritesChanges}
-use Rattle.grep_live.specs.Working.Fits.{Fits, AreFit}
-use Rattle.grep_live.specs.Working.Listing.{Mean}
 use Rattle.grep_live.proofs.lemmas.ListLemmas.{zip-at, zip-length}
 use Rattle.grep_live.proofs.lemmas.HitLemmas.{by_within, first_hits, last_hits}
 use Rattle.grep_live.proofs.lemmas.ListingLemmas.{HitsFrom-exist}

@@ -1,21 +1,8 @@
 -- What is counted and written of the lines of a file, by the hits that are left.
 use Rattle.std.proofs.Common.{◌≡◌, ℕ, ◌+◌, ◌-◌, ◌<◌, ◌≤◌, true, false, if◌then◌else◌, List, [], ◌∷◌, ◌++◌, length, map, drop, get_or, Option, sym, ap, subst, ◌∙◌, arith}
-use Rattle.std.specs.Prelude.{nat_eq, ◌&&◌, slice_range}
+use Rattle.grep_live.proofs.Words.{nat_eq, ◌&&◌, slice_range, Text, Expression, Inputs, file_at, written, output_line, GoesOut, StopsWithin, Mark, AllThree, Hit, HitsFrom, Change, IsChange, hit_row, change_row, change_rows, changes_rows, Mean, HitsBetween, IsFirst}
 use Rattle.std.proofs.lemmas.List.{drop_all}
-use Rattle.re_syntax.specs.Bytes.{Text}
-use Rattle.re_syntax.specs.Expression.{Expression}
-use Rattle.grep_core.specs.Files.{Inputs}
-use Rattle.grep_core.specs.Run.{file_at}
-use Rattle.grep_core.specs.Output.{written}
-use Rattle.grep_core.specs.Row.{output_line}
-use Rattle.grep_core.specs.Written.{GoesOut, StopsWithin}
 use Rattle.grep_session.proofs.lemmas.Writing.{drop-next, WrittenUpTo, none_written, written_on, all_written, broken_off, one_went, one_stopped}
-use Rattle.grep_live.specs.declared.mark.Mark.{Mark}
-use Rattle.grep_live.specs.Lists.{AllThree}
-use Rattle.grep_live.specs.Hits.{Hit, HitsFrom}
-use Rattle.grep_live.specs.Changes.{Change, IsChange}
-use Rattle.grep_live.specs.Rows.{hit_row, change_row, change_rows, changes_rows}
-use Rattle.grep_live.specs.Working.Listing.{Mean, HitsBetween, IsFirst}
 
 module _ (inputs : Inputs) (k from to : ℕ) {W : Type 0} (contents : W → Option Text) (failures : W → ℕ) (margin : Text) where
   -- some were written, and these are left

@@ -4,14 +4,9 @@ use Rattle.std.proofs.lemmas.Bool.{cases_lt, lt-ltb, le-ltb, le-leb}
 use Rattle.std.proofs.lemmas.Bool.Decides.{nat_tests}
 use Rattle.std.proofs.lemmas.List.{map-append}
 use Rattle.std.proofs.lemmas.List.Elements.{filter-append}
-use Rattle.std.specs.Prelude.{nat_lt, nat_le}
-use Rattle.std.specs.List.{filter, enumerate_from}
-use Rattle.grep_core.specs.Choose.{IfHolds, EachGives}
+use Rattle.grep_live.proofs.Words.{nat_lt, nat_le, filter, enumerate_from, IfHolds, EachGives, Text, Hit, AreWithin, hits_before, moved, hits_from}
 use Rattle.grep_core.proofs.lemmas.ChooseLaws.{EachGives-append}
 use Rattle.grep_core.proofs.lemmas.MoreLines.{enumerate_from-append}
-use Rattle.re_syntax.specs.Bytes.{Text}
-use Rattle.grep_live.specs.Hits.{Hit}
-use Rattle.grep_live.specs.Changes.{AreWithin, hits_before, moved, hits_from}
 
 -- ---- hits by their places
 

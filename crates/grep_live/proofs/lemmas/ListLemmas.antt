@@ -1,8 +1,7 @@
--- Lists of which a relation holds place by place.
+-- Lists for which a relation holds place by place.
 use Rattle.std.proofs.Common.{◌≡◌, ℕ, zero, suc, ◌<◌, List, [], ◌∷◌, ◌++◌, length, map, get_or, refl, ap, arith}
 use Rattle.std.proofs.Math.ListN.{set}
-use Rattle.std.specs.List.{AllZip, remove}
-use Rattle.grep_live.specs.Lists.{AllThree}
+use Rattle.grep_live.proofs.Words.{AllZip, remove, AllThree}
 
 module _ {A B : Type 0} (R : A → B → Type 0) where
   pub zip-append : (xs : List A) (ys : List B) (x : A) (y : B) → AllZip R xs ys → R x y → AllZip R (xs ++ x ∷ []) (ys ++ y ∷ [])

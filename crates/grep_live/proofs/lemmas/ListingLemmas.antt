@@ -1,25 +1,13 @@
 -- The hits of lines, one line after the other: there are some, and no others.
 use Rattle.std.proofs.Common.{◌≡◌, ℕ, zero, suc, ◌+◌, ◌-◌, ◌<◌, ◌≤◌, Bool, true, false, List, [], ◌∷◌, ◌++◌, length, map, take, drop, get_or, Option, Some, MatchBool, MatchOption, refl, sym, ap, subst, ◌∙◌, ◌⊎◌, inl, inr, arith, append_assoc}
-use Rattle.std.specs.Prelude.{slice_range}
-use Rattle.std.specs.List.{enumerate_from}
+use Rattle.grep_live.proofs.Words.{slice_range, enumerate_from, Text, Expression, AreParts, Span, Options, Inputs, Selected, file_at, ListedParts, span_places, Hit, HitOf, HitsFrom, HitsBetween, IsFirst}
 use Rattle.std.proofs.Math.Seq.{drop-cons, take-add}
 use Rattle.std.proofs.lemmas.Bool.{cases_lt}
 use Rattle.std.proofs.lemmas.List.{drop-drop, length-take-le, length-drop}
-use Rattle.re_syntax.specs.Bytes.{Text}
-use Rattle.re_syntax.specs.Expression.{Expression}
-use Rattle.re_syntax.specs.Parts.{AreParts}
 use Rattle.re_syntax.proofs.lemmas.PartsExist.{AreParts-exist}
 use Rattle.re_syntax.proofs.lemmas.PartsLaws.{ArePartsFrom-unique}
-use Rattle.re_syntax.specs.declared.span.Span.{Span}
-use Rattle.grep_core.specs.declared.options.Options.{Options}
-use Rattle.grep_core.specs.Files.{Inputs, Selected}
-use Rattle.grep_core.specs.Run.{file_at}
 use Rattle.grep_core.proofs.lemmas.ChooseLaws.{EachGives-exist}
 use Rattle.grep_core.proofs.lemmas.Decided.{dec_selected}
-use Rattle.grep_session.specs.Listed.{ListedParts}
-use Rattle.grep_session.specs.Working.Kept.{span_places}
-use Rattle.grep_live.specs.Hits.{Hit, HitOf, HitsFrom}
-use Rattle.grep_live.specs.Working.Listing.{HitsBetween, IsFirst}
 
 -- lines from a place on are the one there and those after it
 slice_next : (lines : List Text) (place to : ℕ) → place < to → to ≤ length lines → slice_range lines place to ≡ get_or lines place [] ∷ slice_range lines (place + 1) to

@@ -3,14 +3,7 @@ use Rattle.std.proofs.Common.{◌≡◌, ℕ, ◌+◌, ◌-◌, ◌≤◌, Bool,
 use Rattle.std.proofs.lemmas.List.{take-take, drop-drop, take-append-le, length-take-le, take-append-drop, take_all, length-append, length-drop}
 use Rattle.std.proofs.Math.Seq.{drop-append-add}
 use Rattle.std.proofs.lemmas.Bool.Decides.{nat_tests}
-use Rattle.std.specs.Prelude.{nat_eq, ◌&&◌, if◌then◌else◌}
-use Rattle.std.specs.List.{splice}
-use Rattle.re_syntax.specs.Bytes.{Text}
-use Rattle.grep_live.specs.declared.mark.Mark.{Mark}
-use Rattle.grep_live.specs.Hits.{Hit}
-use Rattle.grep_live.specs.Changes.{AreWithin, hits_before, hits_from, spliced_hits, after}
-use Rattle.grep_live.specs.Marks.{touched}
-use Rattle.grep_live.specs.Working.Fits.{Fits}
+use Rattle.grep_live.proofs.Words.{nat_eq, ◌&&◌, if◌then◌else◌, splice, Text, Mark, Hit, AreWithin, hits_before, hits_from, spliced_hits, after, touched, Fits}
 use Rattle.grep_live.proofs.lemmas.HitLemmas.{By, first_hits, last_hits, joined_hits, before_before, before_all, from_from, cut_and_joined}
 
 -- ---- lines that are replaced

@@ -1,17 +1,9 @@
 -- The number of selected lines, which is the number of hits.
 use Rattle.std.proofs.Common.{◌≡◌, ℕ, zero, suc, ◌+◌, ◌-◌, ◌<◌, ◌≤◌, List, [], ◌∷◌, ◌++◌, length, take, drop, refl, sym, ap, subst, ◌∙◌, ◌⊎◌, inl, inr, arith}
-use Rattle.std.specs.Prelude.{slice_range}
+use Rattle.grep_live.proofs.Words.{slice_range, Text, Expression, HoldsOfMany, Options, Inputs, Selected, file_at, Hit, HitOf, HitsFrom, Mean, HitsBetween, SelectedBefore, IsPlaceAfter}
 use Rattle.std.proofs.Math.Seq.{take-add}
 use Rattle.std.proofs.lemmas.List.{length-append}
-use Rattle.re_syntax.specs.Bytes.{Text}
-use Rattle.re_syntax.specs.Expression.{Expression}
-use Rattle.re_search.specs.Working.Blocks.{HoldsOfMany}
-use Rattle.grep_core.specs.declared.options.Options.{Options}
-use Rattle.grep_core.specs.Files.{Inputs, Selected}
-use Rattle.grep_core.specs.Run.{file_at}
 use Rattle.grep_core.proofs.lemmas.Decided.{dec_selected}
-use Rattle.grep_live.specs.Hits.{Hit, HitOf, HitsFrom}
-use Rattle.grep_live.specs.Working.Listing.{Mean, HitsBetween, SelectedBefore, IsPlaceAfter}
 use Rattle.grep_live.proofs.lemmas.ListingLemmas.{HitsFrom-exist}
 
 module _ (es : List Expression) (options : Options) where

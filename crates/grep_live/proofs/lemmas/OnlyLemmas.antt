@@ -3,28 +3,7 @@ use Rattle.std.proofs.Common.{◌≡◌, ℕ, zero, suc, ◌+◌, ◌-◌, ◌<�
 use Rattle.std.proofs.Math.ListN.{set}
 use Rattle.std.proofs.lemmas.Bool.{cases_eq}
 use Rattle.std.proofs.lemmas.List.{append-nil, length-append, length-map, length-set, length-take, get_or-map, get_or-take, get_or-set_same, get_or-set_other, get_or_append_left}
-use Rattle.std.specs.Prelude.{slice_range, slice_set, nat_eq, ◌&&◌}
-use Rattle.std.specs.Result.{IfOk}
-use Rattle.std.specs.List.{remove, splice}
-use Rattle.re_syntax.specs.Bytes.{Text}
-use Rattle.re_syntax.specs.Expression.{Expression}
-use Rattle.grep_core.specs.declared.options.Flag.{Flag}
-use Rattle.grep_core.specs.declared.options.Flag.TheVariants.{Count, IgnoreCase, FilesWithMatches, LineNumber, OnlyMatching, Quiet, NoMessages, InvertMatch, LineRegexp}
-use Rattle.grep_core.specs.declared.options.Options.{Options}
-use Rattle.grep_core.specs.Files.{File, Inputs, Selected}
-use Rattle.grep_core.specs.Run.{file_at}
-use Rattle.grep_session.specs.declared.fault.EditFault.{EditFault}
-use Rattle.grep_session.specs.Edits.{Edit, AddFile, AddMissing, DropFile, Splice, AddPatterns, DropPattern, SetFlag, SetSyntax, SetContext, Applies, EditGives, whole_file, missing_file, spliced}
-use Rattle.grep_session.specs.Headline.{Attempt}
-use Rattle.grep_session.specs.Listed.{ListedParts}
-use Rattle.grep_live.specs.declared.mark.Mark.{Mark}
-use Rattle.grep_live.specs.Lists.{AllThree}
-use Rattle.grep_live.specs.Hits.{Hit}
-use Rattle.grep_live.specs.Marks.{Watched, whole_mark, new_mark, mark_at, touched, marks_by_flag, MarksAfter, MarksGiven}
-use Rattle.grep_live.specs.Changes.{Change, IsChange, AreWithin}
-use Rattle.grep_live.specs.Rows.{change_rows, changes_rows}
-use Rattle.grep_live.specs.Writing.{all_known}
-use Rattle.grep_live.specs.Laws.{change_at, IsBetween, OneSplice, LeavesHits, LeavesEnds, EachLeavesEnds, OnlyTouched}
+use Rattle.grep_live.proofs.Words.{slice_range, slice_set, nat_eq, ◌&&◌, IfOk, remove, splice, Text, Expression, Flag, Count, IgnoreCase, FilesWithMatches, LineNumber, OnlyMatching, Quiet, NoMessages, InvertMatch, LineRegexp, Options, File, Inputs, Selected, file_at, EditFault, Edit, AddFile, AddMissing, DropFile, Splice, AddPatterns, DropPattern, SetFlag, SetSyntax, SetContext, Applies, EditGives, whole_file, missing_file, spliced, Attempt, ListedParts, Mark, AllThree, Hit, Watched, whole_mark, new_mark, mark_at, touched, marks_by_flag, MarksAfter, MarksGiven, Change, IsChange, AreWithin, change_rows, changes_rows, all_known, change_at, IsBetween, OneSplice, LeavesHits, LeavesEnds, EachLeavesEnds, OnlyTouched}
 use Rattle.grep_live.proofs.lemmas.ListLemmas.{three-at}
 use Rattle.grep_live.proofs.lemmas.HitLemmas.{within_wider, by_within}
 use Rattle.grep_live.proofs.lemmas.MarkLemmas.{length-splice}

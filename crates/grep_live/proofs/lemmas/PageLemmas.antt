@@ -1,21 +1,8 @@
 -- A page of hits, by those that are left.
 use Rattle.std.proofs.Common.{◌≡◌, ℕ, zero, suc, ◌+◌, ◌-◌, ◌^◌, ◌<◌, ◌≤◌, List, [], ◌∷◌, ◌++◌, length, map, take, drop, get_or, min, Option, Result, Ok, Err, IfOk, refl, sym, ap, subst, ◌∙◌, arith}
 use Rattle.std.proofs.lemmas.List.{map-append, length-map, length-append, take_all, drop_all}
-use Rattle.re_syntax.specs.Bytes.{Text}
-use Rattle.re_syntax.specs.Expression.{Expression}
-use Rattle.grep_core.specs.Files.{File, Inputs}
-use Rattle.grep_core.specs.declared.status.Status.{Status}
-use Rattle.grep_core.specs.Messages.{StatusOf}
-use Rattle.grep_core.specs.Output.{written}
-use Rattle.grep_core.specs.Row.{output_line}
-use Rattle.grep_core.specs.Run.{file_at}
-use Rattle.grep_core.specs.Written.{GoesOut, StopsWithin, Writes}
-use Rattle.grep_session.specs.Headline.{IsStatusOfInputs}
+use Rattle.grep_live.proofs.Words.{Text, Expression, File, Inputs, Status, StatusOf, written, output_line, file_at, GoesOut, StopsWithin, Writes, IsStatusOfInputs, Hit, View, HitsFrom, AreHits, total_row, page_row, page_rows, all_hits, WritesPage, Mean, HitsBetween, IsFirst, IsPlaceAfter}
 use Rattle.grep_session.proofs.lemmas.Writing.{drop-next, WrittenUpTo, none_written, written_on, all_written, broken_off, one_went, one_stopped}
-use Rattle.grep_live.specs.Hits.{Hit, View, HitsFrom, AreHits}
-use Rattle.grep_live.specs.Rows.{total_row, page_row, page_rows, all_hits}
-use Rattle.grep_live.specs.Writing.{WritesPage}
-use Rattle.grep_live.specs.Working.Listing.{Mean, HitsBetween, IsFirst, IsPlaceAfter}
 use Rattle.grep_live.proofs.lemmas.ListingLemmas.{HitsFrom-exist, with_parts}
 use Rattle.grep_live.proofs.lemmas.NumberLemmas.{counted_before}
 use Rattle.grep_live.proofs.lemmas.ListLemmas.{zip-at, zip-length}
@@ -223,10 +210,6 @@ module _ {W : Type 0} (contents : W → Option Text) (failures : W → ℕ) (mar
     pub paged_stops : StopsWithin contents failures b c (written margin (page_rows skip left (map (λ hit. (k, hit)) (get_or view k [])))) → StopsWithin contents failures a c (written margin (page_rows first count (all_hits 0 view)))
     paged_stops stopped =
         broken_off contents failures margin a b c (page_rows first count (all_hits 0 view)) (page_rows skip left (all_hits k (drop k view))) (page_rows skip left (map (λ hit. (k, hit)) (get_or view k []))) (page_rows (skip - length (get_or view k [])) (left - (length (get_or view k []) - skip)) (all_hits (k + 1) (drop (k + 1) view))) next_page s stopped
-
-  pub paged_full : (k skip left : ℕ) → left ≡ 0 → PagedUpTo a b k skip left → GoesOut contents failures a b (written margin (page_rows first count (all_hits 0 view)))
-  paged_full k skip left full s =
-      all_written contents failures margin a b (page_rows first count (all_hits 0 view)) (page_rows skip left (all_hits k (drop k view))) (page_full skip left (all_hits k (drop k view)) full) s
 
   pub paged_all : (k skip left : ℕ) → length view ≤ k → PagedUpTo a b k skip left → GoesOut contents failures a b (written margin (page_rows first count (all_hits 0 view)))
   paged_all k skip left past s =

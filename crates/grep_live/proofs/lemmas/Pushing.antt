@@ -1,12 +1,8 @@
 -- Bytes that are written for each element of a list.
 use Rattle.std.proofs.Common.{◌≡◌, ℕ, ◌+◌, ◌<◌, ◌≤◌, List, [], ◌∷◌, ◌++◌, length, take, drop, get_or, Option, sym, ap, subst, ◌∙◌, append-nil, append_assoc, take-append-drop}
-use Rattle.std.specs.List.{flat_map}
+use Rattle.grep_live.proofs.Words.{flat_map, Text, newline, output_line, GoesOut, StopsWithin}
 use Rattle.std.proofs.lemmas.Grind.{flat_map-append}
 use Rattle.std.proofs.lemmas.List.{take_more, take_all}
-use Rattle.re_syntax.specs.Bytes.{Text}
-use Rattle.re_syntax.specs.Lines.{newline}
-use Rattle.grep_core.specs.Row.{output_line}
-use Rattle.grep_core.specs.Written.{GoesOut, StopsWithin}
 use Rattle.grep_core.proofs.lemmas.RowLemmas.{goes_nowhere, goes_on, stops_early, stops_later}
 
 module _ {W : Type 0} (contents : W → Option Text) (failures : W → ℕ) {A : Type 0} (f : A → Text) (xs : List A) where

@@ -1,14 +1,9 @@
 -- Whether a line of some file is selected, by the first hit of each file.
 use Rattle.std.proofs.Common.{◌≡◌, ℕ, ◌+◌, ◌<◌, ◌≤◌, true, false, List, [], length, get_or, sym, subst, ◌∙◌, ◌⊎◌, inl, inr, arith}
 use Rattle.std.proofs.lemmas.Bool.{cases_lt}
-use Rattle.std.specs.Bool.{Decides}
+use Rattle.grep_live.proofs.Words.{Decides, Expression, Inputs, Selected, HasSelected, AnySelected, file_at, Mean}
 use Rattle.std.proofs.lemmas.List.{get_or_default}
-use Rattle.re_syntax.specs.Expression.{Expression}
-use Rattle.grep_core.specs.Files.{Inputs, Selected, HasSelected}
-use Rattle.grep_core.specs.Messages.{AnySelected}
-use Rattle.grep_core.specs.Run.{file_at}
 use Rattle.grep_core.proofs.lemmas.Verdicts.{decided_yes, decided_no}
-use Rattle.grep_live.specs.Working.Listing.{Mean}
 
 -- none of the first files has a hit
 abbrev pub FirstBare : Inputs → ℕ → Type 0

@@ -1,14 +1,6 @@
 -- Of files whose changes were all reported no row is written.
 use Rattle.std.proofs.Common.{◌≡◌, ℕ, ◌+◌, true, List, [], ◌∷◌, ◌++◌, length, map, refl, ap, arith, if◌then◌else◌}
-use Rattle.std.specs.Prelude.{nat_eq, ◌&&◌}
-use Rattle.re_syntax.specs.Expression.{Expression}
-use Rattle.grep_core.specs.declared.options.Options.{Options}
-use Rattle.grep_core.specs.Files.{File}
-use Rattle.grep_live.specs.Lists.{AllThree}
-use Rattle.grep_live.specs.Marks.{whole_mark}
-use Rattle.grep_live.specs.Changes.{Change, IsChange, is_idle}
-use Rattle.grep_live.specs.Rows.{hit_row, change_row, change_rows, changes_rows}
-use Rattle.grep_live.specs.Laws.{NothingTwice}
+use Rattle.grep_live.proofs.Words.{nat_eq, ◌&&◌, Expression, Options, File, AllThree, whole_mark, Change, IsChange, is_idle, hit_row, change_row, change_rows, changes_rows, NothingTwice}
 
 module _ (es : List Expression) (options : Options) where
   pub one_silent : (k : ℕ) (file : File) (change : Change) → IsChange es options file (whole_mark (length file.lines)) change → change_rows k change ≡ []

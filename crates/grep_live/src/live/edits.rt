@@ -1,6 +1,6 @@
 //! The edits of a session that an editor watches. Each does what the same edit of a session does,
 //! with its answers, steps and need of memory, and marks what it touches.
-ghost use Rattle.std.specs.Prelude.{◌≡◌, ◌≢◌, ◌<◌, ◌-◌, ◌++◌, ◌∷◌, List, [], map, length, Ok};
+ghost use Rattle.std.specs.Prelude.{◌≡◌, ◌≢◌, ◌<◌, ◌-◌, ◌++◌, ◌∷◌, [], length, Ok};
 ghost use Rattle.std.specs.Prelude.{IfErr, IfOk};
 ghost use Rattle.std.specs.List.{remove};
 ghost use Rattle.grep_session.specs.declared.fault.EditFault.TheVariants.{Memory};
@@ -9,13 +9,13 @@ ghost use Rattle.grep_session.specs.Edits.{AddPatterns, DropPattern, SetFlag, Se
 ghost use Rattle.grep_session.specs.Edits.{SetContext, EditGives, with_files};
 ghost use Rattle.grep_session.specs.Touched.{TakesSteps, NeedsNoMemory};
 ghost use Rattle.grep_live.specs.Marks.{new_mark, marks_by_flag};
-ghost use Rattle.grep_live.specs.Following.{Carries};
+ghost use Rattle.grep_live.specs.Follows.{Carries};
 
 use crate::live::Live;
 use crate::mark::Mark;
 use crate::marks::{lose_all, push_mark, touch};
 use grep_core::{Context, Flag};
-use grep_session::{EditFault, Meter, Session};
+use grep_session::{EditFault, Meter, NewLines, Session};
 use re_search::Syntax;
 
 impl Live {
@@ -23,20 +23,20 @@ impl Live {
     ///
     /// # Errors
     ///
-    /// `EditFault::LineHasNewline`, or `EditFault::Memory`.
+    /// `EditFault::Memory`.
     pub fn add_file(
         &mut self,
         name: Vec<u8>,
-        lines: Vec<Vec<u8>>,
+        lines: NewLines,
         meter: &mut Meter,
     ) -> Result<(), EditFault>
-        ensures gives { EditGives (AddFile name.items (map (λ line. line.items) lines.items))
+        ensures gives { EditGives (AddFile name.items lines)
             self.old.inputs self.new.inputs result }
-        ensures carries { Carries (AddFile name.items (map (λ line. line.items) lines.items))
+        ensures carries { Carries (AddFile name.items lines)
             self.old self.new result }
-        ensures steps { TakesSteps (AddFile name.items (map (λ line. line.items) lines.items))
+        ensures steps { TakesSteps (AddFile name.items lines)
             self.old.inputs meter.old meter.new }
-        ensures memory { NeedsNoMemory (AddFile name.items (map (λ line. line.items) lines.items))
+        ensures memory { NeedsNoMemory (AddFile name.items lines)
             self.old.inputs → IfErr result (λ fault. fault ≢ Memory) }
     {
         match self.session.add_file(name, lines, meter) {
@@ -84,27 +84,27 @@ impl Live {
     }
 
     /// Replaces `count` lines of file `k` from line `start` on by others, which alone are searched.
-    /// Without new lines no memory is asked for.
+    /// Without new lines nothing is allocated.
     ///
     /// # Errors
     ///
-    /// `EditFault::NoSuchFile`, `EditFault::FileIsMissing`, `EditFault::OutOfRange`,
-    /// `EditFault::LineHasNewline`, or `EditFault::Memory`.
+    /// `EditFault::NoSuchFile`, `EditFault::FileIsMissing`, `EditFault::OutOfRange`, or
+    /// `EditFault::Memory`.
     pub fn splice(
         &mut self,
         k: usize,
         start: usize,
         count: usize,
-        lines: Vec<Vec<u8>>,
+        lines: NewLines,
         meter: &mut Meter,
     ) -> Result<(), EditFault>
-        ensures gives { EditGives (Splice k start count (map (λ line. line.items) lines.items))
+        ensures gives { EditGives (Splice k start count lines)
             self.old.inputs self.new.inputs result }
-        ensures carries { Carries (Splice k start count (map (λ line. line.items) lines.items))
+        ensures carries { Carries (Splice k start count lines)
             self.old self.new result }
-        ensures steps { TakesSteps (Splice k start count (map (λ line. line.items) lines.items))
+        ensures steps { TakesSteps (Splice k start count lines)
             self.old.inputs meter.old meter.new }
-        ensures memory { NeedsNoMemory (Splice k start count (map (λ line. line.items) lines.items))
+        ensures memory { NeedsNoMemory (Splice k start count lines)
             self.old.inputs → IfErr result (λ fault. fault ≢ Memory) }
     {
         let after = self.session.line_count(k).saturating_sub(start);
@@ -140,7 +140,7 @@ impl Live {
     }
 
     /// Removes pattern `p`; later patterns move up. Under `-o` the lines that it matched are
-    /// searched for their parts; else no memory is asked for.
+    /// searched for their parts; else nothing is allocated.
     ///
     /// # Errors
     ///
@@ -212,7 +212,7 @@ impl Live {
     }
 
     /// Sets how many lines are shown around selected ones, or that none are. No line is searched or
-    /// touched, and no memory is asked for.
+    /// touched, and nothing is allocated.
     pub fn set_context(&mut self, context: Option<Context>)
         ensures gives { EditGives {T = Unit {0}} (SetContext context) self.old.inputs
             self.new.inputs (Ok tt) }
@@ -223,7 +223,7 @@ impl Live {
 }
 
 /// Adds the mark of the last file. Without memory for it that file is removed.
-pub fn mark_last(session: &mut Session, marks: &mut Vec<Mark>) -> Result<(), EditFault>
+fn mark_last(session: &mut Session, marks: &mut Vec<Mark>) -> Result<(), EditFault>
     requires { 0 < length session.old.files }
     ensures ok { IfOk result (λ _. (session.new ≡ session.old) ×
         (marks.new.items ≡ marks.old.items ++ new_mark ∷ [])) }

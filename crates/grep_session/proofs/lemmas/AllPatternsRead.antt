@@ -1,35 +1,9 @@
 -- All patterns were read again.
 use Rattle.std.proofs.Common.{◌≡◌, Bool, true, false, IsTrue, MatchBool, List, [], map, Option, None, Some, IfSome, Result, Ok, Err, All, inl, inr, refl, sym, ap, subst, ◌∙◌}
+use Rattle.grep_session.proofs.Words.{AllZip, Text, AreParts, IsMeant, Matcher, AllAnswer, KeptFile, KeptLine, PartsOnly, WasKept, WasFileKept, Syntax, Expression, IsReadable, matched_expression, wants_whole, Flag, Count, IgnoreCase, FilesWithMatches, LineNumber, OnlyMatching, Quiet, NoMessages, InvertMatch, LineRegexp, Options, Inputs, EditFault, NoSuchFile, FileIsMissing, OutOfRange, LineHasNewline, NoSuchPattern, Pattern, TooManyPatterns, Memory, ReadsAgain, read_as, SetFlag, SetSyntax, Applies, EditGives, option_of, with_option, AreMatching, IsKept, IsFileKept, kept_lines, span_places, AreMatchers, RefusesFirst}
 use Rattle.std.specs.Bool.{⊤}
 use Rattle.std.proofs.lemmas.Bool.{false≢true}
 use Rattle.std.proofs.lemmas.List.Elements.{All-weaker}
-use Rattle.std.specs.List.{AllZip}
-use Rattle.re_syntax.specs.Bytes.{Text}
-use Rattle.re_syntax.specs.Parts.{AreParts}
-use Rattle.re_syntax.specs.Spelled.{IsMeant}
-use Rattle.re_search.specs.Matcher.{Matcher}
-use Rattle.re_search.specs.Searching.{AllAnswer}
-use Rattle.grep_session.specs.declared.kept.KeptFile.{KeptFile}
-use Rattle.line_chunks.specs.Working.Chunks.{KeptLine}
-use Rattle.grep_session.specs.declared.change.Change.TheVariants.{PartsAlone}
-use Rattle.grep_session.specs.Working.Changed.{WasKept, WasFileKept}
-use Rattle.re_syntax.specs.declared.syntax.Syntax.{Syntax}
-use Rattle.re_syntax.specs.Expression.{Expression}
-use Rattle.re_search.specs.Reading.{IsReadable}
-use Rattle.re_search.specs.Working.Matchers.{matched_expression, wants_whole}
-use Rattle.grep_core.specs.declared.options.Flag.{Flag}
-use Rattle.grep_core.specs.declared.options.Flag.TheVariants.{Count, IgnoreCase, FilesWithMatches, LineNumber, OnlyMatching, Quiet, NoMessages, InvertMatch, LineRegexp}
-use Rattle.grep_core.specs.declared.options.Options.{Options}
-use Rattle.grep_core.specs.Files.{Inputs}
-use Rattle.grep_session.specs.declared.fault.EditFault.{EditFault}
-use Rattle.grep_session.specs.declared.fault.EditFault.TheVariants.{NoSuchFile, FileIsMissing, OutOfRange, LineHasNewline, NoSuchPattern, Pattern, TooManyPatterns, Memory}
-use Rattle.grep_session.specs.Working.Again.{ReadsAgain, read_as}
-use Rattle.grep_session.specs.Edits.{SetFlag, SetSyntax, Applies, EditGives, option_of, with_option}
-use Rattle.grep_session.specs.Working.Effects.{ChangesVerdicts}
-use Rattle.grep_session.specs.Working.Kept.{AreMatching, IsKept, IsFileKept, kept_lines, span_places}
-use Rattle.grep_core.specs.Working.MatcherLists.{AreMatchers}
-use Rattle.grep_session.specs.Working.Reading.{RefusesFirst}
-use Rattle.grep_session.specs.Touched.{NeedsNoMemory, is_of_output}
 
 -- some pattern was refused, or memory ran out
 pub refuses_again : (T : Type 0) (syntax : Syntax) (options : Options) (old : Inputs) (fault : EditFault) → RefusesFirst syntax options.ignore_case old.patterns fault → ReadsAgain {T = T} syntax options old old (Err fault)
@@ -52,15 +26,15 @@ sets_syntax syntax old new (Err Memory) h = h
 
 module _ (es : List Expression) (old new : Options) (same : new.line_regexp ≡ old.line_regexp) where
   -- what is kept of a line says which expressions match it
-  ready_line : (line : KeptLine) → IsKept es old line → WasKept PartsAlone es new line
+  ready_line : (line : KeptLine) → IsKept es old line → WasKept PartsOnly es new line
   ready_line line k = subst (λ w. AreMatching line.text w 0 es line.found.numbers) (sym same) k.matching
 
-  pub ready_files : (files : List KeptFile) → All (IsFileKept es old) files → All (WasFileKept PartsAlone es new) files
-  ready_files files all = All-weaker (IsFileKept es old) (WasFileKept PartsAlone es new) (λ file. one (kept_lines file)) files all
+  pub ready_files : (files : List KeptFile) → All (IsFileKept es old) files → All (WasFileKept PartsOnly es new) files
+  ready_files files all = All-weaker (IsFileKept es old) (WasFileKept PartsOnly es new) (λ file. one (kept_lines file)) files all
     where
-      one : (lines : Option (List KeptLine)) → IfSome lines (All (IsKept es old)) → IfSome lines (All (WasKept PartsAlone es new))
+      one : (lines : Option (List KeptLine)) → IfSome lines (All (IsKept es old)) → IfSome lines (All (WasKept PartsOnly es new))
       one None h = tt
-      one (Some lines) h = All-weaker (IsKept es old) (WasKept PartsAlone es new) ready_line lines h
+      one (Some lines) h = All-weaker (IsKept es old) (WasKept PartsOnly es new) ready_line lines h
 
   -- under options that ask for no more parts, what is kept of a line stays right
   module _ (less : IsTrue new.only_matching → IsTrue old.only_matching) where

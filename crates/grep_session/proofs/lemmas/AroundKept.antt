@@ -2,20 +2,8 @@
 use Rattle.std.proofs.Common.{◌≡◌, ◌+◌, nat_lt, ◌<◌, Bool, true, false, ◌-◌, List, [], ◌∷◌, ◌++◌, length, map, All, refl, sym, ap, subst, ◌∙◌, append_assoc, append-nil, if◌then◌else◌}
 use Rattle.std.proofs.lemmas.Bool.{false≢true, lt-ltb, ltb-true}
 use Rattle.std.proofs.lemmas.List.Elements.{All-head, All-tail}
-use Rattle.re_syntax.specs.Bytes.{Text}
-use Rattle.re_syntax.specs.Expression.{Expression}
-use Rattle.grep_core.specs.declared.options.Context.{Context}
-use Rattle.grep_core.specs.declared.options.Options.{Options}
-use Rattle.grep_core.specs.declared.output.around.Progress.{Progress}
-use Rattle.grep_core.specs.Around.{Groups}
-use Rattle.grep_core.specs.Output.{around, shown_number}
-use Rattle.grep_core.specs.Working.Groups.{rows_after}
-use Rattle.grep_core.specs.Working.Progress.{progress_from, next_shown, with_waiting, after_line, last_of, rows_at}
-use Rattle.grep_core.specs.Working.Requests.{name_shown}
+use Rattle.grep_session.proofs.Words.{Text, Expression, Context, Options, Progress, Groups, around, shown_number, rows_after, progress_from, next_shown, with_waiting, after_line, last_of, rows_at, name_shown, KeptLine, line_text, IsKept, is_selected, shown_rows, around_rows}
 use Rattle.grep_core.proofs.lemmas.AroundLemmas.{Tracks, tracks_none, tracks_line, tracked_groups}
-use Rattle.line_chunks.specs.Working.Chunks.{KeptLine, line_text}
-use Rattle.grep_session.specs.Working.Kept.{IsKept}
-use Rattle.grep_session.specs.Working.Report.{is_selected, shown_rows, around_rows}
 use Rattle.grep_session.proofs.lemmas.KeptLaws.{selected_reported}
 
 -- while lines are shown after a selected one, none waits

@@ -1,30 +1,15 @@
 -- What is found in a line after a change of the patterns.
 use Rattle.std.proofs.Common.{◌≡◌, ℕ, zero, suc, ◌+◌, ◌<◌, ◌≤◌, Bool, true, false, ◌||◌, List, [], ◌∷◌, ◌++◌, inl, inr, length, map, take, drop, length-take, nat_eq, nat_lt, get_or, MatchBool, Decides, Any, refl, sym, ap, subst, ◌∙◌, All, Option, None, Some, IfSome, arith}
+use Rattle.grep_session.proofs.Words.{remove, list_any, Text, Expression, Holds, Matches, IsFound, ArePartsFrom, AreParts, Options, Matched, Rebuild, PartsOnly, Added, Dropped, KeptFile, KeptLine, without, Change, Span, ArePartsAgain, first_sought, has_new_parts, left_numbers, HasChanged, HasNewParts, IsWithin, WasKept, WasFileKept, kept_lines, AreMatching, AddsMatching, ArePartsKept, IsKept, span_places}
 use Rattle.std.specs.Bool.{⊤}
-use Rattle.std.specs.List.{remove, list_any}
 use Rattle.std.proofs.Math.Seq.{drop-length}
 use Rattle.std.proofs.lemmas.List.{append-nil, length-append}
 use Rattle.std.proofs.lemmas.Bool.{false≢true}
-use Rattle.re_syntax.specs.Bytes.{Text}
-use Rattle.re_syntax.specs.Expression.{Expression}
-use Rattle.re_syntax.specs.Holds.{Holds, Matches}
-use Rattle.re_syntax.specs.Parts.{IsFound, ArePartsFrom, AreParts}
 use Rattle.re_syntax.proofs.lemmas.Decisions.{Any-first, Any-later, Any-cases, Any-none}
-use Rattle.grep_core.specs.declared.options.Options.{Options}
-use Rattle.grep_core.specs.Files.{Matched}
 use Rattle.re_syntax.proofs.lemmas.SomeOfJoined.{Any-single}
 use Rattle.grep_core.proofs.lemmas.Verdicts.{decided_yes, decided_no}
-use Rattle.grep_session.specs.declared.change.Change.TheVariants.{Anew, PartsAlone, Added, Dropped}
-use Rattle.grep_session.specs.declared.kept.KeptFile.{KeptFile}
-use Rattle.line_chunks.specs.Working.Chunks.{KeptLine}
-use Rattle.line_chunks.specs.Working.Finds.{without}
-use Rattle.grep_session.specs.declared.change.Change.{Change}
-use Rattle.re_syntax.specs.declared.span.Span.{Span}
-use Rattle.grep_session.specs.Working.Columns.{ArePartsAgain, first_sought, has_new_parts, left_numbers}
 use Rattle.grep_session.proofs.lemmas.DroppingLemmas.{AreMatching-drop, eq_same, eq_other, lt_yes, lt_no}
 use Rattle.grep_session.proofs.lemmas.ColumnLemmas.{front_and_rest}
-use Rattle.grep_session.specs.Working.Changed.{HasChanged, HasNewParts, IsWithin, WasKept, WasFileKept}
-use Rattle.grep_session.specs.Working.Kept.{kept_lines, AreMatching, AddsMatching, ArePartsKept, IsKept, span_places}
 use Rattle.grep_session.proofs.lemmas.FindingLemmas.{AreMatching-append}
 use Rattle.grep_session.proofs.lemmas.FindsLemmas.{no_parts}
 use Rattle.grep_session.proofs.lemmas.SurvivingLemmas.{same_parts, found_matches, none_match, parts_survive}
@@ -214,13 +199,13 @@ module _ (es before changed : List Expression) (options : Options) (line : KeptL
 
   pub line_changes : (change : Change) → IsWithin change (length es) → HasChanged change es before changed → WasKept change before options line
       → AddsMatching line.text options.line_regexp (first_sought change (length es)) (drop (first_sought change (length es)) es) (left_numbers change line.found.numbers) new → LineChanges change
-  line_changes Anew within h k a = record {
+  line_changes Rebuild within h k a = record {
     matching = subst (AreMatching line.text options.line_regexp 0 es) (sym a.added) a.are_found;
     decided = decided_yes tt;
     stay = λ off. absurd (false≢true (sym off));
     kept = λ off. absurd (false≢true (sym off));
   }
-  line_changes PartsAlone within h k a = record {
+  line_changes PartsOnly within h k a = record {
     matching = subst (AreMatching line.text options.line_regexp 0 es) (sym (adds_nothing line.text options.line_regexp (length es) (drop (length es) es) line.found.numbers new (none_after es) a))
         (subst (λ fs. AreMatching line.text options.line_regexp 0 fs line.found.numbers) h k);
     decided = decided_yes tt;
@@ -251,9 +236,9 @@ module _ (es before changed : List Expression) (options : Options) (line : KeptL
 -- ---- files before a change
 
 -- nothing has to be known of lines that are searched anew
-pub anew_files : (before : List Expression) (options : Options) (files : List KeptFile) → All (WasFileKept Anew before options) files
+pub anew_files : (before : List Expression) (options : Options) (files : List KeptFile) → All (WasFileKept Rebuild before options) files
 anew_files before options files = λ k d h. one (kept_lines (get_or files k d))
   where
-    one : (lines : Option (List KeptLine)) → IfSome lines (All (WasKept Anew before options))
+    one : (lines : Option (List KeptLine)) → IfSome lines (All (WasKept Rebuild before options))
     one None = tt
     one (Some lines) = λ k d h. tt

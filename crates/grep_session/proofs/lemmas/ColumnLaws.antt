@@ -5,24 +5,10 @@ use Rattle.std.proofs.lemmas.Bool.{false≢true}
 use Rattle.std.proofs.lemmas.Bool.Decides.{nat_tests}
 use Rattle.std.proofs.lemmas.List.{length-map, length-drop, nil_from_length, get_or_default}
 use Rattle.std.proofs.lemmas.List.Elements.{All-append}
-use Rattle.re_syntax.specs.Bytes.{Text}
-use Rattle.re_syntax.specs.Expression.{Expression}
-use Rattle.re_syntax.specs.Lines.{newline, terminated}
-use Rattle.re_syntax.specs.declared.span.Span.{Span}
-use Rattle.re_search.specs.Searching.{AddsAtMost}
-use Rattle.grep_core.specs.Cost.{search_cost}
-use Rattle.grep_core.specs.Meters.{Steps, Adds}
-use Rattle.grep_core.specs.declared.options.Options.{Options}
+use Rattle.grep_session.proofs.Words.{Text, Expression, newline, terminated, Span, AddsAtMost, search_cost, Steps, Adds, Options, FoundIn, finds_at, is_paired, numbers_at, AreBelow, KeptLine, no_line, line_text, seen, Change, Rebuild, PartsOnly, Added, Dropped, ChangeCost, CostOfEach, HasChanged, HasNewParts, IsWithin, NewPartsCost, SearchesEach, WasKept, searched_for, AreAllParts, AreDecided, AreMatches, Grows, IsAdded, KeepsAll, first_sought, has_new_parts, left_numbers, AddsMatching, IsKept}
 use Rattle.re_meter.proofs.lemmas.Adding.{all_both}
-use Rattle.line_chunks.specs.Working.Finds.{FoundIn, finds_at, is_paired, numbers_at, AreBelow}
-use Rattle.line_chunks.specs.Working.Chunks.{KeptLine, no_line, line_text, seen}
 use Rattle.line_chunks.proofs.lemmas.PairLaws.{lt_no}
 use Rattle.line_chunks.proofs.lemmas.SeenLaws.{length-seen, line_seen}
-use Rattle.grep_session.specs.declared.change.Change.{Change}
-use Rattle.grep_session.specs.declared.change.Change.TheVariants.{Anew, PartsAlone, Added, Dropped}
-use Rattle.grep_session.specs.Working.Changed.{ChangeCost, CostOfEach, HasChanged, HasNewParts, IsWithin, NewPartsCost, SearchesEach, WasKept, searched_for}
-use Rattle.grep_session.specs.Working.Columns.{AreAllParts, AreDecided, AreMatches, Grows, IsAdded, KeepsAll, first_sought, has_new_parts, left_numbers}
-use Rattle.grep_session.specs.Working.Kept.{AddsMatching, IsKept}
 use Rattle.grep_session.proofs.lemmas.ChangeLemmas.{LineChanges, line_changes, line_right}
 use Rattle.grep_session.proofs.lemmas.StepLemmas.{NewPartsCost-exists, each_none, each_front}
 
@@ -89,8 +75,8 @@ module _ (change : Change) (es before changed : List Expression) (options : Opti
 
       keeps : (c : Change) → IsAdded c → KeepsAll c old m.left → m.left ≡ old
       keeps (Added first) a k = k
-      keeps Anew a k = absurd a
-      keeps PartsAlone a k = absurd a
+      keeps Rebuild a k = absurd a
+      keeps PartsOnly a k = absurd a
       keeps (Dropped p) a k = absurd a
 
       none_added : new ≡ old
@@ -101,8 +87,8 @@ module _ (change : Change) (es before changed : List Expression) (options : Opti
 
       few_numbers : (c : Change) → IsAdded c → (ns ms : List ℕ) → ns ≡ ms → has_new_parts c ms ns ≡ false
       few_numbers (Added first) a ns ms e = lt_no (length ms) (length ns) (omega (arith, ap length e))
-      few_numbers Anew a ns ms e = absurd a
-      few_numbers PartsAlone a ns ms e = absurd a
+      few_numbers Rebuild a ns ms e = absurd a
+      few_numbers PartsOnly a ns ms e = absurd a
       few_numbers (Dropped p) a ns ms e = absurd a
 
 -- ---- steps
@@ -137,8 +123,8 @@ module _ (change : Change) (changed es : List Expression) (options : Options) wh
 
 -- so many patterns are searched for
 pub sought_count : (change : Change) (es before changed : List Expression) (many : ℕ) → many ≡ length es → HasChanged change es before changed → many - first_sought change many ≡ searched_for change changed
-sought_count Anew es before changed many same h = omega (arith, same, ap length h)
-sought_count PartsAlone es before changed many same h = omega arith
+sought_count Rebuild es before changed many same h = omega (arith, same, ap length h)
+sought_count PartsOnly es before changed many same h = omega arith
 sought_count (Added first) es before changed many same h = omega (arith, same, ap length h.1, length-drop first es)
 sought_count (Dropped p) es before changed many same h = omega arith
 
@@ -155,6 +141,6 @@ module _ (change : Change) (texts : List Text) (entire : Bool) (es : List Expres
     where
       by_change : (c : Change) → KeepsAll c old m.left → Grows c old new
       by_change (Added first) left = (m.adds.more, m.adds.added ∙ ap (λ l. l ++ m.adds.more) left)
-      by_change Anew left = tt
-      by_change PartsAlone left = tt
+      by_change Rebuild left = tt
+      by_change PartsOnly left = tt
       by_change (Dropped p) left = tt

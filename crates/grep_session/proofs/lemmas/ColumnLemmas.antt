@@ -3,8 +3,7 @@ use Rattle.std.proofs.Common.{All, ◌≡◌, ℕ, suc, ◌+◌, ◌<◌, List, 
 use Rattle.std.proofs.Math.Seq.{take-suc}
 use Rattle.std.proofs.lemmas.List.{map-append}
 use Rattle.std.proofs.lemmas.List.Concat.{flat_map-append}
-use Rattle.grep_core.specs.Files.{File}
-use Rattle.grep_session.specs.Working.Found.{lines_of_files}
+use Rattle.grep_session.proofs.Words.{File, lines_of_files}
 
 -- ---- lists by their first elements and the rest
 

@@ -1,15 +1,9 @@
 -- The lines of a chunk that an expression matches, noted one after the other.
-use Rattle.std.proofs.Common.{◌≡◌, ℕ, ◌+◌, ◌<◌, ◌≤◌, Bool, List, [], ◌∷◌, ◌++◌, inl, inr, length, get_or, refl, sym, ap, subst, ◌∙◌, arith, append-nil, append_assoc, if◌then◌else◌, Some}
-use Rattle.std.specs.Prelude.{◌⊎◌}
+use Rattle.std.proofs.Common.{◌≡◌, ℕ, zero, suc, take, drop, length-take, length-drop, ◌+◌, ◌<◌, ◌≤◌, Bool, List, [], ◌∷◌, ◌++◌, inl, inr, length, get_or, refl, sym, ap, subst, ◌∙◌, arith, append-nil, append_assoc, if◌then◌else◌, Some}
+use Rattle.grep_session.proofs.Words.{◌⊎◌, Text, Expression, Matches, numbers_at, AreBelow, Change, Rebuild, PartsOnly, Added, Dropped, IsWithin, AddsColumn, IsNextLine, first_sought, AddsMatching}
 use Rattle.std.proofs.lemmas.Bool.{cases_lt}
 use Rattle.std.proofs.lemmas.List.Elements.{All-push, All-nil, All-append}
-use Rattle.re_syntax.specs.Bytes.{Text}
-use Rattle.re_syntax.specs.Expression.{Expression}
-use Rattle.re_syntax.specs.Holds.{Matches}
-use Rattle.line_chunks.specs.Working.Finds.{numbers_at, AreBelow}
 use Rattle.line_chunks.proofs.lemmas.PairLaws.{eq_yes, eq_no, numbers_at-append}
-use Rattle.grep_session.specs.Working.Columns.{AddsColumn, IsNextLine}
-use Rattle.grep_session.specs.Working.Kept.{AddsMatching}
 use Rattle.grep_session.proofs.lemmas.FindingLemmas.{adds_one_matching, passes_one_matching, adds_none_matching, adds_more_matching}
 
 -- one pair more at its line, and at another
@@ -73,6 +67,13 @@ module _ (e : Expression) (entire : Bool) (number : ℕ) (texts : List Text) whe
 
 -- ---- several expressions
 
+-- one element more behind those that are left out
+drop_push : {X : Type 0} (n : ℕ) (xs : List X) (x : X) → n ≤ length xs → drop n (xs ++ x ∷ []) ≡ drop n xs ++ x ∷ []
+drop_push zero [] x h = refl
+drop_push zero (y ∷ xs) x h = refl
+drop_push (suc n) [] x h = absurd (omega (arith, h))
+drop_push (suc n) (y ∷ xs) x h = drop_push n xs x (omega (arith, h))
+
 module _ (texts : List Text) (entire : Bool) where
   -- no expression
   pub columns_none : (first : ℕ) (old : List (ℕ × ℕ)) → AddsColumn texts entire first [] old old
@@ -91,3 +92,17 @@ module _ (texts : List Text) (entire : Bool) where
     within = All-append (λ (pair : ℕ × ℕ). pair.0 < length texts) a.more b.more a.within b.within;
     numbers = λ k high. adds_more_matching (get_or texts k []) entire first next es fs all (numbers_at k old) (numbers_at k mid) (numbers_at k new) place both (a.numbers k high) (b.numbers k high);
   }
+
+  -- the next expression, whose number is its place
+  pub columns_next : (first number : ℕ) (es : List Expression) (e : Expression) (old mid new : List (ℕ × ℕ)) → first ≤ number → number < length es → take (number + 1) es ≡ take number es ++ e ∷ [] → AddsColumn texts entire first (drop first (take number es)) old mid → AddsColumn texts entire number (e ∷ []) mid new
+      → AddsColumn texts entire first (drop first (take (number + 1) es)) old new
+  columns_next first number es e old mid new low high next a b =
+      let many : length (take number es) ≡ number = omega (arith, length-take number es, high) in
+      columns_more first number (drop first (take number es)) (e ∷ []) (drop first (take (number + 1) es)) old mid new (omega (arith, length-drop first (take number es), many, low)) (ap (drop first) next ∙ drop_push first (take number es) e (omega (arith, low, many))) a b
+
+-- the first expression that is searched for is one of all, or the place after them
+pub sought_within : (change : Change) (many : ℕ) → IsWithin change many → first_sought change many ≤ many
+sought_within Rebuild many h = omega arith
+sought_within PartsOnly many h = omega arith
+sought_within (Added first) many h = h
+sought_within (Dropped p) many h = omega arith

@@ -2,9 +2,7 @@
 use Rattle.std.proofs.Common.{◌≡◌, ℕ, ◌+◌, ◌-◌, ◌≤◌, nat_lt, Bool, true, false, not, List, [], ◌∷◌, length, refl, ◌∙◌, ap, sym, arith, if◌then◌else◌}
 use Rattle.std.proofs.lemmas.Bool.{false≢true}
 use Rattle.std.proofs.lemmas.Bool.Decides.{nat_tests}
-use Rattle.grep_core.specs.declared.options.Options.{Options}
-use Rattle.line_chunks.specs.Working.Chunks.{KeptLine, is_matched, matched_count}
-use Rattle.grep_session.specs.Working.Report.{is_selected, some_selected, selected_count}
+use Rattle.grep_session.proofs.Words.{Options, KeptLine, is_matched, matched_count, is_selected, some_selected, selected_count}
 use Rattle.grep_session.proofs.lemmas.FileSteps.{counted_some}
 
 module _ (options : Options) where

@@ -1,21 +1,9 @@
 -- Which kept lines grep selects, and how many, where what is kept of them is right.
 use Rattle.std.proofs.Common.{◌≡◌, ℕ, ◌+◌, ◌<◌, ◌≤◌, Bool, true, false, List, [], ◌∷◌, length, map, take, get_or, All, IfSome, Some, ◌⊎◌, inl, inr, refl, sym, ap, subst, ◌∙◌, arith, if◌then◌else◌}
-use Rattle.std.specs.Bool.{Decides}
+use Rattle.grep_session.proofs.Words.{Decides, Text, Expression, HoldsOfMany, Options, Selected, file_at, KeptFile, KeptLine, SelectedFrom, line_text, IsKept, IsFileKept, kept_lines, kept_file, file_with, is_selected, selected_count}
 use Rattle.std.proofs.lemmas.Bool.{false≢true}
 use Rattle.std.proofs.lemmas.List.{get_or-map, take-map, length-map}
 use Rattle.std.proofs.lemmas.List.Elements.{All-head, All-tail, All-take, All-get_or}
-use Rattle.re_syntax.specs.Bytes.{Text}
-use Rattle.re_syntax.specs.Expression.{Expression}
-use Rattle.re_search.specs.Working.Blocks.{HoldsOfMany}
-use Rattle.grep_core.specs.declared.options.Options.{Options}
-use Rattle.grep_core.specs.Files.{Selected}
-use Rattle.grep_core.specs.Run.{file_at}
-use Rattle.grep_session.specs.declared.kept.KeptFile.{KeptFile}
-use Rattle.line_chunks.specs.Working.Chunks.{KeptLine}
-use Rattle.grep_session.specs.Working.Counts.{SelectedFrom}
-use Rattle.line_chunks.specs.Working.Chunks.{line_text}
-use Rattle.grep_session.specs.Working.Kept.{IsKept, IsFileKept, kept_lines, kept_file, file_with}
-use Rattle.grep_session.specs.Working.Report.{is_selected, selected_count}
 use Rattle.grep_session.proofs.lemmas.KeptLaws.{selected_reported}
 
 module _ (es : List Expression) (options : Options) where

@@ -1,30 +1,12 @@
 -- A pattern is removed, and the numbers of those that match a line stay right.
 use Rattle.std.proofs.Common.{Option, Some, IfSome, ◌≡◌, ℕ, zero, suc, ◌+◌, ◌-◌, ◌<◌, ◌≤◌, Bool, MatchBool, All, true, false, not, List, [], ◌∷◌, ◌++◌, inl, inr, length, map, take, drop, nat_eq, nat_lt, cond, if◌then◌else◌, refl, sym, ap, subst, ◌∙◌, arith}
 use Rattle.std.proofs.Math.ListN.{set}
-use Rattle.std.specs.Option.{option_map}
-use Rattle.std.specs.List.{AllWithin, AllZip, remove, filter}
+use Rattle.grep_session.proofs.Words.{option_map, AllWithin, AllZip, remove, filter, Syntax, IsMeant, Matcher, IsReadable, matched_expression, wants_whole, AllAnswer, AreMeant, whole, AreParts, Options, KeptLine, all_of, line_text, line_without, Text, Expression, Matches, IfHolds, lowered, without, AreMatching, IsKept, span_places, file_with, AreMatchers}
 use Rattle.std.proofs.lemmas.List.Elements.{All-append, All-take, All-drop, All-map, All-weaker}
-use Rattle.re_syntax.specs.declared.syntax.Syntax.{Syntax}
-use Rattle.re_syntax.specs.Spelled.{IsMeant}
-use Rattle.re_search.specs.Matcher.{Matcher}
-use Rattle.re_search.specs.Reading.{IsReadable}
-use Rattle.re_search.specs.Working.Matchers.{matched_expression, wants_whole}
-use Rattle.re_search.specs.Searching.{AllAnswer}
-use Rattle.grep_core.specs.Files.{AreMeant, whole}
 use Rattle.grep_session.proofs.lemmas.SessionLemmas.{map-remove}
 use Rattle.std.specs.Bool.{⊤}
 use Rattle.std.proofs.lemmas.List.{get_or-set_other, map-append}
-use Rattle.re_syntax.specs.Parts.{AreParts}
-use Rattle.grep_core.specs.declared.options.Options.{Options}
-use Rattle.line_chunks.specs.Working.Chunks.{KeptLine, all_of, line_text, line_without}
 use Rattle.std.proofs.lemmas.Bool.Decides.{nat_tests}
-use Rattle.re_syntax.specs.Bytes.{Text}
-use Rattle.re_syntax.specs.Expression.{Expression}
-use Rattle.re_syntax.specs.Holds.{Matches}
-use Rattle.grep_core.specs.Choose.{IfHolds}
-use Rattle.line_chunks.specs.Working.Finds.{lowered, without}
-use Rattle.grep_session.specs.Working.Kept.{AreMatching, IsKept, span_places, file_with}
-use Rattle.grep_core.specs.Working.MatcherLists.{AreMatchers}
 
 pub eq_same : (n : ℕ) → nat_eq n n ≡ true
 eq_same n = grind (arith, nat_tests)

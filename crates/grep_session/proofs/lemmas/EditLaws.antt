@@ -1,30 +1,13 @@
--- The laws of the definitions: an edit has one outcome for its inputs, and one cost where no memory is refused, which is the least.
+-- The laws of the definitions: an edit has one outcome for its inputs, and one cost if no
+-- allocation fails, which is the least.
 use Rattle.std.proofs.Common.{◌≡◌, ℕ, ◌+◌, ◌*◌, ◌<◌, ◌≤◌, Bool, true, false, List, [], ◌∷◌, length, Result, Ok, Err, MatchBool, take, get_or, length-take, refl, sym, ap, subst, ◌∙◌, arith}
-use Rattle.re_syntax.specs.declared.fault.PatternFault.{PatternFault}
-use Rattle.re_syntax.specs.declared.syntax.Syntax.{Syntax}
-use Rattle.re_syntax.specs.Bytes.{Text}
-use Rattle.re_syntax.specs.Expression.{Expression}
+use Rattle.grep_session.proofs.Words.{PatternFault, Syntax, Text, Expression, Matches, list_of, AreParts, IsReadable, Options, Chosen, searches_for, search_cost, Inputs, Matched, EditFault, NoSuchFile, FileIsMissing, OutOfRange, LineHasNewline, NoSuchPattern, Pattern, TooManyPatterns, Memory, Edit, AddFile, AddMissing, DropFile, Splice, AddPatterns, DropPattern, SetFlag, SetSyntax, SetContext, Applies, Reads, IsFirstRefused, AreAlike, EditsAreDetermined, MemorySavesEditSteps, Touched, Touches, PartsCostOf, PartsCost, Costs, CostsAs, CostsAccepted, pairs_cost, parts_alone, all_lines}
 use Rattle.std.proofs.lemmas.List.{get_or-take}
-use Rattle.re_syntax.specs.Holds.{Matches}
-use Rattle.re_syntax.specs.Lines.{list_of}
-use Rattle.re_syntax.specs.Parts.{AreParts}
 use Rattle.re_syntax.proofs.lemmas.PartsLaws.{ArePartsFrom-unique}
-use Rattle.re_search.specs.Reading.{IsReadable}
-use Rattle.grep_core.specs.declared.options.Options.{Options}
-use Rattle.grep_core.specs.Choose.{Chosen}
-use Rattle.re_search.specs.Searching.{searches_for}
-use Rattle.grep_core.specs.Cost.{search_cost}
 use Rattle.grep_core.proofs.lemmas.CostLaws.{refused_searches}
 use Rattle.std.proofs.Math.Nat.{mul-le-mul_right}
-use Rattle.grep_core.specs.Files.{Inputs, Matched}
 use Rattle.grep_core.proofs.lemmas.ChooseLaws.{same_value, IfHolds-both, Chosen-determined}
 use Rattle.grep_core.proofs.lemmas.LawsHold.{means_one, IsMeant-determined}
-use Rattle.grep_session.specs.declared.fault.EditFault.{EditFault}
-use Rattle.grep_session.specs.declared.fault.EditFault.TheVariants.{NoSuchFile, FileIsMissing, OutOfRange, LineHasNewline, NoSuchPattern, Pattern, TooManyPatterns, Memory}
-use Rattle.grep_session.specs.Edits.{Edit, AddFile, AddMissing, DropFile, Splice, AddPatterns, DropPattern, SetFlag, SetSyntax, SetContext, Applies, Reads}
-use Rattle.grep_core.specs.Matchers.{IsFirstRefused}
-use Rattle.grep_session.specs.Laws.{AreAlike, EditsAreDetermined, MemorySavesEditSteps}
-use Rattle.grep_session.specs.Touched.{Touched, Touches, PartsCostOf, PartsCost, Costs, CostsAs, CostsAccepted, pairs_cost, parts_alone, all_lines}
 
 alike_same : (a b : Result Inputs EditFault) → a ≡ b → AreAlike a b
 alike_same a b e = subst (AreAlike a) e (alike_itself a)
@@ -93,7 +76,7 @@ Touches-once (SetContext context) old a b p q = same_value p q
 Touches-once (AddMissing name) old a b p q = same_value p q
 Touches-once (DropFile k) old a b p q = same_value p q
 
--- parts cost least where no memory is refused
+-- parts cost least if no allocation fails
 module _ (es : List Expression) (options : Options) where
   PartsCostOf-least : (line : Text) (refusals few most : ℕ) → PartsCostOf es options line 0 few → PartsCostOf es options line refusals most → few ≤ most
   PartsCostOf-least line refusals few most p q = by_flag options.only_matching p q
@@ -130,7 +113,7 @@ accepted_least refusals edit old new few most p q =
 
 -- ---- laws
 
--- an edit costs least where no memory is refused
+-- an edit costs least if no allocation fails
 pub memory_saves_edit_steps : MemorySavesEditSteps
 memory_saves_edit_steps edit old refusals few most p q = by_outcome p.0 q.0 (Applies-once edit old p.0 q.0 p.1 q.1) p.2 q.2
   where

@@ -1,40 +1,13 @@
 -- How an edit changes a session's inputs, and what is kept.
-use Rattle.std.proofs.Common.{◌≡◌, ◌≢◌, ℕ, suc, ◌+◌, ◌<◌, ◌≤◌, List, [], ◌∷◌, ◌++◌, length, map, take, drop, Option, Some, None, Ok, Err, IfSome, inl, inr, refl, sym, ap, subst, ◌∙◌, All, get_or, slice_set, arith}
+use Rattle.std.proofs.Common.{◌≡◌, ◌≢◌, ℕ, suc, ◌+◌, ◌<◌, ◌≤◌, List, [], ◌∷◌, ◌++◌, length, map, take, drop, Option, Some, None, Ok, IfSome, inl, inr, refl, sym, ap, subst, ◌∙◌, All, get_or, slice_set, arith}
 use Rattle.std.proofs.Math.ListN.{set}
 use Rattle.std.proofs.Math.Seq.{map-set_same}
 use Rattle.std.proofs.lemmas.List.{map-set, get_or-map, length-map}
 use Rattle.std.proofs.lemmas.List.Elements.{All-append, All-take, All-drop, All-set}
-use Rattle.std.specs.Bool.{⊤}
-use Rattle.std.specs.List.{splice}
-use Rattle.std.specs.Option.{option_map}
-use Rattle.re_syntax.specs.declared.syntax.Syntax.{Syntax}
-use Rattle.re_syntax.specs.Bytes.{Text}
-use Rattle.re_syntax.specs.Expression.{Expression}
-use Rattle.re_syntax.specs.Lines.{HasNoNewline}
-use Rattle.re_search.specs.Matcher.{Matcher}
-use Rattle.re_search.specs.Working.Matchers.{matched_expression, wants_whole, room_of}
-use Rattle.re_search.specs.Searching.{AllAnswer}
-use Rattle.grep_core.specs.Meters.{Steps}
-use Rattle.grep_core.specs.declared.options.Options.{Options}
-use Rattle.grep_core.specs.Files.{File, Inputs, AreMeant, whole, missing}
-use Rattle.grep_core.specs.Run.{file_at}
+use Rattle.grep_session.proofs.Words.{splice, option_map, Syntax, Text, Expression, HasNoNewline, Matcher, matched_expression, wants_whole, room_of, AllAnswer, Steps, Options, File, Inputs, AreMeant, whole, missing, file_at, most_patterns, KeptFile, Inside, SameMatchers, CostAnew, SearchesEach, IsSession, inputs_of, KeptLine, line_text, AddFile, Splice, Applies, spliced, whole_file, with_files, IsKept, IsFileKept, kept_file, kept_lines, file_with, AreMatchers, HasPlace, TakesSteps, NeedsNoMemory}
 use Rattle.grep_core.proofs.lemmas.CostLaws.{same_length}
-use Rattle.re_syntax.specs.Profile.{most_patterns}
-use Rattle.grep_session.specs.declared.kept.KeptFile.{KeptFile}
-use Rattle.grep_session.specs.declared.session.Session.TheInside.{Inside}
-use Rattle.re_search.specs.Searching.{SameMatchers}
-use Rattle.grep_session.specs.Working.Changed.{CostAnew, SearchesEach}
-use Rattle.grep_session.specs.Working.Sessions.{IsSession, inputs_of}
 use Rattle.grep_session.proofs.lemmas.RoomLemmas.{keep_same}
 use Rattle.grep_session.proofs.lemmas.StepLemmas.{takes_lines}
-use Rattle.line_chunks.specs.Working.Chunks.{KeptLine, line_text}
-use Rattle.grep_session.specs.Edits.{AddFile, Splice, Applies, spliced, whole_file, with_files}
-use Rattle.grep_session.specs.Working.Kept.{IsKept, IsFileKept, kept_file, kept_lines, file_with}
-use Rattle.grep_core.specs.Working.MatcherLists.{AreMatchers}
-use Rattle.grep_session.specs.Edits.{HasPlace}
-use Rattle.grep_session.specs.declared.fault.EditFault.{EditFault}
-use Rattle.grep_session.specs.declared.fault.EditFault.TheVariants.{LineHasNewline, Memory}
-use Rattle.grep_session.specs.Touched.{TakesSteps, NeedsNoMemory}
 use Rattle.grep_session.proofs.lemmas.SessionLemmas.{map-splice}
 
 -- ---- matchers
@@ -75,19 +48,6 @@ module _ (s : Inside) (old : IsSession s) (lines : List Text) (none : All HasNoN
 
   pub file_steps : (name : Text) → TakesSteps (AddFile name lines) (inputs_of s) begun ended
   file_steps name = takes_lines (AddFile name lines) (inputs_of s) (with_files ((inputs_of s).files ++ whole_file name lines ∷ []) (inputs_of s)) s.matchers.items lines begun ended (inl (none, refl)) refl old.matchers refl steps
-
--- some line that is put in has a newline in it
-pub refuses_splice : (old : Inputs) (k start count : ℕ) (lines : List Text) → HasPlace old.files k start count → (All HasNoNewline lines → ⊥) → Applies (Splice k start count lines) old (Err LineHasNewline)
-refuses_splice old k start count lines p newline =
-    inr ((λ h. absurd (let false : ⊥ = omega (arith, h, p.in_files) in false)), inr (p.opens, inr ((λ h. absurd (let false : ⊥ = omega (arith, h, p.in_file) in false)), inr (newline, refl))))
-
--- a newline is reported as a newline
-abbrev says_newline : EditFault → Type 0
-says_newline LineHasNewline = ⊤
-says_newline _ = ⊥
-
-pub newline_not_memory : LineHasNewline ≡ Memory → ⊥
-newline_not_memory same = subst says_newline same tt
 
 -- memory is needed
 pub needs_for_lines : (old : Inputs) (k start count : ℕ) (lines : List Text) → HasPlace old.files k start count → All HasNoNewline lines → (lines ≡ [] → ⊥) → NeedsNoMemory (Splice k start count lines) old → ⊥

@@ -1,16 +1,8 @@
 -- What is written for one file, and for files one after another.
-use Rattle.std.proofs.Common.{◌≡◌, ℕ, ◌+◌, nat_lt, ◌<◌, Bool, true, false, ◌&&◌, ◌||◌, List, [], ◌∷◌, ◌++◌, length, drop, get_or, Option, None, Some, Result, ap, sym, refl, subst, ◌∙◌, arith, if◌then◌else◌}
+use Rattle.std.proofs.Common.{◌≡◌, ℕ, ◌+◌, nat_lt, ◌<◌, Bool, true, false, ◌&&◌, ◌||◌, List, [], ◌∷◌, ◌++◌, length, drop, get_or, Option, Some, Result, ap, sym, refl, subst, ◌∙◌, arith, if◌then◌else◌}
 use Rattle.std.proofs.lemmas.Bool.{lt-ltb}
-use Rattle.re_syntax.specs.Bytes.{Text}
-use Rattle.grep_core.specs.declared.options.Options.{Options}
-use Rattle.grep_core.specs.declared.status.FileEnd.TheVariants.{Missing, Whole}
-use Rattle.grep_core.specs.Output.{form, written}
-use Rattle.grep_core.specs.Working.Searched.{summary_as, reported_of}
-use Rattle.grep_core.specs.Written.{GoesOut, StopsWithin, Writes}
-use Rattle.line_chunks.specs.Working.Chunks.{KeptLine}
-use Rattle.grep_session.specs.declared.kept.KeptFile.{KeptFile}
-use Rattle.grep_session.specs.Working.Report.{is_selected, some_selected, selected_count, text_rows, rows_with, file_rows, rows_after_laws, reported_from, end_of, has_selected}
-use Rattle.grep_session.proofs.lemmas.Writing.{WrittenUpTo, drop-item, writes_after, stops_before, written_on, broken_off, all_written}
+use Rattle.grep_session.proofs.Words.{Text, Options, Whole, form, written, summary_as, reported_of, GoesOut, StopsWithin, Writes, KeptLine, KeptFile, is_selected, some_selected, selected_count, text_rows, rows_with, file_rows, rows_after_laws, reported_from, end_of, has_selected}
+use Rattle.grep_session.proofs.lemmas.Writing.{WrittenUpTo, drop-item, writes_after, written_on, broken_off}
 
 -- the number of selected lines is above 0 if and only if some line is selected
 pub counted_some : (options : Options) (text : List KeptLine) → nat_lt 0 (selected_count options text) ≡ some_selected options text
@@ -31,16 +23,6 @@ module _ {W : Type 0} (contents : W → Option Text) (failures : W → ℕ) (mar
         let summary = subst (λ n. Writes contents failures b c (written margin (summary_as (form options) many name Whole n)) r) count w in
         subst (λ k. Writes contents failures a c (written margin (rows_with options many name some k)) r) (sym is)
         (writes_after contents failures margin a b c (text_rows options many name (form options) some text) (summary_as (form options) many name Whole (selected_count options text)) r g summary)
-
-    -- a write failed within the rows of the lines
-    pub file_stopped : (a b : W) (text : List KeptLine) → kept ≡ Some text → StopsWithin contents failures a b (written margin (text_rows options many name (form options) some text)) → StopsWithin contents failures a b (written margin (rows_with options many name some kept))
-    file_stopped a b text is s =
-        subst (λ k. StopsWithin contents failures a b (written margin (rows_with options many name some k))) (sym is)
-        (stops_before contents failures margin a b (text_rows options many name (form options) some text) (summary_as (form options) many name Whole (selected_count options text)) s)
-
-    -- the file has no lines, since it cannot be opened
-    pub file_unopened : {T E : Type 0} (a b : W) (r : Result T E) → kept ≡ None → Writes contents failures a b (written margin (summary_as (form options) many name Missing 0)) r → Writes contents failures a b (written margin (rows_with options many name some kept)) r
-    file_unopened a b r is w = subst (λ k. Writes contents failures a b (written margin (rows_with options many name some k)) r) (sym is) w
 
   -- output: the next file
   module _ (many some : Bool) (xs : List KeptFile) (i : ℕ) (x : KeptFile) (inside : i < length xs) (is : x ≡ get_or xs i x) (a b c : W) (all : List Text) (s : WrittenUpTo contents failures margin a b all (rows_after_laws options many some (drop i xs))) where
@@ -72,11 +54,6 @@ module _ {W : Type 0} (contents : W → Option Text) (failures : W → ℕ) (mar
     -- the run continues
     pub reported_further : (stops : Bool) → stops ≡ (options.quiet && has_selected options x) → stops ≡ false → GoesOut contents failures b c (written margin here) → WrittenUpTo contents failures margin a c all (reported_from options (drop (i + 1) xs))
     reported_further stops e goes g = subst (λ v. WrittenUpTo contents failures margin a c all (if v then [] else reported_from options (drop (i + 1) xs))) goes (reported_onward stops e g)
-
-    -- the run stops here
-    pub reported_last : (stops : Bool) → stops ≡ (options.quiet && has_selected options x) → stops ≡ true → GoesOut contents failures b c (written margin here) → GoesOut contents failures a c (written margin all)
-    reported_last stops e here_stops g =
-        all_written contents failures margin a c all [] refl (subst (λ v. WrittenUpTo contents failures margin a c all (if v then [] else reported_from options (drop (i + 1) xs))) here_stops (reported_onward stops e g))
 
     pub reported_stopped : StopsWithin contents failures b c (written margin here) → StopsWithin contents failures a c (written margin all)
     reported_stopped f =

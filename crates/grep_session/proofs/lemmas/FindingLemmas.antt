@@ -1,26 +1,12 @@
 -- What is found in a line, one matcher or one part more at a time.
 use Rattle.std.proofs.Common.{◌≡◌, ℕ, suc, ◌+◌, ◌*◌, ◌≤◌, Bool, true, false, List, [], ◌∷◌, ◌++◌, inl, inr, length, map, MatchBool, refl, sym, ap, subst, ◌∙◌, append_assoc, append-nil, arith}
 use Rattle.std.proofs.lemmas.List.{map-append, length_push, length-append, length-map}
-use Rattle.re_syntax.specs.Bytes.{Text}
-use Rattle.re_syntax.specs.Expression.{Expression}
-use Rattle.re_syntax.specs.Holds.{Matches}
-use Rattle.re_syntax.specs.Parts.{IsFound, IsPart, ArePartsFrom, AreParts}
+use Rattle.grep_session.proofs.Words.{Text, Expression, Matches, IsFound, IsPart, ArePartsFrom, AreParts, searches_for, Span, Steps, Adds, Options, IfHolds, Course, HasTaken, refusals, search_cost, AreMatching, AddsMatching, span_places, PartsCostOf, SearchesOne}
 use Rattle.re_syntax.proofs.lemmas.PartsLaws.{IsPart-unique}
 use Rattle.re_syntax.proofs.lemmas.PartsExist.{AreParts-exist}
-use Rattle.re_search.specs.Searching.{searches_for}
-use Rattle.re_syntax.specs.declared.span.Span.{Span}
-use Rattle.grep_core.specs.Meters.{Steps, Adds}
-use Rattle.grep_core.specs.declared.options.Options.{Options}
-use Rattle.grep_core.specs.Choose.{IfHolds}
-use Rattle.re_search.specs.declared.course.Course.{Course}
-use Rattle.re_search.specs.Working.Courses.{HasTaken, refusals}
 use Rattle.re_search.proofs.lemmas.CourseLaws.{few_searches}
-use Rattle.grep_core.specs.Cost.{search_cost}
 use Rattle.grep_core.proofs.lemmas.CostLaws.{adds_for_more, more_searches}
 use Rattle.re_meter.proofs.lemmas.Adding.{adds_none}
-use Rattle.grep_session.specs.Working.Kept.{AreMatching, AddsMatching, span_places}
-use Rattle.grep_session.specs.Touched.{PartsCostOf}
-use Rattle.grep_session.specs.Working.Changed.{SearchesOne}
 
 -- ---- the numbers of the expressions that match a line
 
@@ -130,7 +116,7 @@ module _ (es : List Expression) (options : Options) (line : Text) where
     );
   }
 
-  -- a line's parts have a cost where no memory is refused
+  -- a line's parts have a cost if no allocation fails
   pub parts_cost_exists : (own : ℕ) × PartsCostOf es options line 0 own
   parts_cost_exists = by_flag options.only_matching
     where

@@ -1,9 +1,6 @@
 -- A line that no expression matches has no parts.
 use Rattle.std.proofs.Common.{Bool, List, []}
-use Rattle.re_syntax.specs.Bytes.{Text}
-use Rattle.re_syntax.specs.Expression.{Expression}
-use Rattle.re_syntax.specs.Parts.{AreParts}
-use Rattle.grep_session.specs.Working.Kept.{AreMatching}
+use Rattle.grep_session.proofs.Words.{Text, Expression, AreParts, AreMatching}
 use Rattle.grep_session.proofs.lemmas.SurvivingLemmas.{none_match, some_match}
 
 -- if there is no number, there are no parts

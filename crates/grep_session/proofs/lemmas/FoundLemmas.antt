@@ -1,28 +1,14 @@
 -- What was found replaces what is kept, one chunk and one file at a time.
 use Rattle.std.proofs.Common.{◌≡◌, ℕ, zero, suc, ◌<◌, List, [], ◌∷◌, ◌++◌, length, map, take, drop, get_or, ◌+◌, add-one, Option, None, Some, IfSome, All, drop-cons, refl, sym, ap, subst, ◌∙◌, arith, append_assoc}
-use Rattle.std.specs.List.{AllZip}
+use Rattle.grep_session.proofs.Words.{AllZip, option_map, unwrap_or, Text, Expression, Options, whole, KeptLine, all_of, line_text, FitColumns, FitsColumn, with_column, with_columns, FoundIn, Change, Rebuild, KeptFile, HasChanged, WasKept, WasFileKept, AddsColumns, IsColumn, chunks_of, chunks_of_files, IsKept, IsFileKept, kept_file, file_with}
 use Rattle.std.proofs.Math.ListN.{set}
 use Rattle.std.proofs.Math.Seq.{take-append_seam, drop-append_seam, take-suc}
-use Rattle.std.specs.Option.{option_map, unwrap_or}
 use Rattle.std.proofs.lemmas.List.{map-append, append-nil, get_or-drop, drop-set-lt}
 use Rattle.std.proofs.lemmas.List.Concat.{flat_map-append}
 use Rattle.std.proofs.lemmas.List.Elements.{All-nil, All-cons, All-append, All-take, All-drop, All-head, All-tail}
-use Rattle.re_syntax.specs.Bytes.{Text}
-use Rattle.re_syntax.specs.Expression.{Expression}
-use Rattle.grep_core.specs.declared.options.Options.{Options}
-use Rattle.grep_core.specs.Files.{whole}
 use Rattle.grep_core.proofs.lemmas.MatcherLemmas.{AllZip-append}
-use Rattle.line_chunks.specs.Working.Chunks.{KeptLine, all_of, line_text, new_line, FitColumns, FitsColumn, with_column, with_columns}
-use Rattle.line_chunks.specs.Working.Finds.{FoundIn}
 use Rattle.line_chunks.proofs.lemmas.Joins.{joined_parts, joined_push}
 use Rattle.line_chunks.proofs.lemmas.SeenLaws.{texts-seen}
-use Rattle.grep_session.specs.declared.change.Change.{Change}
-use Rattle.grep_session.specs.declared.change.Change.TheVariants.{Anew}
-use Rattle.grep_session.specs.declared.kept.KeptFile.{KeptFile}
-use Rattle.grep_session.specs.Working.Changed.{HasChanged, WasKept, WasFileKept}
-use Rattle.grep_session.specs.Working.Columns.{AddsColumns}
-use Rattle.grep_session.specs.Working.Found.{IsColumn, chunks_of, chunks_of_files}
-use Rattle.grep_session.specs.Working.Kept.{IsKept, IsFileKept, kept_file, file_with}
 
 -- ---- what holds of all elements
 
@@ -145,6 +131,25 @@ files_by_chunk change before options (file ∷ files) all =
     by_lines None h = All-nil (All (WasKept change before options))
     by_lines (Some chunks) h = all_by_chunk (WasKept change before options) chunks h
 
+-- a file that cannot be opened has no chunk and no line
+module _ (file : KeptFile) (is : file.lines ≡ None) where
+  pub no_chunks : chunks_of file ≡ []
+  no_chunks = ap (λ (ls : Option (List (List KeptLine))). unwrap_or ls []) is
+
+  pub no_lines : (kept_file file).lines ≡ []
+  no_lines = ap (λ (ls : Option (List (List KeptLine))). (file_with file.name.items (option_map all_of ls)).lines) is
+
+-- another has those that are kept of it
+module _ (file : KeptFile) (chunks : List (List KeptLine)) (is : file.lines ≡ Some chunks) where
+  pub its_chunks : chunks_of file ≡ chunks
+  its_chunks = ap (λ (ls : Option (List (List KeptLine))). unwrap_or ls []) is
+
+  pub its_lines : (kept_file file).lines ≡ map line_text (all_of chunks)
+  its_lines = ap (λ (ls : Option (List (List KeptLine))). (file_with file.name.items (option_map all_of ls)).lines) is
+
+  pub was_kept : (change : Change) (before : List Expression) (options : Options) → WasFileKept change before options file → All (WasKept change before options) (all_of chunks)
+  was_kept change before options kept = subst (λ (ls : Option (List (List KeptLine))). IfSome (option_map all_of ls) (All (WasKept change before options))) is kept
+
 -- ---- files whose lines are put one after the other
 
 -- one more element is left out
@@ -176,8 +181,8 @@ pub right_all : (es : List Expression) (options : Options) (chunks : List (List 
 right_all es options chunks found right = right_chunks es options chunks [] found (subst (λ cs. AllZip (IsColumn es options) cs found) (sym (append-nil chunks)) right)
 
 -- nothing has to be known of lines that are searched anew
-pub all_anew : (before : List Expression) (options : Options) (lines : List KeptLine) → All (WasKept Anew before options) lines
+pub all_anew : (before : List Expression) (options : Options) (lines : List KeptLine) → All (WasKept Rebuild before options) lines
 all_anew before options lines = λ k d h. tt
 
-pub all_anew_chunks : (before : List Expression) (options : Options) (chunks : List (List KeptLine)) → All (All (WasKept Anew before options)) chunks
+pub all_anew_chunks : (before : List Expression) (options : Options) (chunks : List (List KeptLine)) → All (All (WasKept Rebuild before options)) chunks
 all_anew_chunks before options chunks = λ k d h. all_anew before options (get_or chunks k d)

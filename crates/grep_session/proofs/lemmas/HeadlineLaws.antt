@@ -1,20 +1,9 @@
 -- A session's report, messages and status, from scratch; the accepted edits decide them.
 use Rattle.std.proofs.Common.{◌≡◌, ℕ, Bool, List, [], ◌∷◌, ◌++◌, Option, Result, Ok, Err, refl, sym, subst, ◌∙◌}
-use Rattle.std.specs.Bool.{Decides}
-use Rattle.re_syntax.specs.Bytes.{Text}
-use Rattle.re_syntax.specs.Expression.{Expression}
-use Rattle.grep_core.specs.declared.status.Status.{Status}
-use Rattle.grep_core.specs.Files.{Inputs, AreMeant}
-use Rattle.grep_core.specs.Messages.{AnySelected, Messages, StatusOf}
-use Rattle.grep_core.specs.Output.{Out}
+use Rattle.grep_session.proofs.Words.{Decides, Text, Expression, Status, Inputs, AreMeant, AnySelected, Messages, StatusOf, Out, EditFault, NoSuchFile, FileIsMissing, OutOfRange, LineHasNewline, NoSuchPattern, Pattern, TooManyPatterns, Memory, Edit, EditGives, no_inputs, GrepGives, ReportsInputs, ReportsAllInputs, IsStatusOfInputs, Attempt, ComesTo, with_accepted, accepted, Makes, AcceptedEditsDecide, Reports, ReportsMessages}
 use Rattle.grep_core.proofs.lemmas.Determined.{Out-determined, Messages-determined, StatusOf-determined}
 use Rattle.grep_core.proofs.lemmas.Exist.{Out-exist, Messages-exist, StatusOf-exist}
 use Rattle.grep_core.proofs.lemmas.LawsHold.{means_one}
-use Rattle.grep_session.specs.declared.fault.EditFault.{EditFault}
-use Rattle.grep_session.specs.declared.fault.EditFault.TheVariants.{NoSuchFile, FileIsMissing, OutOfRange, LineHasNewline, NoSuchPattern, Pattern, TooManyPatterns, Memory}
-use Rattle.grep_session.specs.Edits.{Edit, EditGives, no_inputs}
-use Rattle.grep_session.specs.Headline.{GrepGives, ReportsInputs, ReportsAllInputs, IsStatusOfInputs, Attempt, ComesTo, with_accepted, accepted, Makes, AcceptedEditsDecide}
-use Rattle.grep_session.specs.Working.Report.{Reports, ReportsMessages}
 use Rattle.grep_session.proofs.lemmas.EditLaws.{Applies-once}
 
 -- ---- the report, the messages and the status

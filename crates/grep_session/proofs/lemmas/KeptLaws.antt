@@ -1,30 +1,15 @@
 -- If what is kept is right, the verdicts from it, the messages and the status are those of grep.
 use Rattle.std.proofs.Common.{◌≡◌, ℕ, suc, ◌==◌, ◌≤◌, Bool, true, false, ◌&&◌, not, IsTrue, ◌↔◌, Decides, List, [], ◌∷◌, ◌++◌, length, map, All, Any, Option, None, Some, MatchBool, IfSome, refl, sym, ap, ◌∙◌, inl, inr, arith, if◌then◌else◌}
+use Rattle.grep_session.proofs.Words.{list_any, Text, Expression, Matches, ArePartsFrom, AreParts, Span, Options, Status, EachGives, File, Selected, HasSelected, message, FaultMet, Stops, Reached, Message, Messages, AnySelected, StatusOf, is_fault, ending_of, status_by, KeptLine, line_text, KeptFile, span_places, kept_lines, file_with, kept_file, AreMatching, IsKept, IsFileKept, matches_none, is_selected, has_selected_in, has_selected, end_with, end_of, OnLine, PartsFit, LinesFit, FileFits, reported_like, reported_from, is_faulty, any_selected, any_missing, status_by_files, status_given}
 use Rattle.std.specs.Prelude.{⊤}
-use Rattle.std.specs.List.{list_any}
 use Rattle.std.proofs.lemmas.Bool.{false≢true}
 use Rattle.std.proofs.lemmas.Bool.Decides.{nat_tests}
 use Rattle.std.proofs.lemmas.List.Elements.{All-head, All-tail, All-nil, All-cons}
-use Rattle.re_syntax.specs.Bytes.{Text}
-use Rattle.re_syntax.specs.Expression.{Expression}
-use Rattle.re_syntax.specs.Holds.{Matches}
-use Rattle.re_syntax.specs.Parts.{ArePartsFrom, AreParts}
 use Rattle.re_syntax.proofs.lemmas.Decisions.{Any-none, Any-first, Any-later, Any-cases}
-use Rattle.re_syntax.specs.declared.span.Span.{Span}
-use Rattle.grep_core.specs.declared.options.Options.{Options}
-use Rattle.grep_core.specs.declared.status.Status.{Status}
 use Rattle.grep_core.specs.declared.status.Status.TheVariants.{Selected as selected}
-use Rattle.grep_core.specs.Choose.{EachGives}
-use Rattle.grep_core.specs.Files.{File, Selected, HasSelected}
-use Rattle.grep_core.specs.Messages.{message, FaultMet, Stops, Reached, Message, Messages, AnySelected, StatusOf}
-use Rattle.grep_core.specs.Working.Searched.{is_fault, ending_of, status_by}
 use Rattle.grep_core.proofs.lemmas.PassLemmas.{or_decides}
 use Rattle.grep_core.proofs.lemmas.StatusLaws.{StatusOf-quiet, StatusOf-error, StatusOf-selected, StatusOf-none}
 use Rattle.grep_core.proofs.lemmas.Verdicts.{decided_yes, decided_no}
-use Rattle.line_chunks.specs.Working.Chunks.{KeptLine, line_text}
-use Rattle.grep_session.specs.declared.kept.KeptFile.{KeptFile}
-use Rattle.grep_session.specs.Working.Kept.{span_places, kept_lines, file_with, kept_file, AreMatching, IsKept, IsFileKept}
-use Rattle.grep_session.specs.Working.Report.{matches_none, is_selected, has_selected_in, has_selected, end_with, end_of, OnLine, PartsFit, LinesFit, FileFits, reported_like, reported_from, is_faulty, any_selected, any_missing, status_by_files, status_given}
 
 -- the status of a run that did not stop
 pub status_in_turn : (quiet some : Bool) (status : Status) → (quiet && some) ≡ false → status ≡ (if quiet && some then selected else status)

@@ -1,31 +1,15 @@
 -- If what is kept is right, what is written for the kept files is what grep writes for them.
 use Rattle.std.proofs.Common.{◌≡◌, ℕ, ◌+◌, nat_le, Bool, true, false, ◌&&◌, ◌||◌, IsTrue, Decides, List, [], ◌∷◌, ◌++◌, length, map, drop, slice_range, All, Option, None, Some, IfSome, refl, sym, ap, subst, ◌∙◌, arith, append-nil, if◌then◌else◌}
-use Rattle.std.specs.List.{enumerate_from}
+use Rattle.grep_session.proofs.Words.{enumerate_from, Text, Expression, Span, Context, Options, Missing, Whole, EachGives, Chosen, File, Selected, HasSelected, Form, nothing, names, counts, parts, lines, around, lines_with, form, shown_name, shown_number, PartsOfLine, GroupsOf, OutAs, Out, GroupedAs, rows_after, file_so_far, summary_as, KeptLine, line_text, KeptFile, span_places, kept_lines, file_with, kept_file, IsKept, IsFileKept, is_selected, has_selected, selected_count, row, selected_rows, rows_as, text_rows, rows_with, rows_after_laws, report_rows}
 use Rattle.std.proofs.lemmas.Bool.{false≢true}
 use Rattle.std.proofs.lemmas.List.{length-map}
 use Rattle.std.proofs.lemmas.List.Elements.{All-head, All-tail}
-use Rattle.re_syntax.specs.Bytes.{Text}
-use Rattle.re_syntax.specs.Expression.{Expression}
-use Rattle.re_syntax.specs.declared.span.Span.{Span}
-use Rattle.grep_core.specs.declared.options.Context.{Context}
-use Rattle.grep_core.specs.declared.options.Options.{Options}
-use Rattle.grep_core.specs.declared.status.FileEnd.TheVariants.{Missing, Whole}
-use Rattle.grep_core.specs.Choose.{EachGives, Chosen}
-use Rattle.grep_core.specs.Files.{File, Selected, HasSelected}
-use Rattle.grep_core.specs.Output.{Form, nothing, names, counts, parts, lines, around, lines_with, form, shown_name, shown_number, PartsOfLine, GroupsOf, OutAs, Out}
-use Rattle.grep_core.specs.Working.Groups.{GroupedAs, rows_after}
-use Rattle.grep_core.specs.Working.Handed.{file_so_far}
-use Rattle.grep_core.specs.Working.Searched.{summary_as}
 use Rattle.grep_core.proofs.lemmas.AroundLaws.{groups_none, groups_some}
 use Rattle.grep_core.proofs.lemmas.ChooseLaws.{EachGives-one}
 use Rattle.grep_core.proofs.lemmas.FileOutput.{rows_none, output_all}
 use Rattle.grep_core.proofs.lemmas.GroupLaws.{after_nothing}
 use Rattle.grep_core.proofs.lemmas.MoreFiles.{GroupedAs-append, grouped_out}
 use Rattle.grep_core.proofs.lemmas.Verdicts.{picked, IfHolds-by}
-use Rattle.line_chunks.specs.Working.Chunks.{KeptLine, line_text}
-use Rattle.grep_session.specs.declared.kept.KeptFile.{KeptFile}
-use Rattle.grep_session.specs.Working.Kept.{span_places, kept_lines, file_with, kept_file, IsKept, IsFileKept}
-use Rattle.grep_session.specs.Working.Report.{is_selected, has_selected, selected_count, row, selected_rows, rows_as, text_rows, rows_with, rows_after_laws, report_rows}
 use Rattle.grep_session.proofs.lemmas.AroundKept.{around_groups}
 use Rattle.grep_session.proofs.lemmas.KeptLaws.{parts_asked, selected_reported, has_reported}
 

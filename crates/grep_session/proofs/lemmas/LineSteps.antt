@@ -1,13 +1,7 @@
 -- The rows of the lines of a file, one more line at a time.
 use Rattle.std.proofs.Common.{◌≡◌, ℕ, zero, suc, ◌+◌, ◌-◌, ◌<◌, ◌≤◌, Bool, true, false, List, [], ◌∷◌, ◌++◌, length, drop, get_or, Option, refl, sym, ap, subst, ◌∙◌, arith, if◌then◌else◌}
-use Rattle.re_syntax.specs.Bytes.{Text}
-use Rattle.grep_core.specs.declared.options.Options.{Options}
-use Rattle.grep_core.specs.Output.{Form, form, written}
-use Rattle.grep_core.specs.Written.{GoesOut, StopsWithin}
+use Rattle.grep_session.proofs.Words.{Text, Options, Form, form, written, GoesOut, StopsWithin, KeptLine, no_line, SelectedFrom, is_selected, selected_rows, rows_as, rows_from, text_rows}
 use Rattle.grep_core.proofs.lemmas.RowLemmas.{goes_nowhere}
-use Rattle.line_chunks.specs.Working.Chunks.{KeptLine, no_line}
-use Rattle.grep_session.specs.Working.Counts.{SelectedFrom}
-use Rattle.grep_session.specs.Working.Report.{is_selected, selected_rows, rows_as, rows_from, text_rows}
 use Rattle.grep_session.proofs.lemmas.Writing.{WrittenUpTo, drop-next, written_on, broken_off}
 
 -- lines that are not selected have no rows

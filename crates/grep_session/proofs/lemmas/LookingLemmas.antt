@@ -1,22 +1,10 @@
 -- The hit of a line, where what is kept of it is right.
 use Rattle.std.proofs.Common.{◌≡◌, ℕ, ◌<◌, Bool, true, false, List, [], length, map, get_or, Option, None, Some, MatchBool, MatchOption, All, IfSome, ◌≤◌, ◌⊎◌, inl, inr, refl, sym, ap, subst, ◌∙◌, arith}
-use Rattle.std.specs.Prelude.{⊤, if◌then◌else◌}
+use Rattle.grep_session.proofs.Words.{if◌then◌else◌, Text, Expression, AreParts, Span, Options, File, Selected, file_at, KeptLine, line_text, no_line, KeptFile, ListedParts, span_places, kept_lines, kept_file, file_with, IsKept, IsFileKept, listed_spans, is_selected}
+use Rattle.std.specs.Prelude.{⊤}
 use Rattle.std.proofs.lemmas.Bool.{false≢true, cases_lt}
 use Rattle.std.proofs.lemmas.List.{get_or-map, get_or_past, length-map}
 use Rattle.std.proofs.lemmas.List.Elements.{All-get_or}
-use Rattle.re_syntax.specs.Bytes.{Text}
-use Rattle.re_syntax.specs.Expression.{Expression}
-use Rattle.re_syntax.specs.Parts.{AreParts}
-use Rattle.re_syntax.specs.declared.span.Span.{Span}
-use Rattle.grep_core.specs.declared.options.Options.{Options}
-use Rattle.grep_core.specs.Files.{File, Selected}
-use Rattle.grep_core.specs.Run.{file_at}
-use Rattle.line_chunks.specs.Working.Chunks.{KeptLine, line_text, no_line}
-use Rattle.grep_session.specs.declared.kept.KeptFile.{KeptFile}
-use Rattle.grep_session.specs.Listed.{ListedParts}
-use Rattle.grep_session.specs.Working.Kept.{span_places, kept_lines, kept_file, file_with, IsKept, IsFileKept}
-use Rattle.grep_session.specs.Working.Looking.{listed_spans}
-use Rattle.grep_session.specs.Working.Report.{is_selected}
 use Rattle.grep_session.proofs.lemmas.KeptLaws.{selected_reported}
 
 module _ (es : List Expression) (options : Options) where

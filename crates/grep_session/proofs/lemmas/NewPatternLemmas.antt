@@ -2,29 +2,7 @@
 use Rattle.std.proofs.Common.{◌≡◌, ℕ, ◌+◌, ◌<◌, ◌≤◌, List, [], ◌∷◌, ◌++◌, Err, All, inl, inr, length, map, take, drop, refl, sym, ap, subst, ◌∙◌, arith}
 use Rattle.std.proofs.lemmas.List.{map-append, length-append, length-map}
 use Rattle.std.proofs.lemmas.List.Elements.{All-append}
-use Rattle.std.specs.List.{take-map, drop-map}
-use Rattle.re_syntax.specs.declared.syntax.Syntax.{Syntax}
-use Rattle.re_syntax.specs.Bytes.{Text}
-use Rattle.re_syntax.specs.Expression.{Expression}
-use Rattle.re_syntax.specs.Lines.{list_of}
-use Rattle.re_syntax.specs.Spelled.{IsMeant}
-use Rattle.re_search.specs.Matcher.{Matcher}
-use Rattle.re_search.specs.Reading.{IsReadable}
-use Rattle.re_search.specs.Working.Matchers.{matched_expression, room_of, wants_whole}
-use Rattle.grep_core.specs.Meters.{Steps}
-use Rattle.grep_core.specs.declared.options.Options.{Options}
-use Rattle.grep_core.specs.Files.{Inputs, AreMeant}
-use Rattle.grep_session.specs.declared.change.Change.TheVariants.{Added}
-use Rattle.grep_session.specs.declared.fault.EditFault.{EditFault}
-use Rattle.grep_session.specs.Working.Changed.{ChangeCost, HasChanged, SearchesEach}
-use Rattle.re_search.specs.Searching.{SameMatchers}
-use Rattle.grep_session.specs.Working.Sessions.{IsSession, inputs_of}
-use Rattle.grep_session.specs.declared.session.Session.TheInside.{Inside}
-use Rattle.grep_session.specs.Edits.{AddPatterns, EditGives, with_patterns}
-use Rattle.re_syntax.specs.Profile.{most_patterns}
-use Rattle.grep_core.specs.Working.MatcherLists.{AreMatchers}
-use Rattle.grep_session.specs.Working.Reading.{RefusesFirst}
-use Rattle.grep_session.specs.Touched.{TakesSteps, all_lines, pairs_cost}
+use Rattle.grep_session.proofs.Words.{take-map, drop-map, Syntax, Text, Expression, list_of, IsMeant, Matcher, IsReadable, matched_expression, room_of, wants_whole, Steps, Options, Inputs, AreMeant, Added, EditFault, ChangeCost, HasChanged, SearchesEach, SameMatchers, IsSession, inputs_of, Inside, AddPatterns, EditGives, with_patterns, most_patterns, AreMatchers, RefusesFirst, TakesSteps, all_lines, pairs_cost}
 use Rattle.grep_session.proofs.lemmas.StepLemmas.{CostOfEach-sum, takes_touched}
 use Rattle.grep_core.proofs.lemmas.MatcherLemmas.{AllZip-append}
 

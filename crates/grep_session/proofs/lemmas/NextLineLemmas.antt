@@ -1,12 +1,9 @@
 -- The next line of a chunk that an expression matches, by its number.
-use Rattle.std.proofs.Common.{◌≡◌, ℕ, ◌+◌, ◌-◌, ◌^◌, ◌<◌, ◌≤◌, List, [], ◌∷◌, ◌++◌, All, length, take, drop, get_or, slice_range, sym, ap, subst, ◌∙◌, arith, length-append, length-drop, append_assoc}
+use Rattle.std.proofs.Common.{◌≡◌, ℕ, Bool, Some, ◌+◌, ◌-◌, ◌^◌, ◌<◌, ◌≤◌, List, [], ◌∷◌, ◌++◌, All, length, take, drop, get_or, slice_range, sym, ap, subst, ◌∙◌, arith, length-append, length-drop, append_assoc}
 use Rattle.std.proofs.Math.Seq.{take-append_seam, get_or-append_seam}
 use Rattle.std.proofs.lemmas.List.{get_or-drop, get_or_append_left, take-append-drop, drop-take, take-take}
-use Rattle.re_syntax.specs.Bytes.{Text}
-use Rattle.re_syntax.specs.Lines.{terminated}
-use Rattle.re_syntax.specs.declared.span.Span.{Span}
+use Rattle.grep_session.proofs.Words.{Text, terminated, Span, IsNext, Expression, Matches, IsNextLine, next_line_cost}
 use Rattle.re_syntax.proofs.lemmas.LinesLaws.{terminated-append}
-use Rattle.re_search.specs.Working.Blocks.{IsNext}
 
 -- the first elements, and the next
 first_of_rest : (xs : List Text) (y : Text) (ys : List Text) → take (length xs + 1) (xs ++ y ∷ ys) ≡ xs ++ y ∷ []
@@ -77,6 +74,19 @@ module _ (P : Text → Type 0) (texts : List Text) (from : ℕ) where
         let bytes : length (terminated (slice_range texts from (number + 1))) ≡ length (terminated next.before) + length (terminated (next.line ∷ [])) =
         ap (λ l. length (terminated l)) lines ∙ ap length (terminated-append next.before (next.line ∷ [])) ∙ length-append (terminated next.before) (terminated (next.line ∷ [])) in
         omega (arith, bytes, next.ends, next.starts, length-append next.line (10 ∷ []))
+
+-- the next line that an expression matches, by the number that its place has, and the bytes up to it
+pub next_there : (e : Expression) (entire : Bool) (texts lines : List Text) (from start size k : ℕ) (at : Span) → lines ≡ drop from texts → IsNext (λ line. Matches e line entire) lines at → from ≤ length texts → start ≡ length (terminated (take from texts)) → size ≡ length texts
+    → ((n : ℕ) → from ≤ n → n ≤ size → start + at.start ≡ length (terminated (take n texts)) → k ≡ n) → IsNextLine e entire texts from (Some k) × (at.end + 1 ≡ next_line_cost texts from (Some k))
+next_there e entire texts lines from start size k at rest next within is many at_place =
+    let P = λ (line : Text). Matches e line entire in
+    let n = number P texts from lines at rest next within in
+    let there = inside P texts from lines at rest next within in
+    let same : k ≡ n = at_place n (omega arith) (omega (arith, there, many)) (place P texts from lines at rest next within start is) in
+    rw same (
+      (omega arith, there, holds_there P texts from lines at rest next within, none_before P texts from lines at rest next within),
+      cost P texts from lines at rest next within,
+    )
 
 -- ---- the bytes of the first lines, with their newlines
 

@@ -3,20 +3,9 @@ use Rattle.std.proofs.Common.{◌≡◌, ℕ, suc, ◌+◌, ◌<◌, ◌==◌, B
 use Rattle.std.proofs.Math.Seq.{drop-append_seam, drop-cons, take-suc}
 use Rattle.std.proofs.lemmas.Bool.{cases_lt}
 use Rattle.std.proofs.lemmas.Bool.Decides.{nat_tests}
-use Rattle.re_syntax.specs.Bytes.{Text}
-use Rattle.re_syntax.specs.Expression.{Expression}
-use Rattle.re_syntax.specs.declared.span.Span.{Span}
-use Rattle.grep_core.specs.Meters.{Steps, Adds}
-use Rattle.grep_core.specs.declared.options.Options.{Options}
+use Rattle.grep_session.proofs.Words.{Text, Expression, Span, Steps, Adds, Options, is_paired, numbers_at, KeptLine, no_line, Change, Added, PartsCostOf, HasNewParts, NewPartsCost, SearchesOne, TakesAtMost, Grows, has_new_parts, ArePartsAgain, CostsParts}
 use Rattle.grep_core.proofs.lemmas.CostLaws.{cost_within}
-use Rattle.line_chunks.specs.Working.Finds.{is_paired, numbers_at}
-use Rattle.line_chunks.specs.Working.Chunks.{KeptLine, no_line}
 use Rattle.line_chunks.proofs.lemmas.PairLaws.{numbers_at-append}
-use Rattle.grep_session.specs.declared.change.Change.{Change}
-use Rattle.grep_session.specs.declared.change.Change.TheVariants.{Added}
-use Rattle.grep_session.specs.Touched.{PartsCostOf}
-use Rattle.grep_session.specs.Working.Changed.{HasNewParts, NewPartsCost, SearchesOne, TakesAtMost}
-use Rattle.grep_session.specs.Working.Columns.{Grows, has_new_parts, ArePartsAgain, CostsParts}
 use Rattle.grep_session.proofs.lemmas.ColumnLemmas.{front_and_rest}
 use Rattle.grep_session.proofs.lemmas.StepLemmas.{NewPartsCost-exists}
 

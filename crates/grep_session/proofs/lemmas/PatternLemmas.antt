@@ -1,24 +1,9 @@
 -- A pattern is removed where parts are kept: the steps that this takes, and how it is put back.
 use Rattle.std.proofs.Common.{◌≡◌, ℕ, zero, suc, ◌+◌, ◌<◌, List, [], ◌∷◌, ◌++◌, inl, inr, length, map, take, drop, get_or, refl, sym, ap, subst, ◌∙◌, arith}
 use Rattle.std.proofs.lemmas.List.{map-append, length-map, get_or-map}
-use Rattle.std.specs.List.{AllZip, remove, insert, take-map, drop-map}
-use Rattle.re_syntax.specs.Expression.{Expression}
-use Rattle.re_syntax.specs.Holds.{Matches}
-use Rattle.re_syntax.specs.Spelled.{IsMeant}
+use Rattle.grep_session.proofs.Words.{AllZip, remove, insert, take-map, drop-map, Expression, Matches, IsMeant, Steps, IfHolds, Chosen, Inputs, AreMeant, Matched, Matcher, matched_expression, room_of, wants_whole, Dropped, HasChanged, ChangeCost, SearchesEach, SameMatchers, DropPattern, with_patterns, TakesSteps, parts_alone, all_lines, Inside, IsSession, inputs_of}
 use Rattle.re_syntax.proofs.lemmas.Decisions.{Any-first}
-use Rattle.grep_core.specs.Meters.{Steps}
-use Rattle.grep_core.specs.Choose.{IfHolds, Chosen}
-use Rattle.grep_core.specs.Files.{Inputs, AreMeant, Matched}
-use Rattle.re_search.specs.Matcher.{Matcher}
-use Rattle.re_search.specs.Working.Matchers.{matched_expression, room_of, wants_whole}
 use Rattle.re_syntax.proofs.lemmas.SomeOfJoined.{Any-single}
-use Rattle.grep_session.specs.declared.change.Change.TheVariants.{Dropped}
-use Rattle.grep_session.specs.Working.Changed.{HasChanged, ChangeCost, SearchesEach}
-use Rattle.re_search.specs.Searching.{SameMatchers}
-use Rattle.grep_session.specs.Edits.{DropPattern, with_patterns}
-use Rattle.grep_session.specs.Touched.{TakesSteps, parts_alone, all_lines}
-use Rattle.grep_session.specs.declared.session.Session.TheInside.{Inside}
-use Rattle.grep_session.specs.Working.Sessions.{IsSession, inputs_of}
 use Rattle.grep_session.proofs.lemmas.SessionLemmas.{map-remove}
 use Rattle.grep_session.proofs.lemmas.StepLemmas.{CostOfEach-sum, pairs_cost-none, takes_touched}
 use Rattle.grep_session.proofs.lemmas.DroppingLemmas.{AllZip-remove}

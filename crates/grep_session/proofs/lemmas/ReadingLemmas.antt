@@ -1,15 +1,7 @@
 -- Why a pattern is not read.
 use Rattle.std.proofs.Common.{◌≡◌, ℕ, List, ◌⊎◌, inl, inr, refl, ap, ◌∙◌, Bool}
-use Rattle.re_syntax.specs.declared.fault.FaultKind.{FaultKind}
-use Rattle.re_syntax.specs.declared.fault.FaultKind.TheVariants.{UnclosedBracket, BadClass, BadCollatingSymbol, BadRange, UnclosedGroup, UnopenedGroup, BadInterval, IntervalTooLarge, NothingToRepeat, TrailingBackslash, UndefinedEscape, BackReference, TooDeep, TooLarge, Memory as OutOfMemory}
-use Rattle.re_syntax.specs.declared.fault.PatternFault.{PatternFault}
-use Rattle.re_syntax.specs.declared.syntax.Syntax.{Syntax}
-use Rattle.re_syntax.specs.Bytes.{Text}
-use Rattle.re_search.specs.Reading.{IsOutOfMemory}
-use Rattle.grep_core.specs.Matchers.{IsFirstRefused}
-use Rattle.grep_session.specs.declared.fault.EditFault.{EditFault}
-use Rattle.grep_session.specs.declared.fault.EditFault.TheVariants.{Pattern, Memory}
-use Rattle.grep_session.specs.Working.Reading.{RefusesFirst, reported_by, reported_at}
+use Rattle.grep_session.proofs.Words.{FaultKind, UnclosedBracket, BadClass, BadCollatingSymbol, BadRange, UnclosedGroup, UnopenedGroup, BadInterval, IntervalTooLarge, NothingToRepeat, TrailingBackslash, UndefinedEscape, BackReference, TooDeep, TooLarge, PatternFault, Syntax, Text, IsOutOfMemory, IsFirstRefused, EditFault, Pattern, Memory, RefusesFirst, reported_by, reported_at}
+use Rattle.re_syntax.specs.declared.fault.FaultKind.TheVariants.{Memory as OutOfMemory}
 
 -- a kind of fault is out of memory, or one of the pattern
 reported_either : (kind : FaultKind) (place : ℕ) (fault : PatternFault) → (reported_by kind place fault ≡ Memory) ⊎ (reported_by kind place fault ≡ Pattern place fault)

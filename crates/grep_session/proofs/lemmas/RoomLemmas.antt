@@ -1,11 +1,8 @@
 -- How much the matchers of a session may keep, as some come and go.
-use Rattle.std.proofs.Common.{◌≡◌, ℕ, ◌≤◌, ◌<◌, Bool, List, [], ◌∷◌, ◌++◌, length, map, get_or, refl, sym, subst, ap, ◌∙◌, All, arith}
+use Rattle.std.proofs.Common.{◌≡◌, ℕ, ◌≤◌, ◌<◌, List, [], ◌∷◌, ◌++◌, length, map, get_or, sym, subst, ap, ◌∙◌, All, arith}
 use Rattle.std.proofs.lemmas.List.{map-append, length-map, get_or-map}
 use Rattle.std.proofs.lemmas.List.Elements.{All-append, All-nil, All-push}
-use Rattle.std.specs.List.{remove}
-use Rattle.re_search.specs.Matcher.{Matcher}
-use Rattle.re_search.specs.Working.Matchers.{room_of}
-use Rattle.grep_session.specs.Working.Rooms.{KeepAtMost}
+use Rattle.grep_session.proofs.Words.{remove, Matcher, room_of, KeepAtMost}
 use Rattle.grep_session.proofs.lemmas.SessionLemmas.{map-remove}
 use Rattle.grep_session.proofs.lemmas.DroppingLemmas.{All-remove}
 

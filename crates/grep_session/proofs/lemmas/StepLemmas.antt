@@ -1,36 +1,22 @@
 -- The cost of lines, and the steps that a search of them takes.
 use Rattle.std.proofs.Common.{◌≡◌, ℕ, ◌+◌, List, [], ◌∷◌, ◌++◌, inl, inr, length, map, Ok, refl, sym, ap, subst, ◌∙◌, append_assoc, arith}
 use Rattle.std.proofs.lemmas.List.{length-map}
-use Rattle.re_syntax.specs.Bytes.{Text}
-use Rattle.re_syntax.specs.Expression.{Expression}
-use Rattle.re_search.specs.Matcher.{Matcher}
-use Rattle.re_search.specs.Working.Matchers.{matched_expression}
-use Rattle.grep_core.specs.Meters.{Steps, Adds}
-use Rattle.grep_core.specs.declared.options.Options.{Options}
-use Rattle.grep_core.specs.Choose.{Chosen}
-use Rattle.grep_core.specs.Cost.{search_cost}
-use Rattle.grep_core.specs.Files.{Inputs, AreMeant}
-use Rattle.grep_core.specs.Working.MatcherLists.{AreMatchers}
+use Rattle.grep_session.proofs.Words.{Text, Expression, Matcher, matched_expression, Steps, Adds, Options, Chosen, search_cost, Inputs, AreMeant, AreMatchers, Change, Rebuild, PartsOnly, Added, Dropped, Edit, Applies, PartsCost, TakesSteps, Touched, Touches, pairs_cost, parts_alone, searched_by, ChangeCost, CostAnew, CostOfEach, HasNewParts, NewPartsCost, SearchesEach, SearchesOne, searched_for}
 use Rattle.re_meter.proofs.lemmas.Adding.{adds_none, all_both}
 use Rattle.grep_core.proofs.lemmas.CostLaws.{cost_within}
 use Rattle.grep_core.proofs.lemmas.Decided.{dec_matched}
-use Rattle.grep_session.specs.declared.change.Change.{Change}
-use Rattle.grep_session.specs.declared.change.Change.TheVariants.{Anew, PartsAlone, Added, Dropped}
-use Rattle.grep_session.specs.Edits.{Edit, Applies}
-use Rattle.grep_session.specs.Touched.{PartsCost, TakesSteps, Touched, Touches, pairs_cost, parts_alone, searched_by}
-use Rattle.grep_session.specs.Working.Changed.{ChangeCost, CostAnew, CostOfEach, HasNewParts, NewPartsCost, SearchesEach, SearchesOne, searched_for}
 use Rattle.grep_session.proofs.lemmas.FindingLemmas.{parts_cost_exists}
 
 -- ---- one line
 
 -- whether the parts of a line are searched is decided
 dec_new_parts : (change : Change) (changed : List Expression) (options : Options) (line : Text) → Dec (HasNewParts change changed options line)
-dec_new_parts Anew changed options line = yes tt
-dec_new_parts PartsAlone changed options line = yes tt
+dec_new_parts Rebuild changed options line = yes tt
+dec_new_parts PartsOnly changed options line = yes tt
 dec_new_parts (Added first) changed options line = dec_matched changed options line
 dec_new_parts (Dropped p) changed options line = dec_matched changed options line
 
--- the search for a line's parts has a cost where no memory is refused
+-- the search for a line's parts has a cost if no allocation fails
 pub NewPartsCost-exists : (change : Change) (changed es : List Expression) (options : Options) (line : Text) → (cost : ℕ) × NewPartsCost change changed es options line 0 cost
 NewPartsCost-exists change changed es options line = by_verdict (dec_new_parts change changed options line)
   where
@@ -139,7 +125,7 @@ pub takes_lines : (edit : Edit) (old new : Inputs) (matchers : List Matcher) (li
 takes_lines edit old new matchers lines begun ended applies touches made same s =
     let es = map matched_expression matchers in
     let spent = s.at_most in
-    let sum = whole_sum Anew es es new.options lines spent.0 spent.1 (λ line. tt) spent.2 in
+    let sum = whole_sum Rebuild es es new.options lines spent.0 spent.1 (λ line. tt) spent.2 in
     let many : length es ≡ length old.patterns = length-map matchers matched_expression ∙ made.counted ∙ ap length same in
     takes_touched edit old new es (searched_by (length old.patterns) lines) spent.0 spent.1 sum.0 begun ended applies touches made.meant sum.1 (sum.2 ∙ ap (λ n. pairs_cost n lines + sum.0) many) spent.3
 
@@ -149,9 +135,9 @@ pairs_cost-none [] = refl
 pairs_cost-none (line ∷ lines) = let rest : pairs_cost 0 lines ≡ 0 = pairs_cost-none lines in omega (arith, rest)
 
 -- the parts of lines were searched
-pub takes_parts : (edit : Edit) (old new : Inputs) (changed es : List Expression) (lines : List Text) (begun ended : Steps) → Applies edit old (Ok new) → Touches edit old (parts_alone lines) → AreMeant new.syntax new.options new.patterns es → SearchesEach (ChangeCost PartsAlone changed es new.options) lines begun ended
+pub takes_parts : (edit : Edit) (old new : Inputs) (changed es : List Expression) (lines : List Text) (begun ended : Steps) → Applies edit old (Ok new) → Touches edit old (parts_alone lines) → AreMeant new.syntax new.options new.patterns es → SearchesEach (ChangeCost PartsOnly changed es new.options) lines begun ended
     → TakesSteps edit old begun ended
 takes_parts edit old new changed es lines begun ended applies touches meant s =
     let spent = s.at_most in
-    let sum = whole_sum PartsAlone changed es new.options lines spent.0 spent.1 (λ line. tt) spent.2 in
+    let sum = whole_sum PartsOnly changed es new.options lines spent.0 spent.1 (λ line. tt) spent.2 in
     takes_touched edit old new es (parts_alone lines) spent.0 spent.1 sum.0 begun ended applies touches meant sum.1 (sum.2 ∙ ap (λ n. n + sum.0) (pairs_cost-none lines)) spent.3

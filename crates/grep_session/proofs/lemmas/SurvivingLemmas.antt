@@ -1,13 +1,8 @@
 -- The parts of a line stay the same when patterns that do not match it are added or removed.
 use Rattle.std.proofs.Common.{◌≡◌, ℕ, suc, ◌<◌, ◌≤◌, Bool, true, false, List, [], ◌∷◌, ◌++◌, inl, inr, length, Any, sym, subst}
-use Rattle.std.specs.Bool.{OnTrue}
-use Rattle.re_syntax.specs.Bytes.{Text}
-use Rattle.re_syntax.specs.Expression.{Expression}
-use Rattle.re_syntax.specs.Holds.{Holds, Matches}
-use Rattle.re_syntax.specs.Parts.{IsFound, ArePartsFrom}
+use Rattle.grep_session.proofs.Words.{OnTrue, Text, Expression, Holds, Matches, IsFound, ArePartsFrom, AreMatching}
 use Rattle.re_syntax.proofs.lemmas.Decisions.{Any-cases, Any-none}
 use Rattle.re_syntax.proofs.lemmas.SomeOfJoined.{Any-left, Any-append-cases}
-use Rattle.grep_session.specs.Working.Kept.{AreMatching}
 
 -- ---- two lists of expressions that find the same
 

@@ -1,12 +1,8 @@
 -- Lines that are written one after another, by the lines that are left.
 use Rattle.std.proofs.Common.{◌≡◌, ℕ, ◌+◌, ◌<◌, List, [], ◌∷◌, ◌++◌, length, drop, get_or, map, Option, Result, Ok, Err, IfOk, refl, sym, ap, subst, ◌∙◌, add-one, append_assoc, append-nil}
-use Rattle.std.specs.Result.{IsErr}
+use Rattle.grep_session.proofs.Words.{IsErr, Text, output_line, written, GoesOut, StopsWithin, Writes}
 use Rattle.std.proofs.Math.Seq.{drop-cons}
 use Rattle.std.proofs.lemmas.Bool.{false≢true}
-use Rattle.re_syntax.specs.Bytes.{Text}
-use Rattle.grep_core.specs.Row.{output_line}
-use Rattle.grep_core.specs.Output.{written}
-use Rattle.grep_core.specs.Written.{GoesOut, StopsWithin, Writes}
 use Rattle.grep_core.proofs.lemmas.RowLemmas.{goes_nowhere, goes_on, stops_early, stops_later, writes_last}
 use Rattle.grep_core.proofs.lemmas.WriterLaws.{written-append}
 

@@ -10,7 +10,7 @@ use Rattle.grep_core.specs.Choose.{IfHolds}
 use Rattle.grep_core.specs.Cost.{search_cost}
 use Rattle.grep_core.specs.Files.{Matched}
 use Rattle.grep_session.specs.declared.change.Change.{Change}
-use Rattle.grep_session.specs.declared.change.Change.TheVariants.{Anew, PartsAlone, Added, Dropped}
+use Rattle.grep_session.specs.declared.change.Change.TheVariants.{Rebuild, PartsOnly, Added, Dropped}
 use Rattle.grep_session.specs.declared.kept.KeptFile.{KeptFile}
 use Rattle.line_chunks.specs.Working.Chunks.{KeptLine}
 use Rattle.grep_session.specs.Touched.{PartsCostOf}
@@ -18,8 +18,8 @@ use Rattle.grep_session.specs.Working.Kept.{AreMatching, IsKept, kept_lines}
 
 -- the expressions after a change, those before it, and those that are new or were removed
 abbrev pub HasChanged : Change → List Expression → List Expression → List Expression → Type 0
-HasChanged Anew es before changed = changed ≡ es
-HasChanged PartsAlone es before changed = before ≡ es
+HasChanged Rebuild es before changed = changed ≡ es
+HasChanged PartsOnly es before changed = before ≡ es
 HasChanged (Added first) es before changed = (before ≡ take first es) × (changed ≡ drop first es)
 HasChanged (Dropped p) es before changed =
     (e : Expression) × (p < length before) × (e ≡ get_or before p e) × (es ≡ remove before p) ×
@@ -28,8 +28,8 @@ HasChanged (Dropped p) es before changed =
 -- what has to be known of a line before a change, by the expressions before it: nothing if the line
 -- is searched anew, which expressions match it if its parts are, and otherwise all that is kept
 abbrev pub WasKept : Change → List Expression → Options → KeptLine → Type 0
-WasKept Anew before options line = ⊤
-WasKept PartsAlone before options line =
+WasKept Rebuild before options line = ⊤
+WasKept PartsOnly before options line =
     AreMatching line.text options.line_regexp 0 before line.found.numbers
 WasKept _ before options line = IsKept before options line
 
@@ -44,8 +44,8 @@ IsWithin _ many = ⊤
 
 -- the number of expressions by which each line is searched
 abbrev pub searched_for : Change → List Expression → ℕ
-searched_for Anew changed = length changed
-searched_for PartsAlone changed = 0
+searched_for Rebuild changed = length changed
+searched_for PartsOnly changed = 0
 searched_for (Added first) changed = length changed
 searched_for (Dropped p) changed = 0
 
@@ -55,7 +55,8 @@ HasNewParts (Added first) changed options line = Matched changed options line
 HasNewParts (Dropped p) changed options line = Matched changed options line
 HasNewParts _ changed options line = ⊤
 
--- the cost of the search for a line's parts, where memory for its list of ends was refused so often
+-- the cost of the search for a line's parts, where the allocation for its list of ends failed so
+-- often
 abbrev pub NewPartsCost : Change → List Expression → List Expression → Options → Text → ℕ → ℕ →
     Type 0
 NewPartsCost change changed es options line refusals cost =
@@ -71,7 +72,7 @@ ChangeCost change changed es options line refusals cost =
 
 -- the cost of a line that is searched anew
 abbrev pub CostAnew : List Expression → Options → Text → ℕ → ℕ → Type 0
-CostAnew es options line refusals cost = ChangeCost Anew es es options line refusals cost
+CostAnew es options line refusals cost = ChangeCost Rebuild es es options line refusals cost
 
 -- the sums of the lines' refusals and costs
 abbrev pub CostOfEach : (Text → ℕ → ℕ → Type 0) → List Text → ℕ → ℕ → Type 0

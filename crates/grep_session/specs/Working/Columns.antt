@@ -12,7 +12,7 @@ use Rattle.grep_core.specs.declared.options.Options.{Options}
 use Rattle.line_chunks.specs.Working.Finds.{FoundIn, AreBelow, is_paired, numbers_at, without}
 use Rattle.line_chunks.specs.Working.Chunks.{KeptLine, no_line, FitsColumn}
 use Rattle.grep_session.specs.declared.change.Change.{Change}
-use Rattle.grep_session.specs.declared.change.Change.TheVariants.{Anew, Added, Dropped}
+use Rattle.grep_session.specs.declared.change.Change.TheVariants.{Rebuild, Added, Dropped}
 use Rattle.grep_session.specs.Touched.{PartsCostOf}
 use Rattle.grep_session.specs.Working.Changed.{HasChanged, HasNewParts, TakesAtMost, WasKept}
 use Rattle.grep_session.specs.Working.Found.{IsColumn}
@@ -22,13 +22,13 @@ use Rattle.grep_session.specs.Working.Kept.{AddsMatching, ArePartsKept}
 
 -- of so many patterns, the number of the first that is searched for after a change
 abbrev pub first_sought : Change → ℕ → ℕ
-first_sought Anew many = 0
+first_sought Rebuild many = 0
 first_sought (Added first) many = first
 first_sought _ many = many
 
 -- the numbers that stay, of those that were kept of a line
 abbrev pub left_numbers : Change → List ℕ → List ℕ
-left_numbers Anew numbers = []
+left_numbers Rebuild numbers = []
 left_numbers (Dropped p) numbers = without p numbers
 left_numbers _ numbers = numbers
 

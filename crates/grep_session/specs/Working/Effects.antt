@@ -4,8 +4,8 @@ use Rattle.grep_core.specs.declared.options.Flag.{Flag}
 use Rattle.grep_core.specs.declared.options.Flag.TheVariants.{OnlyMatching}
 use Rattle.grep_core.specs.declared.options.Options.{Options}
 use Rattle.grep_core.specs.Files.{Inputs}
-use Rattle.grep_session.specs.declared.choosing.Effect.{Effect}
-use Rattle.grep_session.specs.declared.choosing.Effect.TheVariants.{Verdicts, Parts, Output}
+use Rattle.grep_session.specs.declared.options.Effect.{Effect}
+use Rattle.grep_session.specs.declared.options.Effect.TheVariants.{Verdicts, Parts, Output}
 use Rattle.grep_session.specs.Edits.{with_option}
 use Rattle.grep_session.specs.Touched.{touched_by_flag, searched_by, all_lines, is_of_output}
 

@@ -103,9 +103,6 @@ module _ (options : Options) (many : Bool) (name : Text) where
     rows_as number [] = []
     rows_as number (line ∷ more) = line_rows_as number line ++ rows_as (number + 1) more
 
-  abbrev pub line_rows : ℕ → KeptLine → List Text
-  line_rows number line = line_rows_as (form options) number line
-
   abbrev pub rows_from : ℕ → List KeptLine → List Text
   rows_from number text = rows_as (form options) number text
 

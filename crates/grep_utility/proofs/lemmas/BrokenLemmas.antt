@@ -1,4 +1,4 @@
--- A command on a file of which a read fails, worked by hand.
+-- A command on a file with a failed read, worked by hand.
 use Rattle.std.proofs.Common.{◌≡◌, ℕ, true, false, List, [], ◌∷◌, ◌++◌, Option, None, Some, Ok, refl, sym, ap, ◌∙◌, subst, arith, ◌⊎◌, inl, inr, codes}
 use Rattle.std.specs.Str.{chars}
 use Rattle.std.specs.Fmt.{digits}
@@ -84,11 +84,11 @@ module _ (folder : Folder) (opens : folder.opens (codes "f") ≡ Some true) (byt
   are_files = refl
 
   module _ (given : List (Option Text) → Type 0) (reported_too : (left : List (Option Text)) → given left → HasReturned 1 1 left) (old new : Devices) (status : ℕ) (counts : FailuresAre 1 old new) where
-    determined : (before : List (Option Text)) (between : Devices) (s : _) (h : Finishes es broken_options broken_sources (λ left. given (before ++ left)) old between s) → new ≡ between → h.readings ≡ did
+    determined : (before : List (Option Text)) (between : Devices) (s : _) (h : Finishes es broken_options broken_sources (λ left. given (before ++ left)) old between s) → new ≡ between → h.story.readings ≡ did
     determined before between s h same =
-        let once : h.failures ≡ 1 =
-        few_counted h.failures 1 (sym counts.counted ∙ ap (λ (d : Devices). d.source_failures) same ∙ h.counted ∙ ap (λ n. count_more n h.failures) counts.from_none) counts.few in
-        one_broken es broken_options refl refl (record { name = codes "f"; opens = folder.opens (codes "f"); bytes = folder.bytes (codes "f") }) broken_text opens bytes h.failures once before h.left (reported_too (before ++ h.left) h.gave_back) h.readings h.are_readings h.are_failures h.are_left
+        let once : h.story.failures ≡ 1 =
+        few_counted h.story.failures 1 (sym counts.counted ∙ ap (λ (d : Devices). d.source_failures) same ∙ h.story.counted ∙ ap (λ n. count_more n h.story.failures) counts.from_none) counts.few in
+        one_broken es broken_options refl refl (record { name = codes "f"; opens = folder.opens (codes "f"); bytes = folder.bytes (codes "f") }) broken_text opens bytes h.story.failures once before h.story.left (reported_too (before ++ h.story.left) h.story.gave_back) h.story.readings h.story.are_readings h.story.are_failures h.story.are_left
 
     -- what the command gives, for any history that tells how many readers came back
     pub broken_gives : CommandGives folder given old new status broken_words → Wrote broken_output broken_messages Error old new status ⊎ ReportsMemory old.messages new.messages

@@ -4,7 +4,7 @@ use Rattle.std.proofs.lemmas.List.{length_push}
 use Rattle.std.proofs.lemmas.List.Elements.{All-append}
 use Rattle.re_syntax.specs.Bytes.{Text}
 use Rattle.re_syntax.specs.Lines.{newline, terminated, HasNoNewline}
-use Rattle.re_syntax.proofs.lemmas.LinesLaws.{all_none, terminated-append, AreLines-lines_of}
+use Rattle.re_syntax.proofs.lemmas.LinesLaws.{terminated-append, AreLines-lines_of}
 use Rattle.grep_io.specs.declared.input.lines.ReadFault.TheVariants.{Device}
 use Rattle.grep_io.specs.declared.input.lines.Stage.{Stage}
 use Rattle.grep_io.specs.declared.input.lines.Stage.TheVariants.{Open, Ended, Failed}
@@ -13,10 +13,6 @@ use Rattle.grep_core.specs.Working.Handed.{AreHanded}
 use Rattle.grep_core.specs.Working.Numbered.{Numbered, HasHanded, NextIs}
 use Rattle.grep_core.proofs.lemmas.NumberedLemmas.{has_handed_none}
 use Rattle.grep_utility.specs.Working.CollectedTexts.{Adds, AddsLines}
-
--- nothing was added yet
-pub Adds-none : (bytes : Text) → Adds bytes bytes []
-Adds-none bytes = record { bytes = sym (append-nil bytes); no_newlines = all_none }
 
 -- some patterns were added, and then others
 pub Adds-trans : (old mid new : Text) (ts us : List Text) → Adds old mid ts → Adds mid new us → Adds old new (ts ++ us)

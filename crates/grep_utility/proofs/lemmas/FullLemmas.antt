@@ -1,4 +1,4 @@
--- A command that searches known sources, of which the count of failures says that no read failed.
+-- A command that searches known sources, whose count of failures says that no read failed.
 use Rattle.std.proofs.Common.{◌≡◌, ℕ, zero, suc, ◌+◌, ◌^◌, ◌-◌, ◌<◌, min, nat_lt, false, List, [], ◌∷◌, ◌++◌, length, Option, Ok, Err, All, MatchBool, MatchResult, Result, refl, sym, ap, ◌∙◌, subst, arith, append-nil, ◌⊎◌, inl, inr}
 use Rattle.std.specs.Bool.{⊤}
 use Rattle.std.proofs.lemmas.List.Elements.{All-get_or}
@@ -52,29 +52,29 @@ reports_memory old between new reported before (inr front) none = absurd (some_f
 nothing_reported : (w : Writer) → TakesAll w w []
 nothing_reported w = record { written_all = Appends-nil w.contents; none_failed = refl }
 
--- known sources of which no more failures are counted than there are sources that cannot be opened
+-- known sources in which no more failures are counted than there are sources that cannot be opened
 -- were read in full
 full_readings : (options : Options) → options.quiet ≡ false → options.files_with_matches ≡ false → (es : List Expression) (sources : List Source) → All IsKnown sources → (given : List (Option Text) → Type 0) (old new between : Devices)
-    → old.source_failures ≡ 0 → new.source_failures ≡ unopened sources → unopened sources < 2 ^ 64 - 1 → (s : Status) (h : Finishes es options sources given old between s) → new ≡ between → h.readings ≡ in_full sources
+    → old.source_failures ≡ 0 → new.source_failures ≡ unopened sources → unopened sources < 2 ^ 64 - 1 → (s : Status) (h : Finishes es options sources given old between s) → new ≡ between → h.story.readings ≡ in_full sources
 full_readings options loud plain es sources known given old new between from_none counted few s h same =
-    let n_is : h.failures ≡ unopened sources =
-    few_counted h.failures (unopened sources) (sym counted ∙ ap (λ (d : Devices). d.source_failures) same ∙ h.counted ∙ ap (λ n. count_more n h.failures) from_none) few in
-    all_in_full es options loud plain sources h.readings h.failures known h.are_readings h.are_failures (omega (arith, n_is))
+    let n_is : h.story.failures ≡ unopened sources =
+    few_counted h.story.failures (unopened sources) (sym counted ∙ ap (λ (d : Devices). d.source_failures) same ∙ h.story.counted ∙ ap (λ n. count_more n h.story.failures) from_none) few in
+    all_in_full es options loud plain sources h.story.readings h.story.failures known h.story.are_readings h.story.are_failures (omega (arith, n_is))
 
 -- what the search gives where its counts tell how the sources were read
 module _ (options : Options) (es : List Expression) (sources : List Source) (readings : List Reading) (output messages : List Text) (found : Status)
     (is_output : Out es options (files_of sources readings) output) (are_messages : Messages es options (files_of sources readings) messages) (is_status : StatusOf es options (files_of sources readings) found)
-    (given : List (Option Text) → Type 0) (old new : Devices) (status : ℕ) (determined : (between : Devices) (s : Status) (h : Finishes es options sources given old between s) → new ≡ between → h.readings ≡ readings)
+    (given : List (Option Text) → Type 0) (old new : Devices) (status : ℕ) (determined : (between : Devices) (s : Status) (h : Finishes es options sources given old between s) → new ≡ between → h.story.readings ≡ readings)
     (out_kept : new.out.failures ≡ 0) (messages_kept : new.messages.failures ≡ 0) where
   finishes : (between : Devices) (s : Status) → Finishes es options sources given old between s → (status ≡ status_number s) → new ≡ between → Wrote output messages found old new status
   finishes between s h is same =
-      let full : h.readings ≡ readings = determined between s h same in
-      let output_is : h.output ≡ output = Out-determined es options (files_of sources readings) h.output output (subst (λ rs. Out es options (files_of sources rs) h.output) full h.is_output) is_output in
-      let messages_are : h.messages ≡ messages = Messages-determined es options (files_of sources readings) h.messages messages (subst (λ rs. Messages es options (files_of sources rs) h.messages) full h.are_messages) are_messages in
+      let full : h.story.readings ≡ readings = determined between s h same in
+      let output_is : h.wrote.text ≡ output = Out-determined es options (files_of sources readings) h.wrote.text output (subst (λ rs. Out es options (files_of sources rs) h.wrote.text) full h.wrote.due) is_output in
+      let messages_are : h.reported.text ≡ messages = Messages-determined es options (files_of sources readings) h.reported.text messages (subst (λ rs. Messages es options (files_of sources rs) h.reported.text) full h.reported.due) are_messages in
       let found_is : s ≡ found = StatusOf-determined es options (files_of sources readings) s found (subst (λ rs. StatusOf es options (files_of sources rs) s) full h.is_status) is_status in
       record {
-        wrote = subst (λ (d : Devices). TakesAll old.out d.out output) (sym same) (subst (λ o. TakesAll old.out between.out o) output_is h.wrote);
-        reported = subst (λ (d : Devices). TakesAll old.messages d.messages messages) (sym same) (subst (λ o. TakesAll old.messages between.messages o) messages_are h.reported);
+        wrote = subst (λ (d : Devices). TakesAll old.out d.out output) (sym same) (subst (λ o. TakesAll old.out between.out o) output_is h.wrote.all);
+        reported = subst (λ (d : Devices). TakesAll old.messages d.messages messages) (sym same) (subst (λ o. TakesAll old.messages between.messages o) messages_are h.reported.all);
         is_status = is ∙ ap status_number found_is;
       }
 
@@ -82,7 +82,7 @@ module _ (options : Options) (es : List Expression) (sources : List Source) (rea
   run_ends between (Ok s) h e = inl (finishes between s h e.0 e.1)
   run_ends between (Err Write) h e = absurd (some_failed old.out.failures between.out.failures h.1 (sym (ap (λ (w : Writer). w.failures) e.none_written) ∙ out_kept))
   run_ends between (Err MessageWrite) h e = absurd (some_failed old.messages.failures between.messages.failures h.2 (sym (ap (λ (d : Devices). d.messages.failures) e.1) ∙ messages_kept))
-  run_ends between (Err (Memory k n)) h e = inr (reports_memory old.messages between.messages new.messages h.messages h.reported e.reported messages_kept)
+  run_ends between (Err (Memory k n)) h e = inr (reports_memory old.messages between.messages new.messages h.reported.text h.reported.all e.reported messages_kept)
 
   pub search_ends : SearchEnds es options sources given old new status → Wrote output messages found old new status ⊎ ReportsMemory old.messages new.messages
   search_ends h = run_ends h.between h.found h.runs h.ends
@@ -94,7 +94,7 @@ module _ (syntax : Syntax) (options : Options) (text : Text) (files : List Text)
     (folder : Folder) (readings : List Reading) (output messages : List Text) (found : Status) (is_output : Out es options (files_of (sources_named folder (searched files)) readings) output)
     (are_messages : Messages es options (files_of (sources_named folder (searched files)) readings) messages) (is_status : StatusOf es options (files_of (sources_named folder (searched files)) readings) found)
     (given : List (Option Text) → Type 0) (old new : Devices) (status : ℕ)
-    (determined : (before : List (Option Text)) (between : Devices) (s : Status) (h : Finishes es options (sources_named folder (searched files)) (λ left. given (before ++ left)) old between s) → new ≡ between → h.readings ≡ readings)
+    (determined : (before : List (Option Text)) (between : Devices) (s : Status) (h : Finishes es options (sources_named folder (searched files)) (λ left. given (before ++ left)) old between s) → new ≡ between → h.story.readings ≡ readings)
     (out_kept : new.out.failures ≡ 0) (messages_kept : new.messages.failures ≡ 0) where
   abbrev asked_for : Asked
   asked_for = record { syntax = syntax; options = options; sources = list text ∷ []; files = files }

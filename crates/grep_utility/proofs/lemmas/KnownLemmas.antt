@@ -1,4 +1,4 @@
--- Known sources, of which the number of failures says that no read failed.
+-- Known sources, whose number of failures says that no read failed.
 use Rattle.std.proofs.Common.{◌≡◌, ℕ, ◌+◌, ◌-◌, ◌^◌, ◌≤◌, min, Bool, true, false, ◌||◌, if◌then◌else◌, IsTrue, List, [], ◌∷◌, ◌++◌, length, Option, None, Some, IfSome, All, Any, append-nil, refl, sym, ap, ◌∙◌, subst, arith, inl, inr}
 use Rattle.std.proofs.lemmas.Bool.{false≢true}
 use Rattle.std.specs.Io.KnownBytes.{Consumes}
@@ -95,7 +95,7 @@ module _ (es : List Expression) (options : Options) (loud : options.quiet ≡ fa
       let rest : readings ≡ in_full sources = all_in_full sources readings h.1 (All-tail IsKnown source sources k) a.1 beyond (omega (arith, own, here, least, sum, few)) in
       λ i. first i ∷ rest i
 
-  -- one source, of which a read failed once its reader had given all its bytes
+  -- one source, a read of which failed once its reader had given all its bytes
   module _ (source : Source) (all : Text) (opens : source.opens ≡ Some true) (bytes : source.bytes ≡ Some all) (n : ℕ) (once : n ≡ 1) (before left : List (Option Text)) (back : HasReturned 1 1 (before ++ left)) where
     gave_all : (given : Text) → AreReadings (source ∷ []) (fails_after given ∷ []) → LeftMet es options (source ∷ []) (fails_after given ∷ []) left → given ≡ all
     gave_all given a l = sym (append-nil given) ∙ sym (subst (λ rest. Consumes (Some all) rest given) x_is (subst (λ known. Consumes known x given) bytes l.2.2))

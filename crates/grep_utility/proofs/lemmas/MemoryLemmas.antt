@@ -37,7 +37,7 @@ split_left (suc n) (suc left) (x ∷ xs) a b =
     ap (λ t. x ∷ t) (split_left n left xs (omega (arith, a)) (omega (arith, b)) ∙ ap (λ k. take n xs ++ take k (drop n xs)) same)
 
 module _ (room n : ℕ) (into copied : Text) (roomy : 0 < room) where
-  -- the same for a reader of which no read has failed
+  -- the same for a reader none of whose reads has failed
   fresh_pulled : (step left : ℕ) (rest : Text) → (left ≡ 0 → ⊥) → n ≡ next_count room step left (length rest) → copied ≡ take n rest
       → Consumes (limited step left (Some rest)) (limited step (left - n) (Some (drop n rest))) (take n (copied ++ into)) × (n ≡ 0 → IsAtEnd (limited step (left - n) (Some (drop n rest))))
   fresh_pulled zero left rest more is copied_is =
@@ -71,7 +71,7 @@ module _ (room n : ℕ) (into copied : Text) (roomy : 0 < room) where
 
 -- ---- what the returned readers had left
 
--- a reader of which a read failed has nothing left
+-- a reader with a failed read has nothing left
 spent : (r : MemoryReader) → (r.failures ≡ 0) ⊎ (bytes_left r ≡ Some [])
 spent r = elim (zero_or r.failures) [
   | inl none ↦ inl none

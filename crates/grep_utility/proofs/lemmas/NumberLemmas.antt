@@ -90,11 +90,6 @@ lines_next t i v d w h f is digit sum =
     let next = digits_next t i n d (n * 10 + d) h f refl digit refl in
     (next.0, capped_next most_around n v d w (value (take (i + 1) t)) is sum next.1)
 
--- no word is no number of lines
-pub lines_of-empty : (t : Text) → length t ≡ 0 → lines_of t ≡ None
-lines_of-empty [] h = refl
-lines_of-empty (b ∷ t) h = absurd (omega arith)
-
 -- all bytes are digits
 pub lines_of-digits : (t : Text) (v : ℕ) → 0 < length t → AreDigitsTo t (length t) → v ≡ min (value t) most_around → lines_of t ≡ Some v
 lines_of-digits [] v h f is = absurd (omega arith)

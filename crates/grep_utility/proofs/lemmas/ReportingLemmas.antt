@@ -26,7 +26,7 @@ pub gives_up : (out old new : Writer) (n : ℕ) (steps : Steps) (texts : List Te
 gives_up out old new n steps texts status is_error reported = record { is_error = is_error; none_written = refl; reported = reported; counted = refl; no_step = refl }
 
 -- the pieces of a line, one after the other
-pub line_of_pieces : (front kind_front kind at place end : Text) → (front ++ (kind_front ++ kind)) ++ ((at ++ place) ++ end) ≡ ((((front ++ kind_front) ++ kind) ++ at) ++ place) ++ end
-line_of_pieces front kind_front kind at place end =
+pub line_of_tokens : (front kind_front kind at place end : Text) → (front ++ (kind_front ++ kind)) ++ ((at ++ place) ++ end) ≡ ((((front ++ kind_front) ++ kind) ++ at) ++ place) ++ end
+line_of_tokens front kind_front kind at place end =
     let all = (front ++ kind_front) ++ kind in
     ap (λ l. l ++ ((at ++ place) ++ end)) (sym (append_assoc front kind_front kind)) ∙ sym (append_assoc all (at ++ place) end) ∙ ap (λ l. l ++ end) (sym (append_assoc all at place))

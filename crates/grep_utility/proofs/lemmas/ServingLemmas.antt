@@ -11,7 +11,7 @@ use Rattle.re_syntax.specs.Lines.{newline, terminated}
 use Rattle.re_syntax.specs.Profile.{most_positions}
 use Rattle.re_syntax.specs.Spelled.{IsMeant, has_limit}
 use Rattle.re_syntax.proofs.lemmas.Decisions.{Any-first, Any-later, Any-cases, Any-none}
-use Rattle.re_search.specs.Matcher.{Matcher}
+use Rattle.re_search.specs.declared.matcher.Matcher.{Matcher}
 use Rattle.re_search.specs.Working.Literals.{literal_meaning}
 use Rattle.re_search.specs.Working.Strings.{AddsStrings, string_expression}
 use Rattle.re_search.specs.Reading.{IsReadable}
@@ -20,7 +20,7 @@ use Rattle.re_search.proofs.lemmas.LiteralLaws.{literal_positions}
 use Rattle.grep_core.specs.declared.options.Options.{Options}
 use Rattle.grep_core.proofs.lemmas.SameChoice.{alt-holds, alt-is_same}
 use Rattle.grep_core.specs.Working.SameChoice.{IsSameChoice}
-use Rattle.grep_utility.specs.Working.Serving.{ServeFor, AreReadAs, IsJoined}
+use Rattle.grep_utility.specs.Working.ServingMatchers.{ServeFor, AreReadAs, IsJoined}
 
 -- ---- what one pattern means
 

@@ -1,14 +1,13 @@
--- What a request asks for without pieces, and with all of them.
-use Rattle.std.proofs.Common.{◌≡◌, List, Result, Ok, Err, None, MatchResult, sym, ◌∙◌, subst}
+-- What a request asks for as pieces are added to it.
+use Rattle.std.proofs.Common.{◌≡◌, List, ◌∷◌, Result, Ok, Err, MatchResult, refl, sym, ◌∙◌, ap, subst}
 use Rattle.re_syntax.specs.Bytes.{Text}
 use Rattle.grep_utility.specs.declared.words.Request.{Request}
 use Rattle.grep_utility.specs.declared.words.UsageFault.{UsageFault}
-use Rattle.grep_utility.specs.declared.words.around.Around.{Around}
-use Rattle.grep_utility.specs.Words.{Asked, AreRead, OrMemory, asked, reads_on, no_numbers, nothing_asked, pieces, read}
+use Rattle.grep_utility.specs.Words.{Asked, AreRead, Draft, OrMemory, Token, asked, reads_on, read, with_piece}
 
--- nothing was added yet
-pub reads_on-begins : (numbers : Around) (before : Asked) (words : List Text) → numbers ≡ no_numbers → before ≡ nothing_asked → reads_on numbers before (pieces words None) ≡ read words
-reads_on-begins numbers before words n b = λ i. reads_on (n i) (b i) (pieces words None)
+-- one more was added
+pub piece_added : (d later : Draft) (p : Token) (ps all : List Token) → all ≡ p ∷ ps → with_piece d p ≡ Ok later → reads_on d all ≡ reads_on later ps
+piece_added d later p ps all is added = ap (reads_on d) is ∙ rw (added, reads_on) refl
 
 -- all words were added, and the request is complete
 pub completes : (words : List Text) (now : Result Asked UsageFault) (r : Result Request UsageFault) → now ≡ read words → MatchResult r (λ request. now ≡ Ok (asked request)) (λ fault. OrMemory fault (now ≡ Err fault)) → AreRead words r

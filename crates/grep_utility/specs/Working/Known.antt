@@ -1,4 +1,4 @@
--- Sources of which all is known, and what they stand for where no read fails.
+-- Sources about which all is known, and what they stand for where no read fails.
 use Rattle.std.specs.Prelude.{◌≡◌, ℕ, ◌+◌, ◌-◌, ◌^◌, ◌<◌, ◌≤◌, Bool, true, false, List, [], ◌∷◌}
 use Rattle.std.specs.Prelude.{◌++◌, ◌⊎◌, Option, Some, Ok, All, map, length, ⊤}
 use Rattle.re_syntax.specs.Bytes.{Text}
@@ -48,7 +48,7 @@ unopened (source ∷ sources) = unopened_by source.opens + unopened sources
 abbrev pub full_files : List Source → List File
 full_files sources = files_of sources (in_full sources)
 
--- without `-q` and `-l`, known sources of which no more failures are met than there are sources
+-- without `-q` and `-l`, known sources in which no more failures are met than there are sources
 -- that cannot be opened were all read in full
 abbrev pub CountDecides : Options → Type 0
 CountDecides options =
@@ -105,8 +105,8 @@ WritesJust failures output messages found old new status =
     FailuresAre failures old new →
     Wrote output messages found old new status ⊎ ReportsMemory old.messages new.messages
 
--- a command of which all is foretold writes just that, where as many failures of files are counted
--- as there are files that cannot be opened, and no write fails, unless memory runs out
+-- a command about which all is foretold writes just that, where as many failures of files are
+-- counted as there are files that cannot be opened, and no write fails, unless memory runs out
 abbrev pub WordsDecide : Type 0
 WordsDecide =
     (folder : Folder) (words output messages : List Text) (missing : ℕ) (found : Status) →

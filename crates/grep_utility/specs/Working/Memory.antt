@@ -15,7 +15,7 @@ use Rattle.grep_utility.specs.Working.Returned.{HasReturned}
 abbrev pub bytes_of : Content → Option Text
 bytes_of content = limited content.step content.left (Some content.bytes.now)
 
--- a reader of the content, of which no read has failed
+-- a reader of the content, none of whose reads has failed
 abbrev pub fresh_reader : Content → MemoryReader
 fresh_reader content =
     record { rest = content.bytes; step = content.step; left = content.left; failures = 0 }

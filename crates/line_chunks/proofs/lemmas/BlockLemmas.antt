@@ -3,15 +3,9 @@ use Rattle.std.proofs.Common.{map, add-zero, ◌≡◌, ℕ, ◌+◌, ◌-◌, �
 use Rattle.std.proofs.lemmas.Bool.{cases_lt}
 use Rattle.std.proofs.lemmas.List.{length-map, take-take, take_more, drop_more, take_at, drop_at, take-append-drop, take_all, get_or-drop}
 use Rattle.std.proofs.lemmas.List.Elements.{All-append, All-take, All-drop}
-use Rattle.std.specs.Prelude.{IfOk, OnErr, is_err, false, slice_range}
-use Rattle.std.specs.declared.result.Result.{Result}
-use Rattle.std.specs.declared.result.Result.TheVariants.{Ok, Err}
-use Rattle.re_syntax.specs.Bytes.{Text}
-use Rattle.re_syntax.specs.Lines.{newline, terminated, HasNoNewline, lines_of}
+use Rattle.line_chunks.proofs.Words.{IfOk, OnErr, is_err, false, slice_range, Result, Ok, Err, Text, newline, terminated, HasNoNewline, lines_of, IsBlock, starts_from, IsCut}
 use Rattle.re_syntax.proofs.lemmas.LinesLaws.{terminated-append, lines_of-terminated, all_cons, all_none}
-use Rattle.re_needle.specs.Working.Blocks.{IsBlock}
 use Rattle.re_needle.proofs.lemmas.NextLines.{block_lines, free_lines}
-use Rattle.line_chunks.specs.Working.Blocks.{starts_from, IsCut}
 
 -- ---- bytes of lines
 

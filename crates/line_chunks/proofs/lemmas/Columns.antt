@@ -1,13 +1,7 @@
 -- What is found in the lines of all chunks, put or changed chunk by chunk.
 use Rattle.std.proofs.Common.{◌≡◌, ℕ, suc, zero, ◌+◌, ◌<◌, ◌≤◌, List, [], ◌∷◌, ◌++◌, length, map, take, drop, set, get_or, refl, ap, sym, ◌∙◌, arith, add-one, subst, length-append}
 use Rattle.std.proofs.lemmas.List.{length-map, set-get_or}
-use Rattle.std.specs.Prelude.{Option, Some, None}
-use Rattle.re_syntax.specs.Bytes.{Text}
-use Rattle.line_finds.specs.Working.Finds.{FoundIn}
-use Rattle.line_chunks.specs.Working.Chunks.{KeptLine, line_text, all_of, seen_from, with_column, with_columns, FitColumns}
-use Rattle.line_chunks.specs.Working.Columns.{next_column, FitsNext}
-use Rattle.line_chunks.specs.Working.Sums.{chunks_of}
-use Rattle.line_chunks.specs.declared.entries.Entry.{Entry}
+use Rattle.line_chunks.proofs.Words.{Option, Some, None, Text, FoundIn, KeptLine, line_text, all_of, seen_from, with_column, with_columns, FitColumns, next_column, FitsNext, chunks_of, Entry}
 use Rattle.line_chunks.proofs.lemmas.Sums.{chunks_of-set, chunk_at}
 
 -- nothing is put

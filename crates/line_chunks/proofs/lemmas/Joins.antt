@@ -1,14 +1,10 @@
 -- Lines of several chunks.
 use Rattle.std.proofs.Common.{subst, ◌≡◌, ◌≢◌, ℕ, suc, zero, ◌+◌, ◌-◌, ◌<◌, ◌≤◌, List, [], ◌∷◌, ◌++◌, length, take, drop, set, get_or, refl, ap, sym, ◌∙◌, arith, length-append, append_assoc, add-one}
 use Rattle.std.proofs.lemmas.List.{nil_from_length, map-id, length-set, get_or-set_other, take_more_set, take-set-le, drop-set-lt, drop-set, append-nil, take-append-drop, take_more, get_or-append-add, get_or_append_left, take-append-le, drop-append-le, set_split, drop_all, take_all, drop-drop}
-use Rattle.std.specs.Iterator.{Drains}
-use Rattle.std.specs.Vec.Iter.{into_iter_items, into_iter_len, into_iter_steps}
-use Rattle.std.specs.declared.vec.IntoIter.{IntoIter}
+use Rattle.line_chunks.proofs.Words.{Drains, into_iter_items, into_iter_len, into_iter_steps, IntoIter, KeptLine, all_of, IsPlace}
 use Rattle.std.proofs.lemmas.Iterator.{items_from_drains}
 use Rattle.std.proofs.lemmas.Iterator.Adapters.{YieldsList-from_vec}
 use Rattle.std.proofs.Math.Seq.{take-add, take-append-add, drop-append-add}
-use Rattle.line_chunks.specs.Working.Chunks.{KeptLine, all_of}
-use Rattle.line_chunks.specs.Working.Places.{IsPlace}
 
 pub joined-append : (xs ys : List (List KeptLine)) → all_of (xs ++ ys) ≡ all_of xs ++ all_of ys
 joined-append [] ys = refl
@@ -270,12 +266,6 @@ pub drained : {X Z : Type 0} (s : IntoIter X Z) (xs all : List X)
 drained s xs all d items many =
     sym (map-id xs) ∙
     items_from_drains xs (d.1.0, d.1.1, λ _. (d.0, d.1.2)) (YieldsList-from_vec {s = s} all items many)
-
--- where a chunk has a line there is a chunk
-pub there_is : (cs : List (List KeptLine)) (k i : ℕ) → i < length (get_or cs k []) → k < length cs
-there_is [] k i h = absurd (omega arith)
-there_is (c ∷ cs) zero i h = omega arith
-there_is (c ∷ cs) (suc k) i h = omega (arith, there_is cs k i h)
 
 -- a chunk without lines goes
 pub without_empty : (cs new : List (List KeptLine)) (k : ℕ) → length (get_or cs k []) ≡ 0

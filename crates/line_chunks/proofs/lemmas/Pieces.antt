@@ -1,12 +1,7 @@
 -- Chunks that take more lines.
 use Rattle.std.proofs.Common.{◌≡◌, ℕ, ◌+◌, ◌-◌, ◌<◌, ◌≤◌, List, [], ◌∷◌, ◌++◌, length, take, drop, set, get_or, ap, sym, ◌∙◌, arith, append_assoc}
 use Rattle.std.proofs.lemmas.List.{append-nil, take_more, take_all, map-append}
-use Rattle.std.specs.Prelude.{IfOk}
-use Rattle.std.specs.declared.result.Result.{Result}
-use Rattle.std.specs.declared.result.Result.TheVariants.{Ok, Err}
-use Rattle.line_chunks.specs.Working.Chunks.{KeptLine, all_of}
-use Rattle.line_chunks.specs.Working.Sums.{chunks_of}
-use Rattle.line_chunks.specs.declared.entries.Entry.{Entry}
+use Rattle.line_chunks.proofs.Words.{IfOk, Result, Ok, Err, KeptLine, all_of, chunks_of, Entry}
 use Rattle.line_chunks.proofs.lemmas.Joins.{joined_push, joined_set_last, range_joined}
 use Rattle.line_chunks.proofs.lemmas.Sums.{chunks_of-set, length-chunks_of, chunk_at}
 

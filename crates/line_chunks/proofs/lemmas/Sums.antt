@@ -2,11 +2,7 @@
 use Rattle.std.proofs.Common.{◌≡◌, ◌≢◌, ℕ, suc, zero, ◌+◌, ◌-◌, ◌^◌, ◌<◌, ◌≤◌, List, [], ◌∷◌, ◌++◌, length, take, set, get_or, ap, sym, ◌∙◌, arith, length-append, subst}
 use Rattle.std.proofs.lemmas.List.{length-set, take_more_set, take_more, take_all, length-map, map-set, take-map, get_or-map, length-take}
 use Rattle.std.proofs.Math.Seq.{map-set_same}
-use Rattle.line_chunks.specs.Working.Chunks.{KeptLine, no_line, all_of, matched_count, is_matched}
-use Rattle.line_chunks.specs.Working.Places.{IsPlace}
-use Rattle.std.specs.Prelude.{Bool, if◌then◌else◌}
-use Rattle.line_chunks.specs.Working.Sums.{chunks_of, AreSummed, IsSummedTo}
-use Rattle.line_chunks.specs.declared.entries.Entry.{Entry}
+use Rattle.line_chunks.proofs.Words.{KeptLine, no_line, all_of, matched_count, is_matched, IsPlace, Bool, if◌then◌else◌, chunks_of, AreSummed, IsSummedTo, Entry}
 use Rattle.line_chunks.proofs.lemmas.Joins.{begins_within, begins_in_order, line_of, size_at, take_seam}
 
 -- ---- matched lines

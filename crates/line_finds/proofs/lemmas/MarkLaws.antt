@@ -1,5 +1,5 @@
 -- Marks of lines that are paired with some pattern, or with one.
-use Rattle.std.proofs.Common.{◌≡◌, ℕ, suc, ◌-◌, ◌<◌, ◌==◌, Bool, true, false, not, ◌||◌, List, [], ◌∷◌, inl, inr, length, take, drop, replicate, nat_eq, get_or, cond, refl, sym, ap, subst, ◌∙◌, arith}
+use Rattle.std.proofs.Common.{◌≡◌, ℕ, suc, ◌-◌, ◌<◌, ◌==◌, Bool, true, false, not, ◌||◌, List, [], ◌∷◌, inl, inr, length, take, drop, replicate, nat_eq, get_or, cond, sym, ap, subst, ◌∙◌, arith}
 use Rattle.std.specs.List.{list_any}
 use Rattle.std.proofs.lemmas.Bool.{cases_eq}
 use Rattle.std.proofs.lemmas.Bool.Decides.{nat_tests}
@@ -15,10 +15,6 @@ use Rattle.line_finds.proofs.lemmas.PairLaws.{eq_yes, eq_no}
 
 not_none : (n : ℕ) → (suc n == 0) ≡ false
 not_none n = grind (arith, nat_tests)
-
-pub length-marked : (pairs : List Match) (marks : List Bool) → length (marked pairs marks) ≡ length marks
-length-marked [] marks = refl
-length-marked (pair ∷ pairs) marks = length-marked pairs (set marks pair.line true) ∙ length-set marks pair.line true
 
 pub marked_is : (pairs : List Match) (marks : List Bool) → AreBelow (length marks) (pairs_of pairs) → (k : ℕ) → get_or (marked pairs marks) k false ≡ (get_or marks k false || is_paired k (pairs_of pairs))
 marked_is [] marks h k = sym (or-false (get_or marks k false))

@@ -16,7 +16,7 @@ use Rattle.clap.specs.declared.builder.value_parser.ValueParser.TheVariants.{Uns
 use Rattle.clap.proofs.OnLiterals.{clap_on_literals}
 use Rattle.clap.proofs.ValueTestLemmas.{Accepts-accepts}
 use Rattle.occur.specs.Words.{AsksForHelp, IsChosenBy, Reads, ExplainsAmong, form_words, is_no_option, is_operand, occur_app}
-use Rattle.occur.specs.declared.words.Request.{Request}
+use Rattle.occur.specs.declared.words.ScriptRequest.{ScriptRequest}
 use Rattle.occur.specs.declared.words.OccurFault.{OccurFault}
 use Rattle.occur.specs.declared.words.OccurFault.TheVariants as fault
 use Rattle.occur.proofs.lemmas.StatesLemmas.{not_so}
@@ -208,7 +208,7 @@ refused_number (Some number) k among = λ fits.
     absurd (subst (IsAmong k) taken among)
 
 -- words in one of the forms choose what they say
-pub reads_form : (words : List Text) (r : Result Request OccurFault) → IfOk r (IsChosenBy (matches_of occur_app words))
+pub reads_form : (words : List Text) (r : Result ScriptRequest OccurFault) → IfOk r (IsChosenBy (matches_of occur_app words))
     → ExplainsAmong (fault_of occur_app words) r → (name : Text) (number script : Option Text) → words ≡ form_words name number script
     → is_no_option number ≡ true → is_no_option script ≡ true → Reads number script r
 reads_form words (Ok request) chosen reported_too name number script is d e =
@@ -228,7 +228,7 @@ unfolding clap_on_literals
 help_fault name = refl
 
 -- `occur --help` asks for help
-pub reads_help : (words : List Text) (r : Result Request OccurFault) → ExplainsAmong (fault_of occur_app words) r → (name : Text)
+pub reads_help : (words : List Text) (r : Result ScriptRequest OccurFault) → ExplainsAmong (fault_of occur_app words) r → (name : Text)
     → words ≡ name ∷ codes "--help" ∷ [] → AsksForHelp r
 reads_help words (Ok request) reported_too name is =
     let none : ◌≡◌ {A = ℕ} 0 1 = ap length (sym reported_too ∙ ap (fault_of occur_app) is ∙ help_fault name) in

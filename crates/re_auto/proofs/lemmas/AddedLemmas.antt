@@ -1,15 +1,7 @@
 -- What was added, part by part: sequences, choices and repeated parts, from the last part to the
 -- first.
 use Rattle.std.proofs.Common.{◌≡◌, ℕ, zero, suc, ◌+◌, ◌-◌, ◌<◌, ◌≤◌, Bool, IsTrue, List, [], ◌∷◌, map, drop, length, get_or, drop-cons, ◌↔◌, sym, ap, ◌∙◌, subst, arith}
-use Rattle.re_syntax.specs.Expression.{Expression, cat, alt, expression_of}
-use Rattle.re_syntax.specs.Holds.{positions}
-use Rattle.re_syntax.specs.declared.tree.Tree.{Tree}
-use Rattle.re_auto.specs.declared.build.ends.Ends.{Ends}
-use Rattle.re_auto.specs.declared.build.rows.Rows.{Rows}
-use Rattle.re_auto.specs.declared.tables.Empty.{Empty}
-use Rattle.re_auto.specs.Working.Bits.{Has}
-use Rattle.re_auto.specs.Working.Positions.{Part, in_turn, either, again, optional, part_of}
-use Rattle.re_auto.specs.Working.Building.{Shows, Adds, HasRoom, HasWidth, HasRows, IsAdded, IsAddedOf, IsBlank, empty_at, shown}
+use Rattle.re_auto.proofs.Words.{Expression, cat, alt, expression_of, positions, Tree, Ends, Rows, Empty, Has, Part, in_turn, either, again, optional, part_of, Shows, Adds, HasRoom, HasWidth, HasRows, IsAdded, IsAddedOf, IsBlank, empty_at, shown}
 use Rattle.re_auto.proofs.lemmas.Numbered.{IsNumbered}
 use Rattle.re_auto.proofs.lemmas.WithoutPositions.{no_positions}
 use Rattle.re_auto.proofs.lemmas.CountLaws.{positions-alt}

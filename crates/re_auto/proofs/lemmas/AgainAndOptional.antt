@@ -1,8 +1,6 @@
 -- A part again and again, and a part that may be left out.
 use Rattle.std.proofs.Common.{◌≡◌, ℕ, zero, suc, ◌⊎◌, inl, inr, refl, subst, arith}
-use Rattle.re_syntax.specs.Bytes.{Text}
-use Rattle.re_syntax.specs.Holds.{Turns}
-use Rattle.re_auto.specs.Working.Positions.{Part, Reaches, PartHolds, again, optional}
+use Rattle.re_auto.proofs.Words.{Text, Turns, Part, Reaches, PartHolds, again, optional}
 use Rattle.re_auto.proofs.lemmas.Chains.{not_at_begin, not_at_end, reaches_bounds, graft, widen}
 
 -- one turn more after some turns

@@ -1,11 +1,8 @@
 -- The first marked byte of a line, found by a search for a few bytes.
 use Rattle.std.proofs.Common.{◌≡◌, ℕ, ◌+◌, ◌-◌, ◌≤◌, Bool, true, false, ◌||◌, ◌⊎◌, inl, inr, List, Option, None, Some, MatchOption, length, take, drop, slice_index, refl, sym, ◌∙◌, ap, subst, arith}
-use Rattle.std.specs.Prelude.{◌↔◌}
+use Rattle.re_auto.proofs.Words.{◌↔◌, IsFirstByte, is_byte, is_byte2, is_byte3, Text, IsMarked, IsFirstMarked}
 use Rattle.std.proofs.lemmas.Bool.{eqb-true, eq-eqb, false≢true}
 use Rattle.std.proofs.lemmas.List.{get_or-drop, length-drop, take_rest}
-use Rattle.memchr.specs.Find.{IsFirstByte, is_byte, is_byte2, is_byte3}
-use Rattle.re_syntax.specs.Bytes.{Text}
-use Rattle.re_auto.specs.Working.Beginnings.{IsMarked, IsFirstMarked}
 
 one_of_two : (p q : Bool) → ((p ≡ true) ⊎ (q ≡ true)) ↔ ((p || q) ≡ true)
 one_of_two true q = (λ h. refl, λ h. inl refl)

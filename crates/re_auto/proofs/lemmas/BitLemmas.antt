@@ -5,10 +5,7 @@ use Rattle.std.proofs.lemmas.List.{drop-take, get_or_past, length-replicate, get
 use Rattle.std.proofs.Math.ListN.{replicate}
 use Rattle.std.proofs.lemmas.Nat.{and_le_l}
 use Rattle.std.proofs.lemmas.Nat.Bits.{shr_and_one, bit_at_or, bit_at_and, bit_at-lt, bit_at-zero, bit_at_set_same, bit_at_set_other, bit_at-trailing_zeros, bit_at_clear_same, bit_at_clear_other}
-use Rattle.std.specs.Prelude.{bit_and, bit_or, ◌↔◌, ◌≢◌}
-use Rattle.std.specs.List.{HoldsAt, AllWithin}
-use Rattle.std.specs.Int.{bit_at, trailing_zeros, bit_not}
-use Rattle.re_auto.specs.Working.Bits.{Has, Are, row_of}
+use Rattle.re_auto.proofs.Words.{bit_and, bit_or, ◌↔◌, ◌≢◌, HoldsAt, AllWithin, bit_at, trailing_zeros, bit_not, Has, Are, row_of}
 use Rattle.std.proofs.lemmas.Slice.{between-put_mid, take-put_mid_below, drop-put_mid}
 use borrow.Rule.Slice.PartMut.{put_mid}
 

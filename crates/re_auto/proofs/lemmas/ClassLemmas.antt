@@ -3,8 +3,7 @@ use Rattle.std.proofs.Common.{◌≡◌, ℕ, suc, ◌+◌, ◌-◌, ◌*◌, �
 use Rattle.std.proofs.Math.Seq.{drop-append_seam}
 use Rattle.std.proofs.lemmas.Bool.{cases_eq}
 use Rattle.std.proofs.lemmas.List.{take-append-le, drop-take, get_or_append_left, get_or-append_right, get_or-set_same, get_or-set_other}
-use Rattle.re_auto.specs.Working.Bits.{row_of}
-use Rattle.re_auto.specs.Working.ByteClasses.{IsClassed}
+use Rattle.re_auto.proofs.Words.{row_of, IsClassed}
 use Rattle.re_auto.proofs.lemmas.RowLemmas.{row_within}
 
 -- a row within a table stays where more is appended

@@ -1,22 +1,7 @@
 -- The tables of an expression, from blank rows to what they say.
 use Rattle.std.proofs.Common.{◌≡◌, ℕ, ◌+◌, ◌-◌, ◌*◌, ◌/◌, ◌%◌, ◌<◌, ◌≤◌, Bool, List, length-take, drop, get_or, inl, inr, ◌↔◌, sym, ap, ◌∙◌, subst, arith}
 use Rattle.std.proofs.lemmas.List.{get_or-take, get_or-drop}
-use Rattle.std.specs.Global.{Global}
-use Rattle.std.specs.Int.{bit_at}
-use Rattle.std.specs.Prelude.{Vec}
-use Rattle.re_syntax.specs.Expression.{Expression}
-use Rattle.re_syntax.specs.Holds.{positions}
-use Rattle.re_syntax.specs.Profile.{most_positions}
-use Rattle.re_auto.specs.declared.build.classes.Classes.{Classes}
-use Rattle.re_auto.specs.declared.build.ends.Ends.{Ends}
-use Rattle.re_auto.specs.declared.build.rows.Rows.{Rows}
-use Rattle.re_auto.specs.declared.ranges.WordRange.{WordRange}
-use Rattle.re_auto.specs.Working.Bits.{Has, row_of}
-use Rattle.re_auto.specs.Working.Positions.{Part, part_of}
-use Rattle.re_auto.specs.Working.Ranges.{CoverRows}
-use Rattle.re_auto.specs.Working.Tables.{Marks, AreTablesOf, words_for}
-use Rattle.re_auto.specs.Working.Building.{Shows, Adds, IsAddedOf, AreBlankRows}
-use Rattle.re_auto.specs.Working.ByteClasses.{AreClasses}
+use Rattle.re_auto.proofs.Words.{Global, bit_at, Vec, Expression, positions, most_positions, Classes, Ends, Rows, WordRange, Has, row_of, Part, part_of, CoverRows, Marks, AreTablesOf, words_for, Shows, Adds, IsAddedOf, AreBlankRows, AreClasses}
 use Rattle.re_auto.proofs.lemmas.BitLemmas.{within}
 use Rattle.re_auto.proofs.lemmas.RowLemmas.{row_within}
 use Rattle.re_auto.proofs.lemmas.PartLemmas.{via}

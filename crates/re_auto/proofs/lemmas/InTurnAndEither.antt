@@ -1,8 +1,6 @@
 -- Two parts in turn, and one of two.
 use Rattle.std.proofs.Common.{ℕ, false, ◌⊎◌, inl, inr, refl, ◌∙◌, subst, arith}
-use Rattle.std.specs.Prelude.{⊤}
-use Rattle.re_syntax.specs.Bytes.{Text}
-use Rattle.re_auto.specs.Working.Positions.{Part, is_begin, is_end, Reaches, PartHolds, in_turn, either}
+use Rattle.re_auto.proofs.Words.{⊤, Text, Part, is_begin, is_end, Reaches, PartHolds, in_turn, either}
 use Rattle.re_auto.proofs.lemmas.Numbered.{IsNumbered}
 use Rattle.re_auto.proofs.lemmas.Chains.{not_at_begin, not_at_end, reaches_bounds, graft, widen}
 use Rattle.re_auto.proofs.lemmas.JoinedChains.{Run, of_first, of_second, of_both, run}

@@ -1,12 +1,6 @@
--- Least starts are what the chains say, and are enough for the earliest and then longest stretch.
+-- Least starts are what the chains say, and are enough for the leftmost-longest stretch.
 use Rattle.std.proofs.Common.{◌≡◌, ℕ, zero, suc, ◌<◌, ◌≤◌, inl, inr, ◌++◌, length, slice_index, Option, Some, None, refl, sym, subst, arith}
-use Rattle.re_syntax.specs.Bytes.{Text}
-use Rattle.re_auto.specs.declared.mode.Mode.{Mode}
-use Rattle.re_auto.specs.Working.Positions.{Part, is_begin, is_end, Reaches, PartHolds, part_of}
-use Rattle.re_auto.specs.Working.Stepping.{MayBegin}
-use Rattle.re_syntax.specs.Working.BestStretches.{Least, IsLeast}
-use Rattle.re_auto.specs.Working.Starts.{StartsAfter, Brought, IsNextStarts, Reported, IsMatched}
-use Rattle.re_auto.specs.Laws.{PassBegins, StartsStay, StartsDecide, OnePassIsEnough, SpentIsOver}
+use Rattle.re_auto.proofs.Words.{Text, Mode, Part, is_begin, is_end, Reaches, PartHolds, part_of, MayBegin, Least, IsLeast, StartsAfter, Brought, IsNextStarts, Reported, IsMatched, PassBegins, StartsStay, StartsDecide, OnePassIsEnough, SpentIsOver}
 use Rattle.re_auto.proofs.lemmas.Chains.{reaches_bounds, reaches_on, reaches_back}
 use Rattle.re_auto.proofs.lemmas.PositionsDecide.{positions_decide}
 use Rattle.re_syntax.proofs.lemmas.BestStretches.{next_or_before, best_so_far}

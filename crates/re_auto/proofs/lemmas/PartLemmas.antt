@@ -1,12 +1,6 @@
 -- Parts joined to one another, by what their ends show and what was added to the rows.
 use Rattle.std.proofs.Common.{ℕ, suc, ◌+◌, ◌*◌, ◌<◌, ◌≤◌, Bool, true, false, IsTrue, List, length, ◌⊎◌, inl, inr, ◌↔◌, refl, ◌∙◌, arith, mul-le-mul_right}
-use Rattle.std.specs.Prelude.{⊤}
-use Rattle.re_auto.specs.declared.build.ends.Ends.{Ends}
-use Rattle.re_auto.specs.declared.build.rows.Rows.{Rows}
-use Rattle.re_auto.specs.declared.tables.Empty.{Empty}
-use Rattle.re_auto.specs.Working.Bits.{Has, row_of, Are}
-use Rattle.re_auto.specs.Working.Positions.{Part, in_turn, either, again, optional}
-use Rattle.re_auto.specs.Working.Building.{Shows, Adds, HasRoom, HasWidth, HasRows, empty_at, blank_part, shown}
+use Rattle.re_auto.proofs.Words.{⊤, Ends, Rows, Empty, Has, row_of, Are, Part, in_turn, either, again, optional, Shows, Adds, HasRoom, HasWidth, HasRows, empty_at, blank_part, shown}
 use Rattle.re_auto.proofs.lemmas.Numbered.{IsNumbered}
 use Rattle.re_auto.proofs.lemmas.WithoutPositions.{HasNoPositions}
 

@@ -3,11 +3,7 @@ use Rattle.std.proofs.Common.{◌≡◌, ℕ, ◌/◌, ◌%◌, ◌<◌, ◌≤�
 use Rattle.std.proofs.lemmas.Bool.{cases_lt}
 use Rattle.std.proofs.lemmas.Nat.Bits.{bit_at_or, bit_at-lt, bit_at-zero}
 use Rattle.std.proofs.lemmas.Option.{same_Some, none-some}
-use Rattle.std.specs.Prelude.{bit_or, Some, slice_get}
-use Rattle.std.specs.Int.{bit_at}
-use Rattle.re_auto.specs.declared.ranges.WordRange.{WordRange}
-use Rattle.re_auto.specs.Working.Bits.{Has}
-use Rattle.re_auto.specs.Working.Ranges.{Covers}
+use Rattle.re_auto.proofs.Words.{bit_or, Some, slice_get, bit_at, WordRange, Has, Covers}
 use Rattle.re_auto.proofs.lemmas.BitLemmas.{one_of_max}
 
 -- no number is in a word that is 0

@@ -1,11 +1,6 @@
 -- Sets of positions are what the chains say, step by step.
 use Rattle.std.proofs.Common.{ℕ, suc, ◌<◌, inl, inr, ◌↔◌, ◌++◌, arith, length, slice_index, refl, subst}
-use Rattle.re_syntax.specs.Bytes.{Text}
-use Rattle.re_syntax.specs.Expression.{Expression}
-use Rattle.re_syntax.specs.Holds.{Holds}
-use Rattle.re_auto.specs.declared.mode.Mode.{Mode}
-use Rattle.re_auto.specs.Working.Positions.{Part, is_begin, is_end, Reaches, PartHolds, part_of}
-use Rattle.re_auto.specs.Working.Stepping.{MayBegin, IsAfter, IsNext, Accepts}
+use Rattle.re_auto.proofs.Words.{Text, Expression, Holds, Mode, Part, is_begin, is_end, Reaches, PartHolds, part_of, MayBegin, IsAfter, IsNext, Accepts}
 use Rattle.re_auto.proofs.lemmas.Chains.{reaches_on, reaches_back}
 use Rattle.re_auto.proofs.lemmas.PositionsDecide.{positions_decide}
 

@@ -1,18 +1,7 @@
 -- What sets of positions mean, by what their words are.
 use Rattle.std.proofs.Common.{◌≡◌, ℕ, suc, ◌<◌, Bool, true, false, IsTrue, List, length, ◌||◌, ◌&&◌, inl, inr, refl, sym, ◌∙◌, subst, arith, true≢false, Some, slice_get}
-use Rattle.std.specs.Prelude.{◌↔◌, slice_index}
+use Rattle.re_auto.proofs.Words.{◌↔◌, slice_index, Text, Expression, Holds, positions, Mode, Search, StateSet, Has, Part, part_of, is_begin, is_end, MayBegin, IsNext, Accepts, IsNowhere, StandsAt, IsNextSet, IsAccepting, CanBegin}
 use Rattle.std.proofs.lemmas.Option.{slice_get_within, get_or_from_slice_get}
-use Rattle.re_syntax.specs.Bytes.{Text}
-use Rattle.re_syntax.specs.Expression.{Expression}
-use Rattle.re_syntax.specs.Holds.{Holds, positions}
-use Rattle.re_auto.specs.declared.mode.Mode.{Mode}
-use Rattle.re_auto.specs.declared.mode.Mode.TheVariants.{Search}
-use Rattle.re_auto.specs.declared.step.state_set.StateSet.{StateSet}
-use Rattle.re_auto.specs.Working.Bits.{Has}
-use Rattle.re_auto.specs.Working.Positions.{Part, part_of, is_begin, is_end}
-use Rattle.re_auto.specs.Working.Stepping.{MayBegin, IsNext, Accepts}
-use Rattle.re_auto.specs.Working.StateSets.{IsNowhere, StandsAt, IsNextSet, IsAccepting}
-use Rattle.re_auto.specs.Working.Tables.{CanBegin}
 use Rattle.re_auto.proofs.lemmas.Chains.{not_at_begin}
 use Rattle.re_auto.proofs.lemmas.Numbered.{part_numbered}
 use Rattle.re_auto.proofs.lemmas.SetsByChains.{none_is_right, step_is_right, accept_is_right}

@@ -1,19 +1,8 @@
 -- What least starts mean, by what their lists are.
 use Rattle.std.proofs.Common.{◌≡◌, ℕ, suc, ◌/◌, ◌%◌, if◌then◌else◌, ◌<◌, ◌≤◌, Bool, true, false, IsTrue, List, length, nat_eq, nat_lt, ltb-true, ltb-false, ◌⊎◌, inl, inr, refl, sym, ap, ◌∙◌, subst, arith, Option, Some, None, slice_get, eqb-true, eq-eqb, ne_eqb}
-use Rattle.std.specs.Prelude.{◌↔◌, slice_index}
-use Rattle.std.specs.Int.{bit_at}
+use Rattle.re_auto.proofs.Words.{◌↔◌, slice_index, bit_at, Text, Expression, Mode, Starts, Has, part_of, is_begin, is_end, Least, Brought, IsNextStarts, Reported, IsMatched, IsSpent, least_of, Carries, Brings, AtMost, StartsAt, AreNext, MayBegin}
 use Rattle.std.proofs.lemmas.Bool.{cases_lt, true_from_ne_false}
 use Rattle.std.proofs.lemmas.Option.{slice_get_within, get_or_from_slice_get}
-use Rattle.re_syntax.specs.Bytes.{Text}
-use Rattle.re_syntax.specs.Expression.{Expression}
-use Rattle.re_auto.specs.declared.mode.Mode.{Mode}
-use Rattle.re_auto.specs.declared.step.starts.Starts.{Starts}
-use Rattle.re_auto.specs.Working.Bits.{Has}
-use Rattle.re_auto.specs.Working.Positions.{part_of, is_begin, is_end}
-use Rattle.re_syntax.specs.Working.BestStretches.{Least}
-use Rattle.re_auto.specs.Working.Starts.{Brought, IsNextStarts, Reported, IsMatched, IsSpent}
-use Rattle.re_auto.specs.Working.StartSets.{least_of, Carries, Brings, AtMost, StartsAt, AreNext}
-use Rattle.re_auto.specs.Working.Stepping.{MayBegin}
 use Rattle.re_auto.proofs.lemmas.LeastStarts.{pass_begins, starts_stay, starts_decide, spent_is_over}
 
 -- what one position's row adds

@@ -1,14 +1,9 @@
 -- Sets of numbers that are one word of bits.
 use Rattle.std.proofs.Common.{Bool, ◌≡◌, ℕ, ◌/◌, ◌%◌, ◌^◌, ◌<◌, ◌≤◌, List, length, length-set, get_or, set, ◌⊎◌, inl, inr, sym, ◌∙◌, subst, arith}
-use Rattle.std.specs.Prelude.{bit_and, bit_or, ◌↔◌}
-use Rattle.std.specs.Int.{bit_at}
+use Rattle.re_auto.proofs.Words.{bit_and, bit_or, ◌↔◌, bit_at, Mode, Has, InWord, Part, MayBegin, IsNext}
 use Rattle.std.proofs.lemmas.Bool.{cases_lt}
 use Rattle.std.proofs.lemmas.List.{get_or-set_same}
 use Rattle.std.proofs.lemmas.Nat.Bits.{bit_at_or, bit_at_and, bit_at-lt, bit_at_above}
-use Rattle.re_auto.specs.declared.mode.Mode.{Mode}
-use Rattle.re_auto.specs.Working.Bits.{Has, InWord}
-use Rattle.re_auto.specs.Working.Positions.{Part}
-use Rattle.re_auto.specs.Working.Stepping.{MayBegin, IsNext}
 use Rattle.re_auto.proofs.lemmas.BitLemmas.{one_of_max, within}
 
 -- a word has no number above its last bit

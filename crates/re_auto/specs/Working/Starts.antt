@@ -6,7 +6,7 @@ use Rattle.re_syntax.specs.Expression.{Expression}
 use Rattle.re_syntax.specs.Holds.{Holds}
 use Rattle.re_auto.specs.declared.mode.Mode.{Mode}
 use Rattle.re_auto.specs.Working.Positions.{Part, is_begin, Reaches}
-use Rattle.re_auto.specs.Working.Stepping.{MayBegin}
+use Rattle.re_auto.specs.Working.SteppedSets.{MayBegin}
 use Rattle.re_syntax.specs.Working.BestStretches.{Least}
 
 -- each position with the least place, `from` or later, at which a stretch of the mode begins that

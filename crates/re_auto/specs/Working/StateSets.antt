@@ -7,7 +7,7 @@ use Rattle.re_auto.specs.declared.mode.Mode.{Mode}
 use Rattle.re_auto.specs.declared.step.state_set.StateSet.{StateSet}
 use Rattle.re_auto.specs.Working.Bits.{Has}
 use Rattle.re_auto.specs.Working.Positions.{is_begin, part_of}
-use Rattle.re_auto.specs.Working.Stepping.{IsAfter, IsNext, Accepts}
+use Rattle.re_auto.specs.Working.SteppedSets.{IsAfter, IsNext, Accepts}
 use Rattle.re_auto.specs.Working.Tables.{words_for}
 
 -- the set was made for the automaton of this expression, and has only its positions

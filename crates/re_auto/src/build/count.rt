@@ -1,6 +1,7 @@
 //! The number of an expression's positions, without writing its intervals out.
 ghost use Rattle.std.specs.Prelude.{◌≡◌, ◌<◌, map, min};
-ghost use Rattle.re_syntax.specs.Expression.{cat, expression_of};
+ghost use Rattle.re_syntax.specs.Expression.{cat};
+ghost use Rattle.re_syntax.specs.Working.Trees.{expression_of};
 ghost use Rattle.re_syntax.specs.Holds.{copies, positions};
 
 use re_syntax::{MOST_POSITIONS, Tree};

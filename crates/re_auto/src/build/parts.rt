@@ -1,9 +1,10 @@
 //! The parts of an expression, added to an automaton's rows from the last one to the first.
 ghost use Rattle.std.specs.Prelude.{◌≡◌, ◌+◌, ◌*◌, ◌≤◌, ◌<◌, max, IfOk, map};
-ghost use Rattle.re_syntax.specs.Expression.{alt, cat, expression_of, repeat};
+ghost use Rattle.re_syntax.specs.Expression.{alt, cat, repeat};
+ghost use Rattle.re_syntax.specs.Working.Trees.{expression_of};
 ghost use Rattle.re_syntax.specs.Holds.{positions};
-ghost use Rattle.re_auto.specs.Working.Building.{AreTurns, AreUpTo, HasRoom, IsAdded, IsAddedOf};
-ghost use Rattle.re_auto.specs.Working.Building.{IsOnce, IsTail, tail_copies, wanted_position};
+ghost use Rattle.re_auto.specs.Working.PartTables.{AreTurns, AreUpTo, HasRoom, IsAdded, IsAddedOf};
+ghost use Rattle.re_auto.specs.Working.PartTables.{IsOnce, IsTail, tail_copies, wanted_position};
 
 use crate::build::count::position_count;
 use crate::build::ends::Ends;

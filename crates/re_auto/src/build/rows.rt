@@ -2,10 +2,10 @@
 ghost use Rattle.std.specs.Prelude.{◌≡◌, ℕ, ◌+◌, ◌*◌, ◌<◌, ◌≤◌, ◌↔◌, ◌⊎◌, IfOk, length};
 ghost use Rattle.std.specs.Int.{bit_at};
 ghost use Rattle.re_syntax.specs.Profile.{most_positions};
-ghost use Rattle.re_syntax.specs.Sets.{members};
+ghost use Rattle.re_syntax.specs.Working.Trees.{members};
 ghost use Rattle.re_auto.specs.Working.Bits.{Has, row_of};
-ghost use Rattle.re_auto.specs.Working.Building.{Adds, AreBlankRows, HasRows, HasWidth, Shows};
-ghost use Rattle.re_auto.specs.Working.Building.{Wanted, crossing, shown};
+ghost use Rattle.re_auto.specs.Working.PartTables.{Adds, AreBlankRows, HasRows, HasWidth, Shows};
+ghost use Rattle.re_auto.specs.Working.PartTables.{Wanted, crossing, shown};
 ghost use Rattle.re_auto.specs.Working.Positions.{again, in_turn, one_position};
 ghost use Rattle.re_auto.specs.Working.Tables.{most_words};
 

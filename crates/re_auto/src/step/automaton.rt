@@ -2,14 +2,14 @@
 ghost use Rattle.std.specs.Prelude.{◌≡◌, ℕ, suc, ◌-◌, Bool, true, false, ◌<◌, ◌≤◌, ◌↔◌, Some};
 ghost use Rattle.std.specs.Prelude.{IsTrue, IfOk, IfErr, vec_len, length, slice_get, slice_index};
 ghost use Rattle.re_syntax.specs.Bytes.{Text};
-ghost use Rattle.re_syntax.specs.Expression.{expression_of};
+ghost use Rattle.re_syntax.specs.Working.Trees.{expression_of};
 ghost use Rattle.re_syntax.specs.Holds.{Holds, positions};
 ghost use Rattle.re_syntax.specs.Profile.{most_positions};
 ghost use Rattle.re_auto.specs.declared.mode.Mode.TheVariants.{Search};
 ghost use Rattle.re_auto.specs.Working.Bits.{Has, Are};
 ghost use Rattle.re_meter.specs.Meters.{many_built};
 ghost use Rattle.re_auto.specs.Working.Positions.{part_of, is_begin, is_end};
-ghost use Rattle.re_auto.specs.Working.Stepping.{MayBegin, IsNext};
+ghost use Rattle.re_auto.specs.Working.SteppedSets.{MayBegin, IsNext};
 ghost use Rattle.re_auto.specs.Working.Tables.{most_words, words_for, CanBegin, IsRefused};
 ghost use Rattle.re_auto.specs.Working.StateSets.{IsMadeFor, IsNowhere, StandsAt, IsNextSet};
 ghost use Rattle.re_auto.specs.Working.StateSets.{IsAccepting, AreAlikeInClasses};
@@ -18,7 +18,7 @@ mod one_word;
 
 use crate::bits;
 use crate::build::BuildFault;
-use crate::build::filling::build_tables;
+use crate::build::fill::build_tables;
 use crate::mode::Mode;
 use crate::step::state_set::StateSet;
 use crate::tables::Tables;
@@ -37,7 +37,7 @@ pub struct Automaton {
 impl Model for Automaton {
     ghost use Rattle.re_syntax.specs.declared.tree.Tree.{Tree};
     ghost use Rattle.re_syntax.specs.contracts.tree.Tree as e;
-    ghost use Rattle.re_syntax.specs.Expression.{expression_of};
+    ghost use Rattle.re_syntax.specs.Working.Trees.{expression_of};
     ghost use Rattle.std.specs.Coded.{codes};
     ghost use Rattle.re_auto.specs.Working.Tables.{AreTablesOf};
 

@@ -2,12 +2,12 @@
 ghost use Rattle.std.specs.Prelude.{ℕ, ◌<◌, vec_len};
 ghost use Rattle.re_auto.specs.Working.Bits.{Has};
 
-mod lowering;
-mod reading;
-mod stepping;
+mod advance;
+mod least;
+mod lower;
 
-/// For each position of an automaton, the least place of a line at which a stretch begins that can
-/// have come to it. `StartsAt` in `specs/Working/StartSets.antt` says what it means on a line and
+/// For each position of an automaton, the least place of a line where a stretch begins that can
+/// have reached it. `StartsAt` in `specs/Working/StartSets.antt` says what it means on a line and
 /// at a place.
 #[derive(Drop)]
 pub struct Starts {

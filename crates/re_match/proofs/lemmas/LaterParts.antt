@@ -2,26 +2,12 @@
 use Rattle.std.proofs.Common.{ℕ, ◌+◌, ◌-◌, ◌<◌, ◌≤◌, inl, inr, subst, false, IsTrue, [], ◌∷◌, length, drop, Option, Some, None, arith}
 use Rattle.std.proofs.lemmas.Bool.{cases_eq}
 use Rattle.std.proofs.Math.Decide.{dec_le}
-use Rattle.re_syntax.specs.Bytes.{Text}
-use Rattle.re_syntax.specs.Expression.{Expression}
-use Rattle.re_syntax.specs.Holds.{Holds}
-use Rattle.re_syntax.specs.Parts.{IsFound, IsPart}
-use Rattle.re_syntax.specs.declared.span.Span.{Span}
+use Rattle.re_match.proofs.Words.{Text, Expression, Holds, IsFound, IsPart, Span, FindsPart, Needle, FindsRun, IsNeedleOf, run_of, IsLongest, HasNone, BeginsLater}
 use Rattle.re_syntax.proofs.lemmas.Decisions.{Any-first}
 use Rattle.re_syntax.proofs.lemmas.SomeOfJoined.{Any-single}
-use Rattle.re_auto.specs.Searching.{FindsPart}
-use Rattle.re_needle.specs.declared.needle.Needle.{Needle}
-use Rattle.re_needle.specs.Working.Runs.{FindsRun}
-use Rattle.re_needle.specs.Working.Needles.{IsNeedleOf, run_of}
 use Rattle.re_needle.proofs.lemmas.RunLaws.{run_rest, run_whole}
-use Rattle.re_steps.specs.Working.Lone.{IsLongest, HasNone}
-use Rattle.re_match.specs.Working.NextParts.{BeginsLater}
 
 module _ (e : Expression) (line : Text) (from : ℕ) where
-  -- a stretch from a place on begins there or later
-  pub later_at_once : from ≤ length line → BeginsLater e line from from
-  later_at_once within = (omega arith, within, λ i j f. f.begins)
-
   -- where each match begins with the needle, none begins before the needle's next place
   pub later_by_needle : (needle : Needle) → IsNeedleOf e needle → IsTrue needle.is_first → (k : ℕ) → from ≤ length line → FindsRun (drop from line) (run_of needle.finder) (Some k) → BeginsLater e line from (from + k)
   later_by_needle needle of first k within (next, o) =

@@ -1,9 +1,6 @@
 -- What fixed strings mean, and how many positions they have.
 use Rattle.std.proofs.Common.{◌≡◌, Bool, true, false, [], ◌∷◌, length, map, refl, arith}
-use Rattle.re_syntax.specs.Bytes.{Text}
-use Rattle.re_syntax.specs.Expression.{byte, cat}
-use Rattle.re_syntax.specs.Holds.{folded, positions}
-use Rattle.re_match.specs.Working.Literals.{literal_meaning}
+use Rattle.re_match.proofs.Words.{Text, byte, cat, folded, positions, literal_meaning}
 
 cat_positions : (t : Text) → positions (cat (map byte t)) ≡ length t
 cat_positions [] = refl

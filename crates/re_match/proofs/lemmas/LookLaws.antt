@@ -1,11 +1,9 @@
 -- The work of a look over a line, and of steps after it.
-use Rattle.std.proofs.Common.{◌≡◌, ℕ, ◌+◌, ◌≤◌, min, inl, inr, length, sym, subst, arith}
-use Rattle.re_meter.specs.Meters.{Steps, AddsAtMost, AddsUpTo}
+use Rattle.std.proofs.Common.{◌+◌, min, inl, inr, length, sym, subst, arith}
+use Rattle.re_match.proofs.Words.{AddsUpTo, Text, Expression, LooksOver}
+use Rattle.re_meter.specs.Meters.{Steps, AddsAtMost}
 use Rattle.re_meter.proofs.lemmas.Adding.{adds_none, adds_within, adds_both, only_passed}
-use Rattle.re_syntax.specs.Bytes.{Text}
-use Rattle.re_syntax.specs.Expression.{Expression}
 use Rattle.re_needle.proofs.lemmas.Looks.{look_within}
-use Rattle.re_match.specs.Working.Sweeping.{LooksOver}
 
 module _ (e : Expression) (line : Text) where
   -- no byte is passed twice

@@ -1,8 +1,7 @@
 -- Runs that expressions need.
-use Rattle.std.proofs.Common.{◌≡◌, ℕ, ◌+◌, ◌<◌, ◌≤◌, [], length, arith}
-use Rattle.re_syntax.specs.Expression.{Expression}
+use Rattle.std.proofs.Common.{◌≤◌, [], arith}
+use Rattle.re_match.proofs.Words.{Expression, RunIsNeeded}
 use Rattle.re_syntax.proofs.lemmas.HoldsDecided.{Holds-le}
-use Rattle.re_needle.specs.Working.Needles.{RunIsNeeded}
 
 -- the run of no set is everywhere
 pub none_needed : (e : Expression) → RunIsNeeded [] e

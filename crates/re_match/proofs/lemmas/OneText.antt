@@ -1,22 +1,14 @@
 -- What is matched of a line by one text, by where a search for the text finds it.
 use Rattle.std.proofs.Common.{◌≡◌, ℕ, ◌+◌, ◌-◌, ◌<◌, ◌≤◌, true, false, IsTrue, [], ◌∷◌, ◌++◌, length, map, drop, Option, None, Some, ◌↔◌, refl, sym, ap, subst, ◌∙◌, arith, zero-add, length-append, length-drop}
-use Rattle.std.specs.Bool.{Decides}
-use Rattle.std.specs.Option.{is_some}
-use Rattle.std.specs.Str.{bytes_eq}
+use Rattle.re_match.proofs.Words.{Decides, is_some, bytes_eq, Text, byte, sequence, Holds, Matches, IsFound, IsPart, OccursAt, FindsNeedle, FoundPast}
 use Rattle.std.proofs.lemmas.Bool.{false≢true}
 use Rattle.std.proofs.lemmas.Slice.Eq.{bytes_eq-Decides}
 use Rattle.std.proofs.Math.Decide.{dec_le}
 use Rattle.std.proofs.Math.Seq.{drop-length}
 use Rattle.std.proofs.lemmas.List.{drop-drop, append-nil}
-use Rattle.re_syntax.specs.Bytes.{Text}
-use Rattle.re_syntax.specs.Expression.{byte, sequence}
-use Rattle.re_syntax.specs.Holds.{Holds, Matches}
-use Rattle.re_syntax.specs.Parts.{IsFound, IsPart}
 use Rattle.re_syntax.proofs.lemmas.Decisions.{Any-first}
 use Rattle.re_syntax.proofs.lemmas.FixedStrings.{stands-holds, holds-stands, stands-matches, matches-stands}
-use Rattle.memchr.specs.Find.{OccursAt, FindsNeedle}
 use Rattle.re_syntax.proofs.lemmas.SomeOfJoined.{Any-single}
-use Rattle.re_ends.specs.Working.GreatestEnds.{FoundPast}
 use Rattle.re_needle.proofs.lemmas.Occurrences.{occurs-stands, stands-occurs}
 
 -- the place after a text at a place

@@ -1,9 +1,6 @@
 -- Parts within their line.
 use Rattle.std.proofs.Common.{ℕ, ◌≤◌, Bool, List, Option, None, Some, IfSome, length, arith}
-use Rattle.re_syntax.specs.Bytes.{Text}
-use Rattle.re_syntax.specs.Expression.{Expression}
-use Rattle.re_syntax.specs.declared.span.Span.{Span}
-use Rattle.re_auto.specs.Searching.{FindsPart}
+use Rattle.re_match.proofs.Words.{Text, Expression, Span, FindsPart}
 
 -- a part ends no earlier than its search begins, and within the line
 pub part_within : (es : List Expression) (line : Text) (whole : Bool) (from : ℕ) (found : Option Span) → FindsPart es line whole from found → IfSome found (λ part. (from ≤ part.end) × (part.end ≤ length line))

@@ -1,24 +1,14 @@
 -- The line of a block in which the first of many strings ends.
 use Rattle.std.proofs.Common.{◌≡◌, ◌≢◌, ℕ, suc, ◌+◌, ◌-◌, ◌<◌, ◌≤◌, Bool, true, false, inl, inr, List, [], ◌∷◌, ◌++◌, All, Some, length, map, take, drop, get_or, slice_range, refl, sym, ap, ◌∙◌, subst, arith, length-drop, length-take, length-append, take-append-drop}
-use Rattle.std.specs.Prelude.{⊤}
+use Rattle.re_match.proofs.Words.{⊤, Text, Matches, newline, terminated, HasNoNewline, IsLineFrom, PassesAll, IsString, Occurs, key, keys, EndsFirst, Literals, any_literal, StopsAt, Unseen, Seen, Matched}
 use Rattle.std.proofs.Math.Decide.{dec_le}
 use Rattle.std.proofs.lemmas.Bool.{eqb-true, eq-eqb}
 use Rattle.std.proofs.lemmas.List.{get_or-append-add, get_or_append_left, get_or-drop, get_or-map, get_or-take, length-map, map-append}
 use Rattle.std.proofs.lemmas.List.Elements.{All-head}
-use Rattle.re_syntax.specs.Bytes.{Text}
-use Rattle.re_syntax.specs.Holds.{Matches}
-use Rattle.re_syntax.specs.Lines.{newline, terminated, HasNoNewline}
 use Rattle.re_syntax.proofs.lemmas.Decisions.{Any-cases, Any-none}
 use Rattle.re_syntax.proofs.lemmas.LinesLaws.{all_head, all_tail, none_before, none_in_empty, rest_has_none}
-use Rattle.re_needle.specs.Working.Blocks.{IsLineFrom, PassesAll}
 use Rattle.re_needle.proofs.lemmas.BlockLemmas.{passed_within}
 use Rattle.re_needle.proofs.lemmas.Looks.{place_in_line}
-use Rattle.re_strings.specs.Working.FixedSets.{IsString, Occurs}
-use Rattle.re_strings.specs.Working.Keys.{key, keys}
-use Rattle.re_strings.specs.Working.Reached.{EndsFirst}
-use Rattle.re_match.specs.Working.Literals.{Literals, any_literal}
-use Rattle.re_match.specs.Working.Sweeping.{StopsAt}
-use Rattle.re_match.specs.declared.sweeps.Stop.TheVariants.{Unseen, Seen, Matched}
 use Rattle.re_match.proofs.lemmas.SetBlocks.{piece_before, piece_after}
 use Rattle.re_strings.proofs.lemmas.KeyLaws.{key_newline}
 use Rattle.re_match.proofs.lemmas.SetMatches.{occurs_decides}

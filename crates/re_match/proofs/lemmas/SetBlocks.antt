@@ -1,16 +1,8 @@
 -- Lines of a block that have none of many strings.
 use Rattle.std.proofs.Common.{ℕ, Bool, true, false, length, get_or, arith, ◌≡◌, suc, ◌+◌, ◌≤◌, List, [], ◌∷◌, ◌++◌, map, take, drop, Some, None, sym, ap, ◌∙◌, subst, length-append}
-use Rattle.re_syntax.specs.Bytes.{Text}
-use Rattle.re_syntax.specs.Expression.{Expression}
-use Rattle.re_needle.specs.Working.Blocks.{PassesUnmatched, IsBlock, PassesAll}
-use Rattle.std.specs.Prelude.{⊤}
+use Rattle.re_match.proofs.Words.{Text, Expression, PassesUnmatched, IsBlock, PassesAll, ⊤, Matches, IsString, Occurs, EndsFirst, Literals, any_literal, key, keys}
 use Rattle.std.proofs.lemmas.Bool.{false≢true}
 use Rattle.std.proofs.lemmas.List.{length-map, map-append, take-append-le}
-use Rattle.re_syntax.specs.Holds.{Matches}
-use Rattle.re_strings.specs.Working.FixedSets.{IsString, Occurs}
-use Rattle.re_strings.specs.Working.Reached.{EndsFirst}
-use Rattle.re_match.specs.Working.Literals.{Literals, any_literal}
-use Rattle.re_strings.specs.Working.Keys.{key, keys}
 use Rattle.re_needle.proofs.lemmas.BlockLemmas.{passes_free_block, passes_free_front}
 use Rattle.re_match.proofs.lemmas.SetMatches.{occurs_decides}
 
@@ -100,7 +92,7 @@ module _ (l : Literals) (none_empty : IsString (map (keys l.fold) l.texts) [] �
       (λ k below (i, o). first i k below o) front in
       (lines, rest, free, λ i d below. unmatched _ (all i d below), is, counted)
 
--- lines of which no part is matched aren't matched as a whole
+-- lines without a matched part aren't matched as a whole
 pub passes_whole_too : (e : Expression) (whole : Bool) (block : Text) (count : ℕ) → PassesUnmatched e false block count → PassesUnmatched e whole block count
 passes_whole_too e false block count passes = passes
 passes_whole_too e true block count (lines, rest, free, none, is, counted) =

@@ -1,23 +1,12 @@
 -- What a choice of fixed strings matches: the lines that have one of them, as strings are compared.
 use Rattle.std.proofs.Common.{◌≡◌, ◌↔◌, ℕ, ◌+◌, ◌-◌, ◌<◌, ◌≤◌, inl, inr, Bool, true, false, IsTrue, List, [], ◌∷◌, ◌++◌, length, map, take, drop, Option, Some, None, refl, sym, ap, subst, ◌∙◌, arith, length-append, length-drop}
-use Rattle.std.specs.Option.{is_some}
+use Rattle.re_match.proofs.Words.{is_some, Text, alt, byte, sequence, Holds, Matches, IsFound, Span, IsString, Occurs, IsBestOccurrence, EndsFirst, FoundPast, Literals, any_literal, key, keys, FindsPart}
 use Rattle.std.proofs.lemmas.List.{drop-append-le, take-append-drop, length-take-le, length-map}
 use Rattle.std.proofs.Math.ListN.{drop_of_length-le}
 use Rattle.std.proofs.lemmas.Bool.{cases_lt, false≢true}
-use Rattle.re_syntax.specs.Bytes.{Text}
-use Rattle.re_syntax.specs.Expression.{alt, byte, sequence}
-use Rattle.re_syntax.specs.Holds.{Holds, Matches}
-use Rattle.re_syntax.specs.Parts.{IsFound}
 use Rattle.re_syntax.proofs.lemmas.Decisions.{Any-first, Any-later, Any-cases, Any-none}
 use Rattle.re_syntax.proofs.lemmas.FixedStrings.{stands-holds, holds-stands}
 use Rattle.re_syntax.proofs.lemmas.HoldsDecided.{Holds-le}
-use Rattle.re_syntax.specs.declared.span.Span.{Span}
-use Rattle.re_strings.specs.Working.FixedSets.{IsString, Occurs, IsBestOccurrence}
-use Rattle.re_strings.specs.Working.Reached.{EndsFirst}
-use Rattle.re_ends.specs.Working.GreatestEnds.{FoundPast}
-use Rattle.re_match.specs.Working.Literals.{Literals, any_literal}
-use Rattle.re_strings.specs.Working.Keys.{key, keys}
-use Rattle.re_auto.specs.Searching.{FindsPart}
 use Rattle.re_syntax.proofs.lemmas.SomeOfJoined.{Any-single}
 use Rattle.re_strings.proofs.lemmas.SetBranches.{begins_take}
 use Rattle.re_match.proofs.lemmas.SetFolded.{choice_keys}

@@ -1,11 +1,9 @@
 -- Steps after steps.
 use Rattle.std.proofs.Common.{◌≡◌, ℕ, ◌+◌, ◌-◌, ◌≤◌, Option, length, drop, length-drop, arith}
-use Rattle.re_syntax.specs.Bytes.{Text}
-use Rattle.re_meter.specs.Meters.{AddsUpTo, many_passed}
-use Rattle.re_needle.specs.Working.Runs.{look_cost}
+use Rattle.re_match.proofs.Words.{Text, AddsUpTo, many_passed, look_cost}
 use Rattle.re_needle.proofs.lemmas.Looks.{look_within}
 use Rattle.re_auto.specs.Meters.{Steps}
-use Rattle.re_auto.specs.Searching.{AddsAtMost}
+use Rattle.re_auto.specs.Searches.{AddsAtMost}
 use Rattle.re_meter.proofs.lemmas.Adding.{adds_both as both, adds_within as within, adds_passed, only_passed}
 
 -- steps after steps
@@ -15,12 +13,6 @@ adds_both first next old mid new a b = both first next first next old mid new a 
 -- at most a number of steps are at most a greater number
 pub adds_within : (few most : ℕ) (old new : Steps) → few ≤ most → AddsAtMost few old new → AddsAtMost most old new
 adds_within few most old new h a = within few most few most old new h h a
-
--- the steps of a search of one line more
-pub adds_line : (start end line : ℕ) (old mid new : Steps) → start ≤ end → line ≡ end - start → AddsAtMost start old mid → AddsAtMost (line + 1) mid new → AddsAtMost (end + 1) old new
-adds_line start end line old mid new low long a b =
-    let all : start + (line + 1) ≤ end + 1 = omega (arith, low, long) in
-    adds_within (start + (line + 1)) (end + 1) old new all (adds_both start (line + 1) old mid new a b)
 
 -- steps after steps are at most a number that is no less than their sum
 pub adds_up : (first next most : ℕ) (old mid new : Steps) → first + next ≤ most → AddsAtMost first old mid → AddsAtMost next mid new → AddsAtMost most old new

@@ -1,25 +1,13 @@
 -- What a look over a block says of the line in which it stopped.
-use Rattle.std.proofs.Common.{◌≡◌, ◌∙◌, ℕ, ◌+◌, ◌-◌, ◌<◌, ◌≤◌, ◌++◌, ◌∷◌, inl, inr, Bool, true, false, List, Option, None, Some, length, take, drop, get_or, slice_range, slice_index, sym, ap, subst, refl, arith, length-take, length-drop}
-use Rattle.std.specs.Prelude.{IsTrue}
+use Rattle.std.proofs.Common.{◌≡◌, ◌∙◌, ℕ, ◌+◌, ◌-◌, ◌<◌, ◌≤◌, ◌++◌, ◌∷◌, inr, Bool, true, false, List, Some, length, take, drop, get_or, slice_range, slice_index, sym, ap, subst, refl, arith, length-take, length-drop}
+use Rattle.re_match.proofs.Words.{IsTrue, Bytes, Text, Expression, Matches, newline, HasNoNewline, AddsUpTo, IsLineFrom, StopsInLine, PassesUnmatched, IsJustRun, RunStandsAt, look_cost, set_at, Swept, Sweep, Stop, Unseen, Seen, Matched, StopsAt, left_for}
 use Rattle.std.proofs.Math.Decide.{dec_le}
 use Rattle.std.proofs.lemmas.List.{get_or-drop, get_or-take, get_or-append-add, drop-drop}
-use Rattle.re_syntax.specs.Bytes.{Bytes, Text}
-use Rattle.re_syntax.specs.Expression.{Expression}
-use Rattle.re_syntax.specs.Holds.{Matches}
-use Rattle.re_syntax.specs.Lines.{newline, HasNoNewline}
-use Rattle.re_meter.specs.Meters.{Steps, AddsAtMost, AddsUpTo}
+use Rattle.re_meter.specs.Meters.{Steps, AddsAtMost}
 use Rattle.re_meter.proofs.lemmas.Adding.{adds_within, adds_both}
-use Rattle.re_needle.specs.Working.Blocks.{IsLineFrom, StopsInLine, PassesUnmatched}
 use Rattle.re_needle.proofs.lemmas.BlockLemmas.{passed_within}
-use Rattle.re_needle.specs.Working.Needles.{IsJustRun}
-use Rattle.re_needle.specs.Working.Runs.{RunStandsAt, look_cost, set_at}
-use Rattle.re_needle.specs.declared.block.Swept.{Swept}
 use Rattle.re_needle.proofs.lemmas.Looks.{look_within}
 use Rattle.re_needle.proofs.lemmas.NeedleLaws.{settled_says}
-use Rattle.re_match.specs.declared.sweeps.Sweep.{Sweep}
-use Rattle.re_match.specs.declared.sweeps.Stop.{Stop}
-use Rattle.re_match.specs.declared.sweeps.Stop.TheVariants.{Unseen, Seen, Matched}
-use Rattle.re_match.specs.Working.Sweeping.{StopsAt, left_for}
 
 -- a look that stopped in a line says that it may be matched
 pub stops_seen : (e : Expression) (whole : Bool) (block : Text) (swept : Swept) → StopsInLine block swept → StopsAt e whole block (record { start = swept.start; reached = look_cost block swept.place; stop = Seen })

@@ -5,7 +5,7 @@ use Rattle.re_syntax.specs.Expression.{Expression}
 use Rattle.re_auto.specs.Meters.{Steps}
 use Rattle.re_steps.specs.Working.Stages.{Cache, Searches, mode_for}
 use Rattle.re_needle.specs.Working.Needles.{IsSettled}
-use Rattle.re_match.specs.Working.Sweeping.{LooksOver}
+use Rattle.re_match.specs.Working.Sweeps.{LooksOver}
 use Rattle.re_syntax.specs.declared.tree.Tree.{Tree}
 
 -- the expression's tree, whether the whole line has to be matched (XCU grep, option -x), the cache,
@@ -30,3 +30,9 @@ pub record AnswersLine (e : Expression) (whole : Bool) (line : Text) (old new : 
   pub looks : LooksOver e line before looked
   pub answers : SaysAtOnce e whole line old new looked after answer ⊎
       Searches e (mode_for whole) line old new looked after answer
+
+-- the same matcher, whose cache may have changed
+pub record SameCached (old new : CachedMatcher) : Type 0 where
+  pub same_tree : new.tree ≡ old.tree
+  pub same_whole : new.whole ≡ old.whole
+  pub same_most : new.most ≡ old.most

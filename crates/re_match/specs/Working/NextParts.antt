@@ -5,7 +5,7 @@ use Rattle.re_syntax.specs.Expression.{Expression}
 use Rattle.re_syntax.specs.Parts.{IsFound}
 use Rattle.re_auto.specs.Meters.{Steps}
 use Rattle.re_meter.specs.Meters.{AddsAtMost, AddsUpTo}
-use Rattle.re_auto.specs.Searching.{FindsPart}
+use Rattle.re_auto.specs.Searches.{FindsPart}
 use Rattle.re_match.specs.declared.prefilter.NextPart.{NextPart}
 use Rattle.re_match.specs.declared.prefilter.NextPart.TheVariants.{Known, Later}
 

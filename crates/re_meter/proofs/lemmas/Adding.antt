@@ -37,7 +37,7 @@ all_both first next first_bytes next_bytes before after old mid new a b = record
       b.refused ∙ ap (refused_more after) a.refused ∙ refused_both after before old.refused ∙ ap (λ k. refused_more k old.refused) same;
 }
 
--- the same where no memory was refused
+-- the same if no allocation failed
 pub adds_none : (steps bytes : ℕ) (s : Steps) → AddsUpTo steps bytes s s
 adds_none steps bytes s = record { counts = counts_none steps bytes s; refused = refl }
 

@@ -1,17 +1,10 @@
 -- Lines of a block that do not begin with a run.
 use Rattle.std.proofs.Common.{◌≡◌, ℕ, suc, ◌+◌, ◌-◌, ◌<◌, ◌≤◌, ◌↔◌, inl, inr, true, IsTrue, List, [], ◌∷◌, ◌++◌, All, Some, None, length, take, drop, get_or, slice_index, nat_eq, eq-eqb, refl, sym, ap, ◌∙◌, subst, arith, append_assoc, length-append, length-take, length-drop, take-append-drop, drop-cons, get_or-drop, get_or-append-add, add-one}
-use Rattle.std.specs.Prelude.{⊤}
+use Rattle.re_needle.proofs.Words.{⊤, Bytes, Text, Expression, Matches, newline, terminated, HasNoNewline, IsBlock, LineBegins, PassesAll, PassesUnmatched, RunBegins, RunStandsAt, FindsRun, BeginsWithout}
 use Rattle.std.proofs.Math.Decide.{dec_le}
 use Rattle.std.proofs.lemmas.Bool.{eqb-true}
 use Rattle.std.proofs.lemmas.List.{get_or_append_left, get_or-take}
 use Rattle.std.proofs.lemmas.List.Elements.{All-nil, All-cons}
-use Rattle.re_syntax.specs.Bytes.{Bytes, Text}
-use Rattle.re_syntax.specs.Expression.{Expression}
-use Rattle.re_syntax.specs.Holds.{Matches}
-use Rattle.re_syntax.specs.Lines.{newline, terminated, HasNoNewline}
-use Rattle.re_needle.specs.Working.Blocks.{IsBlock, LineBegins, PassesAll, PassesUnmatched}
-use Rattle.re_needle.specs.Working.Needles.{RunBegins}
-use Rattle.re_needle.specs.Working.Runs.{RunStandsAt, FindsRun, BeginsWithout}
 use Rattle.re_needle.proofs.lemmas.RunLaws.{run_before, run_after, run_rest, nowhere}
 use Rattle.re_needle.proofs.lemmas.BlockLemmas.{passes_none, passes_after, passes_block, passes_longer, passed_within}
 
@@ -99,9 +92,6 @@ module _ (run : List Bytes) (block : Text) where
   pub none_passed : IsPassedTo 0
   none_passed = record { within = omega arith; lines = passes_none (λ _. ⊤) block; none = λ k below. absurd (omega (arith, below)) }
 
-  pub passed_so_far : (start : ℕ) → IsPassedTo start → PassesAll (BeginsWithout run) block start
-  passed_so_far start is = begun_without start is.lines is.none
-
   -- the run is nowhere from there on
   pub passed_to_end : (start : ℕ) → IsBlock block → IsPassedTo start → FindsRun (drop start block) run None → PassesAll (BeginsWithout run) block (length block)
   passed_to_end start whole is finds = begun_without (length block) (passes_block block whole) none
@@ -176,7 +166,7 @@ module _ (run : List Bytes) (block : Text) where
 pub unmatched_begun : (e : Expression) (run : List Bytes) (line : Text) → RunBegins run e → BeginsWithout run line → ¬ Matches e line true
 unmatched_begun e run line begins without holds = without (begins line 0 (length line) (omega arith) holds)
 
--- nor are lines of which none does
+-- nor are lines if none of them does
 pub passes_unmatched_begun : (e : Expression) (run : List Bytes) → RunBegins run e → (block : Text) (count : ℕ) → PassesAll (BeginsWithout run) block count → PassesUnmatched e true block count
 passes_unmatched_begun e run begins block count (lines, rest, free, without, is, counted) =
     (lines, rest, free, λ i d below. unmatched_begun e run (get_or lines i d) begins (without i d below), is, counted)

@@ -1,18 +1,10 @@
 -- Lines of a block in which something does not begin, as a run of sets or a text.
 use Rattle.std.proofs.Common.{◌≡◌, ℕ, ◌+◌, ◌<◌, ◌≤◌, Bool, true, false, List, [], ◌∷◌, ◌++◌, All, Some, None, length, map, take, drop, get_or, refl, sym, ap, ◌∙◌, subst, arith, append_assoc, append-nil, length-append, length-take, take-append-drop}
-use Rattle.std.specs.Prelude.{⊤}
+use Rattle.re_needle.proofs.Words.{⊤, Bytes, Text, only, Expression, Matches, newline, terminated, HasNoNewline, ended_lines_of, FindsNeedle, IsBlock, Lacks, PassesAll, PassesUnmatched, IsNeeded, RunIsNeeded, RunStandsAt, FindsRun, LacksRun}
 use Rattle.std.proofs.lemmas.List.{length_push}
 use Rattle.std.proofs.lemmas.List.Elements.{All-push, All-nil, All-cons}
-use Rattle.re_syntax.specs.Bytes.{Bytes, Text, only}
-use Rattle.re_syntax.specs.Expression.{Expression}
-use Rattle.re_syntax.specs.Holds.{Matches}
-use Rattle.re_syntax.specs.Lines.{newline, terminated, HasNoNewline, ended_lines_of}
 use Rattle.re_syntax.proofs.lemmas.LinesLaws.{all_none, terminated-append}
 use Rattle.re_syntax.proofs.lemmas.EndedLinesLaws.{AreEndedLines-ended_lines_of}
-use Rattle.memchr.specs.Find.{FindsNeedle}
-use Rattle.re_needle.specs.Working.Blocks.{IsBlock, Lacks, PassesAll, PassesUnmatched}
-use Rattle.re_needle.specs.Working.Needles.{IsNeeded, RunIsNeeded}
-use Rattle.re_needle.specs.Working.Runs.{RunStandsAt, FindsRun, LacksRun}
 use Rattle.re_needle.proofs.lemmas.RunLaws.{run_before, run_after, text_run, finds_text}
 
 -- ---- where lines begin

@@ -3,13 +3,8 @@ use Rattle.std.proofs.Common.{◌≡◌, ◌≢◌, ℕ, zero, suc, ◌+◌, ◌
 use Rattle.std.proofs.Math.ListN.{set}
 use Rattle.std.proofs.lemmas.Grind.{get_or-set_at}
 use Rattle.std.proofs.lemmas.List.{get_or-set_other, map-append, take_more}
-use Rattle.re_syntax.specs.Bytes.{Bytes, Text, nothing}
-use Rattle.re_syntax.specs.Expression.{Expression, alt, expression_of}
-use Rattle.re_syntax.specs.declared.tree.Tree.{Tree}
-use Rattle.re_needle.specs.declared.mark.Mark.{Mark}
-use Rattle.re_needle.specs.declared.mark.Mark.TheVariants as m
-use Rattle.re_needle.specs.Working.Runs.{set_at}
-use Rattle.re_needle.specs.Working.Outlines.{shown, Fits, IsOutline, AddsOutline, AddsSets, AreJoined, BeginsWith, Leads}
+use Rattle.re_needle.proofs.Words.{Bytes, Text, nothing, Expression, alt, expression_of, Tree, OutlineItem, set_at, shown, Fits, IsOutline, AddsOutline, AddsSets, AreJoined, BeginsWith, Leads}
+use Rattle.re_needle.specs.declared.outline_item.OutlineItem.TheVariants as m
 use Rattle.re_needle.proofs.lemmas.OutlineLaws.{fits_le, sets_cut}
 
 -- ---- what an outline begins with
@@ -49,7 +44,7 @@ lead_fits line (s ∷ sets) i j l =
 begins_with : (marks : List (Option Bytes)) (sets : List Bytes) (rest : List (Option Bytes)) (e : Expression) → IsOutline marks e → marks ≡ map Some sets ++ rest → BeginsWith sets e
 begins_with marks sets rest e outline is = λ line i j h. fits_lead line sets rest i j (subst (λ l. Fits line l i j) is (outline.fits line i j h))
 
-pub begins_branch : (old marks : List Mark) (sets : List Bytes) (e : Expression) → old ≡ [] → AddsOutline old e marks → ((rest : List (Option Bytes)) × (map shown marks ≡ map Some sets ++ rest)) → BeginsWith sets e
+pub begins_branch : (old marks : List OutlineItem) (sets : List Bytes) (e : Expression) → old ≡ [] → AddsOutline old e marks → ((rest : List (Option Bytes)) × (map shown marks ≡ map Some sets ++ rest)) → BeginsWith sets e
 begins_branch old marks sets e none (more, same, outline) (rest, is) = begins_with (map shown more) sets rest e outline (ap (map shown) (sym (same ∙ ap (λ l. l ++ more) none)) ∙ is)
 
 -- ---- joined sets
@@ -132,10 +127,10 @@ sets_outline sets e begins = record {
   holds = λ all. absurd (sets_cut (map Some sets) (None ∷ []) all).1.0;
 }
 
-pub adds_choice : (old middle new : List Mark) (sets : List Bytes) (choice e : Expression) → e ≡ choice → BeginsWith sets choice → AddsSets old sets middle → new ≡ middle ++ m.Stretch ∷ [] → AddsOutline old e new
+pub adds_choice : (old middle new : List OutlineItem) (sets : List Bytes) (choice e : Expression) → e ≡ choice → BeginsWith sets choice → AddsSets old sets middle → new ≡ middle ++ m.Gap ∷ [] → AddsOutline old e new
 adds_choice old middle new sets choice e is begins (more, same, are) added = (
-  more ++ m.Stretch ∷ [],
-  added ∙ ap (λ l. l ++ m.Stretch ∷ []) same ∙ append_assoc old more (m.Stretch ∷ []),
-  subst (λ x. IsOutline x e) (sym (map-append shown more (m.Stretch ∷ []) ∙ ap (λ l. l ++ None ∷ []) are))
+  more ++ m.Gap ∷ [],
+  added ∙ ap (λ l. l ++ m.Gap ∷ []) same ∙ append_assoc old more (m.Gap ∷ []),
+  subst (λ x. IsOutline x e) (sym (map-append shown more (m.Gap ∷ []) ∙ ap (λ l. l ++ None ∷ []) are))
       (subst (λ x. IsOutline (map Some sets ++ None ∷ []) x) (sym is) (sets_outline sets choice begins)),
 )

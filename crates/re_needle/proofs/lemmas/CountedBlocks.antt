@@ -1,23 +1,14 @@
 -- How many lines of a block have a text.
-use Rattle.std.specs.Prelude.{IfSome}
-use Rattle.std.proofs.Common.{◌≡◌, ◌≢◌, ℕ, ◌+◌, ◌-◌, ◌<◌, ◌≤◌, false, inl, inr, List, [], ◌∷◌, ◌++◌, All, Option, Some, None, length, map, drop, take, slice_range, get_or, refl, sym, ap, ◌∙◌, subst, arith, length-append, length-drop, length-take, take-append-drop, append_assoc}
+use Rattle.std.proofs.Common.{◌≡◌, ◌≢◌, ℕ, ◌+◌, ◌-◌, ◌<◌, ◌≤◌, false, inl, inr, List, [], ◌∷◌, ◌++◌, All, Some, None, length, map, drop, take, slice_range, get_or, refl, sym, ap, ◌∙◌, subst, arith, length-append, length-drop, length-take, take-append-drop, append_assoc}
 use Rattle.std.proofs.Math.Decide.{dec_le}
 use Rattle.std.proofs.Math.Seq.{drop-append-add}
 use Rattle.std.proofs.lemmas.List.{get_or_append_left, get_or-append-add, get_or-drop, get_or-take, drop-append-le}
 use Rattle.std.proofs.lemmas.List.Elements.{All-drop, All-head}
-use Rattle.re_syntax.specs.Bytes.{Bytes, Text, only}
-use Rattle.re_syntax.specs.Expression.{Expression, byte, sequence}
-use Rattle.re_syntax.specs.Holds.{Matches}
-use Rattle.re_syntax.specs.Lines.{newline, terminated, lines_of, HasNoNewline}
+use Rattle.re_needle.proofs.Words.{Text, byte, sequence, Matches, newline, terminated, lines_of, HasNoNewline, OccursAt, FindsNeedle, IsBlock, IsLineFrom, StandsIn, HoldsOfMany, CountsMatched}
 use Rattle.re_syntax.proofs.lemmas.LinesLaws.{lines_of-terminated, all_head, all_tail, rest_has_none}
 use Rattle.re_syntax.proofs.lemmas.FixedStrings.{stands-matches}
-use Rattle.memchr.specs.Find.{OccursAt, FindsNeedle}
-use Rattle.re_needle.specs.Working.Blocks.{IsBlock, IsLineFrom, StandsIn, HoldsOfMany, CountsMatched}
-use Rattle.re_needle.specs.Working.Needles.{IsJustRun}
-use Rattle.re_needle.specs.Working.Runs.{RunStandsAt}
 use Rattle.re_needle.proofs.lemmas.NeededLaws.{sequence_needed}
 use Rattle.re_needle.proofs.lemmas.Occurrences.{occurs-stands}
-use Rattle.re_needle.proofs.lemmas.RunLaws.{text_run, run_text}
 
 -- ---- where a newline is
 
@@ -235,23 +226,4 @@ literal_stands text line (i, j, within, holds) = let there = sequence_needed tex
 pub counts_literal : (text : Text) (lines : List Text) (n : ℕ) → HoldsOfMany (StandsIn text) lines n → CountsMatched (sequence (map byte text)) false lines n
 counts_literal text lines n h = counts_same (StandsIn text) (λ line. Matches (sequence (map byte text)) line false) (stands_literal text) (literal_stands text) lines n h
 
--- so does an expression that holds exactly where a string is
-pub counts_just : (e : Expression) (text : Text) (run : List Bytes) → run ≡ map only text → IsJustRun run e → (lines : List Text) (n : ℕ) → HoldsOfMany (StandsIn text) lines n → CountsMatched e false lines n
-counts_just e text run is just lines n h = counts_same (StandsIn text) (λ line. Matches e line false) to from lines n h
-  where
-    to : (line : Text) → StandsIn text line → Matches e line false
-    to line (k, o) =
-        let stands : RunStandsAt line run k = subst (λ r. RunStandsAt line r k) (sym is) (text_run line text k o) in
-        let fits : k + length run ≤ length line = stands.fits in
-        (k, k + length run, fits, just.holds line k stands)
-
-    from : (line : Text) → Matches e line false → StandsIn text line
-    from line (i, j, within, holds) =
-        let stands = (just.stands line i j within holds).0 in
-        (i, run_text line text i (subst (λ r. RunStandsAt line r i) is stands))
-
 -- ---- counts that may be unknown
-
-pub says_just : (e : Expression) (text : Text) (run : List Bytes) → run ≡ map only text → IsJustRun run e → (lines : List Text) (r : Option ℕ) → IfSome r (λ n. HoldsOfMany (StandsIn text) lines n) → IfSome r (λ n. CountsMatched e false lines n)
-says_just e text run is just lines None h = h
-says_just e text run is just lines (Some n) h = counts_just e text run is just lines n h

@@ -2,10 +2,7 @@
 use Rattle.std.proofs.Common.{◌≡◌, ◌∙◌, ℕ, ◌+◌, ◌-◌, ◌<◌, ◌≤◌, ◌++◌, ◌∷◌, Option, None, Some, length, take, drop, get_or, slice_range, sym, ap, arith, length-take, length-drop}
 use Rattle.std.proofs.Math.Decide.{dec_le}
 use Rattle.std.proofs.lemmas.List.{get_or-drop, get_or-take, get_or-append-add}
-use Rattle.re_syntax.specs.Bytes.{Text}
-use Rattle.re_syntax.specs.Lines.{newline, HasNoNewline}
-use Rattle.re_needle.specs.Working.Blocks.{IsLineFrom}
-use Rattle.re_needle.specs.Working.Runs.{look_cost}
+use Rattle.re_needle.proofs.Words.{Text, newline, HasNoNewline, IsLineFrom, look_cost}
 
 -- a place without a newline between it and the line's beginning is in the line, or at its newline
 pub place_in_line : (block : Text) (start at end : ℕ) → at ≤ length block → start ≤ at → HasNoNewline (drop start (take at block)) → IsLineFrom block start end → at ≤ end

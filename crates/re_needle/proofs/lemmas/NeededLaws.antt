@@ -1,12 +1,9 @@
 -- Strings that a sequence of bytes needs.
 use Rattle.std.proofs.Common.{◌≡◌, ℕ, ◌+◌, ◌≤◌, List, [], ◌∷◌, ◌++◌, length, map, drop, refl, sym, subst, arith}
 use Rattle.std.proofs.lemmas.List.{append-nil}
-use Rattle.re_syntax.specs.Bytes.{Text}
-use Rattle.re_syntax.specs.Expression.{Expression, byte, cat, sequence}
-use Rattle.re_syntax.specs.Holds.{Holds}
+use Rattle.re_needle.proofs.Words.{Text, Expression, byte, cat, sequence, Holds, StandsBetween, IsNeeded}
 use Rattle.re_syntax.proofs.lemmas.FixedStrings.{cat-sequence, sequence-cat, holds-stands}
 use Rattle.re_syntax.proofs.lemmas.HoldsDecided.{Holds-le}
-use Rattle.re_needle.specs.Working.Needles.{StandsBetween, IsNeeded}
 use Rattle.re_needle.proofs.lemmas.Occurrences.{stands-occurs}
 
 -- a sequence of two lists of members is cut between them

@@ -1,23 +1,13 @@
 -- Needles, and what their places say of a line.
-use Rattle.std.proofs.Common.{◌≡◌, ℕ, ◌+◌, ◌-◌, ◌≤◌, inl, Bool, false, IsTrue, List, [], ◌∷◌, ◌++◌, length, map, drop, Option, Some, None, refl, sym, subst, arith, true, inr, ◌∙◌, length-append}
-use Rattle.std.specs.Option.{is_some}
+use Rattle.std.proofs.Common.{◌≡◌, ℕ, ◌+◌, ◌-◌, ◌≤◌, ap, take, inl, Bool, false, IsTrue, List, [], ◌∷◌, ◌++◌, length, map, drop, Option, Some, None, refl, sym, subst, arith, true, inr, ◌∙◌, length-append}
+use Rattle.re_needle.proofs.Words.{is_some, Bytes, Text, only, Expression, Holds, Matches, IsFound, IsPart, Needle, RunFinder, most_sets, front_of, FindsRun, IsNeeded, RunIsNeeded, IsNeedleOf, run_of, IsSettled, LacksNeeded, IsOutline, ◌↔◌}
 use Rattle.std.proofs.lemmas.Bool.{false≢true}
-use Rattle.std.proofs.lemmas.List.{length-map}
+use Rattle.std.proofs.lemmas.List.{length-map, take-append-drop}
 use Rattle.std.proofs.Math.Decide.{dec_le}
-use Rattle.re_syntax.specs.Bytes.{Bytes, Text, only}
-use Rattle.re_syntax.specs.Expression.{Expression}
-use Rattle.re_syntax.specs.Holds.{Holds, Matches}
-use Rattle.re_syntax.specs.Parts.{IsFound, IsPart}
 use Rattle.re_syntax.proofs.lemmas.Decisions.{Any-first}
-use Rattle.re_needle.specs.declared.needle.Needle.{Needle}
-use Rattle.re_needle.specs.declared.run_finder.RunFinder.{RunFinder}
-use Rattle.re_needle.specs.Working.Runs.{BeginsRun, FindsRun}
-use Rattle.re_needle.specs.Working.Needles.{IsNeeded, RunIsNeeded, IsNeedleOf, run_of, IsSettled, LacksNeeded}
-use Rattle.re_needle.specs.Working.Outlines.{IsOutline}
 use Rattle.re_syntax.proofs.lemmas.SomeOfJoined.{Any-single}
 use Rattle.re_needle.proofs.lemmas.OutlineLaws.{run_needed, run_begins, just_run}
 use Rattle.re_needle.proofs.lemmas.RunLaws.{front_stands, run_rest, run_whole, run_text, text_run, nowhere}
-use Rattle.std.specs.Prelude.{◌↔◌}
 
 -- sets that are neighbours in an outline are a needle
 pub run_is_needle : (marks : List (Option Bytes)) (finder : RunFinder) (is_first is_all is_common : Bool) (rest : List (Option Bytes)) (start : ℕ) → drop start marks ≡ map Some (run_of finder) ++ rest → 1 ≤ length (run_of finder)
@@ -37,13 +27,15 @@ text_needed finder text e is needed = λ line i j within h.
     (k, low, omega (arith, high, length-map text only), run_text line text k o)
 
 -- of a run that is needed the first sets are
-pub front_needed : (front run : List Bytes) (e : Expression) → BeginsRun front run → RunIsNeeded run e → RunIsNeeded front e
-front_needed front run e (rest, is) needed = λ line i j within h.
-    let (k, low, high, o) = subst (λ r. RunIsNeeded r e) is needed line i j within h in
+pub front_needed : (front run : List Bytes) (e : Expression) → front ≡ front_of run → RunIsNeeded run e → RunIsNeeded front e
+front_needed front run e is needed = λ line i j within h.
+    let rest = drop most_sets run in
+    let whole : run ≡ front ++ rest = sym (take-append-drop most_sets run) ∙ ap (λ f. f ++ rest) (sym is) in
+    let (k, low, high, o) = subst (λ r. RunIsNeeded r e) whole needed line i j within h in
     (k, low, omega (arith, high, length-append front rest), front_stands line front rest k o)
 
 -- and so are the sets of a string's first bytes
-pub text_front : (front : List Bytes) (text : Text) (e : Expression) → BeginsRun front (map only text) → IsNeeded text e → RunIsNeeded front e
+pub text_front : (front : List Bytes) (text : Text) (e : Expression) → front ≡ front_of (map only text) → IsNeeded text e → RunIsNeeded front e
 text_front front text e begins needed = front_needed front (map only text) e begins (λ line i j within h.
     let (k, low, high, o) = needed line i j within h in
     (k, low, omega (arith, high, length-map text only), text_run line text k o))

@@ -1,14 +1,9 @@
 -- The next line of a block that has a property, and how many lines have it.
 use Rattle.std.proofs.Common.{◌≡◌, List, [], ◌∷◌, ◌++◌, All, refl, ap, ◌∙◌, append_assoc, ℕ, ◌+◌, ◌-◌, ◌<◌, ◌≤◌, inl, inr, Option, Some, false, None, length, map, drop, slice_range, sym, subst, arith, append-nil, length-append, length-drop, length-take}
-use Rattle.re_syntax.specs.Bytes.{Text}
-use Rattle.re_syntax.specs.Lines.{newline, terminated, HasNoNewline, lines_of}
+use Rattle.re_needle.proofs.Words.{Text, newline, terminated, HasNoNewline, lines_of, byte, sequence, Matches, Span, IsBlock, PassesAll, Lacks, StandsIn, HoldsOfMany, FindsMatched, IsLineFrom, IsNext, FindsNext}
 use Rattle.re_syntax.proofs.lemmas.LinesLaws.{terminated-append, lines_of-line, all_head, all_tail, lines_of-terminated, all_cons, all_none, none_in_empty}
 use Rattle.std.proofs.Math.Seq.{drop-append_seam, drop-length}
 use Rattle.std.proofs.lemmas.List.Elements.{All-append, All-cons, All-drop, All-head, All-nil, All-tail}
-use Rattle.re_syntax.specs.Expression.{byte, sequence}
-use Rattle.re_syntax.specs.Holds.{Matches}
-use Rattle.re_syntax.specs.declared.span.Span.{Span}
-use Rattle.re_needle.specs.Working.Blocks.{IsBlock, PassesAll, Lacks, StandsIn, HoldsOfMany, FindsMatched, IsLineFrom, IsNext, FindsNext, lines_cost}
 use Rattle.re_needle.proofs.lemmas.CountedBlocks.{has_one, stands_literal, literal_stands}
 
 -- the lines of a text that begins with some, each ended by a newline, begin with these
@@ -51,11 +46,6 @@ block_lines block (ts, free, is) = is ∙ ap terminated (sym (lines_of-terminate
 
 pub free_lines : (block : Text) → IsBlock block → All HasNoNewline (lines_of block)
 free_lines block (ts, free, is) = subst (All HasNoNewline) (sym (ap lines_of is ∙ lines_of-terminated ts free)) free
-
--- a search of each of its lines once costs a step for each of its bytes
-pub cost_of_lines : (lines : List Text) → length (terminated lines) ≡ lines_cost lines
-cost_of_lines [] = refl
-cost_of_lines (t ∷ ts) = omega (arith, length-append t (newline ∷ terminated ts), cost_of_lines ts)
 
 -- ---- from one line to the next
 
@@ -160,9 +150,6 @@ module _ (P : Text → Type 0) where
     pub is_block : IsBlock rest
     pub few : count + length rest ≤ length block
     pub counts : (n : ℕ) → HoldsOfMany P (lines_of rest) n → HoldsOfMany P (lines_of block) (count + n)
-
-  pub counts_none : (block : Text) → IsBlock block → CountsTo block block 0
-  counts_none block is = record { is_block = is; few = omega arith; counts = λ n h. let same : n ≡ 0 + n = omega arith in subst (HoldsOfMany P (lines_of block)) same h }
 
   -- one more, and the rest is after it
   pub counts_next : (block rest : Text) (count : ℕ) (place : Span) → place.end < length rest → CountsTo block rest count → IsNext P (lines_of rest) place → CountsTo block (drop (place.end + 1) rest) (count + 1)

@@ -1,16 +1,10 @@
 -- What operations on vectors of 32 bytes hold at each lane, beside those of memchr.
 use Rattle.std.proofs.Common.{◌≡◌, ◌≢◌, ◌↔◌, ℕ, ◌+◌, ◌*◌, ◌/◌, ◌%◌, ◌^◌, ◌<◌, List, Bool, true, false, not, cond, eqb, ltb, min, bit_and, length, get_or, slice_index, map, replicate, refl, sym, ap, subst, ◌∙◌, eq-eqb, arith, w8}
-use Rattle.std.specs.Int.{bit_at}
-use Rattle.std.specs.Simd.Lanes.{zip2, sel_l, mask_l, top}
+use Rattle.re_needle.proofs.Words.{bit_at, zip2, sel_l, mask_l, top, HasLanes, Text, Alike, Probe, HasBits, PassesAt, mark_of}
 use Rattle.std.proofs.lemmas.Bool.{ltb-true, ltb-false, eqb-true, eqb-false}
 use Rattle.std.proofs.lemmas.Simd.{get_or-zip2, get_or-replicate, length-zip2, length-swz_l, get_or-swz_l_below, swz_l, SwzOk, SwzOk-from_below, Each1-from_get_or, length-sel_l, get_or-sel_l, tops_compared, bitmask_splat, bit_mask_l}
 use Rattle.std.proofs.Math.ListN.{get_or-map}
-use Rattle.memchr.specs.Lanes.{HasLanes}
 use Rattle.memchr.proofs.lemmas.LaneLemmas.{HasLanes-zip2, HasLanes-select}
-use Rattle.re_syntax.specs.Bytes.{Text}
-use Rattle.re_needle.specs.declared.alike.Alike.{Alike}
-use Rattle.re_needle.specs.declared.probes.Probe.{Probe}
-use Rattle.re_needle.specs.Working.Runs.{HasBits, PassesAt, mark_of}
 
 -- an operator on a vector and a splat
 pub with_splat : (f : ℕ → ℕ → ℕ) (a : List ℕ) (x : ℕ) → length a ≡ 32 → HasLanes (zip2 f a (replicate 32 x)) (λ k. f (get_or a k 0) x)

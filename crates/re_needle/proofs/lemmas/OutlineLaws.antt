@@ -2,18 +2,9 @@
 use Rattle.std.proofs.Common.{◌≡◌, ℕ, zero, suc, ◌+◌, ◌-◌, ◌<◌, ◌≤◌, IsTrue, List, [], ◌∷◌, ◌++◌, length, map, take, drop, get_or, replicate, slice_index, Option, None, Some, Result, Ok, Err, IfOk, refl, sym, ap, ◌∙◌, subst, arith, append_assoc, length-append, length-drop, take-append-drop}
 use Rattle.std.proofs.lemmas.List.{length-map, append-nil, map-append, take_more, replicate_more}
 use Rattle.std.proofs.lemmas.Option.{get_or_from_slice_get, slice_get-get_or}
-use Rattle.re_syntax.specs.Bytes.{Bytes, Text}
-use Rattle.re_syntax.specs.Expression.{Expression, one_of, cat, repeat, expression_of}
-use Rattle.re_syntax.specs.Holds.{Holds, Turns}
-use Rattle.re_syntax.specs.Sets.{members}
-use Rattle.re_syntax.specs.declared.bytes.ByteSet.{ByteSet}
-use Rattle.re_syntax.specs.declared.tree.Tree.{Tree}
+use Rattle.re_needle.proofs.Words.{Bytes, Text, Expression, one_of, cat, repeat, expression_of, members, Holds, Turns, ByteSet, Tree, OutlineItem, RunStandsAt, set_at, shown, MarkFits, Fits, AreSetMarks, IsOutline, AddsOutline, AddsTurns, RunIsNeeded, RunBegins, IsJustRun}
 use Rattle.re_syntax.proofs.lemmas.HoldsDecided.{Holds-le, Turns-le}
-use Rattle.re_needle.specs.declared.mark.Mark.{Mark}
-use Rattle.re_needle.specs.declared.mark.Mark.TheVariants as m
-use Rattle.re_needle.specs.Working.Runs.{RunStandsAt, set_at}
-use Rattle.re_needle.specs.Working.Outlines.{shown, MarkFits, Fits, AreSetMarks, IsOutline, AddsOutline, AddsTurns}
-use Rattle.re_needle.specs.Working.Needles.{RunIsNeeded, RunBegins, IsJustRun}
+use Rattle.re_needle.specs.declared.outline_item.OutlineItem.TheVariants as m
 use Rattle.re_needle.proofs.lemmas.NeededLaws.{cat_cut}
 
 -- ---- marks one after another
@@ -87,9 +78,6 @@ cat_join : (line : Text) (xs ys : List Expression) (i k j : ℕ) → Holds line 
 cat_join line [] ys i k j same h = subst (λ n. Holds line (cat ys) n j) (sym same) h
 cat_join line (x ∷ xs) ys i k j (m, first, later) h = (m, first, cat_join line xs ys m k j later h)
 
-outline_nothing : IsOutline [] (cat [])
-outline_nothing = record { fits = λ line i j h. h; holds = λ sets line i j f. f }
-
 outline_more : (xs ys : List (Option Bytes)) (es : List Expression) (e : Expression) → IsOutline xs (cat es) → IsOutline ys e → IsOutline (xs ++ ys) (cat (es ++ e ∷ []))
 outline_more xs ys es e front back = record {
   fits = λ line i j h.
@@ -152,29 +140,29 @@ outline_just s n = record {
 
 -- ---- what is added to the marks
 
-pub adds_set : (old new : List Mark) (e : Expression) (set : ByteSet) → e ≡ one_of (members set) → new ≡ old ++ m.Set set ∷ [] → AddsOutline old e new
+pub adds_set : (old new : List OutlineItem) (e : Expression) (set : ByteSet) → e ≡ one_of (members set) → new ≡ old ++ m.Set set ∷ [] → AddsOutline old e new
 adds_set old new e set is added = (m.Set set ∷ [], added, subst (λ x. IsOutline (Some (members set) ∷ []) x) (sym is) (outline_set (members set)))
 
-pub adds_stretch : (old new : List Mark) (e : Expression) → new ≡ old ++ m.Stretch ∷ [] → AddsOutline old e new
-adds_stretch old new e added = (m.Stretch ∷ [], added, outline_stretch e)
+pub adds_stretch : (old new : List OutlineItem) (e : Expression) → new ≡ old ++ m.Gap ∷ [] → AddsOutline old e new
+adds_stretch old new e added = (m.Gap ∷ [], added, outline_stretch e)
 
-pub adds_repeat : (old middle new : List Mark) (part e : Expression) (least : ℕ) (most : Option ℕ) → e ≡ repeat part least most → 1 ≤ least → AddsOutline old part middle → new ≡ middle ++ m.Stretch ∷ [] → AddsOutline old e new
+pub adds_repeat : (old middle new : List OutlineItem) (part e : Expression) (least : ℕ) (most : Option ℕ) → e ≡ repeat part least most → 1 ≤ least → AddsOutline old part middle → new ≡ middle ++ m.Gap ∷ [] → AddsOutline old e new
 adds_repeat old middle new part e least most is some (more, same, outline) added = (
-  more ++ m.Stretch ∷ [],
-  added ∙ ap (λ l. l ++ m.Stretch ∷ []) same ∙ append_assoc old more (m.Stretch ∷ []),
-  subst (λ x. IsOutline x e) (sym (map-append shown more (m.Stretch ∷ []))) (subst (λ x. IsOutline (map shown more ++ None ∷ []) x) (sym is) (outline_repeat (map shown more) part least most some outline)),
+  more ++ m.Gap ∷ [],
+  added ∙ ap (λ l. l ++ m.Gap ∷ []) same ∙ append_assoc old more (m.Gap ∷ []),
+  subst (λ x. IsOutline x e) (sym (map-append shown more (m.Gap ∷ []))) (subst (λ x. IsOutline (map shown more ++ None ∷ []) x) (sym is) (outline_repeat (map shown more) part least most some outline)),
 )
 
 -- n marks of a set that is repeated at least n times, and a stretch
-pub adds_least : (old middle new : List Mark) (s : Bytes) (n least : ℕ) (most : Option ℕ) → n ≤ least → AddsTurns old s n middle → new ≡ middle ++ m.Stretch ∷ [] → AddsOutline old (repeat (one_of s) least most) new
+pub adds_least : (old middle new : List OutlineItem) (s : Bytes) (n least : ℕ) (most : Option ℕ) → n ≤ least → AddsTurns old s n middle → new ≡ middle ++ m.Gap ∷ [] → AddsOutline old (repeat (one_of s) least most) new
 adds_least old middle new s n least most few (more, same, sets) added = (
-  more ++ m.Stretch ∷ [],
-  added ∙ ap (λ l. l ++ m.Stretch ∷ []) same ∙ append_assoc old more (m.Stretch ∷ []),
-  subst (λ l. IsOutline l (repeat (one_of s) least most)) (sym (map-append shown more (m.Stretch ∷ []) ∙ ap (λ l. l ++ None ∷ []) sets)) (outline_turns s n least most few),
+  more ++ m.Gap ∷ [],
+  added ∙ ap (λ l. l ++ m.Gap ∷ []) same ∙ append_assoc old more (m.Gap ∷ []),
+  subst (λ l. IsOutline l (repeat (one_of s) least most)) (sym (map-append shown more (m.Gap ∷ []) ∙ ap (λ l. l ++ None ∷ []) sets)) (outline_turns s n least most few),
 )
 
 -- n marks of a set that is repeated exactly n times
-pub adds_just : (old new : List Mark) (s : Bytes) (n least : ℕ) (most : Option ℕ) → n ≡ least → most ≡ Some least → AddsTurns old s n new → AddsOutline old (repeat (one_of s) least most) new
+pub adds_just : (old new : List OutlineItem) (s : Bytes) (n least : ℕ) (most : Option ℕ) → n ≡ least → most ≡ Some least → AddsTurns old s n new → AddsOutline old (repeat (one_of s) least most) new
 adds_just old new s n least most same just (more, is, sets) = (
   more,
   is,
@@ -183,17 +171,14 @@ adds_just old new s n least most same just (more, is, sets) = (
 )
 
 -- one mark of the set more
-pub adds_turn : (old middle new : List Mark) (set : ByteSet) (n : ℕ) → AddsTurns old (members set) n middle → new ≡ middle ++ m.Set set ∷ [] → AddsTurns old (members set) (n + 1) new
+pub adds_turn : (old middle new : List OutlineItem) (set : ByteSet) (n : ℕ) → AddsTurns old (members set) n middle → new ≡ middle ++ m.Set set ∷ [] → AddsTurns old (members set) (n + 1) new
 adds_turn old middle new set n (more, same, sets) added = (
   more ++ m.Set set ∷ [],
   added ∙ ap (λ l. l ++ m.Set set ∷ []) same ∙ append_assoc old more (m.Set set ∷ []),
   map-append shown more (m.Set set ∷ []) ∙ ap (λ l. l ++ Some (members set) ∷ []) sets ∙ sym (map-append Some (replicate n (members set)) (members set ∷ [])) ∙ ap (map Some) (replicate_more n (members set)),
 )
 
-pub adds_nothing : (old : List Mark) → AddsOutline old (cat []) old
-adds_nothing old = ([], sym (append-nil old), outline_nothing)
-
-pub adds_more : (old middle new : List Mark) (parts : List Tree) (i : ℕ) (part : Tree) → i < length parts → part ≡ get_or parts i part
+pub adds_more : (old middle new : List OutlineItem) (parts : List Tree) (i : ℕ) (part : Tree) → i < length parts → part ≡ get_or parts i part
     → AddsOutline old (cat (map expression_of (take i parts))) middle → AddsOutline middle (expression_of part) new → AddsOutline old (cat (map expression_of (take (i + 1) parts))) new
 adds_more old middle new parts i part lt is (xs, first, front) (ys, second, back) =
     let grown : map expression_of (take (i + 1) parts) ≡ map expression_of (take i parts) ++ expression_of part ∷ [] =
@@ -254,5 +239,5 @@ module _ (marks : List (Option Bytes)) (e : Expression) (outline : IsOutline mar
       is = subst (λ n. drop n marks ≡ map Some run ++ rest) first stands ∙ nothing_more rest (omega (arith, lengths, some, all))
 
 -- what is added to no mark
-pub outline_alone : (old new : List Mark) (e : Expression) → old ≡ [] → AddsOutline old e new → IsOutline (map shown new) e
+pub outline_alone : (old new : List OutlineItem) (e : Expression) → old ≡ [] → AddsOutline old e new → IsOutline (map shown new) e
 outline_alone old new e none (more, same, outline) = subst (λ l. IsOutline (map shown l) e) (sym (same ∙ ap (λ l. l ++ more) none)) outline

@@ -1,20 +1,11 @@
 -- Where a run of sets is in a line, and what the tests of its probes say.
 use Rattle.std.proofs.Common.{◌≡◌, ℕ, ◌+◌, ◌-◌, ◌<◌, ◌≤◌, ◌↔◌, ◌⊎◌, inl, inr, Bool, IsTrue, List, ◌++◌, length, map, drop, get_or, slice_index, Option, None, Some, sym, ap, ◌∙◌, subst, arith, nat_eq, eq-eqb, length-append, length-drop}
-use Rattle.std.specs.Int.{bit_at}
-use Rattle.std.specs.List.{starts_with}
+use Rattle.re_needle.proofs.Words.{bit_at, starts_with, Bytes, Text, nothing, only, members, ByteSet, OccursAt, FindsNeedle, Nowhere, NoneBefore, Marks, Probe, Probes, RunStandsAt, FindsRun, set_at, PassesAt, AllPass, IsProbeOf, AreProbesOf}
 use Rattle.std.proofs.lemmas.Nat.Bits.{bit_at-zero}
 use Rattle.std.proofs.lemmas.Bool.{eqb-true}
 use Rattle.std.proofs.lemmas.Bool.Decides.{Decides-eqb}
 use Rattle.std.proofs.lemmas.Slice.Eq.{starts_is}
 use Rattle.std.proofs.lemmas.List.{get_or-drop, get_or-map, get_or_append_left, get_or-append-add, length-map}
-use Rattle.re_syntax.specs.Bytes.{Bytes, Text, nothing, only}
-use Rattle.re_syntax.specs.Sets.{members}
-use Rattle.re_syntax.specs.declared.bytes.ByteSet.{ByteSet}
-use Rattle.memchr.specs.Find.{OccursAt, FindsNeedle, Nowhere, NoneBefore}
-use Rattle.memchr.specs.Lanes.{Marks}
-use Rattle.re_needle.specs.declared.probes.Probe.{Probe}
-use Rattle.re_needle.specs.declared.probes.Probes.{Probes}
-use Rattle.re_needle.specs.Working.Runs.{RunStandsAt, FindsRun, set_at, PassesAt, AllPass, HaveRoom, IsProbeOf, AreProbesOf}
 use Rattle.re_needle.proofs.lemmas.Occurrences.{occurs-stands, stands-occurs}
 
 -- ---- in a longer line, and in the rest of one
@@ -137,15 +128,6 @@ all_pass run line probes k small are o = record {
   fourth = passes run line probes.fourth k small are.fourth o;
 }
 
--- the probes have room where the run has room
-pub have_room : (run : List Bytes) (line : Text) (probes : Probes) (past : ℕ) → AreProbesOf probes run → past + length run ≤ length line + 1 → HaveRoom probes line past
-have_room run line probes past are fits = record {
-  first = omega (arith, fits, are.first.0);
-  second = omega (arith, fits, are.second.0);
-  third = omega (arith, fits, are.third.0);
-  fourth = omega (arith, fits, are.fourth.0);
-}
-
 -- a run is nowhere where it has no room
 pub no_room : (run : List Bytes) (line : Text) (k : ℕ) → length line + 1 ≤ k + length run → ¬ RunStandsAt line run k
 no_room run line k short o = let fits : k + length run ≤ length line = o.fits in absurd (omega (arith, short, fits))
@@ -186,7 +168,7 @@ pub finds_some : (run : List Bytes) (line : Text) (start past at : ℕ) → past
 finds_some run line start past at within before (first, stands) =
     (record { low = omega arith; high = omega (arith, first.high, within); before = nowhere_on (RunStandsAt line run) start at before first.before }, stands)
 
--- 32 places of which none is marked
+-- 32 places, none of which is marked
 pub nowhere_marked : (P : ℕ → Type 0) (from at marks : ℕ) → Nowhere P from at → ((k : ℕ) → k < 32 → P (at + k) → bit_at marks k ≡ 1) → marks ≡ 0 → Nowhere P from (at + 32)
 nowhere_marked P from at marks before each none k low lt o = elim (early k at) [
   | inl e ↦ before k low e o

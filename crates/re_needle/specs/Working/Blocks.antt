@@ -55,7 +55,7 @@ CountsMatched e whole lines count = HoldsOfMany (λ line. Matches e line whole) 
 
 -- ---- the next line that is matched
 
--- the place, in the bytes of the lines with their newlines, of the first line of which this holds
+-- the place, in the bytes of the lines with their newlines, of the first line for which this holds
 pub record IsNext (Holds : Text → Type 0) (lines : List Text) (place : Span) : Type 0 where
   pub before : List Text
   pub line : Text
@@ -66,7 +66,7 @@ pub record IsNext (Holds : Text → Type 0) (lines : List Text) (place : Span) :
   pub starts : place.start ≡ length (terminated before)
   pub ends : place.end ≡ place.start + length line
 
--- the place of the first line of which this holds; None says that there is none
+-- the place of the first line for which this holds; None says that there is none
 abbrev pub FindsNext : (Text → Type 0) → List Text → Option Span → Type 0
 FindsNext Holds lines found =
     MatchOption found (All (λ line. ¬ Holds line) lines) (IsNext Holds lines)
@@ -76,11 +76,6 @@ abbrev pub FindsMatched : Expression → Bool → List Text → Option Span → 
 FindsMatched e whole lines found = FindsNext (λ line. Matches e line whole) lines found
 
 -- ---- what a search may cost
-
--- a search of these lines, each once: a step for each of its bytes and one more
-abbrev pub lines_cost : List Text → ℕ
-lines_cost [] = 0
-lines_cost (line ∷ lines) = length line + 1 + lines_cost lines
 
 -- a search for the next line of a block: a step for each byte up to the newline of the line that
 -- was found, and one for the newline; one for each byte of the block if none was found

@@ -3,7 +3,7 @@ use Rattle.std.specs.Prelude.{◌≡◌, ℕ, ◌+◌, ◌≤◌, IsTrue, IfSome
 use Rattle.re_syntax.specs.Bytes.{Bytes, Text, only}
 use Rattle.re_syntax.specs.Expression.{Expression}
 use Rattle.re_syntax.specs.Holds.{Holds}
-use Rattle.re_syntax.specs.Sets.{members}
+use Rattle.re_syntax.specs.Working.Trees.{members}
 use Rattle.memchr.specs.Find.{OccursAt}
 use Rattle.re_needle.specs.declared.needle.Needle.{Needle}
 use Rattle.re_needle.specs.declared.run_finder.RunFinder.{RunFinder}

@@ -4,15 +4,15 @@ use Rattle.std.specs.Prelude.{◌≡◌, ℕ, ◌+◌, ◌<◌, ◌≤◌, ⊤, 
 use Rattle.re_syntax.specs.Bytes.{Bytes, Text}
 use Rattle.re_syntax.specs.Expression.{Expression, one_of}
 use Rattle.re_syntax.specs.Holds.{Holds}
-use Rattle.re_syntax.specs.Sets.{members}
-use Rattle.re_needle.specs.declared.mark.Mark.{Mark}
-use Rattle.re_needle.specs.declared.mark.Mark.TheVariants as m
+use Rattle.re_syntax.specs.Working.Trees.{members}
+use Rattle.re_needle.specs.declared.outline_item.OutlineItem.{OutlineItem}
+use Rattle.re_needle.specs.declared.outline_item.OutlineItem.TheVariants as m
 use Rattle.re_needle.specs.Working.Runs.{set_at}
 
 -- a mark of an outline: a set, or any stretch
-abbrev pub shown : Mark → Option Bytes
+abbrev pub shown : OutlineItem → Option Bytes
 shown (m.Set set) = Some (members set)
-shown m.Stretch = None
+shown m.Gap = None
 
 -- a mark fits the line from place i to place j
 abbrev pub MarkFits : Text → Option Bytes → ℕ → ℕ → Type 0
@@ -40,15 +40,15 @@ pub record IsOutline (marks : List (Option Bytes)) (e : Expression) : Type 0 whe
   pub holds : AreSetMarks marks → (line : Text) (i j : ℕ) → Fits line marks i j → Holds line e i j
 
 -- the marks are the old ones and then those that are an outline of the expression
-abbrev pub AddsOutline : List Mark → Expression → List Mark → Type 0
-AddsOutline old e new = (more : List Mark) × (new ≡ old ++ more) × IsOutline (map shown more) e
+abbrev pub AddsOutline : List OutlineItem → Expression → List OutlineItem → Type 0
+AddsOutline old e new = (more : List OutlineItem) × (new ≡ old ++ more) × IsOutline (map shown more) e
 
 -- the marks are the old ones and then those of these sets
-abbrev pub AddsSets : List Mark → List Bytes → List Mark → Type 0
-AddsSets old sets new = (more : List Mark) × (new ≡ old ++ more) × (map shown more ≡ map Some sets)
+abbrev pub AddsSets : List OutlineItem → List Bytes → List OutlineItem → Type 0
+AddsSets old sets new = (more : List OutlineItem) × (new ≡ old ++ more) × (map shown more ≡ map Some sets)
 
 -- the marks are the old ones and then n for this set
-abbrev pub AddsTurns : List Mark → Bytes → ℕ → List Mark → Type 0
+abbrev pub AddsTurns : List OutlineItem → Bytes → ℕ → List OutlineItem → Type 0
 AddsTurns old set n new = AddsSets old (replicate n set) new
 
 -- the stretch of the line from i to j begins with a byte of each set in turn

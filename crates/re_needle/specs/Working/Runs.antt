@@ -1,5 +1,5 @@
 -- Runs of sets of bytes: where a run is in a line, and tests that its bytes pass.
-use Rattle.std.specs.Prelude.{◌≡◌, ◌≢◌, ◌==◌, if◌then◌else◌, ℕ, ◌+◌, ◌/◌, ◌%◌, ◌<◌, ◌≤◌, IsTrue, List, Option, Some, None, min, ◌++◌, length, bit_and, get_or, slice_index}
+use Rattle.std.specs.Prelude.{◌≡◌, ◌≢◌, ◌==◌, if◌then◌else◌, ℕ, ◌+◌, ◌/◌, ◌%◌, ◌<◌, ◌≤◌, IsTrue, List, Option, Some, None, min, length, take, bit_and, get_or, slice_index}
 use Rattle.re_syntax.specs.Bytes.{Bytes, Text, nothing}
 use Rattle.memchr.specs.Find.{IsFirst}
 use Rattle.re_needle.specs.declared.alike.Alike.{Alike}
@@ -16,9 +16,13 @@ pub record RunStandsAt (line : Text) (run : List Bytes) (k : ℕ) : Type 0 where
   pub fits : k + length run ≤ length line
   pub takes : (j : ℕ) → j < length run → IsTrue (set_at run j (slice_index line (k + j)))
 
--- the other run begins with this one
-abbrev pub BeginsRun : List Bytes → List Bytes → Type 0
-BeginsRun front run = (rest : List Bytes) × (run ≡ front ++ rest)
+-- how many sets of a run are looked for at most where those of several runs are looked for at once
+abbrev pub most_sets : ℕ
+most_sets = 32
+
+-- the first sets of a run, as many as are looked for there
+abbrev pub front_of : List Bytes → List Bytes
+front_of run = take most_sets run
 
 -- r is the first place of the run in the line
 abbrev pub FindsRun : Text → List Bytes → Option ℕ → Type 0

@@ -1,23 +1,13 @@
 -- The search for the parts of one line: the ends of its parts, and the steps.
 use Rattle.std.proofs.Common.{◌≡◌, ℕ, ◌+◌, ◌-◌, ◌*◌, ◌<◌, ◌≤◌, min, inl, inr, Bool, List, [], ◌∷◌, ◌++◌, length, take, get_or, refl, sym, ap, ◌∙◌, subst, arith}
-use Rattle.std.specs.Prelude.{◌↔◌, slice_index}
+use Rattle.re_search.proofs.Words.{◌↔◌, slice_index, Text, Expression, IsFound, IsPart, CountsAtMost, Adds, refused_more, with_refusal, counted, AllAnswer, searches_for, FoundPast, AddsEnds, Course, Known, Nothing, Ends, Refused, Sought, AreEnds, AreLimits, HasTaken, IsReady, passes, passes_before, refusals}
 use Rattle.std.proofs.lemmas.Bool.{cases_lt}
 use Rattle.std.proofs.Math.Nat.{mul-le-mul_left, mul-le-mul_right}
 use Rattle.std.proofs.Math.ListN.{replicate}
 use Rattle.std.proofs.lemmas.List.{get_or-replicate, get_or_past, length-replicate}
-use Rattle.re_syntax.specs.Bytes.{Text}
-use Rattle.re_syntax.specs.Expression.{Expression}
-use Rattle.re_syntax.specs.Parts.{IsFound, IsPart}
-use Rattle.re_meter.specs.Meters.{Steps, CountsAtMost, Adds, AddsAtMost, refused_more, with_refusal, counted}
+use Rattle.re_meter.specs.Meters.{Steps, AddsAtMost}
 use Rattle.re_meter.proofs.lemmas.Adding.{counts_none, counts_within, counts_both}
-use Rattle.re_auto.specs.Searching.{AllAnswer, searches_for}
-use Rattle.re_ends.specs.Working.GreatestEnds.{FoundPast, AddsEnds}
 use Rattle.re_ends.proofs.lemmas.FoundEnds.{adds_both_ends, both_past}
-use Rattle.re_search.specs.declared.course.Course.{Course}
-use Rattle.re_search.specs.declared.course.Known.{Known}
-use Rattle.re_search.specs.declared.course.Known.TheVariants.{Nothing, Ends, Refused}
-use Rattle.re_search.specs.Working.Sought.{Sought}
-use Rattle.re_search.specs.Working.Courses.{AreEnds, AreLimits, HasTaken, IsReady, passes, passes_before, refusals}
 use Rattle.re_search.proofs.lemmas.OneMatcherMore.{answer_of}
 
 module _ (sought : Sought) (line : Text) (ends : List ℕ) (from start : ℕ) (are : AreEnds sought line ends) (passed : (i : ℕ) → from ≤ i → i < start → get_or ends i 0 ≡ 0) where
@@ -117,17 +107,6 @@ taken_before cost first times old mid nothing taken = (
   subst (λ k. CountsAtMost (passes k times * cost) (passes k times * cost) first mid) nothing taken.few.counts,
   subst (λ k. mid.refused ≡ refused_more (refusals k) first.refused) nothing taken.few.refused,
 )
-
--- the pass was made
-pub learned : (cost : ℕ) (first : Steps) (times : ℕ) (old new : Course) (mid now : Steps) → old.known ≡ Nothing → new.limit ≡ old.limit → new.byte_limit ≡ old.byte_limit → (ends : _) → new.known ≡ Ends ends → HasTaken cost first times old mid → AddsAtMost cost mid now → IsReady cost first times new now
-learned cost first times old new mid now nothing same alike ends is taken more =
-    let before = taken_before cost first times old mid nothing taken in record {
-      limits = same_limits cost first old new same alike taken.limits;
-      few = subst (λ k. Adds (passes_before k times * cost) (passes_before k times * cost) (refusals k) first now) (sym is) (record {
-        counts = within (min times 3 + 1) (min (times + 1) 4) cost first now (omega arith) (one_more (min times 3) cost cost first mid now (omega arith) before.0 more.counts);
-        refused = more.refused ∙ before.1;
-      });
-    }
 
 -- memory for the pass was refused
 pub refused : (cost : ℕ) (first : Steps) (times : ℕ) (old new : Course) (mid now : Steps) → old.known ≡ Nothing → new.limit ≡ old.limit → new.byte_limit ≡ old.byte_limit → new.known ≡ Refused → HasTaken cost first times old mid → now ≡ with_refusal mid → IsReady cost first times new now

@@ -1,26 +1,11 @@
 -- Strings that several expressions need.
 use Rattle.std.proofs.Common.{◌≡◌, ℕ, ◌+◌, ◌<◌, ◌≤◌, inl, inr, Bool, true, false, List, [], ◌∷◌, ◌++◌, Any, All, length, take, drop, get_or, refl, sym, ap, subst, ◌∙◌, arith}
-use Rattle.std.specs.Option.{ForSome}
-use Rattle.std.specs.Prelude.{Option, Some, None}
+use Rattle.re_search.proofs.Words.{ForSome, Option, Some, None, PassesUnsought, Text, Expression, Holds, Matches, Matcher, AreNeeded, NeedsOneOf, PassesByFilter, any_literal, Needed, IsNeeded, StandsBetween, matched_expression, SomeMatches}
 use Rattle.std.proofs.lemmas.Bool.{cases_lt}
 use Rattle.re_needle.proofs.lemmas.BlockLemmas.{passes_none}
-use Rattle.re_match.specs.declared.sweeps.Sweep.{Sweep}
-use Rattle.re_match.specs.Working.Sweeping.{StopsAt}
-use Rattle.re_search.specs.Working.Blocks.{StopsNear}
-use Rattle.re_search.specs.Working.Sought.{PassesUnsought}
 use Rattle.std.proofs.lemmas.List.{get_or_default, drop-drop}
-use Rattle.re_syntax.specs.Bytes.{Text}
-use Rattle.re_syntax.specs.Expression.{Expression}
-use Rattle.re_syntax.specs.Holds.{Holds, Matches}
 use Rattle.re_syntax.proofs.lemmas.Decisions.{Any-first}
-use Rattle.re_match.specs.declared.matcher.Matcher.{Matcher}
-use Rattle.re_search.specs.Working.Filters.{AreNeeded, NeedsOneOf, PassesByFilter}
-use Rattle.re_match.specs.Working.Literals.{any_literal}
-use Rattle.re_search.specs.declared.filter.Needed.{Needed}
 use Rattle.re_search.specs.declared.filter.Needed.TheVariants as n
-use Rattle.re_needle.specs.Working.Needles.{IsNeeded, StandsBetween}
-use Rattle.re_match.specs.Working.Matchers.{matched_expression}
-use Rattle.re_auto.specs.Searching.{SomeMatches}
 use Rattle.re_syntax.proofs.lemmas.SomeOfJoined.{Any-left, Any-right}
 use Rattle.re_needle.proofs.lemmas.Occurrences.{occurs-stands}
 use Rattle.re_match.proofs.lemmas.SetMatches.{text_between, stands_choice}
@@ -47,7 +32,7 @@ stands_matched line s e texts needed is_text i j within h =
     let there : s ≡ drop k (take (k + length s) line) = text_between line s k (k + length s) (omega arith) end stands in
     (k, k + length s, end, stands_choice line k (k + length s) texts (omega arith) end (subst (λ x. Any (λ t. t ≡ x) texts) there is_text))
 
--- texts of which each expression needs some are needed
+-- texts are needed if each expression needs some of them
 pub texts_are_needed : (texts : List Text) (es : List Expression) → All (NeedsOneOf texts) es → AreNeeded (n.Strings (record { texts = texts; fold = false; whole = false })) es
 texts_are_needed texts es each line whole none some = none (matched whole some)
   where
@@ -62,7 +47,3 @@ texts_are_needed texts es each line whole none some = none (matched whole some)
 pub filter_passes : (filter : Option Needed) (es : List Expression) (whole : Bool) (block : Text) (count : ℕ) → ForSome filter (λ strings. AreNeeded strings es) → PassesByFilter filter block count → PassesUnsought (record { expressions = es; whole = whole }) block count
 filter_passes None es whole block count needed none = subst (PassesUnsought (record { expressions = es; whole = whole }) block) (sym none) (passes_none (λ line. ¬ SomeMatches es line whole) block)
 filter_passes (Some strings) es whole block count needed (lines, rest, free, none, is, counted) = (lines, rest, free, λ i d below some. needed strings refl (get_or lines i d) whole (none i d below) some, is, counted)
-
--- where a sweep stopped
-pub stops_near : (e : Expression) (whole : Bool) (block : Text) (sweep : Sweep) → StopsAt e whole block sweep → StopsNear block sweep
-stops_near e whole block sweep stops = record { within = stops.within; near = stops.near; unseen = stops.unseen }

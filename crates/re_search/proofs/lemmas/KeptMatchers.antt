@@ -1,10 +1,7 @@
 -- Matchers that are the same as before: where none was asked, over two calls, and where one of them was asked.
 use Rattle.std.proofs.Common.{◌≡◌, ℕ, Bool, List, get_or, refl, ◌∙◌}
 use Rattle.std.proofs.Math.ListN.{set}
-use Rattle.re_syntax.specs.Expression.{Expression}
-use Rattle.re_search.specs.declared.searchers.Searchers.{Searchers}
-use Rattle.re_auto.specs.Searching.{SameMatchers}
-use Rattle.re_search.specs.Working.Asking.{SameSearchers, sought_by}
+use Rattle.re_search.proofs.Words.{Expression, Searchers, SameMatchers, SameMatcher, SameSearchers, sought_by}
 use Rattle.re_search.proofs.lemmas.OneMatcherMore.{same_after}
 
 module _ {M : Type 0} {expression : M → Expression} {whole : M → Bool} {room : M → ℕ} where
@@ -19,6 +16,10 @@ module _ {M : Type 0} {expression : M → Expression} {whole : M → Bool} {room
   -- they are so still where the matcher at place i is replaced by one with the same expression
   pub one_asked : {old now : List M} → SameMatchers expression whole room old now → (i : ℕ) (d n : M) → expression n ≡ expression (get_or now i d) → whole n ≡ whole (get_or now i d) → room n ≡ room (get_or now i d) → SameMatchers expression whole room old (set now i n)
   one_asked same i d n e w r = record { same_expressions = same_after expression _ _ same.same_expressions i d n e; same_wholes = same_after whole _ _ same.same_wholes i d n w; same_rooms = same_after room _ _ same.same_rooms i d n r }
+
+  -- the same with the three in one
+  pub one_kept : {old now : List M} → SameMatchers expression whole room old now → (i : ℕ) (d n : M) → SameMatcher expression whole room (get_or now i d) n → SameMatchers expression whole room old (set now i n)
+  one_kept same i d n kept = one_asked same i d n kept.same_expression kept.same_whole kept.same_room
 
 module _ {M : Type 0} {g : _} {expression : M → Expression} {whole : M → Bool} {room : M → ℕ} where
   -- matchers that are asked together are the same where none was asked

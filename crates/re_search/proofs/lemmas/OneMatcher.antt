@@ -1,17 +1,10 @@
 -- What a list of one matcher says of the lines of a block.
 use Rattle.std.proofs.Common.{◌≡◌, List, [], ◌∷◌, length, map, get_or, ap, arith, ℕ, Bool, sym, subst, Option}
 use Rattle.std.proofs.lemmas.List.Elements.{All-head}
-use Rattle.re_syntax.specs.Bytes.{Text}
-use Rattle.re_syntax.specs.Expression.{Expression}
-use Rattle.re_syntax.specs.Holds.{Matches}
+use Rattle.re_search.proofs.Words.{Text, Expression, Matches, AllAnswer, SomeMatches, CountsMatched, FindsMatched, CountsMatchedByAll, Span, IsSought, FindsSought}
 use Rattle.re_syntax.proofs.lemmas.Decisions.{Any-first}
-use Rattle.re_auto.specs.Searching.{AllAnswer, SomeMatches}
-use Rattle.re_needle.specs.Working.Blocks.{CountsMatched, FindsMatched}
-use Rattle.re_search.specs.Working.Blocks.{CountsMatchedByAll}
 use Rattle.re_syntax.proofs.lemmas.SomeOfJoined.{Any-single}
 use Rattle.re_needle.proofs.lemmas.CountedBlocks.{counts_same}
-use Rattle.re_syntax.specs.declared.span.Span.{Span}
-use Rattle.re_search.specs.Working.Sought.{IsSought, FindsSought}
 use Rattle.re_needle.proofs.lemmas.NextLines.{finds_same}
 
 -- a list of one

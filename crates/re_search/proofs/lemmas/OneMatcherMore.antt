@@ -4,16 +4,12 @@ use Rattle.std.proofs.Math.ListN.{set}
 use Rattle.std.proofs.Math.Seq.{take-suc, map-set_same}
 use Rattle.std.proofs.lemmas.Bool.{false≢true, cases_lt, lt-ltb}
 use Rattle.std.proofs.lemmas.List.{get_or-map, length-map}
-use Rattle.re_syntax.specs.Bytes.{Text}
-use Rattle.re_syntax.specs.Expression.{Expression}
-use Rattle.re_syntax.specs.Holds.{Matches}
+use Rattle.re_search.proofs.Words.{Text, Expression, Matches, AddsUpTo, FindsPart, FindsPartOfAll, SomeMatches, DecidesMatchOfAll, AllAnswer, Span}
 use Rattle.re_auto.specs.Meters.{Steps}
 use Rattle.std.proofs.Math.Nat.{mul-le-mul_right}
-use Rattle.re_meter.specs.Meters.{AddsUpTo}
 use Rattle.re_meter.proofs.lemmas.Adding.{adds_both as bounds_both, adds_within as bounds_within}
 use Rattle.re_match.proofs.lemmas.StepSums.{adds_up}
-use Rattle.re_auto.specs.Searching.{FindsPart, FindsPartOfAll, SomeMatches, DecidesMatchOfAll, AllAnswer, AddsAtMost}
-use Rattle.re_syntax.specs.declared.span.Span.{Span}
+use Rattle.re_auto.specs.Searches.{AddsAtMost}
 use Rattle.re_syntax.proofs.lemmas.SomeOfJoined.{Any-append-cases, Any-single}
 
 -- two lists whose elements look the same to f one by one, and the element of the second at place i

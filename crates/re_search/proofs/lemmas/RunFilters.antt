@@ -3,18 +3,8 @@ use Rattle.std.proofs.Common.{◌≡◌, ℕ, ◌+◌, ◌<◌, ◌≤◌, inl, 
 use Rattle.std.proofs.lemmas.Bool.{cases_lt, or_left, or_right}
 use Rattle.std.proofs.lemmas.List.{get_or-map, get_or_append_left, get_or_default, length-map}
 use Rattle.std.proofs.Math.Seq.{get_or-append_seam}
-use Rattle.re_syntax.specs.Bytes.{Bytes, Text, nothing, union}
-use Rattle.re_syntax.specs.Expression.{Expression}
-use Rattle.re_syntax.specs.Holds.{Holds}
-use Rattle.re_syntax.specs.Sets.{members}
-use Rattle.re_syntax.specs.declared.bytes.ByteSet.{ByteSet}
-use Rattle.re_auto.specs.Searching.{SomeMatches}
-use Rattle.re_needle.specs.Working.Needles.{RunIsNeeded}
-use Rattle.re_needle.specs.Working.Runs.{RunStandsAt, set_at}
-use Rattle.re_match.specs.declared.matcher.Matcher.{Matcher}
-use Rattle.re_match.specs.Working.Matchers.{matched_expression}
+use Rattle.re_search.proofs.Words.{Bytes, nothing, union, Expression, Holds, members, ByteSet, SomeMatches, RunIsNeeded, set_at, Matcher, matched_expression, AreNeeded, IsCoveredBy}
 use Rattle.re_search.specs.declared.filter.Needed.TheVariants as n
-use Rattle.re_search.specs.Working.Filters.{AreNeeded, IsCoveredBy}
 
 -- where a run is needed, so is one that covers it
 pub covered_needed : (run other : List Bytes) (e : Expression) → IsCoveredBy run other → RunIsNeeded run e → RunIsNeeded other e

@@ -1,31 +1,13 @@
 -- The next line of a block that has a property, and how many lines have it.
-use Rattle.std.proofs.Common.{◌≡◌, Bool, ℕ, ◌+◌, ◌-◌, ◌*◌, ◌<◌, ◌≤◌, List, [], ◌∷◌, None, length, map, drop, get_or, refl, sym, ap, ◌∙◌, subst, arith, length-drop}
+use Rattle.std.proofs.Common.{◌≡◌, ℕ, ◌+◌, ◌-◌, ◌*◌, ◌<◌, ◌≤◌, List, length, map, drop, refl, sym, ap, ◌∙◌, arith, length-drop}
 use Rattle.std.proofs.Math.Nat.{mul-le-mul_left, mul-le-mul_right}
 use Rattle.std.proofs.lemmas.List.{length-map}
+use Rattle.re_search.proofs.Words.{Text, IsLineFrom, StopsNear, left_for_all, AddsUpTo, Sweep, Stop, Unseen, Seen, Matched}
 use Rattle.re_auto.specs.Meters.{Steps}
-use Rattle.re_syntax.specs.Bytes.{Text}
-use Rattle.re_syntax.specs.Expression.{Expression}
-use Rattle.re_syntax.specs.Holds.{Matches}
-use Rattle.re_syntax.proofs.lemmas.Decisions.{Any-none}
-use Rattle.re_auto.specs.Searching.{AddsAtMost, AllAnswer, SomeMatches}
-use Rattle.re_needle.specs.Working.Blocks.{PassesAll, IsLineFrom}
-use Rattle.re_search.specs.Working.Blocks.{PassesUnmatchedByAll, StopsNear, left_for_all}
-use Rattle.re_search.specs.Working.Sought.{FindsSought, PassesUnsought}
-use Rattle.re_meter.specs.Meters.{AddsUpTo}
+use Rattle.re_auto.specs.Searches.{AddsAtMost}
 use Rattle.re_meter.proofs.lemmas.Adding.{adds_both as bounds_both, adds_within as bounds_within}
-use Rattle.re_match.specs.declared.sweeps.Sweep.{Sweep}
-use Rattle.re_match.specs.declared.sweeps.Stop.{Stop}
-use Rattle.re_match.specs.declared.sweeps.Stop.TheVariants.{Unseen, Seen, Matched}
 use Rattle.re_match.proofs.lemmas.SweptLines.{line_after}
 use Rattle.re_match.proofs.lemmas.StepSums.{adds_both, adds_within}
-
--- the steps of a search of one line more by each of many matchers
-pub adds_line_by : (n start from end line : ℕ) (old mid new : Steps) → start ≤ from → from ≤ end → line ≡ end - from → AddsAtMost (n * start) old mid → AddsAtMost (n * (line + 1)) mid new → AddsAtMost (n * (end + 1)) old new
-adds_line_by n start from end line old mid new low high long a b =
-    let all : start + (line + 1) ≤ end + 1 = omega (arith, low, high, long) in
-    let joined : n * start + n * (line + 1) ≡ n * (start + (line + 1)) = omega arith in
-    let most = mul-le-mul_left n all in
-    adds_within (n * start + n * (line + 1)) (n * (end + 1)) old new (omega (arith, joined, most)) (adds_both (n * start) (n * (line + 1)) old mid new a b)
 
 -- the work of a sweep of the rest of a block, and of the search of the line at which it stopped
 pub turn_adds : (n : ℕ) (block : Text) (start end line : ℕ) (sweep : Sweep) (old begun swept new : Steps) → 1 ≤ n → StopsNear (drop start block) sweep → IsLineFrom block (start + sweep.start) end → line ≡ end - (start + sweep.start)
@@ -76,26 +58,8 @@ adds_on_by n all before others end old mid new few low left a b =
 pub same_length : {A B : Type 0} (f : A → B) (xs ys : List A) → map f xs ≡ map f ys → length xs ≡ length ys
 same_length f xs ys e = sym (length-map xs f) ∙ ap length e ∙ length-map ys f
 
--- lines that matchers of the same expressions pass are passed
-pub swept_by : (es fs : List Expression) (ws vs : List Bool) (whole : Bool) → fs ≡ es → vs ≡ ws → AllAnswer whole ws → (block : Text) (count : ℕ) → PassesUnmatchedByAll fs vs block count → PassesUnsought (record { expressions = es; whole = whole }) block count
-swept_by es fs ws vs whole same_es same_ws all block count h =
-    subst (λ xs. PassesAll (λ line. ¬ SomeMatches xs line whole) block count) same_es (h whole (subst (AllAnswer whole) (sym same_ws) all))
-
--- without an expression no line is found
-pub finds_none : (es : List Expression) (whole : Bool) (lines : List Text) → length es ≡ 0 → FindsSought (record { expressions = es; whole = whole }) lines None
-finds_none [] whole lines none = λ i d below some. Any-none (λ e. Matches e (get_or lines i d) whole) some
-finds_none (e ∷ es) whole lines none = absurd (omega (arith, none))
-
 -- a line that a filter ruled out
 pub ruled_out : (n long : ℕ) (old new : Steps) → 1 ≤ n → AddsUpTo (long + 1) long old new → AddsAtMost (n * (long + 1)) old new
 ruled_out n long old new some a =
     let once : 1 * (long + 1) ≤ n * (long + 1) = mul-le-mul_right (long + 1) some in
     bounds_within (long + 1) (n * (long + 1)) long (n * (long + 1)) old new (omega (arith, once)) (omega (arith, once)) a
-
--- a line that a filter didn't rule out, of which then the matchers were asked, one of them by steps alone
-pub looked_at : (n long : ℕ) (old mid new : Steps) → 1 ≤ n → AddsUpTo 0 long old mid → AddsUpTo (n * (long + 1)) ((n - 1) * (long + 1)) mid new → AddsAtMost (n * (long + 1)) old new
-looked_at n long old mid new some a b =
-    let back : 1 + (n - 1) ≡ n = omega (arith, some) in
-    let parts : long + 1 + (n - 1) * (long + 1) ≡ (1 + (n - 1)) * (long + 1) = omega arith in
-    let whole : (1 + (n - 1)) * (long + 1) ≡ n * (long + 1) = ap (λ k. k * (long + 1)) back in
-    bounds_within (0 + n * (long + 1)) (n * (long + 1)) (long + (n - 1) * (long + 1)) (n * (long + 1)) old new (omega arith) (omega (arith, parts, whole)) (bounds_both 0 (n * (long + 1)) long ((n - 1) * (long + 1)) old mid new a b)

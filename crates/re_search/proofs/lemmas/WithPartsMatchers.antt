@@ -4,14 +4,10 @@ use Rattle.std.proofs.Common.{◌≡◌, ℕ, ◌+◌, ◌-◌, ◌*◌, ◌≤�
 use Rattle.std.proofs.lemmas.Bool.{false≢true}
 use Rattle.std.proofs.lemmas.List.{map-append}
 use Rattle.std.proofs.lemmas.List.Elements.{All-nil, All-cons, All-head, All-tail}
-use Rattle.re_syntax.specs.Bytes.{Text}
-use Rattle.re_syntax.specs.Expression.{Expression}
-use Rattle.re_syntax.specs.Holds.{Matches}
+use Rattle.re_search.proofs.Words.{Text, Expression, Matches, AddsUpTo, AllAnswer, SameMatchers, SomeMatches, DecidesMatchOfAll}
 use Rattle.re_auto.specs.Meters.{Steps}
 use Rattle.std.proofs.Math.Nat.{mul-le-mul_right}
-use Rattle.re_meter.specs.Meters.{AddsUpTo}
 use Rattle.re_meter.proofs.lemmas.Adding.{adds_within, adds_both}
-use Rattle.re_auto.specs.Searching.{AllAnswer, SameMatchers, SomeMatches, DecidesMatchOfAll}
 use Rattle.re_syntax.proofs.lemmas.SomeOfJoined.{Any-left, Any-right, Any-append-cases}
 
 -- those of the first part give the answer that all give

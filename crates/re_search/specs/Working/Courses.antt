@@ -3,12 +3,12 @@ use Rattle.std.specs.Prelude.{◌≡◌, ⊤, ℕ, ◌+◌, ◌*◌, ◌<◌, �
 use Rattle.re_syntax.specs.Bytes.{Text}
 use Rattle.re_syntax.specs.Expression.{Expression}
 use Rattle.re_meter.specs.Meters.{Steps, Adds}
-use Rattle.re_auto.specs.Searching.{FindsPart}
+use Rattle.re_auto.specs.Searches.{FindsPart}
 use Rattle.re_ends.specs.Working.GreatestEnds.{FoundPast}
 use Rattle.re_search.specs.declared.course.Course.{Course}
 use Rattle.re_search.specs.declared.course.Known.{Known}
 use Rattle.re_search.specs.declared.course.Known.TheVariants.{Nothing, Ends, Refused}
-use Rattle.re_search.specs.declared.kept.Answer.{Answer}
+use Rattle.re_search.specs.declared.kept.PartAnswer.{PartAnswer}
 use Rattle.re_search.specs.Working.Sought.{Sought}
 
 -- each place of the line has the greatest end of the parts that begin there, or 0
@@ -25,21 +25,21 @@ IsKnownOf sought line (Ends ends) = AreEnds sought line ends.items
 IsKnownOf sought line Refused = ⊤
 
 -- the answer of the matcher with this number, if there is one, is right
-abbrev pub IsAnswer : Expression → Text → Bool → List Answer → ℕ → Type 0
+abbrev pub IsAnswer : Expression → Text → Bool → List PartAnswer → ℕ → Type 0
 IsAnswer e line whole answers number =
-    (answer : Answer) → number < length answers → get_or answers number answer ≡ answer →
+    (answer : PartAnswer) → number < length answers → get_or answers number answer ≡ answer →
     FindsPart (e ∷ []) line whole answer.from answer.part
 
 -- so is each answer
-abbrev pub AreAnswers : Sought → Text → List Answer → Type 0
+abbrev pub AreAnswers : Sought → Text → List PartAnswer → Type 0
 AreAnswers sought line answers =
     (number : ℕ) (e : Expression) → number < length sought.expressions →
     get_or sought.expressions number e ≡ e → IsAnswer e line sought.whole answers number
 
 -- the answers with other numbers are as before
-abbrev pub KeepsOthers : ℕ → List Answer → List Answer → Type 0
+abbrev pub KeepsOthers : ℕ → List PartAnswer → List PartAnswer → Type 0
 KeepsOthers number old new =
-    (other : ℕ) (answer : Answer) → other ≢ number → other < length new →
+    (other : ℕ) (answer : PartAnswer) → other ≢ number → other < length new →
     get_or new other answer ≡ answer → (other < length old) × (get_or old other answer ≡ answer)
 
 -- the course is one of the search for the parts of this line
@@ -55,7 +55,7 @@ passes Nothing times = min times 3
 passes (Ends ends) times = min times 4
 passes Refused times = times
 
--- how often memory for the ends was refused
+-- how often the allocation for the ends failed
 abbrev pub refusals : Known → ℕ
 refusals Nothing = 0
 refusals (Ends ends) = 0

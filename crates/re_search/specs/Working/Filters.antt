@@ -8,9 +8,9 @@ use Rattle.re_search.specs.declared.filter.Needed.{Needed}
 use Rattle.re_search.specs.declared.filter.Needed.TheVariants as n
 use Rattle.re_needle.specs.Working.Blocks.{PassesAll}
 use Rattle.re_needle.specs.Working.Needles.{IsNeeded}
-use Rattle.re_syntax.specs.Sets.{members}
+use Rattle.re_syntax.specs.Working.Trees.{members}
 use Rattle.re_needle.specs.Working.Runs.{LacksRun, set_at}
-use Rattle.re_auto.specs.Searching.{SomeMatches}
+use Rattle.re_auto.specs.Searches.{SomeMatches}
 
 -- the line has nothing of what is needed
 abbrev pub LacksAll : Needed → Text → Type 0

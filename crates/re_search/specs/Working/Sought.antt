@@ -3,7 +3,7 @@ use Rattle.std.specs.Prelude.{ℕ, Bool, List, Option}
 use Rattle.re_syntax.specs.Bytes.{Text}
 use Rattle.re_syntax.specs.Expression.{Expression}
 use Rattle.re_syntax.specs.declared.span.Span.{Span}
-use Rattle.re_auto.specs.Searching.{SomeMatches}
+use Rattle.re_auto.specs.Searches.{SomeMatches}
 use Rattle.re_needle.specs.Working.Blocks.{PassesAll, FindsNext, HoldsOfMany}
 
 -- the expressions, and whether the whole line has to be matched

@@ -10,13 +10,6 @@ use Rattle.re_syntax.specs.Spelled.{IsSpelled}
 abbrev pub string_expression : Text → Expression
 string_expression string = sequence (map byte string)
 
--- the expressions are bytes, and these were added
-pub record AddsBytes (es : List Expression) (old new : Text) : Type 0 where
-  pub bytes : Text
-  pub are : es ≡ map byte bytes
-  pub line : HasNoNewline bytes
-  pub added : new ≡ old ++ bytes
-
 -- the expressions are strings, and these were added
 pub record AddsEach (es : List Expression) (old new : Text) : Type 0 where
   pub strings : List Text

@@ -1,11 +1,11 @@
 //! The parts of a line, one after another, in at most four searches of the line.
 ghost use Rattle.std.specs.Prelude.{◌≡◌, ℕ, ◌+◌, ◌*◌, ◌≤◌, length, map};
 ghost use Rattle.re_auto.specs.Meters.{Steps};
-ghost use Rattle.re_auto.specs.Searching.{AddsAtMost, AllAnswer, FindsPart, SameMatchers};
+ghost use Rattle.re_auto.specs.Searches.{AddsAtMost, AllAnswer, FindsPart, SameMatchers};
 ghost use Rattle.re_ends.specs.Working.GreatestEnds.{AddsEnds, FoundPast};
 ghost use Rattle.re_search.specs.declared.course.Known.TheVariants.{Nothing};
-ghost use Rattle.re_search.specs.Working.Asking.{SameSearchers, asks_whole, expressions_by};
-ghost use Rattle.re_search.specs.Working.Asking.{sought_by};
+ghost use Rattle.re_search.specs.Working.Searchers.{SameSearchers, asks_whole, expressions_by};
+ghost use Rattle.re_search.specs.Working.Searchers.{sought_by};
 ghost use Rattle.re_search.specs.Working.Sought.{Sought};
 ghost use Rattle.re_search.specs.Working.Courses.{IsCourseOf, IsReady, HasTaken};
 
@@ -17,7 +17,7 @@ use re_match::LineMatch;
 use re_syntax::Span;
 
 impl<'a, 'f, M: LineMatch> Searchers<'a, 'f, M> {
-    /// The course of a search for the parts of one line, before the first. No memory is taken.
+    /// The course of a search for the parts of one line, before the first. Nothing is allocated.
     pub fn course(&self, line: &[u8], meter: &Meter) -> Course
         ensures right { IsCourseOf (sought_by M.expression self.now) line.now result }
         ensures steps { HasTaken
@@ -27,11 +27,11 @@ impl<'a, 'f, M: LineMatch> Searchers<'a, 'f, M> {
         Course::new(self.alloc, self.matchers.len(), line, meter)
     }
 
-    /// The next part of the line: of all stretches that are not empty, begin at `from` or later and
-    /// are matched by some matcher, the one that begins earliest, and of those that begin there the
-    /// longest (XBD 9.1). The course is the one with which the parts before were searched. All parts
-    /// of a line take at most four searches of it, however many they are, unless memory for what is
-    /// learned of the line is refused. The parts are the same then, and the meter notes it.
+    /// The next part of the line: the leftmost-longest of the stretches that are not empty, begin
+    /// at `from` or later and are matched by some matcher (XBD 9.1). The course is the one with
+    /// which the parts before were searched. All parts of a line take at most four searches of it,
+    /// however many they are, unless the allocation for what is learned of the line fails. The
+    /// parts are then the same, and the meter counts the failure.
     pub fn next_part(
         &mut self,
         line: &[u8],

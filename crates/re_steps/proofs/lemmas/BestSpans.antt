@@ -1,27 +1,12 @@
 -- The best of the matched stretches on the way over a line, and the part that it is in the end.
 use Rattle.std.proofs.Common.{◌≡◌, ℕ, zero, suc, ◌+◌, ◌-◌, ap, add-one, nat_eq, slice_get, true≢false, ◌<◌, ◌≤◌, false, inl, inr, [], ◌∷◌, length, slice_index, Option, Some, None, refl, sym, subst, arith}
-use Rattle.std.specs.Option.{is_some}
+use Rattle.re_steps.proofs.Words.{is_some, Text, Expression, Holds, IsFound, Mode, Search, Starts, Part, PartHolds, Reaches, part_of, is_begin, is_end, Least, IsBest, better, places, IsMatched, StartsAt, CanBegin, Span, FindsPart, IsBestSpan, Carries}
 use Rattle.std.proofs.lemmas.Option.{slice_get-get_or}
 use Rattle.std.proofs.lemmas.Bool.{cases_lt}
-use Rattle.re_syntax.specs.Bytes.{Text}
-use Rattle.re_syntax.specs.Expression.{Expression}
-use Rattle.re_syntax.specs.Holds.{Holds}
-use Rattle.re_syntax.specs.Parts.{IsFound}
 use Rattle.re_syntax.proofs.lemmas.Decisions.{Any-first}
-use Rattle.re_auto.specs.declared.mode.Mode.{Mode}
-use Rattle.re_auto.specs.declared.mode.Mode.TheVariants.{Search}
-use Rattle.re_auto.specs.declared.step.starts.Starts.{Starts}
-use Rattle.re_auto.specs.Working.Positions.{Part, PartHolds, Reaches, part_of, is_begin, is_end}
-use Rattle.re_syntax.specs.Working.BestStretches.{Least, IsBest, better, places}
-use Rattle.re_auto.specs.Working.Starts.{IsMatched}
-use Rattle.re_auto.specs.Working.StartSets.{StartsAt}
-use Rattle.re_auto.specs.Working.Tables.{CanBegin}
 use Rattle.re_auto.proofs.lemmas.Chains.{not_at_begin, reaches_bounds}
 use Rattle.re_auto.proofs.lemmas.LeastStarts.{one_pass_is_enough}
 use Rattle.re_auto.proofs.lemmas.PositionsDecide.{positions_decide}
-use Rattle.re_syntax.specs.declared.span.Span.{Span}
-use Rattle.re_auto.specs.Searching.{FindsPart}
-use Rattle.re_steps.specs.Working.Simulations.{IsBestSpan, Carries}
 use Rattle.re_syntax.proofs.lemmas.SomeOfJoined.{Any-single}
 
 -- a chain begins with a first position, which takes its first byte

@@ -1,22 +1,15 @@
 -- Stretches that begin at one place, followed over a line by words of positions.
 use Rattle.std.proofs.Common.{◌≡◌, ℕ, zero, suc, ◌+◌, ◌^◌, ◌<◌, ◌≤◌, ◌⊎◌, inl, inr, ◌↔◌, length, slice_index, refl, sym, ap, subst, arith}
-use Rattle.std.specs.Prelude.{bit_and}
-use Rattle.std.specs.Int.{bit_at}
+use Rattle.re_steps.proofs.Words.{bit_and, bit_at, Text, Expression, Holds, positions, InWord, PartHolds, Reaches, part_of, is_begin, is_end, AreReached, GoesOnAt, IsLongest, HasNone, IsLastEnd}
 use Rattle.std.proofs.lemmas.Bool.{cases_lt}
 use Rattle.std.proofs.lemmas.Nat.{and_le_l}
 use Rattle.std.proofs.lemmas.Nat.Bits.{bit_at-zero}
-use Rattle.re_syntax.specs.Bytes.{Text}
-use Rattle.re_syntax.specs.Expression.{Expression}
-use Rattle.re_syntax.specs.Holds.{Holds, positions}
-use Rattle.re_auto.specs.Working.Bits.{InWord}
-use Rattle.re_auto.specs.Working.Positions.{PartHolds, Reaches, part_of, is_begin, is_end}
 use Rattle.re_auto.proofs.lemmas.BitLemmas.{lowest}
 use Rattle.re_auto.proofs.lemmas.WordLemmas.{in_both}
 use Rattle.re_auto.proofs.lemmas.Chains.{reaches_bounds}
 use Rattle.re_auto.proofs.lemmas.LeastStarts.{passes}
 use Rattle.re_auto.proofs.lemmas.Numbered.{part_numbered}
 use Rattle.re_auto.proofs.lemmas.PositionsDecide.{positions_decide}
-use Rattle.re_steps.specs.Working.Lone.{AreReached, GoesOnAt, IsLongest, HasNone, IsLastEnd}
 
 -- the word 0 has no number
 pub none_in_zero : (word q : ℕ) → word ≡ 0 → InWord word q → ⊥

@@ -1,16 +1,14 @@
 -- A bounded cache, and the cells that show what it holds.
 use Rattle.std.proofs.Common.{◌≡◌, ℕ, zero, suc, ◌-◌, ◌<◌, ◌≤◌, Bool, false, cond, List, [], ◌∷◌, ◌++◌, take, length, length-append, ◌⊎◌, inl, inr, Option, Some, None, slice_get, slice_index, get_or, set, replicate, nat_eq, refl, sym, ap, ◌∙◌, subst, arith}
 use Rattle.std.proofs.Math.Seq.{get_or-append_right}
-use Rattle.std.specs.List.{IsDistinct, AllByRecursion}
-use Rattle.std.specs.Map.{lookup, lookup_entry, keys_of}
+use Rattle.re_steps.proofs.Words.{AllByRecursion, lookup, lookup_entry, keys_of, LruCache, IsValid, put_entries, displaced, unknown, shown, Mirrors}
+use Rattle.std.specs.List.{IsDistinct}
 use Rattle.std.proofs.lemmas.Bool.{cases_eq, ne_eqb}
 use Rattle.std.proofs.lemmas.Cmp.{nat_eq_equiv}
 use Rattle.std.proofs.lemmas.List.{take_all, get_or-set_same, get_or-set_other, get_or_append_left, get_or-replicate, length-set, length-replicate}
 use Rattle.std.proofs.lemmas.Map.Entries.{lookup_from_place}
 use Rattle.std.proofs.lemmas.Option.{slice_get_cases}
-use Rattle.lru.specs.LruCache.{LruCache, IsValid, put_entries, displaced}
 use Rattle.lru.proofs.Pairs.{lookup-lookup_entry}
-use Rattle.re_steps.specs.Working.Pairs.{unknown, shown, Mirrors}
 
 -- what is said of all keys, at one place
 all_at : (P : ℕ → Type 0) (es : List (ℕ × ℕ)) (n : ℕ) (e : ℕ × ℕ) → AllByRecursion P (keys_of es) → slice_get es n ≡ Some e → P e.0

@@ -1,18 +1,10 @@
 -- Places of a line at which no matched stretch ends, and the steps up to them.
 use Rattle.std.proofs.Common.{◌≡◌, ℕ, zero, suc, ◌+◌, ◌<◌, ◌≤◌, Bool, true, false, IsTrue, ◌⊎◌, inl, inr, length, refl, sym, ◌∙◌, subst, arith}
-use Rattle.std.specs.Prelude.{◌↔◌}
+use Rattle.re_steps.proofs.Words.{◌↔◌, Text, Expression, Holds, Matches, Search, Whole, StateSet, PartHolds, part_of, is_begin, IsNowhere, StandsAt, EndsAt, NoneEndsBefore}
 use Rattle.std.proofs.lemmas.Bool.{false≢true}
-use Rattle.re_syntax.specs.Bytes.{Text}
-use Rattle.re_syntax.specs.Expression.{Expression}
-use Rattle.re_syntax.specs.Holds.{Holds, Matches}
-use Rattle.re_auto.specs.declared.mode.Mode.TheVariants.{Search, Whole}
-use Rattle.re_auto.specs.declared.step.state_set.StateSet.{StateSet}
-use Rattle.re_auto.specs.Working.Positions.{PartHolds, part_of, is_begin, is_end}
-use Rattle.re_auto.specs.Working.StateSets.{IsNowhere, StandsAt}
-use Rattle.re_auto.proofs.lemmas.Chains.{not_at_begin, not_at_end}
+use Rattle.re_auto.proofs.lemmas.Chains.{not_at_begin}
 use Rattle.re_auto.proofs.lemmas.LeastStarts.{passes}
 use Rattle.re_auto.proofs.lemmas.PositionsDecide.{positions_decide}
-use Rattle.re_steps.specs.Working.Simulations.{EndsAt, NoneEndsBefore}
 
 -- what holds of no place before `next`, and not there, holds of none up to there
 pub none_more : (P : ℕ → Type 0) (place next : ℕ) → ((k : ℕ) → place ≤ k → k < next → ¬ P k) → ¬ P next → (k : ℕ) → place ≤ k → k < next + 1 → ¬ P k
@@ -30,20 +22,6 @@ module _ (e : Expression) (line : Text) where
   pub none_at_first : NoneEndsBefore e line 0
   unfolding NoneEndsBefore
   none_at_first k lt = absurd (omega arith)
-
-  -- a set that no stretch ends at, and that the search has at each place passed
-  pub none_passed : (set : StateSet) (place next : ℕ) → NoneEndsBefore e line place → next ≤ length line
-      → ((line : Text) (j : ℕ) → StandsAt e Search line j set → false ≡ is_end line j → IsTrue false ↔ EndsAt e Search line j)
-      → ((k : ℕ) → place ≤ k → k < next → StandsAt e Search line k set) → NoneEndsBefore e line next
-  unfolding NoneEndsBefore
-  none_passed set place next none within reported stands k lt ends =
-      elim (before k) [
-        | inl early ↦ none k early ends
-        | inr late ↦ false≢true ((reported line k (stands k late lt) (sym (not_at_end line k (omega arith)))).1 ends)
-      ]
-    where
-      before : (k : ℕ) → (k < place) ⊎ (place ≤ k)
-      before k = search arith
 
   -- a matched stretch that ends on the line
   pub matched_at : (j : ℕ) → j ≤ length line → EndsAt e Search line j → Matches e line false

@@ -5,19 +5,9 @@ use Rattle.std.proofs.lemmas.Bool.{cases_eq, false≢true}
 use Rattle.std.proofs.lemmas.List.{get_or_append_left, get_or-replicate, length-replicate}
 use Rattle.std.proofs.lemmas.Nat.{div-mul-add}
 use Rattle.std.proofs.lemmas.Option.{slice_get_within, get_or_from_slice_get}
-use Rattle.re_syntax.specs.Expression.{Expression}
-use Rattle.re_syntax.specs.Holds.{positions}
-use Rattle.re_auto.specs.declared.mode.Mode.{Mode}
-use Rattle.re_auto.specs.declared.mode.Mode.TheVariants.{Search}
-use Rattle.re_auto.specs.declared.step.state_set.StateSet.{StateSet}
-use Rattle.re_auto.specs.Working.Bits.{Has}
-use Rattle.re_auto.specs.Working.StateSets.{IsMadeFor, IsSame, IsNextSet, IsAccepting, TakenAlike}
-use Rattle.re_auto.specs.Working.Tables.{words_for}
+use Rattle.re_steps.proofs.Words.{Expression, positions, Mode, Search, StateSet, Has, IsMadeFor, IsSame, IsNextSet, IsAccepting, TakenAlike, words_for, Acceptance, unknown, Mirrors, IsKeptOrLost, Rows, limit, AreSound, HasFirstRows, AreExtended, IsRowOf, IsMarkOf, IsCellOf, SaysNext, cell_at}
 use Rattle.re_auto.proofs.lemmas.RowLemmas.{row_within}
-use Rattle.re_steps.specs.declared.table.Mark.{Mark}
-use Rattle.re_steps.specs.Working.Pairs.{unknown, Mirrors, IsKeptOrLost}
-use Rattle.re_steps.specs.Working.Rows.{Rows, limit, AreSound, HasFirstRows, AreExtended, IsRowOf, IsMarkOf, IsCellOf, SaysNext, cell_at}
-use Rattle.re_steps.proofs.lemmas.StageLaws.{same_sym, accepting_same, next_same}
+use Rattle.re_steps.proofs.lemmas.StageLaws.{same_sym, next_same}
 
 -- elements of a list that is longer by one
 pub get_left : {X : Type 0} (xs ys : List X) (k : ℕ) (x : X) → slice_get xs k ≡ Some x → slice_get (xs ++ ys) k ≡ Some x
@@ -39,13 +29,6 @@ get_cases (z ∷ xs) y (suc k) x is = elim (get_cases xs y k x is) [ inl h ↦ i
 pub made_same : (e : Expression) (set same : StateSet) → IsSame same set → IsMadeFor e set → IsMadeFor e same
 made_same e set same is made = subst (λ words. (length words ≡ words_for (positions e)) × ((q : ℕ) → Has words q → q < positions e)) (sym is.0) made
 
--- and has the same mark
-pub mark_same : (e : Expression) (mode : Mode) (set same : StateSet) (mark : Mark) → IsSame same set → IsMarkOf e mode set mark → IsMarkOf e mode same mark
-mark_same e mode set same mark is of = record {
-  inside = (λ h. accepting_same e mode set same false is (of.inside.0 h), λ h. of.inside.1 (accepting_same e mode same set false (same_sym same set is) h));
-  at_end = (λ h. accepting_same e mode set same true is (of.at_end.0 h), λ h. of.at_end.1 (accepting_same e mode same set true (same_sym same set is) h));
-}
-
 -- bytes that the same positions take lead to the same sets
 next_alike : (e : Expression) (mode : Mode) (from into : StateSet) (b c : ℕ) → TakenAlike e b c → IsNextSet e mode from b into → IsNextSet e mode from c into
 unfolding IsNextSet
@@ -64,7 +47,7 @@ module _ (e : Expression) (mode : Mode) (sets : List StateSet) (stride : ℕ) wh
   }
 
   -- the cell of a set by its number and its mark
-  pub says_cell : (from into same : StateSet) (byte number cell : ℕ) (mark : Mark) → slice_get sets number ≡ Some same → IsSame same into → IsNextSet e mode from byte into → IsMarkOf e mode same mark
+  pub says_cell : (from into same : StateSet) (byte number cell : ℕ) (mark : Acceptance) → slice_get sets number ≡ Some same → IsSame same into → IsNextSet e mode from byte into → IsMarkOf e mode same mark
       → number * stride < limit → IsCellOf mode mark (number * stride) cell → (cell < unknown) × SaysNext e mode sets stride from byte cell
   says_cell from into same byte number cell mark is alike next of small (inl plain) = (
     omega (arith, small, plain.0),
@@ -126,10 +109,10 @@ module _ (e : Expression) (mode : Mode) (rows : Rows) (sound : AreSound e mode r
       omega (arith, sound.filled, row.row, fits, class)
 
   -- a set is added, with its mark and a row for it that holds nothing
-  pub sound_longer : (same : StateSet) (mark : Mark) → IsMadeFor e same → IsMarkOf e mode same mark → ((t : ℕ) (other : StateSet) → slice_get rows.sets t ≡ Some other → IsSame other same → ⊥)
-      → length rows.cells + rows.stride ≤ limit → Mirrors rows.entries (rows.cells ++ replicate rows.stride unknown)
-      → AreSound e mode (record { classes = rows.classes; stride = rows.stride; sets = rows.sets ++ same ∷ []; marks = rows.marks ++ mark ∷ []; cells = rows.cells ++ replicate rows.stride unknown; entries = rows.entries })
-  sound_longer same mark made of fresh fits mirrors = record {
+  pub sound_longer : (same : StateSet) (mark : Acceptance) → IsMadeFor e same → IsMarkOf e mode same mark → ((t : ℕ) (other : StateSet) → slice_get rows.sets t ≡ Some other → IsSame other same → ⊥)
+      → length rows.cells + rows.stride ≤ limit → length rows.sets < rows.most + 3 → Mirrors rows.entries (rows.cells ++ replicate rows.stride unknown)
+      → AreSound e mode (record { classes = rows.classes; stride = rows.stride; sets = rows.sets ++ same ∷ []; marks = rows.marks ++ mark ∷ []; cells = rows.cells ++ replicate rows.stride unknown; entries = rows.entries; most = rows.most })
+  sound_longer same mark made of fresh fits room mirrors = record {
     bytes = sound.bytes;
     few_classes = sound.few_classes;
     classed = sound.classed;
@@ -159,6 +142,7 @@ module _ (e : Expression) (mode : Mode) (rows : Rows) (sound : AreSound e mode r
         let count : length (rows.sets ++ same ∷ []) ≡ length rows.sets + 1 = omega (arith, length-append rows.sets (same ∷ [])) in
         omega (arith, length-append rows.cells (replicate rows.stride unknown), length-replicate rows.stride unknown, sound.filled, product) ∙ ap (λ n. n * rows.stride) (sym count);
     few = omega (arith, length-append rows.cells (replicate rows.stride unknown), length-replicate rows.stride unknown, fits);
+    few_sets = omega (arith, length-append rows.sets (same ∷ []), room);
     mirrors = mirrors;
     reported_too = λ r from c row small. elim (get_cases rows.sets same row.number from row.is) [
       | inl is ↦ old r from c row small is
@@ -196,7 +180,7 @@ module _ (e : Expression) (mode : Mode) (rows : Rows) (sound : AreSound e mode r
   pub sound_held : (new : List ℕ) (now : List (ℕ × ℕ)) (r byte cell : ℕ) (set : StateSet) → IsRowOf rows.sets rows.stride r set → byte < 256 → SaysNext e mode rows.sets rows.stride set byte cell → length new ≡ length rows.cells
       → (slice_index new (r + slice_index rows.classes byte) ≡ cell) ⊎ (slice_index new (r + slice_index rows.classes byte) ≡ unknown)
       → ((k : ℕ) → (k ≡ r + slice_index rows.classes byte → ⊥) → IsKeptOrLost (slice_index rows.cells k) (slice_index new k)) → Mirrors now new
-      → AreSound e mode (record { classes = rows.classes; stride = rows.stride; sets = rows.sets; marks = rows.marks; cells = new; entries = now })
+      → AreSound e mode (record { classes = rows.classes; stride = rows.stride; sets = rows.sets; marks = rows.marks; cells = new; entries = now; most = rows.most })
   sound_held new now r byte cell set row small reported_too len here others mirrors = record {
     bytes = sound.bytes;
     few_classes = sound.few_classes;
@@ -208,6 +192,7 @@ module _ (e : Expression) (mode : Mode) (rows : Rows) (sound : AreSound e mode r
     as_many = sound.as_many;
     filled = len ∙ sound.filled;
     few = omega (arith, len, sound.few);
+    few_sets = sound.few_sets;
     mirrors = mirrors;
     reported_too = λ s from c at lt. elim (cases_eq (s + slice_index rows.classes c) (r + slice_index rows.classes byte)) [
       | inl same ↦
@@ -265,7 +250,7 @@ module _ (e : Expression) (mode : Mode) (rows : Rows) (sound : AreSound e mode r
   row_inside r set row = omega (arith, number_of_row r set row, slice_get_within rows.sets row.number set row.is)
 
   -- a set's mark, by its number
-  pub mark_of_set : (number : ℕ) (set : StateSet) (read : Mark) → slice_get rows.sets number ≡ Some set → slice_get rows.marks number ≡ Some read → IsMarkOf e mode set read
+  pub mark_of_set : (number : ℕ) (set : StateSet) (read : Acceptance) → slice_get rows.sets number ≡ Some set → slice_get rows.marks number ≡ Some read → IsMarkOf e mode set read
   mark_of_set number set read at is =
       let m = sound.marked number set at in
       let both : Some m.mark ≡ Some read = sym m.is ∙ is in
@@ -274,5 +259,5 @@ module _ (e : Expression) (mode : Mode) (rows : Rows) (sound : AreSound e mode r
       some_same : {X : Type 0} {x y : X} → Some x ≡ Some y → x ≡ y
       some_same is = cc
 
-  pub mark_of_row : (r : ℕ) (set : StateSet) (read : Mark) → IsRowOf rows.sets rows.stride r set → slice_get rows.marks (r / rows.stride) ≡ Some read → IsMarkOf e mode set read
+  pub mark_of_row : (r : ℕ) (set : StateSet) (read : Acceptance) → IsRowOf rows.sets rows.stride r set → slice_get rows.marks (r / rows.stride) ≡ Some read → IsMarkOf e mode set read
   mark_of_row r set read row is = mark_of_set row.number set read row.is (sym (ap (slice_get rows.marks) (number_of_row r set row)) ∙ is)

@@ -1,27 +1,11 @@
 -- What a search that went over a line stage by stage says, and how many steps it counted.
 use Rattle.std.proofs.Common.{◌≡◌, ℕ, zero, suc, ◌+◌, ◌-◌, ◌*◌, ◌<◌, ◌≤◌, Bool, true, false, IsTrue, ◌⊎◌, inl, inr, [], length, nat_eq, slice_index, refl, sym, ap, ◌∙◌, subst, arith, eq-eqb}
-use Rattle.std.specs.Prelude.{◌↔◌, IsSome}
-use Rattle.std.specs.Map.{lookup}
+use Rattle.re_steps.proofs.Words.{◌↔◌, IsSome, lookup, Text, Expression, Matches, Mode, Search, Whole, StateSet, Has, Steps, many_built, part_of, is_end, IsSame, IsNowhere, IsNextSet, IsAccepting, StandsAt, IsAfter, IsNext, CanBegin, AddsUpTo, EndsAt, NoneEndsBefore, Cache, Stage, AreAlike, IsHeld, HoldsNoOther, IsPlain, GoesOver, Goes, Finishes, Searches, IsReadied, mode_for}
 use Rattle.std.proofs.lemmas.Bool.{false≢true}
 use Rattle.std.proofs.lemmas.Option.{slice_get-get_or}
-use Rattle.re_syntax.specs.Bytes.{Text}
-use Rattle.re_syntax.specs.Expression.{Expression}
-use Rattle.re_syntax.specs.Holds.{Matches}
-use Rattle.re_auto.specs.declared.mode.Mode.{Mode}
-use Rattle.re_auto.specs.declared.mode.Mode.TheVariants.{Search, Whole}
-use Rattle.re_auto.specs.declared.step.state_set.StateSet.{StateSet}
-use Rattle.re_auto.specs.Working.Bits.{Has}
-use Rattle.re_meter.specs.Meters.{Steps, many_built}
-use Rattle.re_auto.specs.Working.Positions.{part_of, is_end}
-use Rattle.re_auto.specs.Working.StateSets.{IsSame, IsNowhere, IsNextSet, IsAccepting, StandsAt}
-use Rattle.re_auto.specs.Working.Stepping.{Accepts, IsAfter, IsNext}
-use Rattle.re_auto.specs.Working.Tables.{CanBegin}
 use Rattle.re_meter.proofs.lemmas.Adding.{adds_none, adds_within, adds_both, reused_adds, built_adds}
 use Rattle.re_auto.proofs.lemmas.Chains.{not_at_end}
 use Rattle.re_auto.proofs.lemmas.SetsByWords.{stands_next, matched_by, nowhere_stays}
-use Rattle.re_meter.specs.Meters.{AddsUpTo}
-use Rattle.re_steps.specs.Working.Simulations.{EndsAt, NoneEndsBefore}
-use Rattle.re_steps.specs.Working.Stages.{Cache, Stage, AreAlike, IsHeld, HoldsNoOther, IsPlain, GoesOver, Goes, Finishes, Searches, IsReadied, mode_for}
 use Rattle.re_steps.proofs.lemmas.Passing.{none_at_first, matched_at, end_decides, whole_decides, nowhere_fails}
 
 -- sets that are the same
@@ -31,26 +15,13 @@ same_sym one other is = (sym is.0, sym is.1)
 pub same_trans : (one two three : StateSet) → IsSame one two → IsSame two three → IsSame one three
 same_trans one two three a b = (a.0 ∙ b.0, a.1 ∙ b.1)
 
-pub nowhere_same : (set same : StateSet) → IsSame same set → IsNowhere set → IsNowhere same
-nowhere_same set same is n = (is.1 ∙ n.0, subst (λ words. (q : ℕ) → ¬ Has words q) (sym is.0) n.1)
-
 pub stands_same : (e : Expression) (mode : Mode) (line : Text) (j : ℕ) (set same : StateSet) → IsSame same set → StandsAt e mode line j set → StandsAt e mode line j same
 unfolding StandsAt
 stands_same e mode line j set same is stands = (is.1 ∙ stands.0, subst (λ words. IsAfter (part_of e 0) mode line j (Has words)) (sym is.0) stands.1)
 
-pub accepting_same : (e : Expression) (mode : Mode) (set same : StateSet) (at_end : Bool) → IsSame same set → IsAccepting e mode set at_end → IsAccepting e mode same at_end
-unfolding IsAccepting
-accepting_same e mode set same at_end is accepts =
-    subst (λ b. Accepts (part_of e 0) mode b at_end (Has same.words.items)) (sym is.1) (subst (λ words. Accepts (part_of e 0) mode set.at_begin at_end (Has words)) (sym is.0) accepts)
-
 pub next_same : (e : Expression) (mode : Mode) (from into same : StateSet) (c : ℕ) → IsSame same into → IsNextSet e mode from c into → IsNextSet e mode from c same
 unfolding IsNextSet
 next_same e mode from into same c is next = (is.1 ∙ next.0, subst (λ words. IsNext (part_of e 0) mode from.at_begin (Has from.words.items) c (Has words)) (sym is.0) next.1)
-
-pub next_from_same : (e : Expression) (mode : Mode) (from same into : StateSet) (c : ℕ) → IsSame same from → IsNextSet e mode from c into → IsNextSet e mode same c into
-unfolding IsNextSet
-next_from_same e mode from same into c is next =
-    (next.0, subst (λ b. IsNext (part_of e 0) mode b (Has same.words.items) c (Has into.words.items)) (sym is.1) (subst (λ words. IsNext (part_of e 0) mode from.at_begin (Has words) c (Has into.words.items)) (sym is.0) next.1))
 
 -- stages that are alike
 pub alike_trans : (one two three : Stage) → AreAlike one two → AreAlike two three → AreAlike one three

@@ -1,8 +1,6 @@
 -- Sets of positions among those that have a number.
 use Rattle.std.proofs.Common.{◌≡◌, ℕ, suc, ◌+◌, Bool, true, false, ◌&&◌, inl, inr, List, [], ◌∷◌, ◌++◌, Some, length, nat_eq, get_or, slice_get, position, refl, sym, ap, ◌∙◌, subst, arith}
-use Rattle.std.specs.Prelude.{if◌then◌else◌}
-use Rattle.std.specs.List.{list_any, position_or_len}
-use Rattle.std.specs.Cmp.Lexicographic.{same_text}
+use Rattle.re_steps.proofs.Words.{if◌then◌else◌, list_any, position_or_len, same_text, StateSet, eq-value, IsSame}
 use Rattle.std.proofs.lemmas.Cmp.{nat_list_eq_equiv}
 use Rattle.std.proofs.lemmas.List.Quantifiers.{position-Some}
 use Rattle.std.proofs.lemmas.List.Sums.{fails_before_first}
@@ -10,9 +8,6 @@ use Rattle.std.proofs.lemmas.Option.{slice_get-get_or, slice_get_within, get_or_
 use Rattle.std.proofs.Math.Bool.{beq}
 use lib.Pointwise.{pointwise}
 use Rattle.std.proofs.lemmas.Bool.{false≢true, lt-ltb, cases_lt}
-use Rattle.re_auto.specs.declared.step.state_set.StateSet.{StateSet}
-use Rattle.re_auto.specs.contracts.step.state_set.StateSetPartialEq.TheImpl.{eq-value}
-use Rattle.re_auto.specs.Working.StateSets.{IsSame}
 
 -- two sets are equal
 abbrev pub equal : StateSet → StateSet → Bool

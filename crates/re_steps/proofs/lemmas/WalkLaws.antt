@@ -1,28 +1,10 @@
 -- Searches that go on by what is held, and where they get.
 use Rattle.std.proofs.Common.{◌≡◌, ℕ, zero, suc, ◌+◌, ◌-◌, ◌*◌, ◌<◌, ◌≤◌, Bool, true, false, ◌⊎◌, inl, inr, List, Option, Some, None, length, nat_eq, nat_lt, get_or, slice_get, slice_index, refl, sym, ap, ◌∙◌, subst, arith}
-use Rattle.std.specs.Prelude.{IsSome}
-use Rattle.std.specs.Map.{lookup}
+use Rattle.re_steps.proofs.Words.{IsSome, lookup, Text, Expression, Mode, the_type, Search, Whole, StateSet, Steps, many_built, many_reused, IsSame, IsNextSet, Acceptance, unknown, shown, Mirrors, IsKeptOrLost, Cache, Stage, IsHeld, HoldsNoOther, IsPlain, GoesOver, Goes, LineSearch, StepTable, Spot, Went, Rows, limit, expression_in, AreSound, IsRightFor, IsRowOf, SaysNext, ComesTo, Lands, LandsAlone, cell_at, cache_of, row_under, walked, IsAt, HasLanded, LeadsOn, Arrives}
 use Rattle.std.proofs.lemmas.Bool.{false≢true, lt-ltb, ltb-true, cases_eq}
 use Rattle.std.proofs.lemmas.Option.{slice_get_within, slice_get-get_or, get_or_from_slice_get}
-use Rattle.re_syntax.specs.Bytes.{Text}
-use Rattle.re_syntax.specs.Expression.{Expression}
-use Rattle.re_auto.specs.declared.mode.Mode.{Mode}
 use denote.Enum.Bare.{sameb}
-use Rattle.re_auto.specs.contracts.mode.Mode.{the_type}
-use Rattle.re_auto.specs.declared.mode.Mode.TheVariants.{Search, Whole}
-use Rattle.re_auto.specs.declared.step.state_set.StateSet.{StateSet}
-use Rattle.re_meter.specs.Meters.{Steps, many_built, many_reused}
-use Rattle.re_auto.specs.Working.StateSets.{IsSame, IsNextSet}
-use Rattle.re_steps.specs.declared.table.Mark.{Mark}
-use Rattle.re_steps.specs.Working.Pairs.{unknown, shown, Mirrors, IsKeptOrLost}
-use Rattle.re_steps.specs.Working.Stages.{Cache, Stage, IsHeld, HoldsNoOther, IsPlain, GoesOver, Goes}
-use Rattle.re_steps.specs.declared.table.LineSearch.{LineSearch}
-use Rattle.re_steps.specs.declared.table.Table.{Table}
-use Rattle.re_steps.specs.declared.walking.Spot.{Spot}
-use Rattle.re_steps.specs.declared.walking.Went.{Went}
-use Rattle.re_steps.specs.declared.walking.Went.TheVariants as w
-use Rattle.re_steps.specs.Working.Rows.{Rows, limit, expression_in, AreSound, IsRightFor, IsRowOf, SaysNext, ComesTo, Lands, LandsAlone, cell_at, cache_of, row_under, walked}
-use Rattle.re_steps.specs.Working.Walks.{IsAt, HasLanded, LeadsOn, Arrives}
+use Rattle.re_steps.specs.declared.walk.Went.TheVariants as w
 use Rattle.re_steps.proofs.lemmas.StageLaws.{nothing_held, goes_nowhere, goes_on, same_sym}
 use Rattle.re_steps.proofs.lemmas.RowLaws.{cell_within, same_place, number_within}
 
@@ -174,22 +156,22 @@ module _ (e : Expression) (mode : Mode) (rows : Rows) (sound : AreSound e mode r
     | inr high ↦ let on = reported_too.special high held in (on.into, rw (under_high cell high) on.row)
   ]
 
-  -- with other sets, marks and cells
-  abbrev pub with_more : List StateSet → List Mark → List ℕ → Rows
-  with_more more marks cells = record { classes = rows.classes; stride = rows.stride; sets = more; marks = marks; cells = cells; entries = rows.entries }
+  -- with other sets, marks and cells, and room for other numbers of them
+  abbrev pub with_more : List StateSet → List Acceptance → List ℕ → ℕ → Rows
+  with_more more marks cells most = record { classes = rows.classes; stride = rows.stride; sets = more; marks = marks; cells = cells; entries = rows.entries; most = most }
 
   -- no pair is held after one was put but that one and those that were held
-  pub holds_no_other : (sets-2 : List StateSet) (marks-2 : List Mark) (cells-2 : List ℕ) → AreSound e mode (with_more sets-2 marks-2 cells-2)
+  pub holds_no_other : (sets-2 : List StateSet) (marks-2 : List Acceptance) (cells-2 : List ℕ) (most-2 : ℕ) → AreSound e mode (with_more sets-2 marks-2 cells-2 most-2)
       → ((r : ℕ) (set : StateSet) → IsRowOf rows.sets rows.stride r set → IsRowOf sets-2 rows.stride r set)
       → (new : List ℕ) (now : List (ℕ × ℕ)) → Mirrors now new → (r byte : ℕ) (set : StateSet) → IsRowOf rows.sets rows.stride r set → byte < 256
       → ((k : ℕ) → (k ≡ r + slice_index rows.classes byte → ⊥) → IsKeptOrLost (slice_index cells-2 k) (slice_index new k)) → length new ≡ length cells-2
       → HoldsNoOther e cache set byte (record { classes = rows.classes; stride = rows.stride; sets = sets-2; entries = now })
-  holds_no_other sets-2 marks-2 cells-2 sound-2 later new now mirrors r byte set row small others len = λ other b lt h.
+  holds_no_other sets-2 marks-2 cells-2 most-2 sound-2 later new now mirrors r byte set row small others len = λ other b lt h.
       let k = h.number * rows.stride + slice_index rows.classes b in
       let here : IsRowOf sets-2 rows.stride (h.number * rows.stride) h.same = record { number = h.number; row = refl; is = h.is } in
       elim (cases_eq k (r + slice_index rows.classes byte)) [
         | inl same ↦
-            let both = same_place e mode (with_more sets-2 marks-2 cells-2) sound-2 (h.number * rows.stride) r (slice_index rows.classes b) (slice_index rows.classes byte) h.same set here (later r set row) (sound.classed b lt) (sound.classed byte small) same in
+            let both = same_place e mode (with_more sets-2 marks-2 cells-2 most-2) sound-2 (h.number * rows.stride) r (slice_index rows.classes b) (slice_index rows.classes byte) h.same set here (later r set row) (sound.classed b lt) (sound.classed byte small) same in
             inr (subst (IsSame other) both.1 (same_sym h.same other h.alike), sound.alike b byte lt small both.0)
         | inr not ↦
             let value = held_value (lookup (nat_eq k) now) refl h.held in
@@ -200,7 +182,7 @@ module _ (e : Expression) (mode : Mode) (rows : Rows) (sound : AreSound e mode r
             let was = held_value (lookup (nat_eq k) rows.entries) refl entry in
             let within : h.number < length rows.sets = number_within e mode rows sound h.number (slice_index rows.classes b) (sound.mirrors.within k was.0 was.1).0 in
             let old : IsRowOf rows.sets rows.stride (h.number * rows.stride) (get_or rows.sets h.number h.same) = record { number = h.number; row = refl; is = slice_get-get_or rows.sets h.number h.same within } in
-            let both = same_place e mode (with_more sets-2 marks-2 cells-2) sound-2 (h.number * rows.stride) (h.number * rows.stride) (slice_index rows.classes b) (slice_index rows.classes b) (get_or rows.sets h.number h.same) h.same
+            let both = same_place e mode (with_more sets-2 marks-2 cells-2 most-2) sound-2 (h.number * rows.stride) (h.number * rows.stride) (slice_index rows.classes b) (slice_index rows.classes b) (get_or rows.sets h.number h.same) h.same
             (later (h.number * rows.stride) (get_or rows.sets h.number h.same) old) here (sound.classed b lt) (sound.classed b lt) refl in
             inl (record { number = h.number; same = h.same; is = slice_get-get_or rows.sets h.number h.same within ∙ ap Some both.1; alike = h.alike; held = entry })
       ]
@@ -218,7 +200,7 @@ pub walked_is : (n : ℕ) (old new : Steps) → new ≡ many_reused n old → (n
 walked_is zero old new counted none = none refl
 walked_is (suc n) old new counted none = counted
 
-module _ (asked : LineSearch) (old : Table) (before : Steps) (spot : Spot) (middle : Table) (between : Steps) (new : Table) (after : Steps) where
+module _ (asked : LineSearch) (old : StepTable) (before : Steps) (spot : Spot) (middle : StepTable) (between : Steps) (new : StepTable) (after : Steps) where
   -- a search that came over one byte by a cell went on
   pub arrives_on : (place cell : ℕ) (went : Went) → LeadsOn asked middle between place cell new after went → IsRightFor asked new → spot.place < place
       → ((first : Stage) → IsAt asked first old before spot.place spot.row → HasLanded asked first middle between place cell) → Arrives asked old before spot new after went
@@ -232,7 +214,7 @@ module _ (asked : LineSearch) (old : Table) (before : Steps) (spot : Spot) (midd
   arrives_on place cell (w.Reported answer) leads right on lands = record { right = right; finishes = λ first came. leads first (lands first came) }
   arrives_on place cell (w.Alone k) leads right on lands = absurd leads
 
-module _ (asked : LineSearch) (t : Table) (right : IsRightFor asked t) (steps : Steps) where
+module _ (asked : LineSearch) (t : StepTable) (right : IsRightFor asked t) (steps : Steps) where
   -- the stage at the first place of a line
   abbrev pub first_stage : Stage
   first_stage = record { set = right.first.start; cache = cache_of t; steps = steps }

@@ -9,8 +9,8 @@ use Rattle.re_auto.specs.Working.Bits.{InWord}
 use Rattle.re_auto.specs.Working.Positions.{Reaches, part_of}
 use Rattle.re_auto.specs.Working.Tables.{HasOneWord}
 use Rattle.re_steps.specs.declared.lone.Followed.{Followed}
-use Rattle.re_steps.specs.declared.lone.Tried.{Tried}
-use Rattle.re_steps.specs.declared.lone.Tried.TheVariants.{Ends, Fails, Open}
+use Rattle.re_steps.specs.declared.lone.Trial.{Trial}
+use Rattle.re_steps.specs.declared.lone.Trial.TheVariants.{Ends, Fails, Open}
 
 -- the word has the positions to which a stretch that begins at i can have come at place j
 abbrev pub AreReached : Expression → Text → ℕ → ℕ → ℕ → Type 0
@@ -49,7 +49,7 @@ pub record IsFollowed (e : Expression) (line : Text) (i patience : ℕ) (followe
 
 -- What a try says of the stretches that begin at i is right. It takes at most one step for each
 -- byte from there on, and at most `patience` steps if it finds none.
-abbrev pub IsTried : Expression → Text → ℕ → ℕ → Steps → Steps → Tried → Type 0
+abbrev pub IsTried : Expression → Text → ℕ → ℕ → Steps → Steps → Trial → Type 0
 IsTried e line i patience before after (Ends j) =
     IsLongest e line i j × AddsUpTo (length line - i) 0 before after
 IsTried e line i patience before after Fails =

@@ -2,29 +2,31 @@
 -- that is held.
 use Rattle.std.specs.Prelude.{◌≡◌, ℕ, zero, suc, ◌+◌, ◌-◌, ◌*◌, ◌^◌, ◌<◌, ◌≤◌, ◌↔◌, ◌⊎◌, List, Some, [], true, false, IsTrue, length, nat_lt, if◌then◌else◌, slice_get, slice_index}
 use Rattle.re_syntax.specs.Bytes.{Text}
-use Rattle.re_syntax.specs.Expression.{Expression, expression_of}
+use Rattle.re_syntax.specs.Expression.{Expression}
+use Rattle.re_syntax.specs.Working.Trees.{expression_of}
 use Rattle.re_auto.specs.declared.mode.Mode.{Mode}
 use Rattle.re_auto.specs.declared.mode.Mode.TheVariants.{Search}
 use Rattle.re_auto.specs.declared.step.state_set.StateSet.{StateSet}
 use Rattle.re_meter.specs.Meters.{Steps, many_reused}
 use Rattle.re_auto.specs.Working.StateSets.{IsMadeFor, IsSame, IsNowhere, IsNextSet, IsAccepting}
 use Rattle.re_auto.specs.Working.StateSets.{StandsAt, AreAlikeInClasses}
-use Rattle.re_steps.specs.declared.table.Mark.{Mark}
+use Rattle.re_steps.specs.declared.table.Acceptance.{Acceptance}
 use Rattle.re_steps.specs.declared.table.LineSearch.{LineSearch}
-use Rattle.re_steps.specs.declared.table.Table.{Table}
+use Rattle.re_steps.specs.declared.table.StepTable.{StepTable}
 use Rattle.re_steps.specs.Working.Pairs.{unknown, Mirrors}
 use Rattle.re_steps.specs.Working.Stages.{Cache, Stage, IsPlain, Goes}
 
--- numbered sets, their marks and cells, and what the cache holds of these
+-- numbered sets, their marks and cells, what the cache holds of these, and how many cells it may hold
 pub record Rows : Type 0 where
   pub classes : List ℕ
   pub stride : ℕ
   pub sets : List StateSet
-  pub marks : List Mark
+  pub marks : List Acceptance
   pub cells : List ℕ
   pub entries : List (ℕ × ℕ)
+  pub most : ℕ
 
-abbrev pub rows_of : Table → Rows
+abbrev pub rows_of : StepTable → Rows
 rows_of t =
     record {
       classes = t.classes.items;
@@ -33,6 +35,7 @@ rows_of t =
       marks = t.marks.items;
       cells = t.pairs.cells;
       entries = t.pairs.entries;
+      most = t.pairs.most;
     }
 
 -- the expression whose automaton searches a line
@@ -51,7 +54,7 @@ pub record IsRowOf (sets : List StateSet) (stride r : ℕ) (set : StateSet) : Ty
   pub is : slice_get sets number ≡ Some set
 
 -- row r is that of some set
-abbrev pub IsRow : Table → ℕ → Type 0
+abbrev pub IsRow : StepTable → ℕ → Type 0
 IsRow t r = (set : StateSet) × IsRowOf t.sets.keys t.stride r set
 
 -- row r is that of the set after this byte, where a search goes on
@@ -78,7 +81,7 @@ pub record SaysNext (e : Expression) (mode : Mode) (sets : List StateSet) (strid
   pub special : limit ≤ cell → cell < unknown → StopsAt e mode sets stride from byte (cell - limit)
 
 -- a known cell says that of the set and the byte
-abbrev pub IsKnownCell : LineSearch → Table → StateSet → ℕ → ℕ → Type 0
+abbrev pub IsKnownCell : LineSearch → StepTable → StateSet → ℕ → ℕ → Type 0
 IsKnownCell asked t from byte cell =
     (cell < unknown) ×
     SaysNext (expression_in asked) asked.mode t.sets.keys t.stride from byte cell
@@ -88,24 +91,25 @@ abbrev pub cell_at : List ℕ → List ℕ → ℕ → ℕ → ℕ
 cell_at classes cells r byte = slice_index cells (r + slice_index classes byte)
 
 -- the mark says at which places of a line a matched stretch ends if the search has this set
-pub record IsMarkOf (e : Expression) (mode : Mode) (set : StateSet) (mark : Mark) : Type 0 where
+pub record IsMarkOf (e : Expression) (mode : Mode) (set : StateSet) (mark : Acceptance) : Type 0 where
   pub inside : IsTrue mark.inside ↔ IsAccepting e mode set false
   pub at_end : IsTrue mark.at_end ↔ IsAccepting e mode set true
 
 -- the cell of a row whose set has this mark
-abbrev pub IsCellOf : Mode → Mark → ℕ → ℕ → Type 0
+abbrev pub IsCellOf : Mode → Acceptance → ℕ → ℕ → Type 0
 IsCellOf mode mark row cell =
     ((cell ≡ row) × (mode ≡ Search → mark.inside ≡ false)) ⊎
     ((cell ≡ row + limit) × (mode ≡ Search) × (mark.inside ≡ true))
 
 -- the mark of this number is the set's
-pub record HasMark (e : Expression) (mode : Mode) (marks : List Mark) (number : ℕ)
+pub record HasMark (e : Expression) (mode : Mode) (marks : List Acceptance) (number : ℕ)
     (set : StateSet) : Type 0 where
-  pub mark : Mark
+  pub mark : Acceptance
   pub is : slice_get marks number ≡ Some mark
   pub reported_too : IsMarkOf e mode set mark
 
--- all that is known is right for the automaton of this expression and for the mode
+-- All that is known is right for the automaton of this expression and for the mode. There are at most
+-- three more sets than cells may be held.
 pub record AreSound (e : Expression) (mode : Mode) (rows : Rows) : Type 0 where
   pub bytes : length rows.classes ≡ 256
   pub few_classes : rows.stride ≤ 256
@@ -119,6 +123,7 @@ pub record AreSound (e : Expression) (mode : Mode) (rows : Rows) : Type 0 where
   pub as_many : length rows.marks ≡ length rows.sets
   pub filled : length rows.cells ≡ length rows.sets * rows.stride
   pub few : length rows.cells ≤ limit
+  pub few_sets : length rows.sets ≤ rows.most + 3
   pub mirrors : Mirrors rows.entries rows.cells
   pub reported_too : (r : ℕ) (from : StateSet) (c : ℕ) → IsRowOf rows.sets rows.stride r from → c < 256 →
       SaysNext e mode rows.sets rows.stride from c (cell_at rows.classes rows.cells r c)
@@ -136,26 +141,26 @@ pub record AreRight (e : Expression) (mode : Mode) (rows : Rows) : Type 0 where
   pub sound : AreSound e mode rows
   pub first : HasFirstRows e mode rows.sets
 
-abbrev pub IsRight : Expression → Mode → Table → Type 0
+abbrev pub IsRight : Expression → Mode → StepTable → Type 0
 IsRight e mode t = AreRight e mode (rows_of t)
 
-abbrev pub IsSoundFor : LineSearch → Table → Type 0
+abbrev pub IsSoundFor : LineSearch → StepTable → Type 0
 IsSoundFor asked t = AreSound (expression_in asked) asked.mode (rows_of t)
 
-abbrev pub IsRightFor : LineSearch → Table → Type 0
+abbrev pub IsRightFor : LineSearch → StepTable → Type 0
 IsRightFor asked t = IsRight (expression_in asked) asked.mode t
 
 -- a search can begin, or go on
-abbrev pub IsReady : LineSearch → Table → Type 0
+abbrev pub IsReady : LineSearch → StepTable → Type 0
 IsReady asked t = IsRightFor asked t × IsMadeFor (expression_in asked) t.scratch
 
 -- what stays when a search ends
-pub record Lasts (asked : LineSearch) (old new : Table) : Type 0 where
+pub record Lasts (asked : LineSearch) (old new : StepTable) : Type 0 where
   pub made : IsMadeFor (expression_in asked) new.scratch
   pub most : new.pairs.most ≡ old.pairs.most
 
 -- what stays when rows are made or removed
-pub record Keeps (old new : Table) : Type 0 where
+pub record Keeps (old new : StepTable) : Type 0 where
   pub scratch : new.scratch ≡ old.scratch
   pub most : new.pairs.most ≡ old.pairs.most
 
@@ -166,11 +171,11 @@ pub record AreNone (rows : Rows) : Type 0 where
   pub cells : rows.cells ≡ []
   pub entries : rows.entries ≡ []
 
-abbrev pub IsBlank : Table → Type 0
+abbrev pub IsBlank : StepTable → Type 0
 IsBlank t = AreNone (rows_of t)
 
 -- what contracts see of the table
-abbrev pub cache_of : Table → Cache
+abbrev pub cache_of : StepTable → Cache
 cache_of t =
     record {
       classes = t.classes.items;
@@ -223,9 +228,9 @@ pub record AreExtended (old new : Rows) : Type 0 where
   pub more : length old.cells ≤ length new.cells
   pub entries : new.entries ≡ old.entries
 
-abbrev pub Extends : Table → Table → Type 0
+abbrev pub Extends : StepTable → StepTable → Type 0
 Extends old new = AreExtended (rows_of old) (rows_of new)
 
 -- what is known is right for the expression and the mode, or nothing is known
-abbrev pub IsKnownFor : Expression → Mode → Table → Type 0
+abbrev pub IsKnownFor : Expression → Mode → StepTable → Type 0
 IsKnownFor e mode t = IsBlank t ⊎ IsRight e mode t

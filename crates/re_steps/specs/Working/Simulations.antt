@@ -11,7 +11,7 @@ use Rattle.re_auto.specs.Working.StateSets.{IsMadeFor}
 use Rattle.re_auto.specs.Working.StartSets.{IsMadeForStarts, StartsAt}
 use Rattle.re_auto.specs.Working.Starts.{IsMatched}
 use Rattle.re_syntax.specs.Working.BestStretches.{IsBest, places}
-use Rattle.re_auto.specs.Working.Stepping.{MayBegin}
+use Rattle.re_auto.specs.Working.SteppedSets.{MayBegin}
 use Rattle.re_syntax.specs.declared.span.Span.{Span}
 use Rattle.re_steps.specs.declared.sets.SetPair.{SetPair}
 use Rattle.re_steps.specs.declared.least.StartPair.{StartPair}

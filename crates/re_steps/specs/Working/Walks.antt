@@ -5,48 +5,48 @@ use Rattle.re_auto.specs.declared.step.state_set.StateSet.{StateSet}
 use Rattle.re_meter.specs.Meters.{Steps}
 use Rattle.re_auto.specs.Working.StateSets.{StandsAt}
 use Rattle.re_steps.specs.declared.table.LineSearch.{LineSearch}
-use Rattle.re_steps.specs.declared.table.Table.{Table}
-use Rattle.re_steps.specs.declared.walking.Spot.{Spot}
-use Rattle.re_steps.specs.declared.walking.Went.{Went}
-use Rattle.re_steps.specs.declared.walking.Went.TheVariants as w
-use Rattle.re_steps.specs.declared.walking.Outcome.{Outcome}
-use Rattle.re_steps.specs.declared.walking.Outcome.TheVariants as o
+use Rattle.re_steps.specs.declared.table.StepTable.{StepTable}
+use Rattle.re_steps.specs.declared.walk.Spot.{Spot}
+use Rattle.re_steps.specs.declared.walk.Went.{Went}
+use Rattle.re_steps.specs.declared.walk.Went.TheVariants as w
+use Rattle.re_steps.specs.declared.walk.Outcome.{Outcome}
+use Rattle.re_steps.specs.declared.walk.Outcome.TheVariants as o
 use Rattle.re_steps.specs.Working.Rows.{IsRightFor, IsRow, ComesTo, Lands, LandsAlone, cache_of}
 use Rattle.re_steps.specs.Working.Rows.{expression_in}
 use Rattle.re_steps.specs.Working.Stages.{Cache, Stage, Goes, Finishes, Searches}
 
 -- a search that came from a first stage is at place j in this row of the table
-abbrev pub IsAt : LineSearch → Stage → Table → Steps → ℕ → ℕ → Type 0
+abbrev pub IsAt : LineSearch → Stage → StepTable → Steps → ℕ → ℕ → Type 0
 IsAt asked first t steps j r =
     ComesTo (expression_in asked) asked.mode asked.line.now first (cache_of t) steps j r
 
 -- it has its answer
-abbrev pub IsReported : LineSearch → Stage → Table → Steps → Bool → Type 0
+abbrev pub IsReported : LineSearch → Stage → StepTable → Steps → Bool → Type 0
 IsReported asked first t steps answer =
     Finishes (expression_in asked) asked.mode asked.line.now first (cache_of t) steps answer
 
 -- from this row of the table, a search goes over the byte, at any place of a line, by this cell
-abbrev pub LandsBy : LineSearch → ℕ → Table → Steps → ℕ → Table → Steps → ℕ → Type 0
+abbrev pub LandsBy : LineSearch → ℕ → StepTable → Steps → ℕ → StepTable → Steps → ℕ → Type 0
 LandsBy asked byte old before r new after cell =
     (line : Text) (first : Stage) (j : ℕ) → slice_get line j ≡ Some byte →
     ComesTo (expression_in asked) asked.mode line first (cache_of old) before j r →
     Lands (expression_in asked) asked.mode line first (cache_of new) after j cell
 
 -- it does so to this set, and nothing is held any more
-abbrev pub LandsUnkept : LineSearch → ℕ → Table → Steps → ℕ → StateSet → Steps → Type 0
+abbrev pub LandsUnkept : LineSearch → ℕ → StepTable → Steps → ℕ → StateSet → Steps → Type 0
 LandsUnkept asked byte old before r set after =
     (line : Text) (first : Stage) (j : ℕ) → slice_get line j ≡ Some byte →
     ComesTo (expression_in asked) asked.mode line first (cache_of old) before j r →
     LandsAlone (expression_in asked) asked.mode line first set after j
 
 -- it went over the byte before this place by this cell
-abbrev pub HasLanded : LineSearch → Stage → Table → Steps → ℕ → ℕ → Type 0
+abbrev pub HasLanded : LineSearch → Stage → StepTable → Steps → ℕ → ℕ → Type 0
 HasLanded asked first t steps place cell =
     (j : ℕ) × (suc j ≡ place) ×
     Lands (expression_in asked) asked.mode asked.line.now first (cache_of t) steps j cell
 
 -- where a search goes on after the cell that led over the byte before this place
-abbrev pub LeadsOn : LineSearch → Table → Steps → ℕ → ℕ → Table → Steps → Went → Type 0
+abbrev pub LeadsOn : LineSearch → StepTable → Steps → ℕ → ℕ → StepTable → Steps → Went → Type 0
 LeadsOn asked old before place cell new after (w.To spot) =
     (place ≤ spot.place) × (spot.place ≤ length asked.line.now) × IsRow new spot.row
     × ((first : Stage) → HasLanded asked first old before place cell →
@@ -57,8 +57,8 @@ LeadsOn asked old before place cell new after (w.Reported answer) =
 LeadsOn asked old before place cell new after (w.Alone k) = ⊥
 
 -- a search went on from a spot, over one byte or more
-pub record ArrivesAt (asked : LineSearch) (old : Table) (before : Steps) (spot : Spot)
-    (new : Table) (after : Steps) (next : Spot) : Type 0 where
+pub record ArrivesAt (asked : LineSearch) (old : StepTable) (before : Steps) (spot : Spot)
+    (new : StepTable) (after : Steps) (next : Spot) : Type 0 where
   pub right : IsRightFor asked new
   pub on : spot.place < next.place
   pub within : next.place ≤ length asked.line.now
@@ -67,14 +67,14 @@ pub record ArrivesAt (asked : LineSearch) (old : Table) (before : Steps) (spot :
       IsAt asked first new after next.place next.row
 
 -- its answer is known
-pub record ComesToSay (asked : LineSearch) (old : Table) (before : Steps) (spot : Spot)
-    (new : Table) (after : Steps) (answer : Bool) : Type 0 where
+pub record ComesToSay (asked : LineSearch) (old : StepTable) (before : Steps) (spot : Spot)
+    (new : StepTable) (after : Steps) (answer : Bool) : Type 0 where
   pub right : IsRightFor asked new
   pub finishes : (first : Stage) → IsAt asked first old before spot.place spot.row →
       IsReported asked first new after answer
 
 -- it is at place k with the scratch set, and nothing is held any more
-pub record ComesAlone (asked : LineSearch) (old : Table) (before : Steps) (spot : Spot)
+pub record ComesAlone (asked : LineSearch) (old : StepTable) (before : Steps) (spot : Spot)
     (set : StateSet) (after : Steps) (k : ℕ) : Type 0 where
   pub within : k ≤ length asked.line.now
   pub goes : (first : Stage) (cache : Cache) → cache.entries ≡ [] →
@@ -82,7 +82,7 @@ pub record ComesAlone (asked : LineSearch) (old : Table) (before : Steps) (spot 
       → Goes (expression_in asked) asked.mode asked.line.now k first
       (record { set = set; cache = cache; steps = after })
 
-abbrev pub Arrives : LineSearch → Table → Steps → Spot → Table → Steps → Went → Type 0
+abbrev pub Arrives : LineSearch → StepTable → Steps → Spot → StepTable → Steps → Went → Type 0
 Arrives asked old before spot new after (w.To next) =
     ArrivesAt asked old before spot new after next
 Arrives asked old before spot new after (w.Reported answer) =
@@ -104,7 +104,7 @@ pub record IsLeftAt (asked : LineSearch) (old : Cache) (before : Steps) (set : S
       (record { set = set; cache = cache; steps = after })
 
 -- a search has its answer, or it left the rest of the line
-abbrev pub Gives : LineSearch → Table → Steps → Table → Steps → Outcome → Type 0
+abbrev pub Gives : LineSearch → StepTable → Steps → StepTable → Steps → Outcome → Type 0
 Gives asked old before new after (o.Reported answer) =
     IsRightFor asked new ×
     Searches (expression_in asked) asked.mode asked.line.now (cache_of old) (cache_of new) before

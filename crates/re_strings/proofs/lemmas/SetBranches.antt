@@ -3,9 +3,7 @@ use Rattle.std.proofs.Common.{◌≡◌, ℕ, ◌+◌, ◌<◌, ◌≤◌, ◌�
 use Rattle.std.proofs.lemmas.List.{get_or_append_left, get_or_push, get_or_default}
 use Rattle.std.proofs.lemmas.List.Elements.{All-push}
 use Rattle.std.proofs.lemmas.Bool.{cases_lt}
-use Rattle.re_syntax.specs.Bytes.{Text, Begins}
-use Rattle.re_strings.specs.declared.growth.Branch.{Branch}
-use Rattle.re_strings.specs.Working.Branches.{text_at, rank, AreAscending, branch_text, IsBranch, branch_at, no_branch, IsRow, AreRows}
+use Rattle.re_strings.proofs.Words.{Text, Begins, Branch, text_at, rank, AreAscending, branch_text, IsBranch, branch_at, no_branch, IsRow, AreRows}
 
 -- ---- texts
 

@@ -2,9 +2,7 @@
 use Rattle.std.proofs.Common.{◌≡◌, ◌↔◌, ℕ, ◌+◌, ◌-◌, ◌<◌, ◌≤◌, ◌⊎◌, inl, inr, List, length, take, drop, sym, ap, subst, ◌∙◌, arith, length-drop}
 use Rattle.std.proofs.lemmas.Bool.{cases_lt}
 use Rattle.std.proofs.lemmas.List.{drop-drop}
-use Rattle.re_syntax.specs.Bytes.{Text}
-use Rattle.re_syntax.specs.Working.PutEnds.{AddsEnds}
-use Rattle.re_strings.specs.Working.FixedSets.{IsString, StandsFor, IsOutput, EndsWith, Labels, Occurs, StandsAtNode}
+use Rattle.re_strings.proofs.Words.{Text, AddsEnds, IsString, StandsFor, IsOutput, EndsWith, Labels, Occurs, StandsAtNode}
 use Rattle.re_strings.proofs.lemmas.SetSteps.{string_front}
 use Rattle.re_strings.proofs.lemmas.SetSearch.{read_length, node_length, same_end, begins_with_node}
 

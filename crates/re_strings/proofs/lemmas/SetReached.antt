@@ -1,14 +1,8 @@
 -- When a search for many fixed strings is over, and what it counted.
-use Rattle.std.proofs.Common.{◌≡◌, ℕ, zero, suc, ◌-◌, ◌<◌, ◌≤◌, [], Bool, true, false, length, take, drop, nat_eq, Option, Some, None, refl, sym, ap, subst, ◌∙◌, arith, if◌then◌else◌}
+use Rattle.std.proofs.Common.{◌≡◌, ℕ, zero, suc, ◌-◌, ◌<◌, ◌≤◌, [], Bool, true, false, length, take, drop, nat_eq, Option, Some, None, refl, sym, ap, ◌∙◌, arith, if◌then◌else◌}
 use Rattle.std.proofs.lemmas.Bool.{eqb-false}
 use Rattle.std.proofs.lemmas.Option.{none-some}
-use Rattle.re_syntax.specs.Bytes.{Text}
-use Rattle.re_syntax.specs.Working.BestStretches.{better_span}
-use Rattle.re_syntax.specs.declared.span.Span.{Span}
-use Rattle.re_meter.specs.Meters.{Steps, AddsUpTo, many_passed}
-use Rattle.re_meter.proofs.lemmas.Adding.{adds_within, passed_adds}
-use Rattle.re_strings.specs.Working.FixedSets.{IsFront, EndsIn, Labels, StandsAtNode, StandsSince, IsBestOccurrence, better_ending}
-use Rattle.re_strings.specs.Working.Reached.{Reaches}
+use Rattle.re_strings.proofs.Words.{Text, better_span, Span, IsFront, EndsIn, Labels, StandsAtNode, StandsSince, IsBestOccurrence, better_ending}
 use Rattle.re_strings.proofs.lemmas.SetSearch.{read_length, node_length, begun_at}
 
 -- once a string was found, its node or a later one is the longest end of all that was read
@@ -47,14 +41,3 @@ pub settled : (all : Labels) (from : ℕ) (line : Text) (place n depth start : �
 settled all from line place n depth start within s deep early i low le =
     let size = node_length all from line place n within s in
     s.none i low (let high = s.high in let read = read_length line place within in omega (arith, size, deep, early, le, high, read))
-
--- a search from the line's start passes all bytes up to its end
-pub passed_from_start : (place : ℕ) (old new : Steps) → new ≡ many_passed place old → new ≡ many_passed (place - 0) old
-passed_from_start place old new is = let same : place ≡ place - 0 = omega arith in is ∙ ap (λ n. many_passed n old) same
-
--- what a search counts is bounded by what is left of the line
-pub reaches_adds : (IsOver : ℕ → Type 0) (line : Text) (from : ℕ) (old new : Steps) → Reaches IsOver line from old new → AddsUpTo 0 (length line - from) old new
-reaches_adds IsOver line from old new r =
-    let within = r.within in
-    subst (AddsUpTo 0 (length line - from) old) (sym r.passed)
-    (adds_within 0 0 (r.place - from) (length line - from) old (many_passed (r.place - from) old) (omega arith) (omega (arith, within)) (passed_adds 0 (r.place - from) old))

@@ -4,10 +4,7 @@ use Rattle.std.proofs.lemmas.Bool.{eqb-true, eqb-false, cases_lt}
 use Rattle.std.proofs.lemmas.Grind.{get_or_default_zero}
 use Rattle.std.proofs.Math.Seq.{drop-length, take-suc}
 use Rattle.std.proofs.lemmas.List.{drop-append-le, drop-drop, length-take-le, take-append-drop}
-use Rattle.re_syntax.specs.Bytes.{Text}
-use Rattle.re_syntax.specs.Working.BestStretches.{IsBest, Least, better, places, better_span}
-use Rattle.re_syntax.specs.declared.span.Span.{Span}
-use Rattle.re_strings.specs.Working.FixedSets.{IsFront, IsString, StandsFor, EndsIn, Labels, Steps, StepsOn, Occurs, NoneBetween, StandsAtNode, StandsSince, IsBestOccurrence, better_ending}
+use Rattle.re_strings.proofs.Words.{Text, IsBest, Least, better, places, better_span, Span, IsFront, IsString, StandsFor, EndsIn, Labels, Steps, StepsOn, Occurs, NoneBetween, StandsAtNode, StandsSince, IsBestOccurrence, better_ending}
 use Rattle.re_syntax.proofs.lemmas.BestStretches.{better_places, best_so_far}
 use Rattle.re_strings.proofs.lemmas.SetSteps.{front_shorter, string_front, empty_end, may_at_first}
 
@@ -172,10 +169,6 @@ module _ (all : Labels) (from : ℕ) (line : Text) where
   -- where the node ends with no string, none ends here
   pub none_ends : (place n e : ℕ) → place ≤ length line → StandsSince all from line place n → EndsIn all.strings (all.label n) e → e ≡ 0 → (i : ℕ) → ¬ Occurs all.strings from line i place
   none_ends place n e within s ends nil i o = let most = no_longer_since place n e within s ends i o in omega (arith, nil, most, o.1)
-
-  -- where it does one ends here
-  pub some_ends : (place n e : ℕ) → place ≤ length line → StandsSince all from line place n → EndsIn all.strings (all.label n) e → 0 < e → (i j : ℕ) × Occurs all.strings from line i j
-  some_ends place n e within s ends some = (place - e, place, longest_ends_since place n e within s ends some)
 
   -- the least start of the strings that end here
   least_ending : (place n e : ℕ) → place ≤ length line → StandsSince all from line place n → EndsIn all.strings (all.label n) e → Least (λ i. Occurs all.strings from line i place) (ending place e)

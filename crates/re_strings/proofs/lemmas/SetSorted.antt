@@ -1,16 +1,9 @@
 -- Strings in order.
 use Rattle.std.proofs.Common.{◌≡◌, ℕ, zero, suc, ◌+◌, ◌-◌, ◌<◌, ◌≤◌, ◌⊎◌, inl, inr, false, List, [], ◌∷◌, ◌++◌, length, map, get_or, slice_get, refl, sym, ap, subst, ◌∙◌, arith}
-use Rattle.std.specs.Prelude.{Contains, IsPermutation}
+use Rattle.re_strings.proofs.Words.{Contains, IsPermutation, ranks, slice_cmp, nat_cmp, is_lt, ordering_then, MatchOrdering, Less, Equal, Greater, Text, Begins, IsString, text_at, rank, AreAscending, HaveSame}
 use Rattle.std.proofs.lemmas.Bool.{false≢true}
 use Rattle.std.proofs.lemmas.List.{get_or-map, get_or_default, length-map}
 use Rattle.std.proofs.lemmas.List.Sorted.{IsPermutation-map, IsPermutation-sym, Contains-permutation}
-use Rattle.std.specs.Cmp.{ranks}
-use Rattle.std.specs.Cmp.Lexicographic.{slice_cmp}
-use Rattle.std.specs.Ordering.{nat_cmp, is_lt, ordering_then, MatchOrdering}
-use Rattle.std.specs.declared.cmp.Ordering.TheVariants.{Less, Equal, Greater}
-use Rattle.re_syntax.specs.Bytes.{Text, Begins}
-use Rattle.re_strings.specs.Working.FixedSets.{IsString}
-use Rattle.re_strings.specs.Working.Branches.{text_at, rank, AreAscending, HaveSame}
 
 -- the first text comes no later than the second
 abbrev Comes : Text → Text → Type 0

@@ -2,8 +2,7 @@
 use Rattle.std.proofs.Common.{◌≡◌, ℕ, ◌+◌, ◌-◌, ◌<◌, ◌≤◌, ◌⊎◌, inl, inr, List, [], ◌∷◌, ◌++◌, length, drop, Any, sym, ap, subst, ◌∙◌, arith, length-append, length-drop, append_assoc}
 use Rattle.std.proofs.lemmas.List.{drop-append-le, drop-drop, append-nil}
 use Rattle.std.proofs.Math.ListN.{drop_of_length-le}
-use Rattle.re_syntax.specs.Bytes.{Text, Begins}
-use Rattle.re_strings.specs.Working.FixedSets.{IsFront, IsString, StandsFor, MayStandFor}
+use Rattle.re_strings.proofs.Words.{Text, Begins, IsFront, IsString, StandsFor, MayStandFor}
 
 -- what holds of some element
 pub any_map : {A : Type 0} (P Q : A → Type 0) → ((x : A) → P x → Q x) → (xs : List A) → Any P xs → Any Q xs

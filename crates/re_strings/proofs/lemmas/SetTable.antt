@@ -4,10 +4,7 @@ use Rattle.std.proofs.lemmas.Bool.{eqb-true, eqb-false, cases_lt}
 use Rattle.std.proofs.lemmas.List.{append-nil, get_or_default, length-take}
 use Rattle.std.proofs.Math.ListN.{get_or-eq_default}
 use Rattle.std.proofs.lemmas.Option.{slice_get_past, slice_get-get_or}
-use Rattle.re_syntax.specs.Bytes.{Text, Begins}
-use Rattle.re_strings.specs.declared.growth.Branch.{Branch}
-use Rattle.re_strings.specs.Working.FixedSets.{IsFront, IsString, Labels, IsTrieOf, AreOwn}
-use Rattle.re_strings.specs.Working.Branches.{text_at, rank, AreAscending, branch_text, IsBranch, branch_at, no_branch, AreRows, own_length, HaveSame}
+use Rattle.re_strings.proofs.Words.{Text, Begins, Branch, IsFront, IsString, Labels, IsTrieOf, AreOwn, text_at, rank, AreAscending, branch_text, IsBranch, branch_at, no_branch, AreRows, own_length, HaveSame}
 use Rattle.re_strings.proofs.lemmas.SetSearch.{all_read}
 
 -- a string that begins with a text is in both lists

@@ -2,8 +2,7 @@
 use Rattle.std.proofs.Common.{◌≡◌, ℕ, zero, suc, subst, ◌+◌, ◌-◌, ◌<◌, ◌≤◌, List, length, take, drop, slice_index, sym, ap, ◌∙◌, arith, eq-eqb, length-drop}
 use Rattle.std.proofs.lemmas.Bool.{eqb-true}
 use Rattle.std.proofs.lemmas.List.{get_or-drop, get_or-take, length-take-le}
-use Rattle.re_strings.specs.Working.FixedSets.{IsTrie}
-use Rattle.memchr.specs.Find.{Nowhere, Passes, is_byte}
+use Rattle.re_strings.proofs.Words.{IsTrie, Nowhere, Passes, is_byte}
 
 -- a byte that a search of a part doesn't find is at no place of it
 pub not_between : (bytes : List ℕ) (i j b : ℕ) → i ≤ j → j ≤ length bytes → Nowhere (Passes (is_byte b) (take (j - i) (drop i bytes))) 0 (length (take (j - i) (drop i bytes)))

@@ -1,11 +1,11 @@
 -- Many fixed strings at once: the tree of their beginnings, each with the longest end of it that is
--- such a beginning too (Aho and Corasick, 1975).
+-- such a beginning too by the Aho-Corasick algorithm.
 use Rattle.std.specs.Prelude.{◌≡◌, ℕ, ◌+◌, ◌-◌, ◌*◌, ◌<◌, ◌≤◌, Bool, List, [], ◌∷◌, ◌++◌, length, take, drop, Any, slice_index, Option, nat_eq, nat_lt, if◌then◌else◌}
 use Rattle.re_syntax.specs.Bytes.{Text, Begins}
 use Rattle.re_syntax.specs.Working.BestStretches.{IsBest, places, better_span}
 use Rattle.re_syntax.specs.declared.span.Span.{Span}
 use Rattle.re_strings.specs.declared.leaps.Leaps.{Leaps}
-use Rattle.re_strings.specs.declared.table.Table.{Table}
+use Rattle.re_strings.specs.declared.aho_corasick.AhoCorasick.{AhoCorasick}
 use Rattle.re_strings.specs.Working.Keys.{key}
 
 -- some string begins with the text
@@ -149,7 +149,7 @@ pub record AreLeapsOf (strings : List Text) (l : Leaps) : Type 0 where
       slice_index l.shifts.items (pair_row (slice_index s j) (slice_index s (j + 1))) + j + 2 ≤ l.window
 
 -- the tables have a row for each node
-pub record IsTable (t : Table) : Type 0 where
+pub record IsTable (t : AhoCorasick) : Type 0 where
   pub trie : IsTrie t.trie.first.items t.trie.bytes.items
   pub starts : AreStarts t.trie.first.items t.starts.items
   pub fallbacks : AreFallbacks t.fails.items
@@ -162,7 +162,7 @@ pub record IsTable (t : Table) : Type 0 where
   pub pairs : 2 ≤ t.leaps.window → t.fronts.window ≡ 2
 
 -- the rows are right for the strings
-pub record IsTableOf (all : Labels) (t : Table) : Type 0 where
+pub record IsTableOf (all : Labels) (t : AhoCorasick) : Type 0 where
   pub trie : IsTrieOf all t.trie.first.items t.trie.bytes.items
   pub starts : AreStartsOf t.fold all t.starts.items
   pub fails : AreFallbacksOf all t.fails.items

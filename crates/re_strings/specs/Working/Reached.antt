@@ -3,7 +3,7 @@ use Rattle.std.specs.Prelude.{◌≡◌, ℕ, ◌-◌, ◌<◌, ◌≤◌, ◌�
 use Rattle.re_syntax.specs.Bytes.{Text}
 use Rattle.re_syntax.specs.declared.span.Span.{Span}
 use Rattle.re_meter.specs.Meters.{Steps, many_passed}
-use Rattle.re_strings.specs.declared.table.Table.{Table}
+use Rattle.re_strings.specs.declared.aho_corasick.AhoCorasick.{AhoCorasick}
 use Rattle.re_strings.specs.Working.Keys.{keys}
 use Rattle.re_strings.specs.Working.FixedSets.{Labels, IsTableOf, IsFront, Occurs}
 
@@ -18,7 +18,7 @@ pub record Reaches (IsOver : ℕ → Type 0) (line : Text) (from : ℕ) (old new
 
 -- no string that begins at `from` or later, and no later than the one that was found, can go on at
 -- this place
-abbrev pub IsSettled : Table → Text → ℕ → Option Span → ℕ → Type 0
+abbrev pub IsSettled : AhoCorasick → Text → ℕ → Option Span → ℕ → Type 0
 IsSettled t line from found place =
     (s : Span) × (found ≡ Some s) ×
     ((all : Labels) → IsTableOf all t → (i : ℕ) → from ≤ i → i ≤ s.start →

@@ -1,11 +1,8 @@
 -- Worked examples of bracket expressions: texts, what they mean, and what follows them.
 use Rattle.std.proofs.Common.{◌≡◌, ℕ, ◌≤◌, ◌⊎◌, inl, inr, false, nat_eq, [], ◌∷◌, codes, refl, arith}
-use Rattle.re_syntax.specs.declared.bracket.ListPlace.{ListPlace}
-use Rattle.re_syntax.specs.declared.bracket.ListPlace.TheVariants.{First, AfterPoint, AfterRange}
-use Rattle.re_syntax.specs.declared.class.Class.TheVariants.{Digit}
-use Rattle.re_syntax.specs.Bytes.{Text, Begins, nothing, only, range, union}
-use Rattle.re_syntax.specs.Expression.{one_of, none_of}
-use Rattle.re_syntax.specs.Brackets.{Point, bare, symbol, Element, class, equivalence, alone, span, Rest, closing, more, IsBracket, matching, non_matching}
+use Rattle.re_syntax.proofs.Words.{ListPlace, AfterPoint, AfterRange, Digit, Text, Begins, nothing, only, range, union, one_of, none_of, Point, bare, symbol, Element, class, equivalence, alone, span, Rest, closing, IsBracket, matching, non_matching}
+use Rattle.re_syntax.specs.declared.bracket.ListPlace.TheVariants.{First}
+use Rattle.re_syntax.specs.Brackets.{more}
 use Rattle.re_syntax.proofs.lemmas.BracketsUnique.{heads, apart}
 
 -- a text does not begin with a byte that a test finds different from its first

@@ -1,16 +1,12 @@
 -- How deep groups and duplications of an extended expression may be nested: worked examples up to
 -- the limit and beyond it.
 use Rattle.std.proofs.Common.{◌≡◌, ◌≢◌, ℕ, zero, suc, ◌<◌, ◌≤◌, max, Bool, true, false, List, [], ◌∷◌, ◌++◌, None, codes, refl, sym, ◌∙◌, arith}
-use Rattle.re_syntax.specs.declared.syntax.Syntax.TheVariants.{Extended}
-use Rattle.re_syntax.specs.Bytes.{Text}
-use Rattle.re_syntax.specs.Expression.{Expression, empty, repeat, byte}
-use Rattle.re_syntax.specs.Extended.{star, Branches, last, more, Items, none, anchor, item, Item, atom, repeated, ordinary, group}
-use Rattle.re_syntax.specs.Spelled.{IsSpelled, as_extended}
+use Rattle.re_syntax.proofs.Words.{Extended, Text, Expression, empty, repeat, byte, anchor, IsSpelled, as_extended, stops, ends}
+use Rattle.re_syntax.specs.Extended.{star, Branches, last, more, Items, none, item, Item, atom, repeated, ordinary, group}
 use Rattle.re_syntax.proofs.lemmas.BracketsUnique.{heads}
 use Rattle.re_syntax.proofs.lemmas.ExtendedDuplications.{opens_none}
 use Rattle.re_syntax.proofs.lemmas.ExtendedFronts.{not_opening}
 use Rattle.re_syntax.proofs.lemmas.ExtendedUnique.{ends-stops, item_front, stop_no_duplication, whole-branches}
-use Rattle.re_syntax.specs.Working.ExtendedSteps.{stops, ends}
 use Rattle.re_syntax.proofs.lemmas.ExtendedReading.{items-after}
 use Rattle.re_syntax.proofs.lemmas.ExtendedBranches.{at_height}
 use Rattle.re_syntax.proofs.lemmas.ExtendedRefusals.{Inside, items_inside, branches_inside}

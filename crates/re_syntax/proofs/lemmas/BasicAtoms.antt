@@ -1,23 +1,11 @@
 -- Single atoms of basic expressions, by the bytes at their place.
 use Rattle.std.proofs.Common.{◌≡◌, ◌≢◌, ℕ, ◌+◌, ◌<◌, ◌⊎◌, inl, inr, true, nat_eq, ◌∷◌, ◌++◌, length, take, drop, Some, IsTrue, slice_get, codes, refl, sym, ap, ◌∙◌, subst, arith, length-drop, Option, Global}
 use Rattle.std.proofs.lemmas.Bool.{or_cases, or_left, or_right, eqb-true, ne_eqb, cases_eq}
-use Rattle.re_syntax.specs.declared.pieces.Piece.{Piece}
-use Rattle.re_syntax.specs.declared.class.Class.TheVariants.{Alnum}
-use Rattle.re_syntax.specs.declared.fault.FaultKind.{FaultKind}
-use Rattle.re_syntax.specs.declared.fault.FaultKind.TheVariants.{UnclosedBracket}
-use Rattle.re_syntax.specs.declared.fault.PatternFault.{PatternFault}
-use Rattle.re_syntax.specs.Bytes.{Text, Begins, in_class}
-use Rattle.re_syntax.specs.Escapes.{is_in, is_undefined}
-use Rattle.re_syntax.specs.Expression.{Expression, one_of, byte}
-use Rattle.re_syntax.specs.Brackets.{IsBracket}
-use Rattle.re_syntax.specs.Faults.{ShowsBracketFault, IsNoBracket}
-use Rattle.re_syntax.specs.Basic.{ItemPlace, First, AfterAnchor, Later, is_ordinary, IsAtEnd, of_group, of_branch, Atom, bracket, period, escaped, ordinary, group}
-use Rattle.re_syntax.specs.BasicFaults.{NeedsItem, needs_interval, needs_plus, needs_question, ShowsBasicFault, IsShownIn}
-use Rattle.re_syntax.specs.Profile.{basic_refused}
-use Rattle.re_syntax.specs.EscapeFaults.{IsRefusedEscape, undefined, reference, BeginsRefusedEscape}
-use Rattle.re_syntax.specs.Working.BasicSteps.{HasItem, MayBegin, AtomStands, HasNoAtom}
-use Rattle.re_syntax.specs.Working.PieceSteps.{meant_bytes, IsReported, IsBracketPiece}
-use Rattle.re_syntax.specs.Working.EscapeSteps.{EscapeStands, HasNoEscape, trailing, refused}
+use Rattle.re_syntax.proofs.Words.{Piece, Alnum, FaultKind, UnclosedBracket, PatternFault, Text, Begins, in_class, is_in, is_undefined, Expression, one_of, byte, IsBracket, ShowsBracketFault, IsNoBracket, ItemPlace, AfterAnchor, Later, IsAtEnd, of_group, of_branch, NeedsItem, needs_interval, needs_plus, needs_question, ShowsBasicFault, basic_refused, IsRefusedEscape, undefined, reference, BeginsRefusedEscape, HasItem, meant_bytes, IsReported, IsBracketPiece, EscapeStands, HasNoEscape, refused}
+use Rattle.re_syntax.specs.Basic.{First, is_ordinary, Atom, bracket, period, escaped, ordinary, group}
+use Rattle.re_syntax.specs.BasicFaults.{IsShownIn}
+use Rattle.re_syntax.specs.Working.BasicSteps.{MayBegin, AtomStands, HasNoAtom}
+use Rattle.re_syntax.specs.Working.EscapeSteps.{trailing}
 use Rattle.re_syntax.proofs.lemmas.BracketsUnique.{heads, tails, apart, bracket_front}
 use Rattle.re_syntax.proofs.lemmas.BracketLists.{bracket-shortens}
 use Rattle.re_syntax.proofs.lemmas.Duplications.{is_sign}

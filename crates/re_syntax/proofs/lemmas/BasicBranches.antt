@@ -1,14 +1,9 @@
 -- Branches of basic expressions, by the items at their places.
 use Rattle.std.proofs.Common.{◌≡◌, ℕ, ◌≤◌, inr, max, List, [], ◌∷◌, ◌++◌, length, take, drop, codes, refl, sym, ap, ◌∙◌, subst, arith, append_assoc, Option, Global}
-use Rattle.re_syntax.specs.declared.pieces.Piece.{Piece}
-use Rattle.re_syntax.specs.declared.pieces.Pieces.{Pieces}
-use Rattle.re_syntax.specs.Bytes.{Text, Begins}
-use Rattle.re_syntax.specs.Working.Ahead.{IsAfter}
-use Rattle.re_syntax.specs.Expression.{Expression, sequence}
-use Rattle.re_syntax.specs.Basic.{First, IsAtEnd, of_text, of_group, of_branch, Branches, last, more, Items}
+use Rattle.re_syntax.proofs.Words.{Piece, Pieces, Text, Begins, IsAfter, Expression, sequence, IsAtEnd, of_text, of_group, of_branch, IsAtLast, text_ends, group_ends, AreReported, IsJoined}
+use Rattle.re_syntax.specs.Basic.{First, Branches, last, more, Items}
 use Rattle.re_syntax.specs.BasicFaults.{IsStart}
-use Rattle.re_syntax.specs.Working.BasicSteps.{IsAtLast, text_ends, group_ends, HasNoItems, BranchStands, HasNoBranches, BranchesStand}
-use Rattle.re_syntax.specs.Working.PieceSteps.{AreReported, IsJoined}
+use Rattle.re_syntax.specs.Working.BasicSteps.{HasNoItems, BranchStands, HasNoBranches, BranchesStand}
 use Rattle.re_syntax.proofs.lemmas.BracketsUnique.{tails}
 use Rattle.re_syntax.proofs.lemmas.BasicUnique.{last_ends, last_bar, items-unique}
 use Rattle.re_syntax.proofs.lemmas.Places.{take-after, regrouped}

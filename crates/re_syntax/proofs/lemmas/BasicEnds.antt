@@ -2,14 +2,8 @@
 use Rattle.std.proofs.Common.{◌≡◌, ℕ, ◌<◌, ◌≤◌, ◌⊎◌, inl, inr, [], ◌∷◌, ◌++◌, length, drop, codes, refl, sym, ap, ◌∙◌, subst, arith, length-drop, append-nil, Option, Global}
 use Rattle.std.proofs.Math.Seq.{drop-length}
 use Rattle.std.proofs.lemmas.Bool.{cases_lt}
-use Rattle.re_syntax.specs.declared.pieces.Pieces.{Pieces}
-use Rattle.re_syntax.specs.declared.pieces.Piece.{Piece}
-use Rattle.re_syntax.specs.Bytes.{Text, Begins}
-use Rattle.re_syntax.specs.Working.Ahead.{IsAfter}
-use Rattle.re_syntax.specs.Expression.{end}
-use Rattle.re_syntax.specs.Basic.{IsAtEnd, of_text, of_group, of_branch, Items, none, trailing}
-use Rattle.re_syntax.specs.Working.BasicSteps.{HasItem, HasNoItem, at_end, at_tail, HasNoTail, ComesAfterTail, IsEnded}
-use Rattle.re_syntax.specs.Working.PieceSteps.{IsReported, IsJoined}
+use Rattle.re_syntax.proofs.Words.{Pieces, Piece, Text, Begins, IsAfter, end, IsAtEnd, of_text, of_group, of_branch, HasItem, HasNoItem, at_end, at_tail, HasNoTail, ComesAfterTail, IsEnded, IsReported, IsJoined}
+use Rattle.re_syntax.specs.Basic.{Items, none, trailing}
 
 -- the end of the text is an end
 pub at_text_end : (text : Text) (at : ℕ) → at ≡ length text → IsAtEnd (drop at text)

@@ -1,20 +1,10 @@
 -- Groups of basic expressions, and a whole expression, by the branches at their places.
 use Rattle.std.proofs.Common.{◌≡◌, ◌≢◌, ℕ, suc, ◌+◌, ◌-◌, ◌<◌, ◌≤◌, ◌⊎◌, inl, inr, List, [], ◌∷◌, ◌++◌, length, take, drop, codes, refl, sym, ap, ◌∙◌, subst, arith, length-drop, Option, Global}
 use Rattle.std.proofs.lemmas.List.{nil_from_length, take-append-drop}
-use Rattle.re_syntax.specs.declared.pieces.Piece.{Piece}
-use Rattle.re_syntax.specs.declared.pieces.Pieces.{Pieces}
-use Rattle.re_syntax.specs.declared.fault.FaultKind.TheVariants.{UnopenedGroup, Memory}
-use Rattle.re_syntax.specs.declared.fault.PatternFault.{PatternFault}
-use Rattle.re_syntax.specs.declared.syntax.Syntax.TheVariants.{Basic}
-use Rattle.re_syntax.specs.Bytes.{Text, Begins}
-use Rattle.re_syntax.specs.Working.Ahead.{IsAfter}
-use Rattle.re_syntax.specs.Expression.{Expression, choice}
-use Rattle.re_syntax.specs.Basic.{ItemPlace, Branches, Atom, bracket, period, escaped, ordinary, group}
-use Rattle.re_syntax.specs.BasicFaults.{IsStart, OpensUnclosed, IsShownIn, IsNoBasic}
-use Rattle.re_syntax.specs.Working.BasicSteps.{IsAtLast, text_ends, group_ends, AtomStands, HasNoAtom, HasNoBranches, BranchesStand}
-use Rattle.re_syntax.specs.Working.PieceSteps.{IsRefused, memory, reported, IsReported, AreReported}
-use Rattle.re_syntax.specs.Profile.{most_levels}
-use Rattle.re_syntax.specs.Spelled.{IsSpelled, as_basic}
+use Rattle.re_syntax.proofs.Words.{Piece, Pieces, UnopenedGroup, Memory, PatternFault, Basic, Text, Begins, IsAfter, Expression, choice, ItemPlace, IsNoBasic, IsAtLast, text_ends, group_ends, IsRefused, memory, reported, IsReported, AreReported, most_levels, IsSpelled, as_basic}
+use Rattle.re_syntax.specs.Basic.{Branches, Atom, bracket, period, escaped, ordinary, group}
+use Rattle.re_syntax.specs.BasicFaults.{IsStart, OpensUnclosed, IsShownIn}
+use Rattle.re_syntax.specs.Working.BasicSteps.{AtomStands, HasNoAtom, HasNoBranches, BranchesStand}
 use Rattle.re_syntax.proofs.lemmas.BracketsUnique.{heads, tails, apart, bracket_front}
 use Rattle.re_syntax.proofs.lemmas.AtomFronts.{not_ordinary, never_backslash, undefined_apart}
 use Rattle.re_syntax.proofs.lemmas.BasicUnique.{branches-unique}

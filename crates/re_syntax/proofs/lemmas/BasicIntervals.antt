@@ -1,18 +1,9 @@
 -- Duplications at a place of the text: what a reader knows when it stops.
 use Rattle.std.proofs.Common.{◌≡◌, ℕ, inl, inr, ◌∷◌, ◌++◌, take, drop, Option, Some, None, IsTrue, codes, refl, sym, ap, ◌∙◌, subst, append_assoc}
-use Rattle.re_syntax.specs.declared.class.Class.TheVariants.{Digit}
-use Rattle.re_syntax.specs.declared.fault.FaultKind.{FaultKind}
-use Rattle.re_syntax.specs.declared.fault.FaultKind.TheVariants.{BadInterval}
-use Rattle.re_syntax.specs.declared.interval.Counts.{Counts}
-use Rattle.re_syntax.specs.Bytes.{Text, Begins, in_class}
-use Rattle.re_syntax.specs.Working.Ahead.{IsAfter}
+use Rattle.re_syntax.proofs.Words.{Digit, FaultKind, BadInterval, Counts, Text, Begins, in_class, IsAfter, IsAllowed, IsNoPart, HasNoInterval, IntervalStands, NeedsItem, needs_interval, needs_plus, needs_question, ShowsBasicFault, IsDisallowed, least_too_large, most_too_large, descending, OpensDisallowed, HasNoSign, OpensNoDuplication}
 use Rattle.re_syntax.specs.Basic.{Duplication, star, plus, question, interval}
-use Rattle.re_syntax.specs.Intervals.{IsAllowed, IsNoPart, HasNoInterval}
-use Rattle.re_syntax.specs.Working.IntervalSteps.{IntervalStands}
-use Rattle.re_syntax.specs.BasicFaults.{NeedsItem, needs_interval, needs_plus, needs_question, ShowsBasicFault}
-use Rattle.re_syntax.specs.IntervalFaults.{IsDisallowed, least_too_large, most_too_large, descending, OpensDisallowed}
 use Rattle.re_syntax.proofs.lemmas.CountsLaws.{are_counts, disallowed_too, not_allowed}
-use Rattle.re_syntax.specs.Working.BasicSteps.{NoDuplication, HasNoSign, OpensNoDuplication, DuplicationStands, HasBadInterval}
+use Rattle.re_syntax.specs.Working.BasicSteps.{NoDuplication, DuplicationStands, HasBadInterval}
 use Rattle.re_syntax.proofs.lemmas.BracketsUnique.{heads, tails, apart}
 use Rattle.re_syntax.proofs.lemmas.IntervalLaws.{cut-unique, Interval-unique, interval_lacks}
 

@@ -1,16 +1,9 @@
 -- Items of basic expressions, by their atoms and what follows them.
 use Rattle.std.proofs.Common.{◌≡◌, ◌≢◌, ℕ, suc, ◌<◌, ◌≤◌, inr, max, List, ◌∷◌, ◌++◌, length, drop, Option, IsTrue, true, false, refl, sym, ap, ◌∙◌, subst, arith, append_assoc, length-append, length-drop, Global, []}
-use Rattle.re_syntax.specs.declared.pieces.Piece.{Piece}
-use Rattle.re_syntax.specs.declared.pieces.Pieces.{Pieces}
-use Rattle.re_syntax.specs.declared.interval.Counts.{Counts}
-use Rattle.re_syntax.specs.declared.fault.FaultKind.TheVariants.{TooDeep}
-use Rattle.re_syntax.specs.declared.fault.PatternFault.{PatternFault}
-use Rattle.re_syntax.specs.Bytes.{Text}
-use Rattle.re_syntax.specs.Expression.{Expression, sequence, repeat}
-use Rattle.re_syntax.specs.Basic.{Duplication, star, plus, question, interval, ItemPlace, AfterAnchor, Later, IsAtEnd, Items, none, leading, trailing, item, Item, atom, repeated, Atom}
+use Rattle.re_syntax.proofs.Words.{Piece, Pieces, Counts, TooDeep, PatternFault, Text, Expression, sequence, repeat, ItemPlace, AfterAnchor, Later, IsAtEnd, leading, OpensNoDuplication, HasItem, SoFar, IsEnded, IsReported, AreReported, IsRepeated, IsJoined}
+use Rattle.re_syntax.specs.Basic.{Duplication, star, plus, question, interval, Items, none, trailing, item, Item, atom, repeated, Atom}
 use Rattle.re_syntax.specs.BasicFaults.{IsShownIn}
-use Rattle.re_syntax.specs.Working.BasicSteps.{OpensNoDuplication, DuplicationStands, HasBadInterval, HasItem, MayBegin, AtomStands, HasNoAtom, ItemStands, HasNoItems, SoFar, IsEnded, BranchStands}
-use Rattle.re_syntax.specs.Working.PieceSteps.{IsReported, AreReported, IsRepeated, IsJoined}
+use Rattle.re_syntax.specs.Working.BasicSteps.{DuplicationStands, HasBadInterval, MayBegin, AtomStands, HasNoAtom, ItemStands, HasNoItems, BranchStands}
 use Rattle.re_syntax.proofs.lemmas.BracketsUnique.{heads, tails, apart}
 use Rattle.re_syntax.proofs.lemmas.Chains.{stands_some}
 use Rattle.re_syntax.proofs.lemmas.BasicUnique.{item_parts, item_front, end_front, items-after, items-higher}

@@ -1,14 +1,8 @@
 -- The anchor that begins a branch of a basic expression, and what it says of the items after it.
 use Rattle.std.proofs.Common.{◌≡◌, ℕ, ◌+◌, ◌≤◌, inl, inr, List, [], ◌∷◌, ◌++◌, length, take, drop, codes, refl, sym, ap, ◌∙◌, subst, arith, Option, Global}
-use Rattle.re_syntax.specs.declared.pieces.Pieces.{Pieces}
-use Rattle.re_syntax.specs.declared.pieces.Piece.{Piece}
-use Rattle.re_syntax.specs.Bytes.{Text, Begins}
-use Rattle.re_syntax.specs.Working.Ahead.{IsAfter}
-use Rattle.re_syntax.specs.Expression.{Expression, begin}
-use Rattle.re_syntax.specs.Basic.{ItemPlace, First, AfterAnchor, IsAtEnd, Items, none, leading, trailing, item}
+use Rattle.re_syntax.proofs.Words.{Pieces, Piece, Text, Begins, IsAfter, Expression, begin, ItemPlace, AfterAnchor, IsAtEnd, leading, SoFar, IsReported, AreReported, IsJoined}
+use Rattle.re_syntax.specs.Basic.{First, Items, none, trailing, item}
 use Rattle.re_syntax.specs.BasicFaults.{IsStart}
-use Rattle.re_syntax.specs.Working.BasicSteps.{SoFar}
-use Rattle.re_syntax.specs.Working.PieceSteps.{IsReported, AreReported, IsJoined}
 use Rattle.re_syntax.proofs.lemmas.BracketsUnique.{heads, tails, apart}
 use Rattle.re_syntax.proofs.lemmas.BasicUnique.{item_front, end_byte}
 use Rattle.re_syntax.proofs.lemmas.Places.{take-after}

@@ -1,9 +1,8 @@
 -- A basic expression is read in one way.
 use Rattle.std.proofs.Common.{◌≡◌, ◌≢◌, ℕ, suc, ◌+◌, ◌<◌, ◌≤◌, max, ◌⊎◌, inl, inr, true, false, nat_eq, IsTrue, List, [], ◌∷◌, ◌++◌, refl, sym, ap, ◌∙◌, subst, arith}
-use Rattle.re_syntax.specs.Bytes.{Text}
-use Rattle.re_syntax.specs.Expression.{Expression, begin, byte, sequence, choice}
-use Rattle.re_syntax.specs.Basic.{ItemPlace, Later, Duplication, IsAtEnd, of_text, of_group, of_branch, Branches, last, more, Items, none, leading, trailing, item, Item, atom, repeated, Atom, bracket, period, escaped, ordinary, group}
-use Rattle.re_syntax.specs.Working.BasicSteps.{NoDuplication, IsAtLast, text_ends, group_ends}
+use Rattle.re_syntax.proofs.Words.{Text, Expression, begin, byte, sequence, choice, ItemPlace, Later, IsAtEnd, of_text, of_group, of_branch, leading, IsAtLast, text_ends, group_ends}
+use Rattle.re_syntax.specs.Basic.{Duplication, Branches, last, more, Items, none, trailing, item, Item, atom, repeated, Atom, bracket, period, escaped, ordinary, group}
+use Rattle.re_syntax.specs.Working.BasicSteps.{NoDuplication}
 use Rattle.re_syntax.proofs.lemmas.BracketsUnique.{heads, tails, apart, IsBracket-unique}
 use Rattle.re_syntax.proofs.lemmas.Chains.{SameItem, Chain, done, chain_snoc, chain_done, ItemChain, chain_same, chain_more, GoesOn, goes_on, longer, two_items, two_branches, same_heights}
 use Rattle.re_syntax.proofs.lemmas.Duplications.{is_sign, dup_front, unique}

@@ -1,13 +1,7 @@
 -- Which element is where a point is, and where there is none.
 use Rattle.std.proofs.Common.{◌≡◌, ◌≢◌, ℕ, ◌≤◌, ◌⊎◌, inl, inr, ◌∷◌, ◌++◌, codes, drop, refl, sym, ap, ◌∙◌, subst}
-use Rattle.re_syntax.specs.declared.bracket.ListPlace.{ListPlace}
-use Rattle.re_syntax.specs.declared.bracket.ListPlace.TheVariants.{First, AfterPoint, AfterRange}
-use Rattle.re_syntax.specs.declared.cursor.Cursor.{Cursor}
-use Rattle.re_syntax.specs.declared.fault.PatternFault.{PatternFault}
-use Rattle.re_syntax.specs.Bytes.{Text, Begins, Bytes, only, range}
-use Rattle.re_syntax.specs.Brackets.{Point, bare, MayBeAlone, Element, class, equivalence, alone, span}
-use Rattle.re_syntax.specs.Working.BracketSteps.{OpensNoClass, MayGoOn, IsShown}
-use Rattle.re_syntax.specs.Faults.{ShowsBracketFault}
+use Rattle.re_syntax.proofs.Words.{ListPlace, AfterPoint, AfterRange, Cursor, PatternFault, Text, Begins, Bytes, only, range, Point, bare, MayBeAlone, Element, class, equivalence, alone, span, OpensNoClass, MayGoOn, IsShown, ShowsBracketFault}
+use Rattle.re_syntax.specs.declared.bracket.ListPlace.TheVariants.{First}
 use Rattle.re_syntax.proofs.lemmas.BracketsUnique.{tails, apart, point-unique, class_point, equivalence_point}
 use Rattle.re_syntax.proofs.lemmas.BracketPoints.{point_along}
 

@@ -1,12 +1,6 @@
 -- Classes and equivalence classes of bracket expressions, by what a cursor passes or finds.
 use Rattle.std.proofs.Common.{◌≡◌, ℕ, ◌∷◌, ◌++◌, codes, drop, refl, sym, ap, ◌∙◌, subst}
-use Rattle.re_syntax.specs.declared.bracket.ListPlace.{ListPlace}
-use Rattle.re_syntax.specs.declared.bracket.ListPlace.TheVariants.{AfterRange}
-use Rattle.re_syntax.specs.declared.class.Class.{Class}
-use Rattle.re_syntax.specs.declared.cursor.Cursor.{Cursor}
-use Rattle.re_syntax.specs.Bytes.{Text, Begins, Bytes, only, class_name, in_class}
-use Rattle.re_syntax.specs.Brackets.{Element, class, equivalence, alone, span}
-use Rattle.re_syntax.specs.Working.Cursors.{left, Passes}
+use Rattle.re_syntax.proofs.Words.{ListPlace, AfterRange, Class, Cursor, Text, Begins, Bytes, only, class_name, in_class, Element, class, equivalence, alone, span, left, Passes}
 use Rattle.re_syntax.proofs.lemmas.BracketsUnique.{heads, tails, apart, class_point, equivalence_point}
 
 -- an element of a text is one of an equal text

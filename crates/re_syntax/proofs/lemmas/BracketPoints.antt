@@ -1,10 +1,6 @@
 -- The points of bracket expressions, by what a cursor passes or finds.
 use Rattle.std.proofs.Common.{◌≡◌, ℕ, ◌<◌, ◌≤◌, arith, inl, inr, [], ◌∷◌, ◌++◌, codes, drop, sym, ap, ◌∙◌, subst}
-use Rattle.re_syntax.specs.declared.cursor.Cursor.{Cursor}
-use Rattle.re_syntax.specs.Bytes.{Text, Begins}
-use Rattle.re_syntax.specs.Brackets.{OpensNamed, Point, bare, symbol}
-use Rattle.re_syntax.specs.Working.BracketSteps.{OpensNoClass}
-use Rattle.re_syntax.specs.Working.Cursors.{left, Passes}
+use Rattle.re_syntax.proofs.Words.{Cursor, Text, Begins, OpensNamed, Point, bare, symbol, OpensNoClass, left, Passes}
 use Rattle.re_syntax.proofs.lemmas.BracketsUnique.{heads, tails, point-unique}
 
 -- what does not begin a text does not begin an equal one

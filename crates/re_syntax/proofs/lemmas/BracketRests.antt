@@ -1,9 +1,7 @@
 -- What follows a bracket expression, or a part of one, is the rest of the text after some bytes.
 use Rattle.std.proofs.Common.{◌≡◌, ℕ, [], ◌∷◌, ◌++◌, codes, refl, sym, ap, ◌∙◌, append_assoc}
-use Rattle.re_syntax.specs.declared.bracket.ListPlace.{ListPlace}
-use Rattle.re_syntax.specs.Bytes.{Text, Bytes, class_name}
-use Rattle.re_syntax.specs.Expression.{Expression}
-use Rattle.re_syntax.specs.Brackets.{Point, bare, symbol, Element, class, equivalence, alone, span, Rest, closing, more, IsBracket, matching, non_matching}
+use Rattle.re_syntax.proofs.Words.{ListPlace, Text, Bytes, class_name, Expression, Point, bare, symbol, Element, class, equivalence, alone, span, Rest, closing, IsBracket, matching, non_matching}
+use Rattle.re_syntax.specs.Brackets.{more}
 
 -- the second text is what follows some bytes of the first
 abbrev pub ComesAfter : Text → Text → Type 0

@@ -2,15 +2,8 @@
 use Rattle.std.proofs.Common.{◌≡◌, ℕ, ◌+◌, Bool, true, false, ◌∷◌, ◌++◌, Some, slice_get, MatchBool, codes, drop, refl, sym, ap, ◌∙◌, subst}
 use Rattle.std.proofs.lemmas.List.{drop_more}
 use Rattle.std.proofs.lemmas.Option.{slice_get_within, get_or_from_slice_get}
+use Rattle.re_syntax.proofs.Words.{Cursor, PatternFault, Text, Begins, Bytes, Expression, one_of, none_of, Rest, IsBracket, matching, non_matching, IsBracketUpTo, IsOnlyBracket, Stands, left, Passes, IsAt, ShowsBracketFault}
 use Rattle.re_syntax.specs.declared.bracket.ListPlace.TheVariants.{First}
-use Rattle.re_syntax.specs.declared.cursor.Cursor.{Cursor}
-use Rattle.re_syntax.specs.declared.fault.PatternFault.{PatternFault}
-use Rattle.re_syntax.specs.Bytes.{Text, Begins, Bytes}
-use Rattle.re_syntax.specs.Expression.{Expression, one_of, none_of}
-use Rattle.re_syntax.specs.Brackets.{Rest, IsBracket, matching, non_matching, IsBracketUpTo, IsOnlyBracket}
-use Rattle.re_syntax.specs.Working.BracketSteps.{Stands}
-use Rattle.re_syntax.specs.Working.Cursors.{left, Passes, IsAt}
-use Rattle.re_syntax.specs.Faults.{ShowsBracketFault}
 use Rattle.re_syntax.proofs.lemmas.BracketsUnique.{tails, IsBracket-unique}
 
 -- bytes that come next are passed

@@ -1,12 +1,9 @@
 -- A bracket expression is read in one way, whatever follows it.
 use Rattle.std.proofs.Common.{◌≡◌, ◌≢◌, ℕ, inl, inr, true, false, nat_eq, ◌∷◌, ◌++◌, codes, refl, sym, ap, ◌∙◌}
 use Rattle.std.proofs.lemmas.Bool.{eq-eqb}
-use Rattle.re_syntax.specs.declared.bracket.ListPlace.{ListPlace}
+use Rattle.re_syntax.proofs.Words.{ListPlace, Text, Begins, Bytes, only, range, in_class, Expression, one_of, none_of, Point, bare, symbol, MayBeAlone, Element, class, equivalence, alone, span, Rest, closing, IsBracket, matching, non_matching, BeginsWithOneBracket}
 use Rattle.re_syntax.specs.declared.bracket.ListPlace.TheVariants.{First}
-use Rattle.re_syntax.specs.Bytes.{Text, Begins, Bytes, only, range, in_class}
-use Rattle.re_syntax.specs.Expression.{Expression, one_of, none_of}
-use Rattle.re_syntax.specs.Brackets.{Point, bare, symbol, MayBeAlone, Element, class, equivalence, alone, span, Rest, closing, more, IsBracket, matching, non_matching}
-use Rattle.re_syntax.specs.Laws.{BeginsWithOneBracket}
+use Rattle.re_syntax.specs.Brackets.{more}
 use Rattle.re_syntax.proofs.lemmas.UnionsLaws.{both_unions}
 use Rattle.re_syntax.proofs.lemmas.ClassNames.{class_name-unique}
 

@@ -4,8 +4,7 @@ use Rattle.std.proofs.lemmas.Bool.{both_ways}
 use Rattle.std.proofs.lemmas.Bool.Decides.{Decides-eqb}
 use Rattle.std.proofs.lemmas.List.{take_rest, drop-drop}
 use Rattle.std.proofs.lemmas.Slice.Eq.{starts_is}
-use Rattle.std.specs.List.{starts_with}
-use Rattle.re_syntax.specs.Bytes.{Text, Begins}
+use Rattle.re_syntax.proofs.Words.{starts_with, Text, Begins}
 
 -- bytes that come next, and what is left after them
 pub begins-drop : (text bytes : Text) (at : ℕ) (r : Bool) → r ≡ starts_with nat_eq (take (length text - at) (drop at text)) bytes → r ≡ true →

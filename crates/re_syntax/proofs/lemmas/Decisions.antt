@@ -50,7 +50,7 @@ Any-first P x xs p = (0, x, omega arith, refl, p)
 pub Any-later : {A : Type 0} (P : A → Type 0) (x : A) (xs : List A) → Any P xs → Any P (x ∷ xs)
 Any-later P x xs h = let below : h.0 < length xs = h.2 in (suc h.0, h.1, omega arith, h.3, h.4)
 
--- an element of which P holds is the first or one after it
+-- an element for which P holds is the first or one after it
 pub Any-cases : {A : Type 0} (P : A → Type 0) (x : A) (xs : List A) → Any P (x ∷ xs) → P x ⊎ Any P xs
 Any-cases {A} P x xs h = at_place h.0 h.1 h.2 h.3 h.4
   where
@@ -82,7 +82,7 @@ dec_below P d (suc n) = join (d n) (dec_below P d n)
 pub dec_bounded : (P : ℕ → Type 0) → ((k : ℕ) → Dec (P k)) → (n : ℕ) → ((k : ℕ) → P k → k < n) → Dec ((k : ℕ) × P k)
 dec_bounded P d n bound = map_dec (λ h. (h.0, h.2)) (λ h. (h.0, bound h.0 h.1, h.1)) (dec_below P d n)
 
--- the least number of which P holds, or none below n
+-- the least number for which P holds, or none below n
 pub least_below : (P : ℕ → Type 0) → ((k : ℕ) → Dec (P k)) → (n : ℕ) → ((k : ℕ) × P k × ((l : ℕ) → P l → k ≤ l)) ⊎ ((k : ℕ) → k < n → P k → ⊥)
 least_below P d zero = inr (λ k below p. absurd (omega (arith, below)))
 least_below P d (suc n) =
@@ -94,7 +94,7 @@ least_below P d (suc n) =
       ]
     ]
 
--- the greatest number of which P holds, if it holds of one and only below n
+-- the greatest number for which P holds, if it holds for one and only below n
 pub greatest_below : (P : ℕ → Type 0) → ((k : ℕ) → Dec (P k)) → (n : ℕ) → ((k : ℕ) → P k → k < n) → (k : ℕ) × P k → (k : ℕ) × P k × ((l : ℕ) → P l → l ≤ k)
 greatest_below P d zero bound some = let below : some.0 < 0 = bound some.0 some.1 in absurd (omega arith)
 greatest_below P d (suc n) bound some =

@@ -2,10 +2,7 @@
 use Rattle.std.proofs.Common.{◌≡◌, ℕ, zero, suc, ◌+◌, ◌-◌, ◌*◌, ◌<◌, ◌≤◌, min, true, false, ◌||◌, ◌⊎◌, inl, inr, nat_le, nat_lt, [], ◌∷◌, ◌++◌, length, take, get_or, IsTrue, refl, ap, ◌∙◌, arith}
 use Rattle.std.proofs.lemmas.Bool.{and_parts, and_from, or_cases, or_parts, leb-true, le-leb, ltb-true, ltb-false}
 use Rattle.std.proofs.lemmas.List.{take_more}
-use Rattle.re_syntax.specs.declared.class.Class.TheVariants.{Digit}
-use Rattle.re_syntax.specs.Bytes.{Text, in_class}
-use Rattle.re_syntax.specs.Intervals.{value_after, capped}
-use Rattle.re_syntax.specs.Working.IntervalSteps.{HasNoDigit, IsDigitCount}
+use Rattle.re_syntax.proofs.Words.{Digit, Text, in_class, value_after, capped, HasNoDigit, IsDigitCount}
 
 -- a digit is not below `0`
 pub digit_low : (b : ℕ) → IsTrue (in_class Digit b) → 48 ≤ b

@@ -1,8 +1,7 @@
 -- `ended_lines_of` gives the one list of lines that newlines end in an input.
 use Rattle.std.proofs.Common.{◌≡◌, ℕ, ◌⊎◌, inl, inr, nat_eq, ◌≢◌, List, [], ◌∷◌, ◌++◌, All, if◌then◌else◌, refl, sym, ap, ◌∙◌, append_assoc}
 use Rattle.std.proofs.lemmas.Bool.{cond-false, ne_eqb, cases_eq}
-use Rattle.re_syntax.specs.Bytes.{Text}
-use Rattle.re_syntax.specs.Lines.{newline, put_before_first, ended_lines_of, HasNoNewline, terminated, AreEndedLines}
+use Rattle.re_syntax.proofs.Words.{Text, newline, put_before_first, ended_lines_of, HasNoNewline, terminated, AreEndedLines}
 use Rattle.re_syntax.proofs.lemmas.LinesLaws.{first_differs, rest_has_none, none_before, none_in_empty, all_cons, all_head, all_tail, all_none}
 
 -- what the first line is, and what follows it
@@ -25,13 +24,6 @@ ended_lines_of-unfinished [] rest h k = ended_lines_of-last rest k
 ended_lines_of-unfinished (t ∷ ts) rest h k =
     ap ended_lines_of (append_assoc t (newline ∷ terminated ts) rest) ∙ ended_lines_of-line t (terminated ts ++ rest) (all_head t ts h)
     ∙ ap (λ us. t ∷ us) (ended_lines_of-unfinished ts rest (all_tail t ts h) k)
-
--- the same where no unfinished line follows
-pub ended_lines_of-terminated : (ts : List Text) → All HasNoNewline ts → ended_lines_of (terminated ts) ≡ ts
-unfolding ended_lines_of
-ended_lines_of-terminated [] h = refl
-ended_lines_of-terminated (t ∷ ts) h =
-    ended_lines_of-line t (terminated ts) (all_head t ts h) ∙ ap (λ us. t ∷ us) (ended_lines_of-terminated ts (all_tail t ts h))
 
 -- an input has no other list of lines that are ended
 pub ended_lines_of-unique : (bytes : Text) (ts : List Text) → AreEndedLines bytes ts → ts ≡ ended_lines_of bytes

@@ -3,13 +3,8 @@ use Rattle.std.proofs.Common.{◌≡◌, ℕ, ◌+◌, ◌≤◌, nat_le, [], �
 use Rattle.std.proofs.lemmas.Bool.{and_parts, and_from, leb-true, le-leb, or_left, or_right}
 use Rattle.std.proofs.lemmas.List.{nil_from_length}
 use Rattle.std.proofs.lemmas.Option.{slice_get_within}
-use Rattle.re_syntax.specs.declared.fault.FaultKind.{FaultKind}
-use Rattle.re_syntax.specs.declared.fault.FaultKind.TheVariants.{TrailingBackslash}
-use Rattle.re_syntax.specs.declared.fault.PatternFault.{PatternFault}
-use Rattle.re_syntax.specs.Bytes.{Text, Begins, range, union}
-use Rattle.re_syntax.specs.Escapes.{is_undefined}
-use Rattle.re_syntax.specs.EscapeFaults.{IsRefusedEscape, undefined, reference, one_to_nine}
-use Rattle.re_syntax.specs.Working.EscapeSteps.{EscapeStands, HasNoEscape, trailing, refused}
+use Rattle.re_syntax.proofs.Words.{FaultKind, TrailingBackslash, PatternFault, Text, Begins, range, union, is_undefined, IsRefusedEscape, undefined, reference, one_to_nine, EscapeStands, HasNoEscape, refused}
+use Rattle.re_syntax.specs.Working.EscapeSteps.{trailing}
 use Rattle.re_syntax.proofs.lemmas.BracketsUnique.{heads, tails}
 use Rattle.re_syntax.proofs.lemmas.Places.{byte_at, beyond_first}
 

@@ -1,23 +1,11 @@
 -- Single atoms of extended expressions, by the bytes at their place.
 use Rattle.std.proofs.Common.{◌≡◌, ◌≢◌, ℕ, ◌+◌, ◌<◌, ◌⊎◌, inl, inr, Bool, true, false, ◌∷◌, ◌++◌, length, take, drop, Some, IsTrue, slice_get, codes, refl, sym, ap, ◌∙◌, subst, arith, length-drop, Option, Global}
 use Rattle.std.proofs.lemmas.Bool.{ne_eqb, cases_eq}
-use Rattle.re_syntax.specs.declared.pieces.Piece.{Piece}
-use Rattle.re_syntax.specs.declared.fault.FaultKind.{FaultKind}
-use Rattle.re_syntax.specs.declared.fault.FaultKind.TheVariants.{UnclosedBracket}
-use Rattle.re_syntax.specs.declared.fault.PatternFault.{PatternFault}
-use Rattle.re_syntax.specs.Bytes.{Text, Begins}
-use Rattle.re_syntax.specs.Escapes.{is_undefined}
-use Rattle.re_syntax.specs.EscapeFaults.{IsRefusedEscape, undefined, reference, BeginsRefusedEscape}
-use Rattle.re_syntax.specs.Working.EscapeSteps.{EscapeStands, HasNoEscape, trailing, refused}
-use Rattle.re_syntax.specs.Expression.{Expression, one_of, end, byte}
-use Rattle.re_syntax.specs.Brackets.{IsBracket}
-use Rattle.re_syntax.specs.Faults.{ShowsBracketFault, IsNoBracket}
-use Rattle.re_syntax.specs.Intervals.{HasNoInterval}
-use Rattle.re_syntax.specs.Extended.{is_ordinary, Atom, bracket, period, dollar, escaped, ordinary, group}
-use Rattle.re_syntax.specs.ExtendedFaults.{opens_star, opens_plus, opens_question, opens_interval, OpensDuplication, ShowsExtendedFault, IsShownIn}
-use Rattle.re_syntax.specs.Profile.{extended_refused}
-use Rattle.re_syntax.specs.Working.ExtendedSteps.{stops, MayBegin, AtomStands, HasNoAtom}
-use Rattle.re_syntax.specs.Working.PieceSteps.{meant_bytes, IsReported, IsBracketPiece}
+use Rattle.re_syntax.proofs.Words.{Piece, FaultKind, UnclosedBracket, PatternFault, Text, Begins, is_undefined, IsRefusedEscape, undefined, reference, BeginsRefusedEscape, EscapeStands, HasNoEscape, refused, Expression, one_of, end, byte, IsBracket, ShowsBracketFault, IsNoBracket, HasNoInterval, dollar, opens_star, opens_plus, opens_question, opens_interval, OpensDuplication, ShowsExtendedFault, extended_refused, stops, meant_bytes, IsReported, IsBracketPiece}
+use Rattle.re_syntax.specs.Working.EscapeSteps.{trailing}
+use Rattle.re_syntax.specs.Extended.{is_ordinary, Atom, bracket, period, escaped, ordinary, group}
+use Rattle.re_syntax.specs.ExtendedFaults.{IsShownIn}
+use Rattle.re_syntax.specs.Working.ExtendedSteps.{MayBegin, AtomStands, HasNoAtom}
 use Rattle.re_syntax.proofs.lemmas.BracketsUnique.{heads, apart, bracket_front}
 use Rattle.re_syntax.proofs.lemmas.BracketKinds.{IsBracketKind, is_unclosed, is_class, is_symbol, is_range, bracket_kind}
 use Rattle.re_syntax.proofs.lemmas.BracketLists.{bracket-shortens}

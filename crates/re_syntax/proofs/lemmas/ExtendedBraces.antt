@@ -1,8 +1,6 @@
 -- Braces that begin no interval of an extended expression.
 use Rattle.std.proofs.Common.{◌≡◌, Bool, true, false, nat_eq, [], ◌∷◌, codes, refl}
-use Rattle.re_syntax.specs.declared.class.Class.TheVariants.{Digit}
-use Rattle.re_syntax.specs.Bytes.{Text, in_class}
-use Rattle.re_syntax.specs.Intervals.{HasNoInterval}
+use Rattle.re_syntax.proofs.Words.{Digit, Text, in_class, HasNoInterval}
 use Rattle.re_syntax.proofs.lemmas.IntervalLaws.{lacks, lacks-cut}
 use Rattle.re_syntax.proofs.lemmas.IntervalReading.{none_without_number, none_after_first, no_greatest}
 

@@ -2,20 +2,10 @@
 -- places.
 use Rattle.std.proofs.Common.{◌≡◌, ◌≢◌, ℕ, suc, ◌+◌, ◌-◌, ◌≤◌, ◌⊎◌, inl, inr, max, Bool, true, false, ◌&&◌, nat_eq, List, [], ◌∷◌, ◌++◌, length, take, drop, codes, refl, sym, ap, ◌∙◌, subst, arith, append_assoc, length-drop, Option, Global}
 use Rattle.std.proofs.lemmas.Bool.{or_cases, eqb-true}
-use Rattle.re_syntax.specs.declared.pieces.Piece.{Piece}
-use Rattle.re_syntax.specs.declared.pieces.Pieces.{Pieces}
-use Rattle.re_syntax.specs.declared.fault.FaultKind.TheVariants.{Memory}
-use Rattle.re_syntax.specs.declared.fault.PatternFault.{PatternFault}
-use Rattle.re_syntax.specs.declared.syntax.Syntax.TheVariants.{Extended}
-use Rattle.re_syntax.specs.Bytes.{Text, Begins}
-use Rattle.re_syntax.specs.Working.Ahead.{IsAfter}
-use Rattle.re_syntax.specs.Expression.{Expression, sequence, choice}
+use Rattle.re_syntax.proofs.Words.{Piece, Pieces, Memory, PatternFault, Extended, Text, Begins, IsAfter, Expression, sequence, choice, IsNoExtended, stops, ends, IsRefused, memory, reported, IsReported, AreReported, IsJoined, most_levels, IsSpelled, as_extended}
 use Rattle.re_syntax.specs.Extended.{Branches, last, more, Items, Atom, group}
-use Rattle.re_syntax.specs.ExtendedFaults.{IsStart, OpensUnclosed, IsShownIn, IsNoExtended}
-use Rattle.re_syntax.specs.Working.ExtendedSteps.{stops, ends, AtomStands, HasNoAtom, HasNoItems, BranchStands, HasNoBranches, BranchesStand}
-use Rattle.re_syntax.specs.Working.PieceSteps.{IsRefused, memory, reported, IsReported, AreReported, IsJoined}
-use Rattle.re_syntax.specs.Profile.{most_levels}
-use Rattle.re_syntax.specs.Spelled.{IsSpelled, as_extended}
+use Rattle.re_syntax.specs.ExtendedFaults.{IsStart, OpensUnclosed, IsShownIn}
+use Rattle.re_syntax.specs.Working.ExtendedSteps.{AtomStands, HasNoAtom, HasNoItems, BranchStands, HasNoBranches, BranchesStand}
 use Rattle.re_syntax.proofs.lemmas.BracketsUnique.{tails}
 use Rattle.re_syntax.proofs.lemmas.ExtendedFronts.{is_group}
 use Rattle.re_syntax.proofs.lemmas.ExtendedUnique.{ends-stops, ends_bar, items-unique, branches-unique}

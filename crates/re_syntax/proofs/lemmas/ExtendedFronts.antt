@@ -2,12 +2,8 @@
 -- that determines the kind of atom.
 use Rattle.std.proofs.Common.{◌≡◌, ◌≢◌, ℕ, suc, Bool, true, false, ◌&&◌, nat_eq, List, ◌∷◌, ◌++◌, IsTrue, codes, if◌then◌else◌, refl, sym, ◌∙◌, subst}
 use Rattle.std.proofs.lemmas.Bool.{ne_eqb, and_right, or_from, cond-false}
-use Rattle.re_syntax.specs.Bytes.{Text}
-use Rattle.re_syntax.specs.Expression.{Expression}
-use Rattle.re_syntax.specs.Intervals.{HasNoInterval}
-use Rattle.re_syntax.specs.Escapes.{is_in}
-use Rattle.re_syntax.specs.Working.ExtendedSteps.{is_stop}
-use Rattle.re_syntax.specs.Extended.{is_ordinary, Branches, Atom, bracket, period, dollar, escaped, ordinary, group}
+use Rattle.re_syntax.proofs.Words.{Text, Expression, HasNoInterval, is_in, is_stop, dollar}
+use Rattle.re_syntax.specs.Extended.{is_ordinary, Branches, Atom, bracket, period, escaped, ordinary, group}
 use Rattle.re_syntax.proofs.lemmas.BracketsUnique.{heads, tails, apart, bracket_front}
 use Rattle.re_syntax.proofs.lemmas.ExtendedDuplications.{IsOpening, by_star, by_plus, by_question, by_brace}
 

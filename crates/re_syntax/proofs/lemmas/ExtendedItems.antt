@@ -1,17 +1,9 @@
 -- Items of extended expressions, and branches of them, by their atoms and what follows them.
 use Rattle.std.proofs.Common.{◌≡◌, ◌≢◌, ℕ, suc, ◌<◌, ◌≤◌, inl, inr, max, Bool, true, false, List, [], ◌∷◌, ◌++◌, length, take, drop, Option, codes, refl, sym, ap, ◌∙◌, subst, arith, append_assoc, append-nil, length-append, length-drop, Global}
-use Rattle.re_syntax.specs.declared.pieces.Piece.{Piece}
-use Rattle.re_syntax.specs.declared.pieces.Pieces.{Pieces}
-use Rattle.re_syntax.specs.declared.interval.Counts.{Counts}
-use Rattle.re_syntax.specs.declared.fault.FaultKind.TheVariants.{TooDeep}
-use Rattle.re_syntax.specs.declared.fault.PatternFault.{PatternFault}
-use Rattle.re_syntax.specs.Bytes.{Text}
-use Rattle.re_syntax.specs.Working.Ahead.{IsAfter}
-use Rattle.re_syntax.specs.Expression.{Expression, begin, repeat, sequence}
-use Rattle.re_syntax.specs.Extended.{Duplication, star, plus, question, interval, Items, none, anchor, item, Item, atom, repeated, Atom}
-use Rattle.re_syntax.specs.ExtendedFaults.{OpensDuplication, IsStart, HasNothingToRepeat, IsShownIn}
-use Rattle.re_syntax.specs.Working.ExtendedSteps.{stops, DuplicationStands, HasBadInterval, MayBegin, AtomStands, HasNoAtom, ItemStands, HasNoItems, IsNext, BranchStands}
-use Rattle.re_syntax.specs.Working.PieceSteps.{IsReported, AreReported, IsRepeated, IsJoined}
+use Rattle.re_syntax.proofs.Words.{Piece, Pieces, Counts, TooDeep, PatternFault, Text, IsAfter, Expression, begin, repeat, sequence, anchor, OpensDuplication, HasNothingToRepeat, stops, IsNext, IsReported, AreReported, IsRepeated, IsJoined}
+use Rattle.re_syntax.specs.Extended.{Duplication, star, plus, question, interval, Items, none, item, Item, atom, repeated, Atom}
+use Rattle.re_syntax.specs.ExtendedFaults.{IsStart, IsShownIn}
+use Rattle.re_syntax.specs.Working.ExtendedSteps.{DuplicationStands, HasBadInterval, MayBegin, AtomStands, HasNoAtom, ItemStands, HasNoItems, BranchStands}
 use Rattle.re_syntax.proofs.lemmas.Chains.{stands_some}
 use Rattle.re_syntax.proofs.lemmas.ExtendedUnique.{item_parts}
 use Rattle.re_syntax.proofs.lemmas.ExtendedReading.{items-after, items-after-anchor, items-higher}

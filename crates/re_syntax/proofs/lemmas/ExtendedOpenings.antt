@@ -1,18 +1,9 @@
 -- Duplications of extended expressions at a place of the text: what a reader knows when it stops.
 use Rattle.std.proofs.Common.{◌≡◌, ℕ, ◌+◌, ◌≤◌, Bool, true, [], ◌∷◌, ◌++◌, length, take, drop, Option, Some, None, MatchOption, MatchBool, is_some, IsTrue, slice_get, codes, refl, sym, ap, ◌∙◌, subst, arith, append_assoc, length-drop}
 use Rattle.std.proofs.lemmas.Option.{slice_get_within}
-use Rattle.re_syntax.specs.declared.class.Class.TheVariants.{Digit}
-use Rattle.re_syntax.specs.declared.fault.FaultKind.{FaultKind}
-use Rattle.re_syntax.specs.declared.interval.Counts.{Counts}
-use Rattle.re_syntax.specs.Bytes.{Text, Begins, in_class}
-use Rattle.re_syntax.specs.Working.Ahead.{IsAfter}
-use Rattle.re_syntax.specs.Escapes.{is_in}
+use Rattle.re_syntax.proofs.Words.{Digit, FaultKind, Counts, Text, Begins, in_class, IsAfter, is_in, OpensDuplication, opens_star, opens_plus, opens_question, opens_interval, ShowsExtendedFault, IsNoSign, IsDisallowed, least_too_large, most_too_large, descending, OpensDisallowed, IsAllowed, IsNoPart, ClosedInterval, HasNoInterval, IntervalStands}
 use Rattle.re_syntax.specs.Extended.{Duplication, star, plus, question, interval}
-use Rattle.re_syntax.specs.ExtendedFaults.{OpensDuplication, opens_star, opens_plus, opens_question, opens_interval, ShowsExtendedFault}
-use Rattle.re_syntax.specs.Working.ExtendedSteps.{NoDuplication, IsNoSign, DuplicationStands, HasBadInterval}
-use Rattle.re_syntax.specs.IntervalFaults.{IsDisallowed, least_too_large, most_too_large, descending, OpensDisallowed}
-use Rattle.re_syntax.specs.Intervals.{IsAllowed, IsNoPart, ClosedInterval, HasNoInterval}
-use Rattle.re_syntax.specs.Working.IntervalSteps.{IntervalStands}
+use Rattle.re_syntax.specs.Working.ExtendedSteps.{NoDuplication, DuplicationStands, HasBadInterval}
 use Rattle.re_syntax.proofs.lemmas.BracketsUnique.{heads, tails, apart}
 use Rattle.re_syntax.proofs.lemmas.CountsLaws.{are_counts, disallowed_too, not_allowed}
 use Rattle.re_syntax.proofs.lemmas.ExtendedDuplications.{IsOpening, by_star, by_plus, by_question, by_brace}

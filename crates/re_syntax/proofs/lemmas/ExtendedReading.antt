@@ -1,12 +1,11 @@
 -- What an item that begins a text says of every reading of the text as a branch.
 use Rattle.std.proofs.Common.{◌≡◌, ℕ, ◌<◌, ◌≤◌, max, Bool, true, List, ◌∷◌, refl, sym, ◌∙◌, subst, arith}
-use Rattle.re_syntax.specs.Bytes.{Text}
-use Rattle.re_syntax.specs.Expression.{Expression, begin}
-use Rattle.re_syntax.specs.Extended.{Duplication, Items, none, anchor, item, Item}
+use Rattle.re_syntax.proofs.Words.{Text, Expression, begin, anchor, stops}
+use Rattle.re_syntax.specs.Extended.{Duplication, Items, none, item, Item}
 use Rattle.re_syntax.proofs.lemmas.BracketsUnique.{heads, tails}
 use Rattle.re_syntax.proofs.lemmas.Chains.{chain_done, GoesOn, goes_on, longer}
 use Rattle.re_syntax.proofs.lemmas.ExtendedDuplications.{unique}
-use Rattle.re_syntax.specs.Working.ExtendedSteps.{NoDuplication, stops}
+use Rattle.re_syntax.specs.Working.ExtendedSteps.{NoDuplication}
 use Rattle.re_syntax.proofs.lemmas.ExtendedUnique.{stop_byte, stop_caret, item_parts, item_front, item_chain, items_no_duplication}
 
 -- the items of the branch begin with the item, or with it and more duplications

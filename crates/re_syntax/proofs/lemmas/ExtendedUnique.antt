@@ -1,14 +1,13 @@
 -- An extended expression is read in one way.
 use Rattle.std.proofs.Common.{◌≡◌, ℕ, suc, ◌+◌, Bool, true, false, ◌&&◌, nat_eq, List, [], ◌∷◌, refl, sym, ap, ◌∙◌, subst, arith}
 use Rattle.std.proofs.lemmas.Bool.{and_right, or_right}
-use Rattle.re_syntax.specs.Bytes.{Text}
-use Rattle.re_syntax.specs.Expression.{Expression, begin, byte, sequence, choice}
-use Rattle.re_syntax.specs.Extended.{Duplication, Branches, last, more, Items, none, anchor, item, Item, atom, repeated, Atom, bracket, period, dollar, escaped, ordinary, group}
+use Rattle.re_syntax.proofs.Words.{Text, Expression, begin, byte, sequence, choice, anchor, dollar, stops, ends, is_stop}
+use Rattle.re_syntax.specs.Extended.{Duplication, Branches, last, more, Items, none, item, Item, atom, repeated, Atom, bracket, period, escaped, ordinary, group}
 use Rattle.re_syntax.proofs.lemmas.BracketsUnique.{heads, tails, apart, IsBracket-unique}
 use Rattle.re_syntax.proofs.lemmas.BasicUnique.{SameItems}
 use Rattle.re_syntax.proofs.lemmas.Chains.{SameItem, Chain, done, chain_snoc, chain_done, ItemChain, chain_same, chain_more, goes_on, two_items, two_branches, same_heights}
 use Rattle.re_syntax.proofs.lemmas.ExtendedDuplications.{IsOpening, opens_none, unique}
-use Rattle.re_syntax.specs.Working.ExtendedSteps.{stops, ends, NoDuplication, is_stop}
+use Rattle.re_syntax.specs.Working.ExtendedSteps.{NoDuplication}
 use Rattle.re_syntax.proofs.lemmas.ExtendedFronts.{never_stop, not_opening, opening_stop, kind_of, IsFront, atom_code, atom_front}
 
 -- where the last branch ends, a branch ends

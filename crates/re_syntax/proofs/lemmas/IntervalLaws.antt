@@ -1,10 +1,7 @@
 -- The text between an interval's braces is read in one way.
 use Rattle.std.proofs.Common.{◌≡◌, ℕ, Bool, true, false, not, nat_eq, [], ◌∷◌, ◌++◌, Option, Some, codes, refl, sym, ap, ◌∙◌, append_assoc}
 use Rattle.std.proofs.lemmas.Bool.{and_parts, ne_eqb, and_from, not_from_false, eq-eqb}
-use Rattle.std.specs.List.{list_all}
-use Rattle.re_syntax.specs.declared.class.Class.TheVariants.{Digit}
-use Rattle.re_syntax.specs.Bytes.{Text, in_class}
-use Rattle.re_syntax.specs.Intervals.{IsNumber, Interval, exactly, at_least, between, up_to, value}
+use Rattle.re_syntax.proofs.Words.{list_all, Digit, Text, in_class, IsNumber, Interval, exactly, at_least, between, up_to, value}
 
 -- no byte of the text is this one
 abbrev pub lacks : ℕ → Text → Bool

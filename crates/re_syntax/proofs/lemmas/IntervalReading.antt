@@ -3,13 +3,7 @@
 use Rattle.std.proofs.Common.{◌≡◌, ℕ, ◌+◌, ◌-◌, ◌<◌, ◌≤◌, [], ◌∷◌, ◌++◌, length, take, drop, Option, Some, None, MatchOption, IsTrue, codes, refl, sym, ap, ◌∙◌, arith, append_assoc, length-drop}
 use Rattle.std.proofs.lemmas.Bool.{and_parts}
 use Rattle.std.proofs.lemmas.List.{drop-drop, length-take, take-append-drop}
-use Rattle.std.specs.List.{list_all}
-use Rattle.re_syntax.specs.declared.class.Class.TheVariants.{Digit}
-use Rattle.re_syntax.specs.declared.interval.Counts.{Counts}
-use Rattle.re_syntax.specs.Bytes.{Text, Begins, in_class}
-use Rattle.re_syntax.specs.Working.Ahead.{IsAfter}
-use Rattle.re_syntax.specs.Intervals.{IsNumber, value, Interval, exactly, at_least, between, up_to, ClosedInterval, IsNoPart, capped, HasNoInterval}
-use Rattle.re_syntax.specs.Working.IntervalSteps.{AreDigits, HasNoDigit, IsDigitCount, NumberStands, HasNoGreatest, GreatestStands, IntervalStands}
+use Rattle.re_syntax.proofs.Words.{list_all, Digit, Counts, Text, Begins, in_class, IsAfter, IsNumber, value, Interval, exactly, at_least, between, up_to, ClosedInterval, IsNoPart, capped, HasNoInterval, AreDigits, HasNoDigit, IsDigitCount, NumberStands, HasNoGreatest, GreatestStands, IntervalStands}
 use Rattle.re_syntax.proofs.lemmas.BracketsUnique.{heads, tails}
 
 -- the first of some digits is one

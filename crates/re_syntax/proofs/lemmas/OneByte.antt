@@ -2,10 +2,7 @@
 use Rattle.std.proofs.Common.{◌≡◌, ℕ, ◌+◌, ◌-◌, ◌^◌, ◌<◌, inl, inr, true, true≢false, nat_eq, refl, sym, ap, ◌∙◌, arith}
 use Rattle.std.proofs.lemmas.Bool.{cases_eq, cases_lt, eq-eqb, eqb-true, lt-ltb, le-ltb, cond-true, cond-false}
 use Rattle.std.proofs.lemmas.Nat.Bits.{bit_at-zero, bit_at-lt, bit_at-trailing_zeros, same_from_bits_below}
-use Rattle.std.specs.Int.{bit_at, trailing_zeros, w128}
-use Rattle.re_syntax.specs.Bytes.{only}
-use Rattle.re_syntax.specs.Sets.{members}
-use Rattle.re_syntax.specs.declared.bytes.ByteSet.{ByteSet}
+use Rattle.re_syntax.proofs.Words.{bit_at, trailing_zeros, w128, only, members, ByteSet}
 
 -- the first word decides whether a byte below 128 is in the set
 member_low : (s : ByteSet) (b : ℕ) → b < 128 → members s b ≡ nat_eq (bit_at s.low b) 1

@@ -4,9 +4,7 @@ use Rattle.std.proofs.Common.{◌≡◌, ℕ, ◌+◌, ◌<◌, max, Bool, true,
 use Rattle.std.proofs.Math.Seq.{take-append_seam}
 use Rattle.std.proofs.lemmas.List.{drop-drop, drop_more}
 use Rattle.std.proofs.lemmas.Option.{slice_get_within, slice_get-get_or, get_or_from_slice_get}
-use Rattle.re_syntax.specs.declared.fault.PatternFault.{PatternFault}
-use Rattle.re_syntax.specs.Bytes.{Text}
-use Rattle.re_syntax.specs.Working.PieceSteps.{IsRefused, memory, reported}
+use Rattle.re_syntax.proofs.Words.{PatternFault, Text, IsRefused, memory, reported}
 
 -- the text from the place of a byte on
 pub byte_at : (text : Text) (at b : ℕ) → slice_get text at ≡ Some b → drop at text ≡ b ∷ drop (at + 1) text

@@ -4,9 +4,7 @@ use Rattle.std.proofs.Math.Path.{fun_ext}
 use Rattle.std.proofs.lemmas.Bool.{and_parts, and_from, leb-true, ltb-true, le-leb, lt-leb, lt-ltb, le-ltb, cases_lt, cond-true, cond-false, ne_eqb}
 use Rattle.std.proofs.lemmas.Nat.{pow_below}
 use Rattle.std.proofs.lemmas.Nat.Bits.{bit_at_and, bit_at_not, bit_at_ones, bit_at_ones_above}
-use Rattle.std.specs.Int.{bit_at, bit_not, w128}
-use Rattle.re_syntax.specs.Bytes.{range}
-use Rattle.re_syntax.specs.Sets.{members, lowest_bits}
+use Rattle.re_syntax.proofs.Words.{bit_at, bit_not, w128, range, members, lowest_bits}
 use Rattle.re_syntax.proofs.lemmas.UnionsLaws.{same_test}
 
 -- a test that fails its second half

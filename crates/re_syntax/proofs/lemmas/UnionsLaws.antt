@@ -3,11 +3,7 @@ use Rattle.std.proofs.Common.{◌≡◌, ℕ, zero, suc, ◌+◌, ◌-◌, ◌<�
 use Rattle.std.proofs.Math.Path.{fun_ext}
 use Rattle.std.proofs.lemmas.Bool.{or_cases, or_left, or_right, and_parts, and_from, leb-true, ltb-true, eqb-true, le-leb, lt-ltb, eq-eqb, cases_eq, false≢true}
 use Rattle.std.proofs.lemmas.Nat.Bits.{bit_at_or, bit_at-lt}
-use Rattle.std.specs.Int.{bit_at}
-use Rattle.std.specs.Int.Bits.{bit_or}
-use Rattle.re_syntax.specs.declared.bytes.ByteSet.{ByteSet}
-use Rattle.re_syntax.specs.Bytes.{Bytes, nothing, only, range, union}
-use Rattle.re_syntax.specs.Sets.{members}
+use Rattle.re_syntax.proofs.Words.{bit_at, bit_or, ByteSet, Bytes, nothing, only, range, union, members}
 
 -- two tests that pass together are one
 pub same_test : (x y : Bool) → (x ≡ true → y ≡ true) → (y ≡ true → x ≡ true) → x ≡ y

@@ -10,7 +10,8 @@ use Rattle.re_syntax.specs.declared.fault.FaultKind.TheVariants.{Memory}
 use Rattle.re_syntax.specs.declared.fault.PatternFault.{PatternFault}
 use Rattle.re_syntax.specs.Bytes.{Text, Bytes, any_but_nul, only}
 use Rattle.re_syntax.specs.Brackets.{IsBracketUpTo}
-use Rattle.re_syntax.specs.Expression.{Expression, cat, repeat, expression_of}
+use Rattle.re_syntax.specs.Expression.{Expression, cat, repeat}
+use Rattle.re_syntax.specs.Working.Trees.{expression_of}
 use Rattle.re_syntax.specs.Working.Counted.{up_to_word}
 use Rattle.re_syntax.specs.Holds.{positions}
 

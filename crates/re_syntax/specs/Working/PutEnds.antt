@@ -3,7 +3,7 @@ use Rattle.std.specs.Prelude.{◌≡◌, ℕ, ◌<◌, ◌↔◌, ◌⊎◌, Lis
 use Rattle.re_syntax.specs.Bytes.{Text}
 
 -- each place of the line has the greatest of the end that it had and of the new ones, which for
--- place i are greater than each m of which `Past i m` holds
+-- place i are greater than each m for which `Past i m` holds
 abbrev pub AddsEnds : (ℕ → ℕ → Type 0) → Text → List ℕ → List ℕ → Type 0
 AddsEnds Past line old new =
     (length new ≡ length line) ×

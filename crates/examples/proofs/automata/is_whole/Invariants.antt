@@ -1,4 +1,4 @@
-use Rattle.re_syntax.specs.Expression.{expression_of}
+use Rattle.re_syntax.specs.Working.Trees.{expression_of}
 use Rattle.re_auto.specs.Working.StateSets.{IsMadeFor}
 use Rattle.examples.proofs.automata.is_whole.Given as goal
 

@@ -1,7 +1,6 @@
 use Rattle.std.proofs.Common.{◌≡◌, ◌∙◌, length, map, sym, arith}
 use Rattle.std.proofs.lemmas.List.{length-map}
-use Rattle.grep_core.specs.Files.{File}
-use Rattle.grep_live.specs.Marks.{whole_mark}
+use Rattle.grep_live.proofs.Words.{File, whole_mark}
 use Rattle.grep_live.proofs.lemmas.CatchLemmas.{marked_more, marked_at, marked_all}
 use Rattle.grep_live.proofs.marks.know_each.Goals as goal
 

@@ -1,6 +1,5 @@
 use Rattle.std.proofs.Common.{◌∙◌, ap, get_or, slice_set}
-use Rattle.grep_live.specs.declared.mark.Mark.{Mark}
-use Rattle.grep_live.specs.Marks.{lost, new_mark}
+use Rattle.grep_live.proofs.Words.{Mark, lost, new_mark}
 use Rattle.grep_live.proofs.lemmas.LostLemmas.{mapped_more, mapped_all}
 use Rattle.grep_live.proofs.marks.lose_each.Goals as goal
 

@@ -1,11 +1,7 @@
 use Rattle.std.proofs.Common.{[], ◌∷◌, ◌++◌, map, subst}
-use Rattle.re_syntax.specs.Bytes.{Text}
-use Rattle.re_syntax.specs.Lines.{newline}
-use Rattle.grep_core.specs.Written.{StopsWithin, Writes}
+use Rattle.grep_live.proofs.Words.{Text, newline, StopsWithin, Writes, span_places, spaced, parts_text}
 use Rattle.grep_core.proofs.lemmas.RowLemmas.{stops_early, writes_last}
-use Rattle.grep_session.specs.Working.Kept.{span_places}
 use Rattle.grep_session.proofs.lemmas.Writing.{writes_err}
-use Rattle.grep_live.specs.Rows.{spaced, parts_text}
 use Rattle.grep_live.proofs.lemmas.Pushing.{row_grouped}
 use Rattle.grep_live.proofs.rows.write_hit_row.Goals as goal
 

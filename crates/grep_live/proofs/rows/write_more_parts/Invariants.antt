@@ -1,6 +1,5 @@
 use Rattle.std.proofs.Common.{◌∷◌, map}
-use Rattle.grep_session.specs.Working.Kept.{span_places}
-use Rattle.grep_live.specs.Rows.{part_text}
+use Rattle.grep_live.proofs.Words.{span_places, part_text}
 use Rattle.grep_live.proofs.lemmas.Pushing.{EachUpTo}
 use Rattle.grep_live.proofs.rows.write_more_parts.Given as goal
 

@@ -1,7 +1,6 @@
 use Rattle.std.proofs.Common.{◌∷◌, []}
-use Rattle.std.specs.Fmt.{decimal}
+use Rattle.grep_live.proofs.Words.{decimal, spaced}
 use Rattle.grep_session.proofs.lemmas.Writing.{writes_err}
-use Rattle.grep_live.specs.Rows.{spaced}
 use Rattle.grep_live.proofs.lemmas.Pushing.{each_none, each_on, each_stops, each_all}
 use Rattle.grep_live.proofs.rows.write_numbers.Goals as goal
 

@@ -1,11 +1,5 @@
 use Rattle.std.proofs.Common.{◌+◌, ◌<◌, ◌≤◌, [], length, get_or, map, take, drop, arith, sym, subst}
-use Rattle.grep_core.specs.declared.output.around.Progress.{Progress}
-use Rattle.grep_core.specs.declared.output.around.Shown.{Shown}
-use Rattle.grep_core.specs.Output.{written}
-use Rattle.grep_core.specs.Working.Progress.{progress_from}
-use Rattle.grep_core.specs.Written.{GoesOut, StopsWithin}
-use Rattle.line_chunks.specs.Working.Chunks.{all_of, line_text, no_line}
-use Rattle.grep_session.specs.Working.Report.{shown_rows, around_rows}
+use Rattle.grep_session.proofs.Words.{Progress, Shown, written, progress_from, GoesOut, StopsWithin, all_of, line_text, no_line, shown_rows, around_rows}
 use Rattle.grep_session.proofs.lemmas.AroundSteps.{few_wait, wait_within, shown_within, around_on, around_stops, around_all}
 use Rattle.grep_session.proofs.lemmas.Writing.{WrittenUpTo, none_written, writes_err}
 use Rattle.grep_session.proofs.around.write_lines_around.Goals as goal

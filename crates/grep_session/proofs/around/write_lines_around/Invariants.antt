@@ -1,7 +1,5 @@
-use Rattle.std.proofs.Common.{◌≡◌, ◌+◌, ◌≤◌, [], map, take, drop}
-use Rattle.grep_core.specs.Working.Progress.{progress_from}
-use Rattle.line_chunks.specs.Working.Chunks.{all_of, line_text}
-use Rattle.grep_session.specs.Working.Report.{around_rows, selected_count}
+use Rattle.std.proofs.Common.{◌≤◌, [], map, take, drop}
+use Rattle.grep_session.proofs.Words.{progress_from, all_of, line_text, around_rows}
 use Rattle.grep_session.proofs.lemmas.Writing.{WrittenUpTo}
 use Rattle.grep_session.proofs.around.write_lines_around.Given as goal
 

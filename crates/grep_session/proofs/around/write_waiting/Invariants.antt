@@ -1,6 +1,5 @@
 use Rattle.std.proofs.Common.{◌+◌, ◌-◌, ◌≤◌, map, take, drop}
-use Rattle.grep_core.specs.Working.Progress.{last_of, rows_around}
-use Rattle.line_chunks.specs.Working.Chunks.{all_of, line_text}
+use Rattle.grep_session.proofs.Words.{last_of, rows_around, all_of, line_text}
 use Rattle.grep_session.proofs.lemmas.Writing.{WrittenUpTo}
 use Rattle.grep_session.proofs.around.write_waiting.Given as goal
 

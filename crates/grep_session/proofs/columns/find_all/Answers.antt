@@ -1,13 +1,8 @@
 use Rattle.std.proofs.Common.{◌≡◌, ◌≤◌, map, take, take_all, sym, refl, subst, arith, []}
 use Rattle.re_search.proofs.lemmas.KeptMatchers.{none_asked, same_over}
 use Rattle.grep_core.proofs.lemmas.CostLaws.{same_length}
-use Rattle.re_search.specs.Searching.{AllAnswer}
-use Rattle.re_syntax.specs.Profile.{most_patterns}
-use Rattle.grep_session.specs.Working.Changed.{ChangeCost, IsWithin, SearchesEach, WasFileKept}
-use Rattle.grep_session.specs.Working.Found.{chunks_of, chunks_of_files, lines_of_files}
-use Rattle.grep_session.specs.Working.Columns.{AddsColumns}
-use Rattle.grep_session.proofs.lemmas.FoundLemmas.{adds_columns, adds_no_column, chunks_on}
-use Rattle.grep_session.specs.Working.Kept.{kept_file}
+use Rattle.grep_session.proofs.Words.{AllAnswer, most_patterns, ChangeCost, IsWithin, SearchesEach, WasFileKept, chunks_of, chunks_of_files, lines_of_files, AddsColumns, kept_file}
+use Rattle.grep_session.proofs.lemmas.FoundLemmas.{adds_columns, adds_no_column, chunks_on, no_chunks, no_lines, its_chunks, its_lines, was_kept}
 use Rattle.grep_session.proofs.lemmas.ColumnLemmas.{files_next, files_with_parts, kept_at}
 use Rattle.grep_session.proofs.lemmas.StepLemmas.{ChangeCost-exists, each_none, each_both, each_front}
 use Rattle.grep_session.proofs.columns.find_all.Goals as goal
@@ -19,18 +14,18 @@ loop-file-init g c = record {
   steps = λ before changed h k. each_none _ _;
 }
 
-pub find_in_file-requires-clause-within : goal.find_in_file-requires-clause-within
-find_in_file-requires-clause-within g c = subst (IsWithin c.args.change) (sym (same_length g.M.LineMatch.expression _ _ c.loop-file.invariant.same_matchers.same_expressions)) c.requires.within
+pub find_in_lines-requires-clause-within : goal.find_in_lines-requires-clause-within
+find_in_lines-requires-clause-within g c = subst (IsWithin c.args.change) (sym (same_length g.M.LineMatch.expression _ _ c.loop-file.invariant.same_matchers.same_expressions)) c.requires.within
 
-pub returns-in_err-find_in_file-clause-steps : goal.returns-in_err-find_in_file-clause-steps
-returns-in_err-find_in_file-clause-steps g c = λ before changed h k.
+pub returns-in_err-find_in_lines-clause-steps : goal.returns-in_err-find_in_lines-clause-steps
+returns-in_err-find_in_lines-clause-steps g c = λ before changed h k.
     let s = c.loop-file.invariant in
     let x = c.file-item.result in
-    let spent = rw s.same_matchers.same_expressions at c.find_in_file.ensures.steps in
+    let spent = rw s.same_matchers.same_expressions at c.find_in_lines.ensures.steps in
     each_front (ChangeCost c.args.change changed (map g.M.LineMatch.expression c.args.matchers.now) c.args.search.now.options) (ChangeCost-exists c.args.change changed _ c.args.search.now.options) _ _ _ _ _
     (files_with_parts kept_file c.args.files.now c.loop-file.file-index x c.loop-file-test.true c.file-item.is)
     (each_both (ChangeCost c.args.change changed (map g.M.LineMatch.expression c.args.matchers.now) c.args.search.now.options) _ _ _ _ _ _ refl (s.steps before changed h k)
-    (spent before changed h (kept_at (WasFileKept c.args.change before c.args.search.now.options) c.args.files.now c.loop-file.file-index x c.loop-file-test.true c.file-item.is k)))
+    (subst (λ ls. SearchesEach (ChangeCost c.args.change changed (map g.M.LineMatch.expression c.args.matchers.now) c.args.search.now.options) ls c.loop-file.meter c.find_in_lines.new.meter) (sym (its_lines x c.in-Some.lines c.in-Some.is)) (spent before changed h (was_kept x c.in-Some.lines c.in-Some.is c.args.change before c.args.search.now.options (kept_at (WasFileKept c.args.change before c.args.search.now.options) c.args.files.now c.loop-file.file-index x c.loop-file-test.true c.file-item.is k)))))
 
 pub loop-file-preserved : goal.loop-file-preserved
 loop-file-preserved g c =
@@ -41,13 +36,33 @@ loop-file-preserved g c =
     let es = map g.M.LineMatch.expression c.args.matchers.now in
     let options = c.args.search.now.options in
     let next = files_next kept_file files i x c.loop-file-test.true c.file-item.is in
-    let spent = rw s.same_matchers.same_expressions at c.find_in_file.ensures.steps in
-    let more = subst (λ fs. AddsColumns c.args.change fs options (chunks_of x) c.loop-file.found.items c.find_in_file.new.found.items) s.same_matchers.same_expressions c.in_ok-find_in_file.ensures.ok in
+    let spent = rw s.same_matchers.same_expressions at c.find_in_lines.ensures.steps in
+    let lines = its_lines x c.in-Some.lines c.in-Some.is in
+    let added = subst (λ fs. AddsColumns c.args.change fs options c.in-Some.lines c.loop-file.found.items c.find_in_lines.new.found.items) s.same_matchers.same_expressions c.in_ok-find_in_lines.ensures.ok in
+    let more = subst (λ cs. AddsColumns c.args.change es options cs c.loop-file.found.items c.find_in_lines.new.found.items) (sym (its_chunks x c.in-Some.lines c.in-Some.is)) added in
     record {
       found = adds_columns c.args.change es options (chunks_of_files (take i files)) (chunks_of x) _ _ _ _ (chunks_on files i x c.loop-file-test.true c.file-item.is) s.found more;
-      same_matchers = same_over c.find_in_file.ensures.same_matchers s.same_matchers;
+      same_matchers = same_over c.find_in_lines.ensures.same_matchers s.same_matchers;
       steps = λ before changed h k. each_both (ChangeCost c.args.change changed es options) _ _ _ _ _ _ next (s.steps before changed h k)
-          (spent before changed h (kept_at (WasFileKept c.args.change before options) files i x c.loop-file-test.true c.file-item.is k));
+          (subst (λ ls. SearchesEach (ChangeCost c.args.change changed es options) ls c.loop-file.meter c.find_in_lines.new.meter) (sym lines) (spent before changed h (was_kept x c.in-Some.lines c.in-Some.is c.args.change before options (kept_at (WasFileKept c.args.change before options) files i x c.loop-file-test.true c.file-item.is k))));
+    }
+
+pub loop-file-preserved-in_default : goal.loop-file-preserved-in_default
+loop-file-preserved-in_default g c =
+    let s = c.loop-file.invariant in
+    let x = c.file-item.result in
+    let files = c.args.files.now in
+    let i = c.loop-file.file-index in
+    let es = map g.M.LineMatch.expression c.args.matchers.now in
+    let options = c.args.search.now.options in
+    let found = c.loop-file.found.items in
+    let none = subst (λ cs. AddsColumns c.args.change es options cs found found) (sym (no_chunks x c.in_default.is)) (adds_no_column c.args.change es options found) in
+    record {
+      found = adds_columns c.args.change es options (chunks_of_files (take i files)) (chunks_of x) _ _ _ _ (chunks_on files i x c.loop-file-test.true c.file-item.is) s.found none;
+      same_matchers = s.same_matchers;
+      steps = λ before changed h k.
+          let C = ChangeCost c.args.change changed es options in
+          each_both C _ _ _ _ _ _ (files_next kept_file files i x c.loop-file-test.true c.file-item.is) (s.steps before changed h k) (subst (λ ls. SearchesEach C ls c.loop-file.meter c.loop-file.meter) (sym (no_lines x c.in_default.is)) (each_none C _));
     }
 
 pub returns-clause-ok : goal.returns-clause-ok
@@ -60,11 +75,11 @@ returns-clause-steps g c = λ before changed h k.
     let all : take c.loop-file.file-index c.args.files.now ≡ c.args.files.now = take_all _ _ (omega arith) in
     subst (λ files. SearchesEach (ChangeCost c.args.change changed (map g.M.LineMatch.expression c.args.matchers.now) c.args.search.now.options) (lines_of_files (map kept_file files)) c.args.meter.now c.loop-file.meter) all (c.loop-file.invariant.steps before changed h k)
 
-pub find_in_file-requires-clause-whole : goal.find_in_file-requires-clause-whole
-find_in_file-requires-clause-whole g c = subst (AllAnswer c.args.search.now.options.line_regexp) (sym c.loop-file.invariant.same_matchers.same_wholes) c.requires.whole
+pub find_in_lines-requires-clause-whole : goal.find_in_lines-requires-clause-whole
+find_in_lines-requires-clause-whole g c = subst (AllAnswer c.args.search.now.options.line_regexp) (sym c.loop-file.invariant.same_matchers.same_wholes) c.requires.whole
 
-pub find_in_file-requires-clause-few : goal.find_in_file-requires-clause-few
-find_in_file-requires-clause-few g c = subst (λ n. n ≤ most_patterns) (sym (same_length g.M.LineMatch.expression _ _ c.loop-file.invariant.same_matchers.same_expressions)) c.requires.few
+pub find_in_lines-requires-clause-few : goal.find_in_lines-requires-clause-few
+find_in_lines-requires-clause-few g c = subst (λ n. n ≤ most_patterns) (sym (same_length g.M.LineMatch.expression _ _ c.loop-file.invariant.same_matchers.same_expressions)) c.requires.few
 
-pub returns-in_err-find_in_file-clause-same_matchers : goal.returns-in_err-find_in_file-clause-same_matchers
-returns-in_err-find_in_file-clause-same_matchers g c = same_over c.find_in_file.ensures.same_matchers c.loop-file.invariant.same_matchers
+pub returns-in_err-find_in_lines-clause-same_matchers : goal.returns-in_err-find_in_lines-clause-same_matchers
+returns-in_err-find_in_lines-clause-same_matchers g c = same_over c.find_in_lines.ensures.same_matchers c.loop-file.invariant.same_matchers

@@ -1,10 +1,5 @@
 use Rattle.std.proofs.Common.{map, take, All, List, []}
-use Rattle.re_syntax.specs.Expression.{Expression}
-use Rattle.re_search.specs.Searching.{SameMatchers}
-use Rattle.grep_session.specs.Working.Changed.{HasChanged, ChangeCost, SearchesEach, WasFileKept}
-use Rattle.grep_session.specs.Working.Columns.{AddsColumns}
-use Rattle.grep_session.specs.Working.Found.{chunks_of_files, lines_of_files}
-use Rattle.grep_session.specs.Working.Kept.{kept_file}
+use Rattle.grep_session.proofs.Words.{Expression, SameMatchers, HasChanged, ChangeCost, SearchesEach, WasFileKept, AddsColumns, chunks_of_files, lines_of_files, kept_file}
 use Rattle.grep_session.proofs.columns.find_all.Given as goal
 
 -- the first files were searched

@@ -1,11 +1,6 @@
 use Rattle.std.proofs.Common.{All, map, sym, subst}
-use Rattle.std.specs.List.{AllZip}
-use Rattle.re_search.specs.Searching.{SameMatchers}
-use Rattle.re_search.specs.Working.Matchers.{matched_expression, wants_whole, room_of}
+use Rattle.grep_session.proofs.Words.{AllZip, SameMatchers, matched_expression, wants_whole, room_of, IsFileKept, IsColumn, chunks_of_files, FitsColumn}
 use Rattle.grep_core.proofs.lemmas.CostLaws.{same_length}
-use Rattle.grep_session.specs.Working.Kept.{IsFileKept}
-use Rattle.grep_session.specs.Working.Found.{IsColumn, chunks_of_files}
-use Rattle.line_chunks.specs.Working.Chunks.{FitsColumn}
 use Rattle.grep_session.proofs.lemmas.FoundLemmas.{files_by_chunk}
 use Rattle.grep_session.proofs.lemmas.AddingLemmas.{all_back}
 use Rattle.grep_session.proofs.columns.find_columns.Goals as goal

@@ -1,11 +1,6 @@
 use Rattle.std.proofs.Common.{◌≡◌, ◌*◌, All, length, map, sym, ap, subst, ◌∙◌}
 use Rattle.std.proofs.lemmas.List.{length-map}
-use Rattle.re_syntax.specs.Lines.{terminated}
-use Rattle.re_search.specs.Searching.{AddsAtMost}
-use Rattle.line_chunks.specs.Working.Finds.{AreBelow, FoundIn}
-use Rattle.line_chunks.specs.Working.Chunks.{line_text, seen}
-use Rattle.grep_session.specs.Working.Changed.{IsWithin}
-use Rattle.grep_session.specs.Working.Kept.{IsKept}
+use Rattle.grep_session.proofs.Words.{terminated, AddsAtMost, AreBelow, FoundIn, line_text, seen, IsWithin, IsKept}
 use Rattle.grep_session.proofs.lemmas.ColumnLaws.{column_decides, column_right, column_same, chunk_steps, chunk_begun, sought_count, matches_below, matches_grow}
 use Rattle.grep_session.proofs.columns.find_in_chunk.Goals as goal
 

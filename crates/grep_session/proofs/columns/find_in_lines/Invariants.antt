@@ -1,9 +1,5 @@
 use Rattle.std.proofs.Common.{map, take, All, List}
-use Rattle.re_syntax.specs.Expression.{Expression}
-use Rattle.line_chunks.specs.Working.Chunks.{all_of, line_text}
-use Rattle.re_search.specs.Searching.{SameMatchers}
-use Rattle.grep_session.specs.Working.Changed.{HasChanged, ChangeCost, SearchesEach, WasKept}
-use Rattle.grep_session.specs.Working.Columns.{AddsColumns}
+use Rattle.grep_session.proofs.Words.{Expression, all_of, line_text, SameMatchers, HasChanged, ChangeCost, SearchesEach, WasKept, AddsColumns}
 use Rattle.grep_session.proofs.columns.find_in_lines.Given as goal
 
 -- the first chunks were searched

@@ -1,8 +1,7 @@
 use Rattle.std.proofs.Common.{◌≡◌, ◌<◌, length, get_or, true, false, subst, arith}
 use Rattle.std.proofs.lemmas.List.{get_or_default}
-use Rattle.line_chunks.specs.Working.Chunks.{all_of, no_line}
+use Rattle.grep_session.proofs.Words.{all_of, no_line, is_selected}
 use Rattle.grep_session.proofs.lemmas.CountLaws.{none_selected, one_selected}
-use Rattle.grep_session.specs.Working.Report.{is_selected}
 use Rattle.grep_session.proofs.counts.find_selected.Goals as goal
 
 pub returns : goal.returns

@@ -1,11 +1,5 @@
 use Rattle.std.proofs.Common.{◌≡◌, List, map, drop}
-use Rattle.std.specs.List.{AllZip, AllWithin}
-use Rattle.std.specs.Vec.Iter.{into_iter_items}
-use Rattle.re_syntax.specs.Expression.{Expression}
-use Rattle.grep_core.specs.declared.options.Options.{Options}
-use Rattle.line_chunks.specs.Working.Chunks.{FitsColumn}
-use Rattle.grep_session.specs.Working.Kept.{IsFileKept, kept_file}
-use Rattle.grep_session.specs.Working.Found.{IsColumn, chunks_of_files}
+use Rattle.grep_session.proofs.Words.{AllZip, AllWithin, into_iter_items, Expression, Options, FitsColumn, IsFileKept, kept_file, IsColumn, chunks_of_files}
 use Rattle.grep_session.proofs.found.put_all.Given as goal
 
 -- the lines of the first files have what was found in them, and the others are as they were

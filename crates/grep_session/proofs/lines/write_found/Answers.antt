@@ -1,6 +1,5 @@
-use Rattle.std.proofs.Common.{◌≡◌, ◌+◌, ◌<◌, ◌≤◌, length, drop, refl, subst, ◌∙◌, arith}
-use Rattle.line_chunks.specs.Working.Chunks.{all_of, no_line}
-use Rattle.grep_session.specs.Working.Report.{rows_from}
+use Rattle.std.proofs.Common.{◌+◌, ◌<◌, length, subst, arith}
+use Rattle.grep_session.proofs.Words.{all_of, no_line, rows_from}
 use Rattle.grep_session.proofs.lemmas.Writing.{WrittenUpTo, writes_err, none_written}
 use Rattle.grep_session.proofs.lemmas.LineSteps.{line_on, line_stops, rows_next}
 use Rattle.grep_session.proofs.lines.write_found.Goals as goal

@@ -1,6 +1,5 @@
 use Rattle.std.proofs.Common.{◌≡◌, ◌+◌, ◌-◌, ◌<◌, ◌≤◌, true, length, drop, get_or}
-use Rattle.line_chunks.specs.Working.Chunks.{all_of, no_line}
-use Rattle.grep_session.specs.Working.Report.{is_selected, rows_from}
+use Rattle.grep_session.proofs.Words.{all_of, no_line, is_selected, rows_from}
 use Rattle.grep_session.proofs.lemmas.Writing.{WrittenUpTo}
 use Rattle.grep_session.proofs.lines.write_found.Given as goal
 

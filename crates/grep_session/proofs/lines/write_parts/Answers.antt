@@ -1,6 +1,5 @@
 use Rattle.std.proofs.Common.{slice_range}
-use Rattle.re_syntax.specs.declared.span.Span.{Span}
-use Rattle.grep_session.specs.Working.Report.{row}
+use Rattle.grep_session.proofs.Words.{Span, row}
 use Rattle.grep_session.proofs.lemmas.Writing.{row_on, row_stops, writes_err}
 use Rattle.grep_session.proofs.lines.write_parts.Goals as goal
 

@@ -1,6 +1,5 @@
 use Rattle.std.proofs.Common.{refl}
-use Rattle.grep_core.specs.Output.{nothing, names, counts}
-use Rattle.line_chunks.specs.Working.Chunks.{all_of}
+use Rattle.grep_session.proofs.Words.{nothing, names, counts, all_of}
 use Rattle.grep_session.proofs.lemmas.LineSteps.{no_rows, rows_of_none}
 use Rattle.grep_session.proofs.lines.write_rows.Goals as goal
 

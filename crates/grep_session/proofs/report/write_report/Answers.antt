@@ -1,7 +1,5 @@
 use Rattle.std.proofs.Common.{nat_le, length, map, sym, subst}
-use Rattle.grep_core.specs.Messages.{StatusOf}
-use Rattle.grep_session.specs.Working.Kept.{kept_file}
-use Rattle.grep_session.specs.Working.Report.{report_rows}
+use Rattle.grep_session.proofs.Words.{StatusOf, kept_file, report_rows}
 use Rattle.grep_session.proofs.lemmas.KeptLaws.{kept_status}
 use Rattle.grep_session.proofs.lemmas.KeptOutput.{kept_output}
 use Rattle.grep_session.proofs.lemmas.Writing.{writes_err, if_ok}

@@ -1,12 +1,24 @@
 use Rattle.std.proofs.Common.{refl}
 use Rattle.grep_core.specs.Sources.{Returns}
+use Rattle.grep_core.proofs.lemmas.SourceLaws.{gives_both}
 use Rattle.grep_utility.specs.Words.{asked}
-use Rattle.grep_utility.proofs.lemmas.CommandLemmas.{words_read, words_refused}
+use Rattle.grep_utility.proofs.lemmas.CommandLemmas.{words_refused, is_numbered, ends_before, ends_after}
 use Rattle.grep_utility.proofs.lemmas.ReportingLemmas.{gives_up}
 use Rattle.grep_utility.proofs.command.run_grep.Goals as goal
 
-pub returns-in-Ok : goal.returns-in-Ok
-returns-in-Ok g c = words_read _ (Returns g.F.Files.returned_readers c.args.files.now c.run_request.new.files) _ (asked c.in-Ok.request) _ _ _ c.in-Ok.ensures c.run_request.ensures
+pub returns-in-Ok-prepare : goal.returns-in-Ok-prepare
+returns-in-Ok-prepare g c =
+    let request = asked c.in-Ok.request in
+    let back = c.prepare.ensures.back in
+    let join = gives_both g.F.Files.returned_readers c.args.files.now c.prepare.new.files c.search_request.new.files back.0 in
+    let ends = rw c.in-Ok-prepare.ensures.none_failed at c.search_request.ensures in
+    ends_after _ (Returns g.F.Files.returned_readers c.args.files.now c.search_request.new.files) _ request c.in-Ok.ensures _ _ c.in-Ok-prepare.ensures.ok _ back.0 (λ left h. join left back.1 h) _ _ _ ends
+
+pub report_fault-requires : goal.report_fault-requires
+report_fault-requires g c = is_numbered (asked c.in-Ok.request) _ _ _ c.in-Err-prepare.fault c.in-Err-prepare.ensures.err
+
+pub returns : goal.returns
+returns g c = ends_before _ (Returns g.F.Files.returned_readers c.args.files.now c.prepare.new.files) _ (asked c.in-Ok.request) c.in-Ok.ensures _ _ _ _ _ _ c.in-Err-prepare.fault c.in-Err-prepare.ensures.err c.report_fault.ensures
 
 pub returns-in-Err : goal.returns-in-Err
 returns-in-Err g c = words_refused _ (Returns g.F.Files.returned_readers c.args.files.now c.args.files.now) _ c.in-Err.fault _ _ _ c.in-Err.ensures (gives_up _ _ _ _ _ _ _ refl c.report_usage.ensures)

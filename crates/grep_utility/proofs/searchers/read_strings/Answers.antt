@@ -4,7 +4,7 @@ use Rattle.re_syntax.specs.Lines.{HasNoNewline, lines_of, terminated}
 use Rattle.re_syntax.specs.Profile.{most_positions}
 use Rattle.re_syntax.specs.Spelled.{has_limit}
 use Rattle.re_syntax.proofs.lemmas.LinesLaws.{all_none, lines_of-terminated, terminated-append}
-use Rattle.grep_utility.specs.Working.Serving.{AreReadAs}
+use Rattle.grep_utility.specs.Working.ServingMatchers.{AreReadAs}
 use Rattle.grep_utility.proofs.lemmas.ServingLemmas.{none_read, next_read}
 use Rattle.grep_utility.proofs.searchers.read_strings.Goals as goal
 

@@ -1,7 +1,7 @@
 use Rattle.std.proofs.Common.{◌≡◌, List, ◌++◌, All}
 use Rattle.re_syntax.specs.Bytes.{Text}
 use Rattle.re_syntax.specs.Lines.{HasNoNewline, lines_of, terminated}
-use Rattle.grep_utility.specs.Working.Serving.{AreReadAs}
+use Rattle.grep_utility.specs.Working.ServingMatchers.{AreReadAs}
 use Rattle.grep_utility.proofs.searchers.read_strings.Given as goal
 
 -- some patterns are read as the strings so far, and the others are left

@@ -1,9 +1,11 @@
-use Rattle.std.proofs.Common.{◌∙◌}
-use Rattle.grep_utility.specs.Words.{asked, texts_of}
-use Rattle.grep_utility.proofs.lemmas.WordLemmas.{completes, reads_on-begins}
+use Rattle.std.proofs.Common.{◌≡◌, None, ap, ◌∙◌}
+use Rattle.grep_utility.specs.Words.{Draft, no_numbers, nothing_asked, pieces, reads_on, texts_of}
+use Rattle.grep_utility.specs.Working.Tokens.{drafted}
+use Rattle.grep_utility.proofs.lemmas.WordLemmas.{completes}
 use Rattle.grep_utility.proofs.words.read_words.Goals as goal
 
 pub returns : goal.returns
 returns c =
-    let begins = reads_on-begins c.new-draft.result.around (asked c.new-draft.result.request) (texts_of c.args.words.now) c.new-draft.ensures.numbers c.new-draft.ensures.nothing in
-    completes (texts_of c.args.words.now) _ c.complete.result (c.in_ok-add_words.ensures ∙ begins) c.complete.ensures
+    let words = texts_of c.args.words.now in
+    let begins : drafted c.new-draft.result ≡ record { asked = nothing_asked; numbers = no_numbers } = λ i. record { asked = c.new-draft.ensures.nothing i; numbers = c.new-draft.ensures.numbers i } in
+    completes words _ c.complete.result (c.in_ok-add_words.ensures ∙ ap (λ (d : Draft). reads_on d (pieces words None)) begins) c.complete.ensures

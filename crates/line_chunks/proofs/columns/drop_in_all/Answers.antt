@@ -1,7 +1,6 @@
 use Rattle.std.proofs.Common.{arith, ◌∙◌, sym, map}
 use Rattle.std.proofs.lemmas.List.{length-set}
-use Rattle.line_chunks.specs.Working.Chunks.{line_without}
-use Rattle.line_chunks.specs.Working.Sums.{chunks_of}
+use Rattle.line_chunks.proofs.Words.{line_without, chunks_of}
 use Rattle.line_chunks.proofs.lemmas.Columns.{chunks_mapped}
 use Rattle.line_chunks.proofs.lemmas.Sums.{length-chunks_of}
 use Rattle.line_chunks.proofs.columns.drop_in_all.Goals as goal

@@ -1,6 +1,5 @@
 use Rattle.std.proofs.Common.{◌≡◌, ◌++◌, take, drop, map, length}
-use Rattle.line_chunks.specs.Working.Chunks.{line_without}
-use Rattle.line_chunks.specs.Working.Sums.{chunks_of}
+use Rattle.line_chunks.proofs.Words.{line_without, chunks_of}
 use Rattle.line_chunks.proofs.columns.drop_in_all.Given as goal
 
 abbrev pub invariant-loop-k : goal.invariant-loop-k

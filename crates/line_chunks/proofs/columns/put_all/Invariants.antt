@@ -1,7 +1,5 @@
 use Rattle.std.proofs.Common.{◌≡◌, take, drop, length}
-use Rattle.std.specs.Vec.Iter.{into_iter_items}
-use Rattle.line_chunks.specs.Working.Chunks.{with_columns}
-use Rattle.line_chunks.specs.Working.Sums.{chunks_of}
+use Rattle.line_chunks.proofs.Words.{into_iter_items, with_columns, chunks_of}
 use Rattle.line_chunks.proofs.columns.put_all.Given as goal
 
 abbrev pub invariant-loop-k : goal.invariant-loop-k

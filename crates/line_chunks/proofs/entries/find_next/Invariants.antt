@@ -1,7 +1,5 @@
 use Rattle.std.proofs.Common.{◌≡◌, ℕ, ◌<◌, ◌≤◌, get_or, not}
-use Rattle.line_chunks.specs.Working.Chunks.{no_line, is_matched, all_of}
-use Rattle.line_chunks.specs.Working.Places.{IsPlace}
-use Rattle.line_chunks.specs.Working.Sums.{chunks_of}
+use Rattle.line_chunks.proofs.Words.{no_line, is_matched, all_of, IsPlace, chunks_of}
 use Rattle.line_chunks.proofs.entries.find_next.Given as goal
 
 -- the lines so far are not of this kind

@@ -1,6 +1,5 @@
 use Rattle.std.proofs.Common.{arith, length}
-use Rattle.re_auto.specs.Working.Bits.{Has}
-use Rattle.re_auto.specs.Working.Bits.{row_of}
+use Rattle.re_auto.proofs.Words.{Has, row_of}
 use Rattle.re_auto.proofs.lemmas.BitLemmas.{at_word, word_added, all_added, chained}
 use Rattle.re_auto.proofs.bits.add_rows.Goals as goal
 

@@ -1,7 +1,5 @@
 use Rattle.std.proofs.Common.{◌≡◌, ℕ, ◌*◌, ◌≤◌, length, ◌⊎◌}
-use Rattle.std.specs.Prelude.{◌↔◌}
-use Rattle.re_auto.specs.Working.Bits.{Has}
-use Rattle.re_auto.specs.Working.Bits.{row_of}
+use Rattle.re_auto.proofs.Words.{◌↔◌, Has, row_of}
 use Rattle.re_auto.proofs.bits.add_rows.Given as goal
 
 -- what is already added and what is left to add are together the whole

@@ -1,6 +1,5 @@
 use Rattle.std.proofs.Common.{◌≡◌, ℕ, ◌+◌, ◌*◌, length}
-use Rattle.re_auto.specs.Working.Bits.{Has}
-use Rattle.re_auto.specs.Working.Bits.{row_of}
+use Rattle.re_auto.proofs.Words.{Has, row_of}
 use Rattle.re_auto.proofs.lemmas.BitLemmas.{AreAmong, AddsUp}
 use Rattle.re_auto.proofs.bits.add_rows_of_word.Given as goal
 

@@ -1,7 +1,5 @@
 use Rattle.std.proofs.Common.{◌≡◌, ℕ, ◌++◌, ◌∷◌, [], length, length-append, Some, slice_get, sym, ap, subst, arith, rules}
-use Rattle.re_auto.specs.declared.ranges.WordRange.{WordRange}
-use Rattle.re_auto.specs.Working.Bits.{row_of}
-use Rattle.re_auto.specs.Working.Ranges.{Covers}
+use Rattle.re_auto.proofs.Words.{WordRange, row_of, Covers}
 use Rattle.re_auto.proofs.lemmas.RangeLemmas.{one_more}
 use Rattle.re_auto.proofs.lemmas.RowLemmas.{row_within}
 use Rattle.re_auto.proofs.ranges.ranges_of.Goals as goal

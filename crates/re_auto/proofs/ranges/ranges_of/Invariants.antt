@@ -1,8 +1,5 @@
 use Rattle.std.proofs.Common.{◌≡◌, ℕ, length}
-use Rattle.std.specs.Prelude.{Some, slice_get}
-use Rattle.re_auto.specs.declared.ranges.WordRange.{WordRange}
-use Rattle.re_auto.specs.Working.Bits.{row_of}
-use Rattle.re_auto.specs.Working.Ranges.{Covers}
+use Rattle.re_auto.proofs.Words.{Some, slice_get, WordRange, row_of, Covers}
 use Rattle.re_auto.proofs.ranges.ranges_of.Given as goal
 
 abbrev pub invariant-rows : goal.invariant-rows

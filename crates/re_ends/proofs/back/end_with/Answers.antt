@@ -1,5 +1,5 @@
 use Rattle.std.proofs.Common.{rules, arith, ◌<◌, ◌↔◌, ℕ}
-use Rattle.re_syntax.specs.Expression.{expression_of}
+use Rattle.re_syntax.specs.Working.Trees.{expression_of}
 use Rattle.re_auto.specs.Working.Bits.{Has}
 use Rattle.re_auto.specs.Working.Positions.{part_of}
 use Rattle.re_auto.proofs.lemmas.Numbered.{part_numbered}

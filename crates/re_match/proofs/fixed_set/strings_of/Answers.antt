@@ -1,7 +1,6 @@
 use Rattle.std.proofs.Common.{◌≡◌, List, ◌++◌, map, sym, ap, ◌∙◌}
 use Rattle.std.proofs.lemmas.List.{append-nil}
-use Rattle.re_syntax.specs.Bytes.{Text}
-use Rattle.re_syntax.specs.Lines.{lines_of}
+use Rattle.re_match.proofs.Words.{Text, lines_of}
 use Rattle.re_strings.proofs.lemmas.SetSorted.{sorted_ascends, same_strings}
 use Rattle.re_match.proofs.fixed_set.strings_of.Goals as goal
 

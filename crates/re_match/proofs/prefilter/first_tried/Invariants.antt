@@ -1,7 +1,6 @@
 use Rattle.std.proofs.Common.{◌-◌, length}
-use Rattle.re_syntax.specs.Expression.{expression_of}
-use Rattle.re_auto.specs.Searching.{AddsAtMost}
-use Rattle.re_match.specs.Working.NextParts.{BeginsLater}
+use Rattle.re_match.proofs.Words.{expression_of, BeginsLater}
+use Rattle.re_auto.specs.Searches.{AddsAtMost}
 use Rattle.re_match.proofs.prefilter.first_tried.Given as goal
 
 abbrev pub invariant-places : goal.invariant-places

@@ -1,11 +1,10 @@
-use Rattle.std.proofs.Common.{◌≡◌, ◌+◌, ◌≤◌, ◌∙◌, drop, refl, arith}
+use Rattle.std.proofs.Common.{◌+◌, drop, refl, arith}
 use Rattle.std.proofs.lemmas.Bool.{false≢true}
 use Rattle.std.proofs.lemmas.List.{take_rest}
-use Rattle.re_syntax.specs.Bytes.{Text}
-use Rattle.re_syntax.specs.Holds.{Matches}
-use Rattle.re_needle.specs.Working.Blocks.{PassesUnmatched}
+use Rattle.re_match.proofs.Words.{Text, Matches, PassesUnmatched}
 use Rattle.re_needle.proofs.lemmas.NextLines.{block_after, passed_on, none_next, next_from, passed_from, long}
 use Rattle.re_match.proofs.lemmas.SweptLines.{matched_at, turn_adds, last_sweep}
+use Rattle.re_match.proofs.lemmas.SameLaws.{same_twice}
 use Rattle.re_match.proofs.sweeps.next_by_sweeps.Goals as goal
 
 pub sweep-sweep-requires : goal.sweep-sweep-requires
@@ -14,8 +13,8 @@ sweep-sweep-requires g c =
     let whole = g.M.Sweeps.whole c.args.matcher.now in
     rw take_rest (block_after (λ (line : Text). ¬ Matches e line whole) c.args.block.now c.lines.start c.requires c.lines.invariant.passed)
 
-pub is_matched_after-requires : goal.is_matched_after-requires
-is_matched_after-requires g c =
+pub search_after-requires : goal.search_after-requires
+search_after-requires g c =
     matched_at (g.M.Sweeps.expression c.lines.matcher) (g.M.Sweeps.whole c.lines.matcher) c.args.block.now c.lines.start c.in-Some.end c.sweep-sweep.result (rw take_rest at c.sweep-sweep.ensures.stops) c.in-Some.ensures
 
 pub returns-in_default-clause-reported : goal.returns-in_default-clause-reported
@@ -25,7 +24,7 @@ returns-in_default-clause-reported g c =
     let e = g.M.Sweeps.expression c.args.matcher.now in
     let whole = g.M.Sweeps.whole c.args.matcher.now in
     let count = c.sweep-sweep.result.start in
-    let swept : PassesUnmatched e whole (drop c.lines.start block) count = rw (← i.same_expression, ← i.same_whole, ← take_rest) c.sweep-sweep.ensures.passes in
+    let swept : PassesUnmatched e whole (drop c.lines.start block) count = rw (← i.same.same_expression, ← i.same.same_whole, ← take_rest) c.sweep-sweep.ensures.passes in
     let passed : PassesUnmatched e whole block (c.lines.start + count) = passed_on (λ (line : Text). Matches e line whole) block c.lines.start count i.passed swept in
     none_next (λ (line : Text). Matches e line whole) block (c.lines.start + count) c.requires passed c.in_default.ensures
 
@@ -35,29 +34,29 @@ returns-in_default-clause-steps g c =
     last_sweep (g.M.Sweeps.expression c.lines.matcher) (g.M.Sweeps.whole c.lines.matcher) c.args.block.now c.lines.start c.sweep-sweep.result _ _ _ i.within (rw take_rest at c.sweep-sweep.ensures.passes) (rw take_rest at c.sweep-sweep.ensures.stops)
     i.steps c.sweep-sweep.ensures.steps
 
-pub returns-then-is_matched_after-clause-reported : goal.returns-then-is_matched_after-clause-reported
-returns-then-is_matched_after-clause-reported g c =
+pub returns-then-search_after-clause-reported : goal.returns-then-search_after-clause-reported
+returns-then-search_after-clause-reported g c =
     let i = c.lines.invariant in
     let block = c.args.block.now in
     let e = g.M.Sweeps.expression c.args.matcher.now in
     let whole = g.M.Sweeps.whole c.args.matcher.now in
     let count = c.sweep-sweep.result.start in
-    let swept : PassesUnmatched e whole (drop c.lines.start block) count = rw (← i.same_expression, ← i.same_whole, ← take_rest) c.sweep-sweep.ensures.passes in
+    let swept : PassesUnmatched e whole (drop c.lines.start block) count = rw (← i.same.same_expression, ← i.same.same_whole, ← take_rest) c.sweep-sweep.ensures.passes in
     let passed : PassesUnmatched e whole block (c.lines.start + count) = passed_on (λ (line : Text). Matches e line whole) block c.lines.start count i.passed swept in
     next_from (λ (line : Text). Matches e line whole) block (c.lines.start + count) c.in-Some.end c.in-Some.ensures passed
-    (rw (← i.same_expression, ← i.same_whole) (c.if-is_matched_after.ensures.reported.0 refl))
+    (rw (← i.same.same_expression, ← i.same.same_whole) (c.if-search_after.ensures.reported.0 refl))
 
-pub returns-then-is_matched_after-clause-steps : goal.returns-then-is_matched_after-clause-steps
-returns-then-is_matched_after-clause-steps g c =
+pub returns-then-search_after-clause-steps : goal.returns-then-search_after-clause-steps
+returns-then-search_after-clause-steps g c =
     let i = c.lines.invariant in
     let block = c.args.block.now in
     let e = g.M.Sweeps.expression c.args.matcher.now in
     let whole = g.M.Sweeps.whole c.args.matcher.now in
     let count = c.sweep-sweep.result.start in
-    let swept : PassesUnmatched e whole (drop c.lines.start block) count = rw (← i.same_expression, ← i.same_whole, ← take_rest) c.sweep-sweep.ensures.passes in
+    let swept : PassesUnmatched e whole (drop c.lines.start block) count = rw (← i.same.same_expression, ← i.same.same_whole, ← take_rest) c.sweep-sweep.ensures.passes in
     let passed : PassesUnmatched e whole block (c.lines.start + count) = passed_on (λ (line : Text). Matches e line whole) block c.lines.start count i.passed swept in
     turn_adds (g.M.Sweeps.expression c.lines.matcher) (g.M.Sweeps.whole c.lines.matcher) block c.lines.start c.in-Some.end c.sweep-sweep.result (rw take_rest at c.sweep-sweep.ensures.stops) c.in-Some.ensures _ _ _ _ _
-    (long (λ (line : Text). Matches e line whole) block (c.lines.start + count) c.in-Some.end c.in-Some.ensures passed) i.steps c.sweep-sweep.ensures.steps c.is_matched_after.ensures.steps
+    (long (λ (line : Text). Matches e line whole) block (c.lines.start + count) c.in-Some.end c.in-Some.ensures passed) i.steps c.sweep-sweep.ensures.steps c.search_after.ensures.steps
 
 pub lines-preserved : goal.lines-preserved
 lines-preserved g c =
@@ -69,16 +68,14 @@ lines-preserved g c =
     let cut = c.in-Some.ensures in
     let e = g.M.Sweeps.expression c.args.matcher.now in
     let whole = g.M.Sweeps.whole c.args.matcher.now in
-    let swept : PassesUnmatched e whole (drop start block) count = rw (← i.same_expression, ← i.same_whole, ← take_rest) c.sweep-sweep.ensures.passes in
+    let swept : PassesUnmatched e whole (drop start block) count = rw (← i.same.same_expression, ← i.same.same_whole, ← take_rest) c.sweep-sweep.ensures.passes in
     let passed : PassesUnmatched e whole block (start + count) = passed_on (λ (line : Text). Matches e line whole) block start count i.passed swept in
     record {
       within = omega (arith, cut.1);
       passed = passed_from (λ (line : Text). Matches e line whole) block (start + count) end cut passed
-          (rw (← i.same_expression, ← i.same_whole) (λ holds. false≢true (c.if-is_matched_after.ensures.reported.1 holds)));
-      same_expression = c.is_matched_after.ensures.same_expression ∙ i.same_expression;
-      same_whole = c.is_matched_after.ensures.same_whole ∙ i.same_whole;
-      same_room = c.is_matched_after.ensures.same_room ∙ i.same_room;
+          (rw (← i.same.same_expression, ← i.same.same_whole) (λ holds. false≢true (c.if-search_after.ensures.reported.1 holds)));
+      same = same_twice c.search_after.ensures.same i.same;
       steps =
           turn_adds (g.M.Sweeps.expression c.lines.matcher) (g.M.Sweeps.whole c.lines.matcher) block start end c.sweep-sweep.result (rw take_rest at c.sweep-sweep.ensures.stops) cut _ _ _ _ _
-          (long (λ (line : Text). Matches e line whole) block (start + count) end cut passed) i.steps c.sweep-sweep.ensures.steps c.is_matched_after.ensures.steps;
+          (long (λ (line : Text). Matches e line whole) block (start + count) end cut passed) i.steps c.sweep-sweep.ensures.steps c.search_after.ensures.steps;
     }

@@ -1,6 +1,6 @@
-use Rattle.std.proofs.Common.{◌≡◌, ◌-◌, ◌≤◌, length}
-use Rattle.re_auto.specs.Searching.{AddsAtMost}
-use Rattle.re_needle.specs.Working.Blocks.{PassesUnmatched}
+use Rattle.std.proofs.Common.{◌-◌, ◌≤◌, length}
+use Rattle.re_match.proofs.Words.{PassesUnmatched, SameMatcher}
+use Rattle.re_auto.specs.Searches.{AddsAtMost}
 use Rattle.re_match.proofs.sweeps.next_by_sweeps.Given as goal
 
 -- the lines before the place were passed or searched, and none is matched
@@ -8,9 +8,7 @@ abbrev pub invariant-lines : goal.invariant-lines
 invariant-lines g l = record {
   within : l.start ≤ length l.block;
   passed : PassesUnmatched (g.M.Sweeps.expression l.fn.matcher) (g.M.Sweeps.whole l.fn.matcher) l.block l.start;
-  same_expression : g.M.Sweeps.expression l.matcher ≡ g.M.Sweeps.expression l.fn.matcher;
-  same_whole : g.M.Sweeps.whole l.matcher ≡ g.M.Sweeps.whole l.fn.matcher;
-  same_room : g.M.Sweeps.room l.matcher ≡ g.M.Sweeps.room l.fn.matcher;
+  same : SameMatcher g.M.Sweeps.expression g.M.Sweeps.whole g.M.Sweeps.room l.fn.matcher l.matcher;
   steps : AddsAtMost l.start l.fn.meter l.meter;
 }
 

@@ -1,8 +1,7 @@
 use Rattle.std.proofs.Common.{◌≡◌, ◌+◌, ◌-◌, ◌≤◌, ◌++◌, ◌∷◌, Some, length, take, drop, ap, ◌∙◌, arith, length-drop}
 use Rattle.std.proofs.lemmas.List.{take_rest, drop-drop}
 use Rattle.re_meter.proofs.lemmas.Adding.{adds_none, adds_passed}
-use Rattle.re_syntax.specs.Lines.{newline}
-use Rattle.re_needle.specs.Working.Runs.{look_cost}
+use Rattle.re_needle.proofs.Words.{newline, look_cost}
 use Rattle.re_needle.proofs.lemmas.CountedBlocks.{all_left, none_left, ends_there, one_less}
 use Rattle.re_needle.proofs.block.count_by.Goals as goal
 

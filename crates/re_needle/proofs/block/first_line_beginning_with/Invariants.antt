@@ -1,6 +1,5 @@
 use Rattle.std.proofs.Common.{length, ◌-◌}
-use Rattle.re_meter.specs.Meters.{AddsUpTo}
-use Rattle.re_needle.specs.Working.Needles.{run_of}
+use Rattle.re_needle.proofs.Words.{AddsUpTo, run_of}
 use Rattle.re_needle.proofs.lemmas.BegunLines.{IsPassedTo}
 use Rattle.re_needle.proofs.block.first_line_beginning_with.Given as goal
 

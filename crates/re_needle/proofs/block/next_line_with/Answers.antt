@@ -1,6 +1,5 @@
 use Rattle.std.proofs.Common.{◌≤◌, ◌+◌, length, take, arith, length-take}
-use Rattle.std.specs.Prelude.{⊤}
-use Rattle.re_needle.specs.Working.Blocks.{StandsIn}
+use Rattle.re_needle.proofs.Words.{⊤, StandsIn}
 use Rattle.re_needle.proofs.lemmas.BlockLemmas.{passes_whole, passes_front}
 use Rattle.re_needle.proofs.lemmas.CountedBlocks.{stands_around}
 use Rattle.re_needle.proofs.lemmas.BlockLemmas.{passed_within}

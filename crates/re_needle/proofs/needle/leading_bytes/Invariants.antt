@@ -1,6 +1,5 @@
 use Rattle.std.proofs.Common.{◌≡◌, ◌++◌, drop, map, Some}
-use Rattle.re_syntax.specs.Bytes.{only}
-use Rattle.re_needle.specs.Working.Outlines.{shown}
+use Rattle.re_needle.proofs.Words.{only, shown}
 use Rattle.re_needle.proofs.needle.leading_bytes.Given as goal
 
 abbrev pub invariant-marks : goal.invariant-marks

@@ -1,9 +1,8 @@
 use Rattle.std.proofs.Common.{◌≡◌, ◌≤◌, ◌++◌, IsTrue, length, map, drop, nat_eq, Some, ◌∙◌, arith}
 use Rattle.std.proofs.lemmas.Bool.{eqb-true}
 use Rattle.std.proofs.lemmas.List.{take_rest, drop-map, length-map}
-use Rattle.re_syntax.specs.Bytes.{only}
+use Rattle.re_needle.proofs.Words.{only, shown}
 use Rattle.re_needle.specs.declared.run_finder.RunFinder.TheVariants as r
-use Rattle.re_needle.specs.Working.Outlines.{shown}
 use Rattle.re_needle.proofs.lemmas.NeedleLaws.{run_is_needle}
 use Rattle.re_needle.proofs.needle.text_needle.Goals as goal
 

@@ -1,7 +1,5 @@
 use Rattle.std.proofs.Common.{map, take}
-use Rattle.re_syntax.specs.Expression.{alt, cat, expression_of}
-use Rattle.re_syntax.specs.Sets.{members}
-use Rattle.re_needle.specs.Working.Outlines.{AddsOutline, BeginsWith}
+use Rattle.re_needle.proofs.Words.{alt, cat, expression_of, members, AddsOutline, BeginsWith}
 use Rattle.re_needle.proofs.outline.+outline.Given as goal
 
 abbrev pub invariant-add_all-parts : goal.invariant-add_all-parts

@@ -1,5 +1,5 @@
 use Rattle.std.proofs.Common.{◌≤◌, arith}
-use Rattle.re_syntax.specs.Sets.{members}
+use Rattle.re_syntax.specs.Working.Trees.{members}
 use Rattle.re_needle.proofs.lemmas.OutlineLaws.{adds_just, adds_least, ok_with}
 use Rattle.re_needle.proofs.outline.add_repeated.Goals as goal
 

@@ -1,7 +1,6 @@
 use Rattle.std.proofs.Common.{map, subst, arith}
 use Rattle.std.proofs.lemmas.List.{take_all}
-use Rattle.re_syntax.specs.Sets.{members}
-use Rattle.re_needle.specs.Working.Outlines.{AddsSets}
+use Rattle.re_needle.proofs.Words.{members, AddsSets}
 use Rattle.re_needle.proofs.outline.add_sets.Goals as goal
 
 pub returns : goal.returns

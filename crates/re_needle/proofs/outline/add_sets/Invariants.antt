@@ -1,6 +1,5 @@
 use Rattle.std.proofs.Common.{map, take}
-use Rattle.re_syntax.specs.Sets.{members}
-use Rattle.re_needle.specs.Working.Outlines.{AddsSets}
+use Rattle.re_needle.proofs.Words.{members, AddsSets}
 use Rattle.re_needle.proofs.outline.add_sets.Given as goal
 
 abbrev pub invariant-sets : goal.invariant-sets

@@ -1,12 +1,8 @@
 use Rattle.std.proofs.Common.{◌≡◌, ℕ, ◌<◌, ◌≤◌, IsTrue, List, length, map, take, get_or, refl, sym, ap, ◌∙◌, subst, arith}
-use Rattle.std.specs.List.{take-map}
+use Rattle.re_needle.proofs.Words.{take-map, nothing, members, ByteSet, set_at}
 use Rattle.std.proofs.Math.ListN.{set}
 use Rattle.std.proofs.lemmas.Bool.{or_left, or_right}
 use Rattle.std.proofs.lemmas.List.{length-map, length-set, length-take, map-set, get_or-take, get_or-map}
-use Rattle.re_syntax.specs.Bytes.{nothing}
-use Rattle.re_syntax.specs.Sets.{members}
-use Rattle.re_syntax.specs.declared.bytes.ByteSet.{ByteSet}
-use Rattle.re_needle.specs.Working.Runs.{set_at}
 use Rattle.re_needle.proofs.lemmas.RunLaws.{its_members}
 use Rattle.re_needle.proofs.lemmas.ChoiceOutlines.{first_more, second_more}
 use Rattle.re_needle.proofs.outline.join.Goals as goal

@@ -1,6 +1,5 @@
 use Rattle.std.proofs.Common.{◌≡◌, ℕ, ◌<◌, ◌≤◌, IsTrue, length, map}
-use Rattle.re_syntax.specs.Sets.{members}
-use Rattle.re_needle.specs.Working.Runs.{set_at}
+use Rattle.re_needle.proofs.Words.{members, set_at}
 use Rattle.re_needle.proofs.outline.join.Given as goal
 
 abbrev pub invariant-places : goal.invariant-places

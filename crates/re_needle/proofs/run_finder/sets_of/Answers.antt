@@ -1,10 +1,10 @@
-use Rattle.std.proofs.Common.{◌≡◌, ◌++◌, map, take, drop, sym, ap, ◌∙◌}
-use Rattle.std.proofs.lemmas.List.{map-append, take-append-drop}
-use Rattle.re_syntax.specs.Bytes.{only}
+use Rattle.std.proofs.Common.{rules, ◌≡◌, map, take, length, min, ap, ◌∙◌, sym}
+use Rattle.std.proofs.lemmas.List.{take-map, take_min}
+use Rattle.re_needle.proofs.Words.{only, most_sets}
 use Rattle.re_needle.proofs.run_finder.sets_of.Goals as goal
 
 pub returns : goal.returns
 returns c =
     let text = c.args.text.now in
-    let n = c.bytes.place in
-    (map only (drop n text), ap (map only) (sym (take-append-drop n text)) ∙ map-append only (take n text) (drop n text) ∙ ap (λ front. front ++ map only (drop n text)) (sym c.bytes.invariant))
+    let ended : c.bytes.place ≡ min most_sets (length text) = search rules in
+    c.bytes.invariant ∙ ap (λ n. map only (take n text)) ended ∙ ap (map only) (take_min most_sets text) ∙ sym (take-map only most_sets text)

@@ -1,6 +1,5 @@
 use Rattle.std.proofs.Common.{◌≡◌, map, take}
-use Rattle.re_syntax.specs.Bytes.{only}
-use Rattle.re_syntax.specs.Sets.{members}
+use Rattle.re_needle.proofs.Words.{only, members}
 use Rattle.re_needle.proofs.run_finder.sets_of.Given as goal
 
 abbrev pub invariant-bytes : goal.invariant-bytes

@@ -1,5 +1,5 @@
 use Rattle.std.proofs.Common.{rules, map, sym, ◌∙◌}
-use Rattle.re_syntax.specs.Sets.{members}
+use Rattle.re_syntax.specs.Working.Trees.{members}
 use Rattle.re_needle.proofs.lemmas.RunLaws.{takes_more}
 use Rattle.re_needle.proofs.set_finder.stands_at.Goals as goal
 

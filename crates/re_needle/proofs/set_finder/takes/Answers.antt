@@ -1,7 +1,6 @@
 use Rattle.std.proofs.Common.{sym, ap, ◌∙◌}
 use Rattle.std.proofs.lemmas.List.{get_or-map}
-use Rattle.re_syntax.specs.Bytes.{Bytes, nothing}
-use Rattle.re_syntax.specs.Sets.{members}
+use Rattle.re_needle.proofs.Words.{Bytes, nothing, members}
 use Rattle.re_needle.proofs.set_finder.takes.Goals as goal
 
 pub returns : goal.returns

@@ -1,8 +1,6 @@
-use Rattle.std.proofs.Common.{◌<◌, length, map, arith}
+use Rattle.std.proofs.Common.{map, arith}
 use Rattle.std.proofs.lemmas.List.Elements.{All-map}
-use Rattle.re_syntax.specs.Sets.{members}
-use Rattle.re_needle.specs.Working.Needles.{RunIsNeeded}
-use Rattle.re_match.specs.Working.Matchers.{matched_expression}
+use Rattle.re_search.proofs.Words.{members, RunIsNeeded, matched_expression}
 use Rattle.re_search.proofs.lemmas.RunFilters.{sets_more}
 use Rattle.re_search.proofs.filter.joined_sets.Goals as goal
 

@@ -1,8 +1,5 @@
 use Rattle.std.proofs.Common.{ℕ, ◌<◌, length, map, get_or}
-use Rattle.re_syntax.specs.Sets.{members}
-use Rattle.re_needle.specs.Working.Needles.{RunIsNeeded}
-use Rattle.re_match.specs.declared.matcher.Matcher.{Matcher}
-use Rattle.re_match.specs.Working.Matchers.{matched_expression}
+use Rattle.re_search.proofs.Words.{members, RunIsNeeded, Matcher, matched_expression}
 use Rattle.re_search.proofs.filter.joined_sets.Given as goal
 
 abbrev pub invariant-matchers : goal.invariant-matchers

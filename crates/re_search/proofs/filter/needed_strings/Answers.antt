@@ -1,6 +1,5 @@
 use Rattle.std.proofs.Common.{◌≡◌, map}
-use Rattle.re_syntax.specs.Lines.{lines_of}
-use Rattle.re_match.specs.Working.Matchers.{matched_expression}
+use Rattle.re_search.proofs.Words.{lines_of, matched_expression}
 use Rattle.re_search.specs.declared.filter.Needed.TheVariants as n
 use Rattle.re_search.proofs.lemmas.FilterLaws.{texts_are_needed}
 use Rattle.re_search.proofs.filter.needed_strings.Goals as goal

@@ -1,7 +1,5 @@
 use Rattle.std.proofs.Common.{◌≡◌, ℕ, ◌<◌, length, get_or}
-use Rattle.re_syntax.specs.Bytes.{union}
-use Rattle.re_syntax.specs.Sets.{members}
-use Rattle.re_syntax.specs.declared.bytes.ByteSet.{ByteSet}
+use Rattle.re_search.proofs.Words.{union, members, ByteSet}
 use Rattle.re_search.proofs.filter.united.Given as goal
 
 abbrev pub invariant-places : goal.invariant-places

@@ -1,6 +1,5 @@
 use Rattle.std.proofs.Common.{[], ◌∷◌, arith, map, subst, take_all}
-use Rattle.re_syntax.specs.Expression.{expression_of}
-use Rattle.re_search.specs.Working.Strings.{AddsEach}
+use Rattle.re_search.proofs.Words.{expression_of, AddsEach}
 use Rattle.re_search.proofs.lemmas.PlainLaws.{no_strings, next_string}
 use Rattle.re_search.proofs.plain.add_each.Goals as goal
 

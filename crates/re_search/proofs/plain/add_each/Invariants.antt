@@ -1,6 +1,5 @@
 use Rattle.std.proofs.Common.{map, take}
-use Rattle.re_syntax.specs.Expression.{expression_of}
-use Rattle.re_search.specs.Working.Strings.{AddsEach}
+use Rattle.re_search.proofs.Words.{expression_of, AddsEach}
 use Rattle.re_search.proofs.plain.add_each.Given as goal
 
 abbrev pub invariant-trees : goal.invariant-trees

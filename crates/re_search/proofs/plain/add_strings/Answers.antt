@@ -1,11 +1,7 @@
 use Rattle.std.proofs.Common.{rules, [], ◌∷◌, IfSome, map, ◌≡◌, ◌++◌, sym, subst, arith}
 use Rattle.std.proofs.lemmas.List.{length-map}
 use Rattle.std.proofs.lemmas.Option.{IfSome_then}
-use Rattle.re_syntax.specs.declared.tree.Tree.{the_lemmas}
-use Rattle.re_syntax.specs.Expression.{expression_of, alt}
-use Rattle.re_syntax.specs.Lines.{newline}
-use Rattle.re_syntax.specs.Spelled.{IsSpelled}
-use Rattle.re_search.specs.Working.Strings.{AddsStrings}
+use Rattle.re_search.proofs.Words.{the_lemmas, alt, expression_of, newline, IsSpelled, AddsStrings}
 use Rattle.re_search.proofs.lemmas.PlainLaws.{no_newline, fixed_added, several_added}
 use Rattle.re_search.proofs.plain.add_strings.Goals.{in-Fixed, in_default}
 use Rattle.re_search.proofs.plain.add_strings.Goals as goal

@@ -2,7 +2,7 @@ use Rattle.std.proofs.Common.{◌≡◌, map, take, arith, refl, take_all}
 use Rattle.std.proofs.lemmas.Bool.{false≢true}
 use Rattle.std.proofs.lemmas.List.{length-map}
 use Rattle.re_search.proofs.lemmas.OneMatcherMore.{one_more, value_at, within, none_more, one_matches, steps_more}
-use Rattle.re_search.proofs.lemmas.KeptMatchers.{one_asked}
+use Rattle.re_search.proofs.lemmas.KeptMatchers.{one_kept}
 use Rattle.re_search.proofs.several.is_matched.Goals as goal
 
 pub loop-matcher-preserved : goal.loop-matcher-preserved
@@ -20,7 +20,7 @@ loop-matcher-preserved g c =
     record {
       reported = none_more _ _ _ i _ _ (within whole old now ws i d h).1 (value_at whole old now ws i d h _) (one_more expression old now es i d h)
           c.loop-matcher.invariant.reported (λ m. false≢true (c.if-is_match.ensures.reported.1 m));
-      same_matchers = one_asked same i d _ c.is_match.ensures.same_expression c.is_match.ensures.same_whole c.is_match.ensures.same_room;
+      same_matchers = one_kept same i d _ c.is_match.ensures.same;
       steps = steps_more i _ _ _ _ c.loop-matcher.invariant.steps c.is_match.ensures.steps;
     }
 
@@ -39,7 +39,7 @@ returns-then-is_match-clause-reported g c =
     (c.if-is_match.ensures.reported.0 refl)
 
 pub returns-then-is_match-clause-same_matchers : goal.returns-then-is_match-clause-same_matchers
-returns-then-is_match-clause-same_matchers g c = one_asked c.loop-matcher.invariant.same_matchers _ c.matcher-item.result _ c.is_match.ensures.same_expression c.is_match.ensures.same_whole c.is_match.ensures.same_room
+returns-then-is_match-clause-same_matchers g c = one_kept c.loop-matcher.invariant.same_matchers _ c.matcher-item.result _ c.is_match.ensures.same
 
 pub returns-clause-reported : goal.returns-clause-reported
 returns-clause-reported g c =

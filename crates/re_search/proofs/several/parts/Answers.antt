@@ -1,7 +1,7 @@
 use Rattle.std.proofs.Common.{◌≡◌, map, take, arith, take_all}
 use Rattle.std.proofs.lemmas.List.{length-map}
 use Rattle.re_search.proofs.lemmas.OneMatcherMore.{one_more, value_at, within, part_more, steps_more}
-use Rattle.re_search.proofs.lemmas.KeptMatchers.{one_asked}
+use Rattle.re_search.proofs.lemmas.KeptMatchers.{one_kept}
 use Rattle.re_search.proofs.several.parts.Goals as goal
 
 pub loop-matcher-preserved : goal.loop-matcher-preserved
@@ -19,7 +19,7 @@ loop-matcher-preserved g c =
     record {
       reported = part_more _ _ _ i _ _ (within whole old now ws i d h).1 (value_at whole old now ws i d h _) _ _ _ _ (one_more expression old now es i d h) c.better-best.ensures
           c.loop-matcher.invariant.reported c.find-found.ensures.reported;
-      same_matchers = one_asked same i d _ c.find-found.ensures.same_expression c.find-found.ensures.same_whole c.find-found.ensures.same_room;
+      same_matchers = one_kept same i d _ c.find-found.ensures.same;
       steps = steps_more i _ _ _ _ c.loop-matcher.invariant.steps c.find-found.ensures.steps;
     }
 

@@ -3,7 +3,7 @@ use Rattle.std.proofs.lemmas.List.{length-map}
 use Rattle.re_search.specs.Working.Courses.{IsAnswer}
 use Rattle.re_search.proofs.lemmas.OneMatcherMore.{answer_of, one_more, value_at, within, part_more, steps_more}
 use Rattle.re_search.proofs.lemmas.KeptAnswers.{one_answer}
-use Rattle.re_search.proofs.lemmas.KeptMatchers.{one_asked}
+use Rattle.re_search.proofs.lemmas.KeptMatchers.{one_kept}
 use Rattle.re_search.proofs.several.parts_by_answers.Goals as goal
 
 pub ask-found-requires-clause-right : goal.ask-found-requires-clause-right
@@ -38,7 +38,7 @@ loop-number-preserved g c =
           c.loop-number.invariant.reported c.ask-found.ensures.reported;
       right = one_answer _ c.args.line.now i _ c.loop-number.answers.items c.ask-found.new.answers.items (λ f. value_at expression old now es i d h f) c.loop-number.invariant.right
           (subst (λ w. IsAnswer (expression (get_or now i d)) c.args.line.now w c.ask-found.new.answers.items i) answer c.ask-found.ensures.right) c.ask-found.ensures.others;
-      same_matchers = one_asked same i d _ c.ask-found.ensures.same_expression c.ask-found.ensures.same_whole c.ask-found.ensures.same_room;
+      same_matchers = one_kept same i d _ c.ask-found.ensures.same;
       steps = steps_more i _ _ _ _ c.loop-number.invariant.steps c.ask-found.ensures.steps;
     }
 

@@ -1,6 +1,5 @@
 use Rattle.std.proofs.Common.{◌≡◌, ℕ, ◌+◌, ◌-◌, ◌<◌, ◌≤◌, length}
-use Rattle.re_syntax.specs.Expression.{expression_of}
-use Rattle.re_steps.specs.Working.Lone.{AreReached, GoesOnAt, IsLastEnd}
+use Rattle.re_steps.proofs.Words.{expression_of, AreReached, GoesOnAt, IsLastEnd}
 use Rattle.re_steps.proofs.lone.follow.Given as goal
 
 abbrev pub invariant-places : goal.invariant-places

@@ -1,6 +1,5 @@
 use Rattle.std.proofs.Common.{◌≡◌, ℕ, ◌<◌, ◌≤◌, ◌-◌, ◌++◌, ◌∷◌, [], List, All, map, length, slice_get, Some}
-use Rattle.re_strings.specs.declared.growth.Branch.{Branch}
-use Rattle.re_strings.specs.Working.Branches.{text_at, rank, IsBranch, branch_at, branch_text}
+use Rattle.re_strings.proofs.Words.{Branch, text_at, rank, IsBranch, branch_at, branch_text}
 use Rattle.re_strings.proofs.growth.expand.Given as goal
 
 abbrev pub invariant-runs : goal.invariant-runs

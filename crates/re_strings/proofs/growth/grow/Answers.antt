@@ -1,7 +1,6 @@
 use Rattle.std.proofs.Common.{rules, ◌≡◌, ◌<◌, ◌++◌, ◌∷◌, [], List, length, map, sym, ap, subst, ◌∙◌, arith}
 use Rattle.std.proofs.lemmas.List.{length-map}
-use Rattle.re_syntax.specs.Bytes.{Text}
-use Rattle.re_strings.specs.Working.Branches.{AreRows}
+use Rattle.re_strings.proofs.Words.{Text, AreRows}
 use Rattle.re_strings.proofs.lemmas.SetBranches.{rows_at_first, rows_more}
 use Rattle.re_strings.proofs.growth.grow.Goals as goal
 

@@ -1,9 +1,7 @@
 use Rattle.std.proofs.Common.{◌≡◌, ◌+◌, ◌≤◌, inl, inr, List, [], length, map, get_or, slice_index, sym, subst, arith}
 use Rattle.std.proofs.lemmas.List.{get_or-map, length-map}
 use Rattle.std.proofs.lemmas.Bool.{cases_lt}
-use Rattle.re_syntax.specs.Bytes.{Text}
-use Rattle.re_strings.specs.Working.Branches.{text_at}
-use Rattle.re_strings.specs.Working.FixedSets.{pair_row}
+use Rattle.re_strings.proofs.Words.{Text, text_at, pair_row}
 use Rattle.re_strings.proofs.lemmas.SetLeaps.{leaps_by_places}
 use Rattle.re_strings.proofs.leaps.leaps_of.Goals as goal
 

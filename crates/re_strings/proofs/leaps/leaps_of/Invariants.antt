@@ -1,6 +1,5 @@
 use Rattle.std.proofs.Common.{◌≡◌, ℕ, ◌+◌, ◌<◌, ◌≤◌, length, map, slice_index}
-use Rattle.re_strings.specs.Working.Branches.{text_at}
-use Rattle.re_strings.specs.Working.FixedSets.{pair_row}
+use Rattle.re_strings.proofs.Words.{text_at, pair_row}
 use Rattle.re_strings.proofs.leaps.leaps_of.Given as goal
 
 abbrev pub invariant-strings : goal.invariant-strings

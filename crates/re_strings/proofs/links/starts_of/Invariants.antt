@@ -1,6 +1,5 @@
 use Rattle.std.proofs.Common.{ℕ, ◌<◌, ◌≤◌, ◌-◌, length, slice_index}
-use Rattle.re_strings.specs.Working.FixedSets.{Labels, IsTrieOf, StepsOn}
-use Rattle.re_strings.specs.Working.Keys.{key}
+use Rattle.re_strings.proofs.Words.{Labels, IsTrieOf, StepsOn, key}
 use Rattle.re_strings.proofs.links.starts_of.Given as goal
 
 abbrev pub invariant-bytes : goal.invariant-bytes

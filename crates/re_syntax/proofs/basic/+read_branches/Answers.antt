@@ -1,8 +1,7 @@
 use Rattle.std.proofs.Common.{◌+◌, ◌-◌, ◌≢◌, inl, get_or, drop, refl, ap, ◌∙◌, arith, rules}
 use Rattle.std.proofs.lemmas.Result.{err_from_is_err_and}
-use Rattle.re_syntax.specs.Expression.{one_of}
+use Rattle.re_syntax.proofs.Words.{one_of, memory, reported}
 use Rattle.re_syntax.specs.Working.BasicSteps.{DuplicationStands}
-use Rattle.re_syntax.specs.Working.PieceSteps.{memory, reported}
 use Rattle.re_syntax.proofs.lemmas.ExpressionLaws.{expression-Set}
 use Rattle.re_syntax.proofs.lemmas.BasicEnds.{item_within}
 use Rattle.re_syntax.proofs.lemmas.Places.{ok_as, err_as, some_found, nothing_found, byte_here, front_here, refused_as}

@@ -1,8 +1,5 @@
 use Rattle.std.proofs.Common.{◌≡◌, inr, IfOk, IfErr, OnOk, subst, ◌∙◌}
-use Rattle.re_syntax.specs.Sets.{members}
-use Rattle.re_syntax.specs.Brackets.{Element}
-use Rattle.re_syntax.specs.Working.Cursors.{left}
-use Rattle.re_syntax.specs.Working.BracketSteps.{HasNoElement}
+use Rattle.re_syntax.proofs.Words.{members, Element, left, HasNoElement}
 use Rattle.re_syntax.proofs.lemmas.BracketNamed.{class_passed, equivalence_passed, no_class, class_shown, no_equivalence, equivalence_shown}
 use Rattle.re_syntax.proofs.bracket.read_element.Goals as goal
 

@@ -1,6 +1,5 @@
 use Rattle.std.proofs.Common.{◌≡◌, length}
-use Rattle.re_syntax.specs.Working.Cursors.{left}
-use Rattle.re_syntax.specs.Sets.{members}
+use Rattle.re_syntax.proofs.Words.{left, members}
 use Rattle.re_syntax.proofs.lemmas.BracketLists.{GoesOn}
 use Rattle.re_syntax.proofs.bracket.read_list.Given as goal
 

@@ -1,6 +1,5 @@
 use Rattle.std.proofs.Common.{ap, ◌∙◌, ◌++◌, codes, arith, below_more}
-use Rattle.re_syntax.specs.Bytes.{Begins, class_name}
-use Rattle.re_syntax.specs.Working.Cursors.{left}
+use Rattle.re_syntax.proofs.Words.{Begins, class_name, left}
 use Rattle.re_syntax.proofs.lemmas.ClassNames.{each_class}
 use Rattle.re_syntax.proofs.lemmas.BracketPoints.{not_begins_along}
 use Rattle.re_syntax.proofs.bracket.take_class.Goals as goal

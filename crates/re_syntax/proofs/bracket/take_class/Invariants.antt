@@ -1,7 +1,5 @@
 use Rattle.std.proofs.Common.{◌≡◌, ℕ, ◌++◌, ◌<◌, codes, get_or}
-use Rattle.re_syntax.specs.declared.class.Class.TheVariants.{Upper}
-use Rattle.re_syntax.specs.Bytes.{Begins, class_name}
-use Rattle.re_syntax.specs.Working.Cursors.{left}
+use Rattle.re_syntax.proofs.Words.{Upper, Begins, class_name, left}
 use Rattle.re_syntax.proofs.bracket.take_class.Given as goal
 
 -- the cursor has not moved, and no name of a class that was tried comes next

@@ -1,8 +1,7 @@
 use Rattle.std.proofs.Common.{◌≡◌, ◌≢◌, ◌+◌, ◌-◌, inl, true, false, get_or, drop, refl, ap, ◌∙◌, arith, rules}
 use Rattle.std.proofs.lemmas.Result.{err_from_is_err_and}
-use Rattle.re_syntax.specs.Expression.{one_of}
-use Rattle.re_syntax.specs.Working.PieceSteps.{memory, reported}
-use Rattle.re_syntax.specs.Working.ExtendedSteps.{stops, DuplicationStands}
+use Rattle.re_syntax.proofs.Words.{one_of, memory, reported, stops}
+use Rattle.re_syntax.specs.Working.ExtendedSteps.{DuplicationStands}
 use Rattle.re_syntax.proofs.lemmas.ExpressionLaws.{expression-Set, expression-Begin, expression-End}
 use Rattle.re_syntax.proofs.lemmas.ExtendedAtoms.{shown_escape, escaped_stands, no_escape_atom, bracket_atom, no_bracket_atom, shown_no_bracket, dollar_stands, single_stands}
 use Rattle.re_syntax.proofs.lemmas.ExtendedItems.{no_items_without_atom, item_of_atom, item_read, item_repeated, duplication_takes, too_deep, shown_deep, no_items_opening, no_items_bad, anchor_next, item_next, none_so_far, one_more, branch_read}

@@ -1,7 +1,7 @@
 use Rattle.std.proofs.Common.{false, ◌≤◌, ◌-◌, length, map}
-use Rattle.re_search.specs.Searching.{AllAnswer}
+use Rattle.re_search.specs.Searches.{AllAnswer}
 use Rattle.re_search.specs.Working.Matchers.{matched_expression, wants_whole}
-use Rattle.re_search.specs.Working.Asking.{sought_by}
+use Rattle.re_search.specs.Working.Searchers.{sought_by}
 use Rattle.re_search.specs.Working.Courses.{IsCourseOf}
 use Rattle.re_tests.proofs.courses.count_parts.Given as goal
 

@@ -1,5 +1,5 @@
 use Rattle.std.proofs.Common.{Bool, ◌≤◌, length, map}
-use Rattle.re_search.specs.Searching.{AllAnswer}
+use Rattle.re_search.specs.Searches.{AllAnswer}
 use Rattle.re_tests.proofs.several.all_parts.Given as goal
 
 abbrev pub invariant-loop : goal.invariant-loop

@@ -1,6 +1,6 @@
 use Rattle.std.proofs.Common.{map}
 use Rattle.re_search.specs.Working.Literals.{Literal}
-use Rattle.re_search.specs.Searching.{AllAnswer}
+use Rattle.re_search.specs.Searches.{AllAnswer}
 use Rattle.re_tests.proofs.several.fixed.Given as goal
 
 abbrev pub invariant-loop-text : goal.invariant-loop-text

@@ -1,11 +1,8 @@
 use Rattle.std.proofs.Common.{◌≡◌, Some, None, refl, rules, [], ◌∷◌}
 use Rattle.re_meter.proofs.lemmas.Adding.{adds_none}
 use Rattle.grep_core.proofs.lemmas.RowLemmas.{goes_nowhere}
-use Rattle.grep_cmd.specs.declared.script.reply.Answer.TheVariants.{Accepted, Refused}
-use Rattle.grep_cmd.specs.Script.{does, reports, reports_changes, reports_page, is_bad, edits, shows, lists_changes, lists_page, line_command}
-use Rattle.grep_cmd.specs.Replies.{reply_to, bad_command}
-use Rattle.grep_cmd.specs.Working.Answered.{answer_for}
-use Rattle.grep_cmd.specs.Working.Commands.{line_meant}
+use Rattle.grep_cmd.proofs.Words.{Accepted, does, reports, reports_changes, reports_page, is_bad, edits, shows, lists_changes, lists_page, line_command, reply_to, bad_command, answer_for, line_meant}
+use Rattle.grep_cmd.specs.declared.script.reply.Answer.TheVariants.{Refused}
 use Rattle.grep_cmd.proofs.lemmas.ScriptAnswers.{answers_step, does_alone, refused_as, answered_in_time, not_for_memory, shown_is_no_refusal, changes_is_no_refusal, page_is_no_refusal, answers_changes}
 use Rattle.grep_cmd.proofs.script.answer.answer_command.Goals as goal
 

@@ -1,9 +1,6 @@
 use Rattle.std.proofs.Common.{◌≤◌, length, map, refl, [], ◌∷◌, arith}
-use Rattle.grep_cmd.specs.Script.{does}
-use Rattle.grep_cmd.specs.Replies.{reply_to}
-use Rattle.grep_cmd.specs.Working.Answered.{answer_for}
+use Rattle.grep_cmd.proofs.Words.{does, reply_to, answer_for, counted_meant}
 use Rattle.grep_cmd.specs.declared.script.command.CountedEdit.TheVariants.{AddPatterns}
-use Rattle.grep_cmd.specs.Working.Commands.{counted_meant}
 use Rattle.grep_cmd.proofs.lemmas.ScriptAnswers.{answers_step, answers_truncated, answers_lost, refused_as, answered_in_time, not_for_memory}
 use Rattle.grep_cmd.proofs.script.answer.answer_patterns.Goals as goal
 

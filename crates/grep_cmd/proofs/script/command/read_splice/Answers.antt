@@ -1,7 +1,5 @@
 use Rattle.std.proofs.Common.{◌≡◌, [], ◌∷◌, Some, None, rules, sym, ap, ◌∙◌}
-use Rattle.grep_utility.specs.Words.{number_of}
-use Rattle.grep_cmd.specs.Script.{splice_command}
-use Rattle.grep_cmd.specs.Working.ScriptWords.{four_words}
+use Rattle.grep_cmd.proofs.Words.{number_of, splice_command, four_words}
 use Rattle.grep_cmd.proofs.lemmas.ScriptCommands.{four_words-some, splice_some, splice_none}
 use Rattle.grep_cmd.proofs.script.command.read_splice.Goals as goal
 

@@ -1,6 +1,5 @@
 use Rattle.std.proofs.Common.{Result, Bool, Err, subst, ap}
-use Rattle.grep_io.specs.declared.input.lines.ReadFault.{ReadFault}
-use Rattle.grep_core.specs.Working.Numbered.{NextIs}
+use Rattle.grep_cmd.proofs.Words.{ReadFault, NextIs}
 use Rattle.grep_cmd.proofs.script.counted.next_line.Goals as goal
 
 pub returns-in-Err-Device-clause-next : goal.returns-in-Err-Device-clause-next

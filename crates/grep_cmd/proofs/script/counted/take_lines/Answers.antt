@@ -1,8 +1,7 @@
 use Rattle.std.proofs.Common.{◌≡◌, ◌<◌, ◌≤◌, [], ◌∷◌, ◌++◌, length, rules, sym, ap, ◌∙◌, subst, arith}
 use Rattle.std.proofs.lemmas.List.{length_push}
-use Rattle.grep_core.specs.Working.Numbered.{HasHanded}
+use Rattle.grep_cmd.proofs.Words.{HasHanded, HasNoNewline}
 use Rattle.grep_core.proofs.lemmas.RowLemmas.{goes_on}
-use Rattle.re_syntax.specs.Lines.{HasNoNewline}
 use Rattle.grep_cmd.proofs.lemmas.FreeLines.{free_line}
 use Rattle.grep_cmd.proofs.lemmas.ScriptAnswers.{one_more_taken, takes_fewer}
 use Rattle.grep_cmd.proofs.script.counted.take_lines.Goals as goal

@@ -1,8 +1,5 @@
 use Rattle.std.proofs.Common.{◌≡◌, ◌≤◌, ◌-◌, length, List, [], ◌++◌}
-use Rattle.re_syntax.specs.Bytes.{Text}
-use Rattle.grep_core.specs.Written.{GoesOut}
-use Rattle.grep_core.specs.Reading.{IsOneLineAndFew}
-use Rattle.grep_core.specs.Working.Numbered.{HasHanded}
+use Rattle.grep_cmd.proofs.Words.{Text, GoesOut, IsOneLineAndFew, HasHanded}
 use Rattle.grep_cmd.proofs.script.counted.take_lines.Given as goal
 
 -- these lines were taken, at most the counted number

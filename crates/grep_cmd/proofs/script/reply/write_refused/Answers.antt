@@ -1,9 +1,6 @@
 use Rattle.std.proofs.Common.{sym, subst}
-use Rattle.grep_core.specs.Row.{output_line}
-use Rattle.grep_core.specs.Written.{Writes}
+use Rattle.grep_cmd.proofs.Words.{output_line, Writes, EditFault, cause, refused_for}
 use Rattle.std.proofs.Common.{[]}
-use Rattle.grep_session.specs.declared.fault.EditFault.{EditFault}
-use Rattle.grep_cmd.specs.Replies.{cause, refused_for}
 use Rattle.grep_cmd.proofs.script.reply.write_refused.Goals as goal
 
 pub returns-in-LineHasNewline : goal.returns-in-LineHasNewline

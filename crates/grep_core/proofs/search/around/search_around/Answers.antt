@@ -1,23 +1,83 @@
-use Rattle.std.proofs.Common.{◌≡◌, ◌+◌, ◌≤◌, ◌∙◌, [], ◌∷◌, ◌++◌, true, length, length-append, append_assoc, map, take, refl, sym, ap, subst, arith, if◌then◌else◌}
-use Rattle.re_syntax.specs.Lines.{terminated}
+use Rattle.std.proofs.Common.{Decides, ◌≡◌, ◌+◌, ◌≤◌, ◌∙◌, [], ◌∷◌, ◌++◌, true, length, length-append, append_assoc, map, take, refl, sym, ap, subst, arith, if◌then◌else◌}
+use Rattle.grep_core.proofs.Words.{terminated, SearchesLines, Selected, writer, IsOneLineAndFew, LastLines, Waits, Numbered, HasHanded, next_shown, last_of, IsNextOf}
 use Rattle.re_search.proofs.lemmas.KeptMatchers.{unasked, asked_over, same_sought}
-use Rattle.grep_core.specs.Cost.{SearchesLines}
-use Rattle.grep_io.specs.Reading.{IsOneLineAndFew}
 use Rattle.grep_io.proofs.lemmas.WindowLemmas.{none_in_nothing, few_after}
-use Rattle.grep_core.specs.Working.LastLines.{LastLines}
-use Rattle.grep_core.specs.Working.Passed.{Waits}
 use Rattle.grep_core.proofs.lemmas.WaitingRows.{if_kept}
-use Rattle.grep_io.specs.Working.Numbered.{HasHanded}
-use Rattle.grep_core.specs.Working.Progress.{next_shown, last_of}
-use Rattle.grep_core.specs.Working.Stretches.{IsNextOf}
 use Rattle.grep_core.proofs.lemmas.CostLaws.{searched_bytes, searched_more_lines, searched_one_line, searched_once, unsearched_lines}
 use Rattle.grep_core.proofs.lemmas.PassedLines.{are_ahead, next_first, passed_state, handed_with, handed_passed}
-use Rattle.grep_core.proofs.lemmas.StretchLemmas.{asked_forward, asked_due, divided_kept, stretch_spent, unselected_before, selected_matched, plain_if, before_within, before_block, before_lines, before_counted, before_free}
+use Rattle.grep_core.proofs.lemmas.SearchedBlockLemmas.{asked_forward, asked_due, divided_kept, stretch_spent, unselected_before, selected_matched, plain_if, before_within, before_block, before_lines, before_counted, before_free}
 use Rattle.grep_core.proofs.lemmas.Verdicts.{decided_yes}
 use Rattle.grep_core.proofs.lemmas.WrittenLemmas.{TakesAll-written}
-use Rattle.grep_core.proofs.lemmas.AroundSearch.{followed_none, followed_waiting, waiting_limit, followed_unkept, followed_sent, writes, never_early, counts_on, numbers_left, held_few, followed_line, followed_stops}
+use Rattle.grep_core.proofs.lemmas.AroundSearch.{FollowedSoFar, followed_none, followed_waiting, waiting_limit, followed_unkept, followed_sent, writes, never_early, counts_on, numbers_left, held_few, followed_line, followed_stops}
 use Rattle.grep_core.proofs.lemmas.EndLemmas.{ends_as, stops_as}
+use Rattle.grep_core.proofs.search.around.search_around.Given as given
 use Rattle.grep_core.proofs.search.around.search_around.Goals as goal
+use Rattle.grep_core.proofs.search.around.search_around.Goals.{After-pass-in-lines, In-Some, In-Ok-None}
+
+-- a line that is held is selected, none of those before it is, and these were searched
+at_selected : (g : given.Over) (c : In-Some g)
+    → (mid : Numbered g.row.R.Denot) × (s : FollowedSoFar g.R.CountedRead.remaining g.R.CountedRead.failures (map g.M.LineMatch.expression c.args.searchers.now.matchers.now) c.args.request.now.options c.args.request.now.many c.args.surroundings.now.progress.shown c.args.request.now.name.now c.args.lines.now.lines.reader c.args.surroundings.now.progress.context
+    mid (writer g.W.CountedWrite.contents g.W.CountedWrite.failures c.args.out.now) (writer g.W.CountedWrite.contents g.W.CountedWrite.failures c.lines.out) c.args.meter.now c.lines.meter c.lines.selected c.wait.new.surroundings.progress c.wait.new.surroundings.recent.lines)
+    × (c.lines.invariant.so_far.lines ++ c.next_held-stretch.ensures.divided.1 ≡ s.lines ++ c.in-Some.text.now ∷ [])
+    × SearchesLines (map g.M.LineMatch.expression c.args.searchers.now.matchers.now) c.args.request.now.options (length (map g.M.LineMatch.expression c.args.searchers.now.matchers.now)) (s.lines ++ c.in-Some.text.now ∷ []) c.args.meter.now c.next_held-stretch.new.meter
+    × Decides true (Selected (map g.M.LineMatch.expression c.args.searchers.now.matchers.now) c.args.request.now.options c.in-Some.text.now) × (1 ≤ c.next_held-stretch.result.count)
+at_selected g c =
+    let w = c.args.request.now in
+    let es = map g.M.LineMatch.expression c.args.searchers.now.matchers.now in
+    let reader = c.args.lines.now.lines.reader in
+    let i = c.lines.invariant in
+    let held = c.next_held-stretch.ensures in
+    let (before, all, d, n) = held.divided in
+    let spent = searched_bytes es w.options (length es) all c.lines.meter c.next_held-stretch.new.meter (stretch_spent es _ _ _ i.same.same_matchers.same_expressions d held.steps) in
+    let count = c.next_held-stretch.result.count in
+    let forward = asked_forward c.lines.surroundings.progress.left w.options.invert_match count held.none in
+    let kept = divided_kept (sym (same_sought i.same)) d in
+    let unselected = unselected_before es w.options c.args.searchers.now.whole c.requires.whole count forward before (before_within d) kept.none in
+    let waits = subst (λ ls. Waits ls c.lines.surroundings.progress c.wait.new.surroundings.progress c.lines.surroundings.recent c.wait.new.surroundings.recent) (before_lines d) (if_kept c.wait.result c.is_err.result c.is_err.ensures.value c.if-is_err.false c.wait.ensures) in
+    let line = c.in-Some.text.now in
+    let (holds, is) = rw c.in-Some.is at kept.next in
+    let some : 1 ≤ count = omega (arith, d.counted, ap length is, length-append before (line ∷ [])) in
+    let reported = decided_yes (selected_matched es w.options c.args.searchers.now.whole c.requires.whole (plain_if w.options.invert_match count forward some) line holds) in
+    let first = next_first c.lines.lines before (line ∷ []) (subst (IsNextOf c.lines.lines) is n) in
+    let mid = passed_state c.lines.lines before first (before_free d) in
+    let (s, are) = followed_waiting g.R.CountedRead.remaining g.R.CountedRead.failures es w.options w.many c.args.surroundings.now.progress.shown w.name.now reader c.args.surroundings.now.progress.context c.requires.is_asked c.lines.lines mid _ _ _ c.lines.meter c.lines.meter c.lines.selected c.lines.surroundings.progress c.wait.new.surroundings.progress c.lines.surroundings.recent c.wait.new.surroundings.recent i.limit i.so_far before (handed_with c.lines.lines before first (before_free d) g.R.CountedRead.remaining g.R.CountedRead.failures reader i.so_far.lines i.so_far.handed) unselected waits (unsearched_lines es w.options (length es) before c.lines.meter) in
+    let same : i.so_far.lines ++ all ≡ s.lines ++ line ∷ [] = ap (λ ls. i.so_far.lines ++ ls) is ∙ sym (append_assoc i.so_far.lines before (line ∷ [])) ∙ ap (λ ls. ls ++ line ∷ []) (sym are) in
+    let all_spent = subst (λ ls. SearchesLines es w.options (length es) ls c.args.meter.now c.next_held-stretch.new.meter) same (searched_more_lines es w.options (length es) i.so_far.lines all c.args.meter.now c.lines.meter c.next_held-stretch.new.meter i.so_far.steps spent) in
+    (mid, s, same, all_spent, reported, some)
+
+-- the lines that are held were searched, and none of them is selected
+held_searched : (g : given.Over) (c : After-pass-in-lines g) → FollowedSoFar g.R.CountedRead.remaining g.R.CountedRead.failures (map g.M.LineMatch.expression c.args.searchers.now.matchers.now) c.args.request.now.options c.args.request.now.many c.args.surroundings.now.progress.shown c.args.request.now.name.now c.args.lines.now.lines.reader c.args.surroundings.now.progress.context
+    c.pass-in-lines.new.self (writer g.W.CountedWrite.contents g.W.CountedWrite.failures c.args.out.now) (writer g.W.CountedWrite.contents g.W.CountedWrite.failures c.lines.out) c.args.meter.now c.next_held-stretch.new.meter c.lines.selected c.wait.new.surroundings.progress c.wait.new.surroundings.recent.lines
+held_searched g c =
+    let w = c.args.request.now in
+    let es = map g.M.LineMatch.expression c.args.searchers.now.matchers.now in
+    let reader = c.args.lines.now.lines.reader in
+    let i = c.lines.invariant in
+    let held = c.next_held-stretch.ensures in
+    let (before, all, d, n) = held.divided in
+    let spent = searched_bytes es w.options (length es) all c.lines.meter c.next_held-stretch.new.meter (stretch_spent es _ _ _ i.same.same_matchers.same_expressions d held.steps) in
+    let count = c.next_held-stretch.result.count in
+    let forward = asked_forward c.lines.surroundings.progress.left w.options.invert_match count held.none in
+    let kept = divided_kept (sym (same_sought i.same)) d in
+    let unselected = unselected_before es w.options c.args.searchers.now.whole c.requires.whole count forward before (before_within d) kept.none in
+    let waits = subst (λ ls. Waits ls c.lines.surroundings.progress c.wait.new.surroundings.progress c.lines.surroundings.recent c.wait.new.surroundings.recent) (before_lines d) (if_kept c.wait.result c.is_err.result c.is_err.ensures.value c.if-is_err.false c.wait.ensures) in
+    let is : all ≡ before = rw c.in_default.is at d.next in
+    let now = c.pass-in-lines.new.self in
+    let passed = subst (λ ls. HasHanded g.R.CountedRead.remaining g.R.CountedRead.failures reader now (i.so_far.lines ++ ls)) is (handed_passed c.lines.lines all n d.free g.R.CountedRead.remaining g.R.CountedRead.failures reader i.so_far.lines i.so_far.handed now c.next_held-stretch.result.bytes d.width c.pass-in-lines.ensures.passed) in
+    (followed_waiting g.R.CountedRead.remaining g.R.CountedRead.failures es w.options w.many c.args.surroundings.now.progress.shown w.name.now reader c.args.surroundings.now.progress.context c.requires.is_asked c.lines.lines now _ _ _ c.lines.meter c.next_held-stretch.new.meter c.lines.selected c.lines.surroundings.progress c.wait.new.surroundings.progress c.lines.surroundings.recent c.wait.new.surroundings.recent i.limit i.so_far before passed unselected waits (subst (λ ls. SearchesLines es w.options (length es) ls c.lines.meter c.next_held-stretch.new.meter) is spent)).0
+
+-- and buffered output was sent
+sent : (g : given.Over) (c : In-Ok-None g) → FollowedSoFar g.R.CountedRead.remaining g.R.CountedRead.failures (map g.M.LineMatch.expression c.args.searchers.now.matchers.now) c.args.request.now.options c.args.request.now.many c.args.surroundings.now.progress.shown c.args.request.now.name.now c.args.lines.now.lines.reader c.args.surroundings.now.progress.context
+    c.pass-in-lines.new.self (writer g.W.CountedWrite.contents g.W.CountedWrite.failures c.args.out.now) (writer g.W.CountedWrite.contents g.W.CountedWrite.failures c.lines.out) c.args.meter.now c.next_held-stretch.new.meter c.lines.selected c.wait.new.surroundings.progress c.wait.new.surroundings.recent.lines
+    → FollowedSoFar g.R.CountedRead.remaining g.R.CountedRead.failures (map g.M.LineMatch.expression c.args.searchers.now.matchers.now) c.args.request.now.options c.args.request.now.many c.args.surroundings.now.progress.shown c.args.request.now.name.now c.args.lines.now.lines.reader c.args.surroundings.now.progress.context
+    c.pass-in-lines.new.self (writer g.W.CountedWrite.contents g.W.CountedWrite.failures c.args.out.now) (writer g.W.CountedWrite.contents g.W.CountedWrite.failures c.take_next.new.out) c.args.meter.now c.next_held-stretch.new.meter c.lines.selected c.wait.new.surroundings.progress c.wait.new.surroundings.recent.lines
+sent g c p =
+    let w = c.args.request.now in
+    let es = map g.M.LineMatch.expression c.args.searchers.now.matchers.now in
+    let reader = c.args.lines.now.lines.reader in
+    let now = c.pass-in-lines.new.self in
+    let taken = rw c.in-Ok-None.field-0-is at c.in-Ok-None.ensures in
+    followed_sent g.R.CountedRead.remaining g.R.CountedRead.failures es w.options w.many c.args.surroundings.now.progress.shown w.name.now reader c.args.surroundings.now.progress.context c.requires.is_asked now _ _ _ _ _ c.lines.selected c.wait.new.surroundings.progress c.wait.new.surroundings.recent.lines p (TakesAll-written g.W.CountedWrite.contents g.W.CountedWrite.failures c.lines.out c.take_next.new.out [] (taken reader p.lines p.handed).2)
 
 pub lines-init : goal.lines-init
 lines-init g c =
@@ -68,21 +128,9 @@ show_line-requires g c =
     let i = c.lines.invariant in
     let held = c.next_held-stretch.ensures in
     let (before, all, d, n) = held.divided in
-    let spent = searched_bytes es w.options (length es) all c.lines.meter c.next_held-stretch.new.meter (stretch_spent es _ _ _ i.same.same_matchers.same_expressions d held.steps) in
     let count = c.next_held-stretch.result.count in
-    let forward = asked_forward c.lines.surroundings.progress.left w.options.invert_match count held.none in
-    let kept = divided_kept (sym (same_sought i.same)) d in
-    let unselected = unselected_before es w.options c.args.searchers.now.whole c.requires.whole count forward before (before_within d) kept.none in
-    let waits = subst (λ ls. Waits ls c.lines.surroundings.progress c.wait.new.surroundings.progress c.lines.surroundings.recent c.wait.new.surroundings.recent) (before_lines d) (if_kept c.wait.result c.is_err.result c.is_err.ensures.value c.if-is_err.false c.wait.ensures) in
     let line = c.in-Some.text.now in
-    let (holds, is) = rw c.in-Some.is at kept.next in
-    let some : 1 ≤ count = omega (arith, d.counted, ap length is, length-append before (line ∷ [])) in
-    let reported = decided_yes (selected_matched es w.options c.args.searchers.now.whole c.requires.whole (plain_if w.options.invert_match count forward some) line holds) in
-    let first = next_first c.lines.lines before (line ∷ []) (subst (IsNextOf c.lines.lines) is n) in
-    let mid = passed_state c.lines.lines before first (before_free d) in
-    let (s, are) = followed_waiting g.R.CountedRead.remaining g.R.CountedRead.failures es w.options w.many c.args.surroundings.now.progress.shown w.name.now reader c.args.surroundings.now.progress.context c.requires.is_asked c.lines.lines mid _ _ _ c.lines.meter c.lines.meter c.lines.selected c.lines.surroundings.progress c.wait.new.surroundings.progress c.lines.surroundings.recent c.wait.new.surroundings.recent i.limit i.so_far before (handed_with c.lines.lines before first (before_free d) g.R.CountedRead.remaining g.R.CountedRead.failures reader i.so_far.lines i.so_far.handed) unselected waits (unsearched_lines es w.options (length es) before c.lines.meter) in
-    let same : i.so_far.lines ++ all ≡ s.lines ++ line ∷ [] = ap (λ ls. i.so_far.lines ++ ls) is ∙ sym (append_assoc i.so_far.lines before (line ∷ [])) ∙ ap (λ ls. ls ++ line ∷ []) (sym are) in
-    let all_spent = subst (λ ls. SearchesLines es w.options (length es) ls c.args.meter.now c.next_held-stretch.new.meter) same (searched_more_lines es w.options (length es) i.so_far.lines all c.args.meter.now c.lines.meter c.next_held-stretch.new.meter i.so_far.steps spent) in
+    let (mid, s, same, all_spent, reported, some) = at_selected g (goal.at.show_line-requires g c).In-Some in
     let now = passed_state c.lines.lines all n d.free in
     let next = subst (λ ls. HasHanded g.R.CountedRead.remaining g.R.CountedRead.failures reader now ls) same (handed_with c.lines.lines all n d.free g.R.CountedRead.remaining g.R.CountedRead.failures reader i.so_far.lines i.so_far.handed) in
     let is_number : c.number-in-Some.result + count ≡ now.number = omega (arith, c.number-in-Some.ensures, d.counted) in
@@ -96,21 +144,9 @@ returns-in_err-show_line-clause-given g c =
     let i = c.lines.invariant in
     let held = c.next_held-stretch.ensures in
     let (before, all, d, n) = held.divided in
-    let spent = searched_bytes es w.options (length es) all c.lines.meter c.next_held-stretch.new.meter (stretch_spent es _ _ _ i.same.same_matchers.same_expressions d held.steps) in
     let count = c.next_held-stretch.result.count in
-    let forward = asked_forward c.lines.surroundings.progress.left w.options.invert_match count held.none in
-    let kept = divided_kept (sym (same_sought i.same)) d in
-    let unselected = unselected_before es w.options c.args.searchers.now.whole c.requires.whole count forward before (before_within d) kept.none in
-    let waits = subst (λ ls. Waits ls c.lines.surroundings.progress c.wait.new.surroundings.progress c.lines.surroundings.recent c.wait.new.surroundings.recent) (before_lines d) (if_kept c.wait.result c.is_err.result c.is_err.ensures.value c.if-is_err.false c.wait.ensures) in
     let line = c.in-Some.text.now in
-    let (holds, is) = rw c.in-Some.is at kept.next in
-    let some : 1 ≤ count = omega (arith, d.counted, ap length is, length-append before (line ∷ [])) in
-    let reported = decided_yes (selected_matched es w.options c.args.searchers.now.whole c.requires.whole (plain_if w.options.invert_match count forward some) line holds) in
-    let first = next_first c.lines.lines before (line ∷ []) (subst (IsNextOf c.lines.lines) is n) in
-    let mid = passed_state c.lines.lines before first (before_free d) in
-    let (s, are) = followed_waiting g.R.CountedRead.remaining g.R.CountedRead.failures es w.options w.many c.args.surroundings.now.progress.shown w.name.now reader c.args.surroundings.now.progress.context c.requires.is_asked c.lines.lines mid _ _ _ c.lines.meter c.lines.meter c.lines.selected c.lines.surroundings.progress c.wait.new.surroundings.progress c.lines.surroundings.recent c.wait.new.surroundings.recent i.limit i.so_far before (handed_with c.lines.lines before first (before_free d) g.R.CountedRead.remaining g.R.CountedRead.failures reader i.so_far.lines i.so_far.handed) unselected waits (unsearched_lines es w.options (length es) before c.lines.meter) in
-    let same : i.so_far.lines ++ all ≡ s.lines ++ line ∷ [] = ap (λ ls. i.so_far.lines ++ ls) is ∙ sym (append_assoc i.so_far.lines before (line ∷ [])) ∙ ap (λ ls. ls ++ line ∷ []) (sym are) in
-    let all_spent = subst (λ ls. SearchesLines es w.options (length es) ls c.args.meter.now c.next_held-stretch.new.meter) same (searched_more_lines es w.options (length es) i.so_far.lines all c.args.meter.now c.lines.meter c.next_held-stretch.new.meter i.so_far.steps spent) in
+    let (mid, s, same, all_spent, reported, some) = at_selected g (goal.at.returns-in_err-show_line-clause-given g c).In-Some in
     let now = passed_state c.lines.lines all n d.free in
     let next = subst (λ ls. HasHanded g.R.CountedRead.remaining g.R.CountedRead.failures reader now ls) same (handed_with c.lines.lines all n d.free g.R.CountedRead.remaining g.R.CountedRead.failures reader i.so_far.lines i.so_far.handed) in
     let is_number : c.number-in-Some.result + count ≡ now.number = omega (arith, c.number-in-Some.ensures, d.counted) in
@@ -125,24 +161,13 @@ lines-preserved-in-Some g c =
     let i = c.lines.invariant in
     let held = c.next_held-stretch.ensures in
     let (before, all, d, n) = held.divided in
-    let spent = searched_bytes es w.options (length es) all c.lines.meter c.next_held-stretch.new.meter (stretch_spent es _ _ _ i.same.same_matchers.same_expressions d held.steps) in
     let count = c.next_held-stretch.result.count in
-    let forward = asked_forward c.lines.surroundings.progress.left w.options.invert_match count held.none in
-    let kept = divided_kept (sym (same_sought i.same)) d in
-    let unselected = unselected_before es w.options c.args.searchers.now.whole c.requires.whole count forward before (before_within d) kept.none in
     let waits = subst (λ ls. Waits ls c.lines.surroundings.progress c.wait.new.surroundings.progress c.lines.surroundings.recent c.wait.new.surroundings.recent) (before_lines d) (if_kept c.wait.result c.is_err.result c.is_err.ensures.value c.if-is_err.false c.wait.ensures) in
     let line = c.in-Some.text.now in
-    let (holds, is) = rw c.in-Some.is at kept.next in
-    let some : 1 ≤ count = omega (arith, d.counted, ap length is, length-append before (line ∷ [])) in
-    let reported = decided_yes (selected_matched es w.options c.args.searchers.now.whole c.requires.whole (plain_if w.options.invert_match count forward some) line holds) in
-    let first = next_first c.lines.lines before (line ∷ []) (subst (IsNextOf c.lines.lines) is n) in
-    let mid = passed_state c.lines.lines before first (before_free d) in
-    let (s, are) = followed_waiting g.R.CountedRead.remaining g.R.CountedRead.failures es w.options w.many c.args.surroundings.now.progress.shown w.name.now reader c.args.surroundings.now.progress.context c.requires.is_asked c.lines.lines mid _ _ _ c.lines.meter c.lines.meter c.lines.selected c.lines.surroundings.progress c.wait.new.surroundings.progress c.lines.surroundings.recent c.wait.new.surroundings.recent i.limit i.so_far before (handed_with c.lines.lines before first (before_free d) g.R.CountedRead.remaining g.R.CountedRead.failures reader i.so_far.lines i.so_far.handed) unselected waits (unsearched_lines es w.options (length es) before c.lines.meter) in
-    let same : i.so_far.lines ++ all ≡ s.lines ++ line ∷ [] = ap (λ ls. i.so_far.lines ++ ls) is ∙ sym (append_assoc i.so_far.lines before (line ∷ [])) ∙ ap (λ ls. ls ++ line ∷ []) (sym are) in
-    let all_spent = subst (λ ls. SearchesLines es w.options (length es) ls c.args.meter.now c.next_held-stretch.new.meter) same (searched_more_lines es w.options (length es) i.so_far.lines all c.args.meter.now c.lines.meter c.next_held-stretch.new.meter i.so_far.steps spent) in
+    let (mid, s, same, all_spent, reported, some) = at_selected g (goal.at.lines-preserved-in-Some g c).In-Some in
     let now = c.pass.new.self in
     let next = subst (λ ls. HasHanded g.R.CountedRead.remaining g.R.CountedRead.failures reader now ls) same (handed_passed c.lines.lines all n d.free g.R.CountedRead.remaining g.R.CountedRead.failures reader i.so_far.lines i.so_far.handed now c.next_held-stretch.result.bytes d.width c.pass.ensures.passed) in
-    let is_number : c.number-in-Some.result + count ≡ now.number = omega (arith, c.number-in-Some.ensures, d.counted, next.counted, s.handed.counted, length-append s.lines (line ∷ []), ap length is, length-append before (line ∷ [])) in
+    let is_number : c.number-in-Some.result + count ≡ now.number = omega (arith, c.number-in-Some.ensures, d.counted, next.counted, i.so_far.handed.counted, ap length same, length-append i.so_far.lines all) in
     let shown = c.in_ok-show_line.ensures in
     record {
       so_far = rw shown.goes_on (followed_line g.R.CountedRead.remaining g.R.CountedRead.failures es w.options w.many c.args.surroundings.now.progress.shown w.name.now reader c.args.surroundings.now.progress.context c.requires.is_asked mid now _ _ _ c.lines.meter c.lines.selected c.wait.new.surroundings.progress c.wait.new.surroundings.recent.lines s line next (c.number-in-Some.result + count) is_number true reported c.next_held-stretch.new.meter all_spent _ c.count_found-selected.result c.show_line.new.surroundings.recent.lines shown.wrote c.count_found-selected.ensures (shown.holds ∙ ap (λ n. if (next_shown c.wait.new.surroundings.progress true).itself then [] else last_of n (c.wait.new.surroundings.recent.lines ++ line ∷ [])) (waiting_limit g.R.CountedRead.remaining g.R.CountedRead.failures es w.options w.many c.args.surroundings.now.progress.shown w.name.now reader c.args.surroundings.now.progress.context c.requires.is_asked before c.lines.surroundings.progress c.wait.new.surroundings.progress c.lines.surroundings.recent c.wait.new.surroundings.recent waits i.limit)));
@@ -153,30 +178,15 @@ lines-preserved-in-Some g c =
 
 pub lines-smaller-in-Some : goal.lines-smaller-in-Some
 lines-smaller-in-Some g c =
-    let w = c.args.request.now in
-    let es = map g.M.LineMatch.expression c.args.searchers.now.matchers.now in
     let reader = c.args.lines.now.lines.reader in
     let i = c.lines.invariant in
     let held = c.next_held-stretch.ensures in
     let (before, all, d, n) = held.divided in
-    let spent = searched_bytes es w.options (length es) all c.lines.meter c.next_held-stretch.new.meter (stretch_spent es _ _ _ i.same.same_matchers.same_expressions d held.steps) in
     let count = c.next_held-stretch.result.count in
-    let forward = asked_forward c.lines.surroundings.progress.left w.options.invert_match count held.none in
-    let kept = divided_kept (sym (same_sought i.same)) d in
-    let unselected = unselected_before es w.options c.args.searchers.now.whole c.requires.whole count forward before (before_within d) kept.none in
-    let waits = subst (λ ls. Waits ls c.lines.surroundings.progress c.wait.new.surroundings.progress c.lines.surroundings.recent c.wait.new.surroundings.recent) (before_lines d) (if_kept c.wait.result c.is_err.result c.is_err.ensures.value c.if-is_err.false c.wait.ensures) in
-    let line = c.in-Some.text.now in
-    let (holds, is) = rw c.in-Some.is at kept.next in
-    let some : 1 ≤ count = omega (arith, d.counted, ap length is, length-append before (line ∷ [])) in
-    let reported = decided_yes (selected_matched es w.options c.args.searchers.now.whole c.requires.whole (plain_if w.options.invert_match count forward some) line holds) in
-    let first = next_first c.lines.lines before (line ∷ []) (subst (IsNextOf c.lines.lines) is n) in
-    let mid = passed_state c.lines.lines before first (before_free d) in
-    let (s, are) = followed_waiting g.R.CountedRead.remaining g.R.CountedRead.failures es w.options w.many c.args.surroundings.now.progress.shown w.name.now reader c.args.surroundings.now.progress.context c.requires.is_asked c.lines.lines mid _ _ _ c.lines.meter c.lines.meter c.lines.selected c.lines.surroundings.progress c.wait.new.surroundings.progress c.lines.surroundings.recent c.wait.new.surroundings.recent i.limit i.so_far before (handed_with c.lines.lines before first (before_free d) g.R.CountedRead.remaining g.R.CountedRead.failures reader i.so_far.lines i.so_far.handed) unselected waits (unsearched_lines es w.options (length es) before c.lines.meter) in
-    let same : i.so_far.lines ++ all ≡ s.lines ++ line ∷ [] = ap (λ ls. i.so_far.lines ++ ls) is ∙ sym (append_assoc i.so_far.lines before (line ∷ [])) ∙ ap (λ ls. ls ++ line ∷ []) (sym are) in
-    let all_spent = subst (λ ls. SearchesLines es w.options (length es) ls c.args.meter.now c.next_held-stretch.new.meter) same (searched_more_lines es w.options (length es) i.so_far.lines all c.args.meter.now c.lines.meter c.next_held-stretch.new.meter i.so_far.steps spent) in
+    let (mid, s, same, all_spent, reported, some) = at_selected g (goal.at.lines-smaller-in-Some g c).In-Some in
     let now = c.pass.new.self in
     let next = subst (λ ls. HasHanded g.R.CountedRead.remaining g.R.CountedRead.failures reader now ls) same (handed_passed c.lines.lines all n d.free g.R.CountedRead.remaining g.R.CountedRead.failures reader i.so_far.lines i.so_far.handed now c.next_held-stretch.result.bytes d.width c.pass.ensures.passed) in
-    let is_number : c.number-in-Some.result + count ≡ now.number = omega (arith, c.number-in-Some.ensures, d.counted, next.counted, s.handed.counted, length-append s.lines (line ∷ []), ap length is, length-append before (line ∷ [])) in
+    let is_number : c.number-in-Some.result + count ≡ now.number = omega (arith, c.number-in-Some.ensures, d.counted, next.counted, i.so_far.handed.counted, ap length same, length-append i.so_far.lines all) in
     omega (arith, is_number, some, next.few, next.counted, c.number-in-Some.ensures)
 
 pub count_found-selected-requires : goal.count_found-selected-requires
@@ -187,24 +197,10 @@ count_found-selected-requires g c =
     let i = c.lines.invariant in
     let held = c.next_held-stretch.ensures in
     let (before, all, d, n) = held.divided in
-    let spent = searched_bytes es w.options (length es) all c.lines.meter c.next_held-stretch.new.meter (stretch_spent es _ _ _ i.same.same_matchers.same_expressions d held.steps) in
-    let count = c.next_held-stretch.result.count in
-    let forward = asked_forward c.lines.surroundings.progress.left w.options.invert_match count held.none in
-    let kept = divided_kept (sym (same_sought i.same)) d in
-    let unselected = unselected_before es w.options c.args.searchers.now.whole c.requires.whole count forward before (before_within d) kept.none in
-    let waits = subst (λ ls. Waits ls c.lines.surroundings.progress c.wait.new.surroundings.progress c.lines.surroundings.recent c.wait.new.surroundings.recent) (before_lines d) (if_kept c.wait.result c.is_err.result c.is_err.ensures.value c.if-is_err.false c.wait.ensures) in
     let line = c.in-Some.text.now in
-    let (holds, is) = rw c.in-Some.is at kept.next in
-    let some : 1 ≤ count = omega (arith, d.counted, ap length is, length-append before (line ∷ [])) in
-    let reported = decided_yes (selected_matched es w.options c.args.searchers.now.whole c.requires.whole (plain_if w.options.invert_match count forward some) line holds) in
-    let first = next_first c.lines.lines before (line ∷ []) (subst (IsNextOf c.lines.lines) is n) in
-    let mid = passed_state c.lines.lines before first (before_free d) in
-    let (s, are) = followed_waiting g.R.CountedRead.remaining g.R.CountedRead.failures es w.options w.many c.args.surroundings.now.progress.shown w.name.now reader c.args.surroundings.now.progress.context c.requires.is_asked c.lines.lines mid _ _ _ c.lines.meter c.lines.meter c.lines.selected c.lines.surroundings.progress c.wait.new.surroundings.progress c.lines.surroundings.recent c.wait.new.surroundings.recent i.limit i.so_far before (handed_with c.lines.lines before first (before_free d) g.R.CountedRead.remaining g.R.CountedRead.failures reader i.so_far.lines i.so_far.handed) unselected waits (unsearched_lines es w.options (length es) before c.lines.meter) in
-    let same : i.so_far.lines ++ all ≡ s.lines ++ line ∷ [] = ap (λ ls. i.so_far.lines ++ ls) is ∙ sym (append_assoc i.so_far.lines before (line ∷ [])) ∙ ap (λ ls. ls ++ line ∷ []) (sym are) in
-    let all_spent = subst (λ ls. SearchesLines es w.options (length es) ls c.args.meter.now c.next_held-stretch.new.meter) same (searched_more_lines es w.options (length es) i.so_far.lines all c.args.meter.now c.lines.meter c.next_held-stretch.new.meter i.so_far.steps spent) in
+    let (mid, s, same, all_spent, reported, some) = at_selected g (goal.at.count_found-selected-requires g c).In-Some in
     let now = passed_state c.lines.lines all n d.free in
     let next = subst (λ ls. HasHanded g.R.CountedRead.remaining g.R.CountedRead.failures reader now ls) same (handed_with c.lines.lines all n d.free g.R.CountedRead.remaining g.R.CountedRead.failures reader i.so_far.lines i.so_far.handed) in
-    let is_number : c.number-in-Some.result + count ≡ now.number = omega (arith, c.number-in-Some.ensures, d.counted) in
     counts_on g.R.CountedRead.remaining g.R.CountedRead.failures es w.options w.many c.args.surroundings.now.progress.shown w.name.now reader c.args.surroundings.now.progress.context c.requires.is_asked mid now _ _ _ c.lines.meter c.lines.selected c.wait.new.surroundings.progress c.wait.new.surroundings.recent.lines s line next
 
 pub pass-requires-in-lines : goal.pass-requires-in-lines
@@ -217,21 +213,9 @@ show_line-requires-in-lines-clause-held g c =
     let w = c.args.request.now in
     let es = map g.M.LineMatch.expression c.args.searchers.now.matchers.now in
     let reader = c.args.lines.now.lines.reader in
-    let i = c.lines.invariant in
-    let held = c.next_held-stretch.ensures in
-    let (before, all, d, n) = held.divided in
-    let spent = searched_bytes es w.options (length es) all c.lines.meter c.next_held-stretch.new.meter (stretch_spent es _ _ _ i.same.same_matchers.same_expressions d held.steps) in
-    let count = c.next_held-stretch.result.count in
-    let forward = asked_forward c.lines.surroundings.progress.left w.options.invert_match count held.none in
-    let kept = divided_kept (sym (same_sought i.same)) d in
-    let unselected = unselected_before es w.options c.args.searchers.now.whole c.requires.whole count forward before (before_within d) kept.none in
-    let waits = subst (λ ls. Waits ls c.lines.surroundings.progress c.wait.new.surroundings.progress c.lines.surroundings.recent c.wait.new.surroundings.recent) (before_lines d) (if_kept c.wait.result c.is_err.result c.is_err.ensures.value c.if-is_err.false c.wait.ensures) in
-    let is : all ≡ before = rw c.in_default.is at d.next in
     let now = c.pass-in-lines.new.self in
-    let passed = subst (λ ls. HasHanded g.R.CountedRead.remaining g.R.CountedRead.failures reader now (i.so_far.lines ++ ls)) is (handed_passed c.lines.lines all n d.free g.R.CountedRead.remaining g.R.CountedRead.failures reader i.so_far.lines i.so_far.handed now c.next_held-stretch.result.bytes d.width c.pass-in-lines.ensures.passed) in
-    let (p, are) = followed_waiting g.R.CountedRead.remaining g.R.CountedRead.failures es w.options w.many c.args.surroundings.now.progress.shown w.name.now reader c.args.surroundings.now.progress.context c.requires.is_asked c.lines.lines now _ _ _ c.lines.meter c.next_held-stretch.new.meter c.lines.selected c.lines.surroundings.progress c.wait.new.surroundings.progress c.lines.surroundings.recent c.wait.new.surroundings.recent i.limit i.so_far before passed unselected waits (subst (λ ls. SearchesLines es w.options (length es) ls c.lines.meter c.next_held-stretch.new.meter) is spent) in
     let taken = rw c.in-Ok-None.field-0-is at c.in-Ok-None.ensures in
-    let s = followed_sent g.R.CountedRead.remaining g.R.CountedRead.failures es w.options w.many c.args.surroundings.now.progress.shown w.name.now reader c.args.surroundings.now.progress.context c.requires.is_asked now _ _ _ _ _ c.lines.selected c.wait.new.surroundings.progress c.wait.new.surroundings.recent.lines p (TakesAll-written g.W.CountedWrite.contents g.W.CountedWrite.failures c.lines.out c.take_next.new.out [] (taken reader p.lines p.handed).2) in
+    let s = sent g (goal.at.show_line-requires-in-lines-clause-held g c).In-Ok-None (held_searched g (goal.at.show_line-requires-in-lines-clause-held g c).After-pass-in-lines) in
     let line = c.line-text.result.now in
     let next = subst (λ l. HasHanded g.R.CountedRead.remaining g.R.CountedRead.failures reader c.take_next.new.lines (s.lines ++ l ∷ [])) (sym c.line-text.ensures) (taken reader s.lines s.handed).0 in
     held_few g.R.CountedRead.remaining g.R.CountedRead.failures es w.options w.many c.args.surroundings.now.progress.shown w.name.now reader c.args.surroundings.now.progress.context c.requires.is_asked now c.take_next.new.lines _ _ _ _ c.lines.selected c.wait.new.surroundings.progress c.wait.new.surroundings.recent.lines s line next c.number-number.result c.number-number.ensures
@@ -243,19 +227,9 @@ returns-in_err-show_line-2-clause-given g c =
     let reader = c.args.lines.now.lines.reader in
     let i = c.lines.invariant in
     let held = c.next_held-stretch.ensures in
-    let (before, all, d, n) = held.divided in
-    let spent = searched_bytes es w.options (length es) all c.lines.meter c.next_held-stretch.new.meter (stretch_spent es _ _ _ i.same.same_matchers.same_expressions d held.steps) in
-    let count = c.next_held-stretch.result.count in
-    let forward = asked_forward c.lines.surroundings.progress.left w.options.invert_match count held.none in
-    let kept = divided_kept (sym (same_sought i.same)) d in
-    let unselected = unselected_before es w.options c.args.searchers.now.whole c.requires.whole count forward before (before_within d) kept.none in
-    let waits = subst (λ ls. Waits ls c.lines.surroundings.progress c.wait.new.surroundings.progress c.lines.surroundings.recent c.wait.new.surroundings.recent) (before_lines d) (if_kept c.wait.result c.is_err.result c.is_err.ensures.value c.if-is_err.false c.wait.ensures) in
-    let is : all ≡ before = rw c.in_default.is at d.next in
     let now = c.pass-in-lines.new.self in
-    let passed = subst (λ ls. HasHanded g.R.CountedRead.remaining g.R.CountedRead.failures reader now (i.so_far.lines ++ ls)) is (handed_passed c.lines.lines all n d.free g.R.CountedRead.remaining g.R.CountedRead.failures reader i.so_far.lines i.so_far.handed now c.next_held-stretch.result.bytes d.width c.pass-in-lines.ensures.passed) in
-    let (p, are) = followed_waiting g.R.CountedRead.remaining g.R.CountedRead.failures es w.options w.many c.args.surroundings.now.progress.shown w.name.now reader c.args.surroundings.now.progress.context c.requires.is_asked c.lines.lines now _ _ _ c.lines.meter c.next_held-stretch.new.meter c.lines.selected c.lines.surroundings.progress c.wait.new.surroundings.progress c.lines.surroundings.recent c.wait.new.surroundings.recent i.limit i.so_far before passed unselected waits (subst (λ ls. SearchesLines es w.options (length es) ls c.lines.meter c.next_held-stretch.new.meter) is spent) in
     let taken = rw c.in-Ok-None.field-0-is at c.in-Ok-None.ensures in
-    let s = followed_sent g.R.CountedRead.remaining g.R.CountedRead.failures es w.options w.many c.args.surroundings.now.progress.shown w.name.now reader c.args.surroundings.now.progress.context c.requires.is_asked now _ _ _ _ _ c.lines.selected c.wait.new.surroundings.progress c.wait.new.surroundings.recent.lines p (TakesAll-written g.W.CountedWrite.contents g.W.CountedWrite.failures c.lines.out c.take_next.new.out [] (taken reader p.lines p.handed).2) in
+    let s = sent g (goal.at.returns-in_err-show_line-2-clause-given g c).In-Ok-None (held_searched g (goal.at.returns-in_err-show_line-2-clause-given g c).After-pass-in-lines) in
     let line = c.line-text.result.now in
     let next = subst (λ l. HasHanded g.R.CountedRead.remaining g.R.CountedRead.failures reader c.take_next.new.lines (s.lines ++ l ∷ [])) (sym c.line-text.ensures) (taken reader s.lines s.handed).0 in
     let same = (asked_over held.same i.same).same_matchers.same_expressions in
@@ -270,21 +244,9 @@ count_found-selected-requires-in-lines g c =
     let w = c.args.request.now in
     let es = map g.M.LineMatch.expression c.args.searchers.now.matchers.now in
     let reader = c.args.lines.now.lines.reader in
-    let i = c.lines.invariant in
-    let held = c.next_held-stretch.ensures in
-    let (before, all, d, n) = held.divided in
-    let spent = searched_bytes es w.options (length es) all c.lines.meter c.next_held-stretch.new.meter (stretch_spent es _ _ _ i.same.same_matchers.same_expressions d held.steps) in
-    let count = c.next_held-stretch.result.count in
-    let forward = asked_forward c.lines.surroundings.progress.left w.options.invert_match count held.none in
-    let kept = divided_kept (sym (same_sought i.same)) d in
-    let unselected = unselected_before es w.options c.args.searchers.now.whole c.requires.whole count forward before (before_within d) kept.none in
-    let waits = subst (λ ls. Waits ls c.lines.surroundings.progress c.wait.new.surroundings.progress c.lines.surroundings.recent c.wait.new.surroundings.recent) (before_lines d) (if_kept c.wait.result c.is_err.result c.is_err.ensures.value c.if-is_err.false c.wait.ensures) in
-    let is : all ≡ before = rw c.in_default.is at d.next in
     let now = c.pass-in-lines.new.self in
-    let passed = subst (λ ls. HasHanded g.R.CountedRead.remaining g.R.CountedRead.failures reader now (i.so_far.lines ++ ls)) is (handed_passed c.lines.lines all n d.free g.R.CountedRead.remaining g.R.CountedRead.failures reader i.so_far.lines i.so_far.handed now c.next_held-stretch.result.bytes d.width c.pass-in-lines.ensures.passed) in
-    let (p, are) = followed_waiting g.R.CountedRead.remaining g.R.CountedRead.failures es w.options w.many c.args.surroundings.now.progress.shown w.name.now reader c.args.surroundings.now.progress.context c.requires.is_asked c.lines.lines now _ _ _ c.lines.meter c.next_held-stretch.new.meter c.lines.selected c.lines.surroundings.progress c.wait.new.surroundings.progress c.lines.surroundings.recent c.wait.new.surroundings.recent i.limit i.so_far before passed unselected waits (subst (λ ls. SearchesLines es w.options (length es) ls c.lines.meter c.next_held-stretch.new.meter) is spent) in
     let taken = rw c.in-Ok-None.field-0-is at c.in-Ok-None.ensures in
-    let s = followed_sent g.R.CountedRead.remaining g.R.CountedRead.failures es w.options w.many c.args.surroundings.now.progress.shown w.name.now reader c.args.surroundings.now.progress.context c.requires.is_asked now _ _ _ _ _ c.lines.selected c.wait.new.surroundings.progress c.wait.new.surroundings.recent.lines p (TakesAll-written g.W.CountedWrite.contents g.W.CountedWrite.failures c.lines.out c.take_next.new.out [] (taken reader p.lines p.handed).2) in
+    let s = sent g (goal.at.count_found-selected-requires-in-lines g c).In-Ok-None (held_searched g (goal.at.count_found-selected-requires-in-lines g c).After-pass-in-lines) in
     let line = c.line-text.result.now in
     let next = subst (λ l. HasHanded g.R.CountedRead.remaining g.R.CountedRead.failures reader c.take_next.new.lines (s.lines ++ l ∷ [])) (sym c.line-text.ensures) (taken reader s.lines s.handed).0 in
     counts_on g.R.CountedRead.remaining g.R.CountedRead.failures es w.options w.many c.args.surroundings.now.progress.shown w.name.now reader c.args.surroundings.now.progress.context c.requires.is_asked now c.take_next.new.lines _ _ _ _ c.lines.selected c.wait.new.surroundings.progress c.wait.new.surroundings.recent.lines s line next
@@ -297,18 +259,11 @@ lines-smaller g c =
     let i = c.lines.invariant in
     let held = c.next_held-stretch.ensures in
     let (before, all, d, n) = held.divided in
-    let spent = searched_bytes es w.options (length es) all c.lines.meter c.next_held-stretch.new.meter (stretch_spent es _ _ _ i.same.same_matchers.same_expressions d held.steps) in
-    let count = c.next_held-stretch.result.count in
-    let forward = asked_forward c.lines.surroundings.progress.left w.options.invert_match count held.none in
-    let kept = divided_kept (sym (same_sought i.same)) d in
-    let unselected = unselected_before es w.options c.args.searchers.now.whole c.requires.whole count forward before (before_within d) kept.none in
-    let waits = subst (λ ls. Waits ls c.lines.surroundings.progress c.wait.new.surroundings.progress c.lines.surroundings.recent c.wait.new.surroundings.recent) (before_lines d) (if_kept c.wait.result c.is_err.result c.is_err.ensures.value c.if-is_err.false c.wait.ensures) in
     let is : all ≡ before = rw c.in_default.is at d.next in
     let now = c.pass-in-lines.new.self in
     let passed = subst (λ ls. HasHanded g.R.CountedRead.remaining g.R.CountedRead.failures reader now (i.so_far.lines ++ ls)) is (handed_passed c.lines.lines all n d.free g.R.CountedRead.remaining g.R.CountedRead.failures reader i.so_far.lines i.so_far.handed now c.next_held-stretch.result.bytes d.width c.pass-in-lines.ensures.passed) in
-    let (p, are) = followed_waiting g.R.CountedRead.remaining g.R.CountedRead.failures es w.options w.many c.args.surroundings.now.progress.shown w.name.now reader c.args.surroundings.now.progress.context c.requires.is_asked c.lines.lines now _ _ _ c.lines.meter c.next_held-stretch.new.meter c.lines.selected c.lines.surroundings.progress c.wait.new.surroundings.progress c.lines.surroundings.recent c.wait.new.surroundings.recent i.limit i.so_far before passed unselected waits (subst (λ ls. SearchesLines es w.options (length es) ls c.lines.meter c.next_held-stretch.new.meter) is spent) in
     let taken = rw c.in-Ok-None.field-0-is at c.in-Ok-None.ensures in
-    let s = followed_sent g.R.CountedRead.remaining g.R.CountedRead.failures es w.options w.many c.args.surroundings.now.progress.shown w.name.now reader c.args.surroundings.now.progress.context c.requires.is_asked now _ _ _ _ _ c.lines.selected c.wait.new.surroundings.progress c.wait.new.surroundings.recent.lines p (TakesAll-written g.W.CountedWrite.contents g.W.CountedWrite.failures c.lines.out c.take_next.new.out [] (taken reader p.lines p.handed).2) in
+    let s = sent g (goal.at.lines-smaller g c).In-Ok-None (held_searched g (goal.at.lines-smaller g c).After-pass-in-lines) in
     let line = c.line-text.result.now in
     let next = subst (λ l. HasHanded g.R.CountedRead.remaining g.R.CountedRead.failures reader c.take_next.new.lines (s.lines ++ l ∷ [])) (sym c.line-text.ensures) (taken reader s.lines s.handed).0 in
     omega (arith, numbers_left g.R.CountedRead.remaining g.R.CountedRead.failures es w.options w.many c.args.surroundings.now.progress.shown w.name.now reader c.args.surroundings.now.progress.context c.requires.is_asked now c.take_next.new.lines _ _ _ _ c.lines.selected c.wait.new.surroundings.progress c.wait.new.surroundings.recent.lines s line next, passed.counted, i.so_far.handed.counted, length-append i.so_far.lines before)
@@ -321,18 +276,10 @@ lines-preserved g c =
     let i = c.lines.invariant in
     let held = c.next_held-stretch.ensures in
     let (before, all, d, n) = held.divided in
-    let spent = searched_bytes es w.options (length es) all c.lines.meter c.next_held-stretch.new.meter (stretch_spent es _ _ _ i.same.same_matchers.same_expressions d held.steps) in
-    let count = c.next_held-stretch.result.count in
-    let forward = asked_forward c.lines.surroundings.progress.left w.options.invert_match count held.none in
-    let kept = divided_kept (sym (same_sought i.same)) d in
-    let unselected = unselected_before es w.options c.args.searchers.now.whole c.requires.whole count forward before (before_within d) kept.none in
     let waits = subst (λ ls. Waits ls c.lines.surroundings.progress c.wait.new.surroundings.progress c.lines.surroundings.recent c.wait.new.surroundings.recent) (before_lines d) (if_kept c.wait.result c.is_err.result c.is_err.ensures.value c.if-is_err.false c.wait.ensures) in
-    let is : all ≡ before = rw c.in_default.is at d.next in
     let now = c.pass-in-lines.new.self in
-    let passed = subst (λ ls. HasHanded g.R.CountedRead.remaining g.R.CountedRead.failures reader now (i.so_far.lines ++ ls)) is (handed_passed c.lines.lines all n d.free g.R.CountedRead.remaining g.R.CountedRead.failures reader i.so_far.lines i.so_far.handed now c.next_held-stretch.result.bytes d.width c.pass-in-lines.ensures.passed) in
-    let (p, are) = followed_waiting g.R.CountedRead.remaining g.R.CountedRead.failures es w.options w.many c.args.surroundings.now.progress.shown w.name.now reader c.args.surroundings.now.progress.context c.requires.is_asked c.lines.lines now _ _ _ c.lines.meter c.next_held-stretch.new.meter c.lines.selected c.lines.surroundings.progress c.wait.new.surroundings.progress c.lines.surroundings.recent c.wait.new.surroundings.recent i.limit i.so_far before passed unselected waits (subst (λ ls. SearchesLines es w.options (length es) ls c.lines.meter c.next_held-stretch.new.meter) is spent) in
     let taken = rw c.in-Ok-None.field-0-is at c.in-Ok-None.ensures in
-    let s = followed_sent g.R.CountedRead.remaining g.R.CountedRead.failures es w.options w.many c.args.surroundings.now.progress.shown w.name.now reader c.args.surroundings.now.progress.context c.requires.is_asked now _ _ _ _ _ c.lines.selected c.wait.new.surroundings.progress c.wait.new.surroundings.recent.lines p (TakesAll-written g.W.CountedWrite.contents g.W.CountedWrite.failures c.lines.out c.take_next.new.out [] (taken reader p.lines p.handed).2) in
+    let s = sent g (goal.at.lines-preserved g c).In-Ok-None (held_searched g (goal.at.lines-preserved g c).After-pass-in-lines) in
     let line = c.line-text.result.now in
     let next = subst (λ l. HasHanded g.R.CountedRead.remaining g.R.CountedRead.failures reader c.take_next.new.lines (s.lines ++ l ∷ [])) (sym c.line-text.ensures) (taken reader s.lines s.handed).0 in
     let same = (asked_over held.same i.same).same_matchers.same_expressions in
@@ -353,19 +300,8 @@ returns-in-Ok-Some-clause-given g c =
     let w = c.args.request.now in
     let es = map g.M.LineMatch.expression c.args.searchers.now.matchers.now in
     let reader = c.args.lines.now.lines.reader in
-    let i = c.lines.invariant in
-    let held = c.next_held-stretch.ensures in
-    let (before, all, d, n) = held.divided in
-    let spent = searched_bytes es w.options (length es) all c.lines.meter c.next_held-stretch.new.meter (stretch_spent es _ _ _ i.same.same_matchers.same_expressions d held.steps) in
-    let count = c.next_held-stretch.result.count in
-    let forward = asked_forward c.lines.surroundings.progress.left w.options.invert_match count held.none in
-    let kept = divided_kept (sym (same_sought i.same)) d in
-    let unselected = unselected_before es w.options c.args.searchers.now.whole c.requires.whole count forward before (before_within d) kept.none in
-    let waits = subst (λ ls. Waits ls c.lines.surroundings.progress c.wait.new.surroundings.progress c.lines.surroundings.recent c.wait.new.surroundings.recent) (before_lines d) (if_kept c.wait.result c.is_err.result c.is_err.ensures.value c.if-is_err.false c.wait.ensures) in
-    let is : all ≡ before = rw c.in_default.is at d.next in
     let now = c.pass-in-lines.new.self in
-    let passed = subst (λ ls. HasHanded g.R.CountedRead.remaining g.R.CountedRead.failures reader now (i.so_far.lines ++ ls)) is (handed_passed c.lines.lines all n d.free g.R.CountedRead.remaining g.R.CountedRead.failures reader i.so_far.lines i.so_far.handed now c.next_held-stretch.result.bytes d.width c.pass-in-lines.ensures.passed) in
-    let (p, are) = followed_waiting g.R.CountedRead.remaining g.R.CountedRead.failures es w.options w.many c.args.surroundings.now.progress.shown w.name.now reader c.args.surroundings.now.progress.context c.requires.is_asked c.lines.lines now _ _ _ c.lines.meter c.next_held-stretch.new.meter c.lines.selected c.lines.surroundings.progress c.wait.new.surroundings.progress c.lines.surroundings.recent c.wait.new.surroundings.recent i.limit i.so_far before passed unselected waits (subst (λ ls. SearchesLines es w.options (length es) ls c.lines.meter c.next_held-stretch.new.meter) is spent) in
+    let p = held_searched g (goal.at.returns-in-Ok-Some-clause-given g c).After-pass-in-lines in
     let ws = writes g.R.CountedRead.remaining g.R.CountedRead.failures es w.options w.many c.args.surroundings.now.progress.shown w.name.now reader c.args.surroundings.now.progress.context c.requires.is_asked now now _ _ _ _ c.lines.selected c.wait.new.surroundings.progress c.wait.new.surroundings.recent.lines p in
     ends_as g.R.CountedRead.remaining g.R.CountedRead.failures g.W.CountedWrite.contents g.W.CountedWrite.failures es w.options w.many c.args.surroundings.now.progress.shown w.name.now reader c.take_next.new.lines _ c.take_next.new.out _ _ c.lines.out p.lines c.lines.selected ws (λ early. never_early g.R.CountedRead.remaining g.R.CountedRead.failures es w.options w.many c.args.surroundings.now.progress.shown w.name.now reader c.args.surroundings.now.progress.context c.requires.is_asked early) p.steps c.in-Ok-Some.end ((rw c.in-Ok-Some.field-0-is at c.in-Ok-Some.ensures) reader p.lines p.handed)
 
@@ -374,18 +310,7 @@ returns-in-Err-clause-given g c =
     let w = c.args.request.now in
     let es = map g.M.LineMatch.expression c.args.searchers.now.matchers.now in
     let reader = c.args.lines.now.lines.reader in
-    let i = c.lines.invariant in
-    let held = c.next_held-stretch.ensures in
-    let (before, all, d, n) = held.divided in
-    let spent = searched_bytes es w.options (length es) all c.lines.meter c.next_held-stretch.new.meter (stretch_spent es _ _ _ i.same.same_matchers.same_expressions d held.steps) in
-    let count = c.next_held-stretch.result.count in
-    let forward = asked_forward c.lines.surroundings.progress.left w.options.invert_match count held.none in
-    let kept = divided_kept (sym (same_sought i.same)) d in
-    let unselected = unselected_before es w.options c.args.searchers.now.whole c.requires.whole count forward before (before_within d) kept.none in
-    let waits = subst (λ ls. Waits ls c.lines.surroundings.progress c.wait.new.surroundings.progress c.lines.surroundings.recent c.wait.new.surroundings.recent) (before_lines d) (if_kept c.wait.result c.is_err.result c.is_err.ensures.value c.if-is_err.false c.wait.ensures) in
-    let is : all ≡ before = rw c.in_default.is at d.next in
     let now = c.pass-in-lines.new.self in
-    let passed = subst (λ ls. HasHanded g.R.CountedRead.remaining g.R.CountedRead.failures reader now (i.so_far.lines ++ ls)) is (handed_passed c.lines.lines all n d.free g.R.CountedRead.remaining g.R.CountedRead.failures reader i.so_far.lines i.so_far.handed now c.next_held-stretch.result.bytes d.width c.pass-in-lines.ensures.passed) in
-    let (p, are) = followed_waiting g.R.CountedRead.remaining g.R.CountedRead.failures es w.options w.many c.args.surroundings.now.progress.shown w.name.now reader c.args.surroundings.now.progress.context c.requires.is_asked c.lines.lines now _ _ _ c.lines.meter c.next_held-stretch.new.meter c.lines.selected c.lines.surroundings.progress c.wait.new.surroundings.progress c.lines.surroundings.recent c.wait.new.surroundings.recent i.limit i.so_far before passed unselected waits (subst (λ ls. SearchesLines es w.options (length es) ls c.lines.meter c.next_held-stretch.new.meter) is spent) in
+    let p = held_searched g (goal.at.returns-in-Err-clause-given g c).After-pass-in-lines in
     let ws = writes g.R.CountedRead.remaining g.R.CountedRead.failures es w.options w.many c.args.surroundings.now.progress.shown w.name.now reader c.args.surroundings.now.progress.context c.requires.is_asked now now _ _ _ _ c.lines.selected c.wait.new.surroundings.progress c.wait.new.surroundings.recent.lines p in
     stops_as g.R.CountedRead.remaining g.R.CountedRead.failures g.W.CountedWrite.contents g.W.CountedWrite.failures es w.options w.many c.args.surroundings.now.progress.shown w.name.now reader c.take_next.new.lines _ c.take_next.new.out _ _ c.lines.out p.lines c.lines.selected ws (λ early. never_early g.R.CountedRead.remaining g.R.CountedRead.failures es w.options w.many c.args.surroundings.now.progress.shown w.name.now reader c.args.surroundings.now.progress.context c.requires.is_asked early) p.steps c.in-Err.fault (c.in-Err.ensures reader p.lines p.handed)

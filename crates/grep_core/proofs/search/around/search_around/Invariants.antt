@@ -1,7 +1,5 @@
 use Rattle.std.proofs.Common.{◌≡◌, ◌-◌, ◌^◌, map}
-use Rattle.re_search.specs.Working.Asking.{SameSearchers}
-use Rattle.grep_io.specs.Reading.{IsOneLineAndFew}
-use Rattle.grep_core.specs.Run.{writer}
+use Rattle.grep_core.proofs.Words.{SameSearchers, IsOneLineAndFew, writer}
 use Rattle.grep_core.proofs.lemmas.AroundSearch.{FollowedSoFar}
 use Rattle.grep_core.proofs.search.around.search_around.Given as goal
 

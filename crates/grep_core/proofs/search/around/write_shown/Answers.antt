@@ -1,7 +1,5 @@
 use Rattle.std.proofs.Common.{◌-◌, List, [], ◌∷◌, length, if◌then◌else◌}
-use Rattle.re_syntax.specs.Bytes.{Text}
-use Rattle.grep_core.specs.Around.{group_separator}
-use Rattle.grep_core.specs.Working.Progress.{rows_around, row_by}
+use Rattle.grep_core.proofs.Words.{Text, group_separator, rows_around, row_by}
 use Rattle.grep_core.proofs.lemmas.WaitingRows.{holds_too, stops_err, stops_between, stops_waiting, row_last}
 use Rattle.grep_core.proofs.search.around.write_shown.Goals as goal
 

@@ -1,7 +1,5 @@
 use Rattle.std.proofs.Common.{◌-◌, [], length, take}
-use Rattle.grep_core.specs.Output.{written}
-use Rattle.grep_io.specs.Written.{GoesOut}
-use Rattle.grep_core.specs.Working.Progress.{rows_around}
+use Rattle.grep_core.proofs.Words.{written, GoesOut, rows_around}
 use Rattle.grep_core.proofs.search.around.write_waiting.Given as goal
 
 -- the rows of the lines up to here were written

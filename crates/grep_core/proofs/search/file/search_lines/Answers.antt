@@ -1,13 +1,46 @@
 use Rattle.std.proofs.Common.{◌∙◌, [], false, map, refl, sym, arith}
 use Rattle.re_search.proofs.lemmas.KeptMatchers.{unasked, asked_over, same_sought}
-use Rattle.grep_core.specs.Working.Searched.{leaves_early}
+use Rattle.grep_core.proofs.Words.{writer, leaves_early}
 use Rattle.grep_core.proofs.lemmas.WrittenLemmas.{TakesAll-written}
 use Rattle.grep_core.proofs.lemmas.FileOutput.{rows_none}
 use Rattle.grep_core.proofs.lemmas.PassedLines.{are_ahead, passed_state, handed_with, handed_passed}
-use Rattle.grep_core.proofs.lemmas.StretchLemmas.{bare_if, divided_kept, stretch_spent, line_within}
-use Rattle.grep_core.proofs.lemmas.LinesLemmas.{written_plain, searched_none, searched_among, leaves_among, breaks_in_lines, numbers_further, numbers_on, searched_sent, may_count, fewer_left, searched_line, goes_on, goes_on_with, leaves_with, leaves_at, breaks_at}
+use Rattle.grep_core.proofs.lemmas.SearchedBlockLemmas.{bare_if, divided_kept, stretch_spent, line_within}
+use Rattle.grep_core.proofs.lemmas.LinesLemmas.{SearchedSoFar, written_plain, searched_none, searched_among, leaves_among, breaks_in_lines, numbers_further, numbers_on, searched_sent, may_count, fewer_left, searched_line, goes_on, goes_on_with, leaves_with, leaves_at, breaks_at}
 use Rattle.grep_core.proofs.lemmas.EndLemmas.{breaks_with, ends_as, stops_as}
+use Rattle.grep_core.proofs.search.file.search_lines.Given as given
 use Rattle.grep_core.proofs.search.file.search_lines.Goals as goal
+use Rattle.grep_core.proofs.search.file.search_lines.Goals.{Else-found-early, In-Ok-None}
+
+-- the lines that are held and those before them were searched, and the search goes on
+among : (g : given.Over) (c : Else-found-early g) → SearchedSoFar g.R.CountedRead.remaining g.R.CountedRead.failures (map g.M.LineMatch.expression c.args.searchers.now.matchers.now) c.args.request.now.options c.args.request.now.many false c.args.request.now.name.now c.args.lines.now.lines.reader c.pass.new.self
+    (writer g.W.CountedWrite.contents g.W.CountedWrite.failures c.args.out.now) (writer g.W.CountedWrite.contents g.W.CountedWrite.failures c.write_searched.new.out) c.args.meter.now c.write_searched.new.meter c.saturating_add-selected.result
+among g c =
+    let w = c.args.request.now in
+    let es = map g.M.LineMatch.expression c.args.searchers.now.matchers.now in
+    let reader = c.args.lines.now.lines.reader in
+    let i = c.lines.invariant in
+    let held = c.next_held-stretch.ensures in
+    let (before, all, d, n) = held.divided in
+    let kept = asked_over held.same i.same in
+    let later = divided_kept (same_sought held.same) d in
+    let few = stretch_spent (map g.M.LineMatch.expression c.next_held-stretch.new.searchers.matchers.now) _ c.lines.meter c.next_held-stretch.new.meter (sym held.same.same_matchers.same_expressions) d held.steps in
+    let spent = rw kept.same_matchers.same_expressions at (c.write_searched.ensures.steps before all later c.lines.meter few) in
+    let took = rw (kept.same_matchers.same_expressions, c.number.ensures) at (c.in_ok-found.ensures.ok before all later) in
+    let next = handed_passed c.lines.lines all n d.free g.R.CountedRead.remaining g.R.CountedRead.failures reader i.so_far.lines i.so_far.handed c.pass.new.self c.next_held-stretch.result.bytes d.width c.pass.ensures.passed in
+    let none = goes_on_with c.in_ok-found.found c.leaves_early-early.result (leaves_early w.options) i.is_early c.if-found-early.false in
+    searched_among g.R.CountedRead.remaining g.R.CountedRead.failures es w.options w.many false w.name.now reader c.lines.lines c.pass.new.self _ _ _ _ c.lines.selected i.so_far all next _ _ c.requires.plain spent c.in_ok-found.found c.saturating_add-selected.result took c.saturating_add-selected.ensures none
+
+-- and buffered output was sent
+sent : (g : given.Over) (c : In-Ok-None g) → SearchedSoFar g.R.CountedRead.remaining g.R.CountedRead.failures (map g.M.LineMatch.expression c.args.searchers.now.matchers.now) c.args.request.now.options c.args.request.now.many false c.args.request.now.name.now c.args.lines.now.lines.reader c.pass.new.self
+    (writer g.W.CountedWrite.contents g.W.CountedWrite.failures c.args.out.now) (writer g.W.CountedWrite.contents g.W.CountedWrite.failures c.write_searched.new.out) c.args.meter.now c.write_searched.new.meter c.saturating_add-selected.result
+    → SearchedSoFar g.R.CountedRead.remaining g.R.CountedRead.failures (map g.M.LineMatch.expression c.args.searchers.now.matchers.now) c.args.request.now.options c.args.request.now.many false c.args.request.now.name.now c.args.lines.now.lines.reader c.pass.new.self
+    (writer g.W.CountedWrite.contents g.W.CountedWrite.failures c.args.out.now) (writer g.W.CountedWrite.contents g.W.CountedWrite.failures c.take_next.new.out) c.args.meter.now c.write_searched.new.meter c.saturating_add-selected.result
+sent g c p =
+    let w = c.args.request.now in
+    let es = map g.M.LineMatch.expression c.args.searchers.now.matchers.now in
+    let reader = c.args.lines.now.lines.reader in
+    let taken = rw c.in-Ok-None.field-0-is at c.in-Ok-None.ensures in
+    searched_sent g.R.CountedRead.remaining g.R.CountedRead.failures es w.options w.many false w.name.now reader c.pass.new.self _ _ _ _ _ c.saturating_add-selected.result p (TakesAll-written g.W.CountedWrite.contents g.W.CountedWrite.failures _ c.take_next.new.out [] (taken reader p.lines p.handed).2)
 
 pub lines-init : goal.lines-init
 lines-init g c = record {
@@ -16,8 +49,8 @@ lines-init g c = record {
   is_early = c.leaves_early-early.ensures;
 }
 
-pub write_stretch-requires : goal.write_stretch-requires
-write_stretch-requires g c =
+pub write_searched-requires : goal.write_searched-requires
+write_searched-requires g c =
     let held = c.next_held-stretch.ensures in
     let (before, all, d, n) = held.divided in
     record {
@@ -42,10 +75,10 @@ returns-in_err-found-clause-given g c =
     let kept = asked_over held.same i.same in
     let later = divided_kept (same_sought held.same) d in
     let few = stretch_spent (map g.M.LineMatch.expression c.next_held-stretch.new.searchers.matchers.now) _ c.lines.meter c.next_held-stretch.new.meter (sym held.same.same_matchers.same_expressions) d held.steps in
-    let spent = rw kept.same_matchers.same_expressions at (c.write_stretch.ensures.steps before all later c.lines.meter few) in
+    let spent = rw kept.same_matchers.same_expressions at (c.write_searched.ensures.steps before all later c.lines.meter few) in
     let broke = rw (kept.same_matchers.same_expressions, c.number.ensures) at (c.in_err-found.ensures.err before all later) in
     let next = handed_with c.lines.lines all n d.free g.R.CountedRead.remaining g.R.CountedRead.failures reader i.so_far.lines i.so_far.handed in
-    breaks_with g.R.CountedRead.remaining g.R.CountedRead.failures g.W.CountedWrite.contents g.W.CountedWrite.failures es w.options w.many false w.name.now reader c.lines.lines _ c.write_stretch.new.out _ _ c.from_residual.result c.from_residual.ensures.1
+    breaks_with g.R.CountedRead.remaining g.R.CountedRead.failures g.W.CountedWrite.contents g.W.CountedWrite.failures es w.options w.many false w.name.now reader c.lines.lines _ c.write_searched.new.out _ _ c.from_residual.result c.from_residual.ensures.1
     (breaks_in_lines g.R.CountedRead.remaining g.R.CountedRead.failures es w.options w.many false w.name.now reader c.lines.lines (passed_state c.lines.lines all n d.free) _ _ _ _ c.lines.selected i.so_far all next _ _ c.requires.plain spent broke)
 
 pub returns-then-found-early-clause-given : goal.returns-then-found-early-clause-given
@@ -59,7 +92,7 @@ returns-then-found-early-clause-given g c =
     let kept = asked_over held.same i.same in
     let later = divided_kept (same_sought held.same) d in
     let few = stretch_spent (map g.M.LineMatch.expression c.next_held-stretch.new.searchers.matchers.now) _ c.lines.meter c.next_held-stretch.new.meter (sym held.same.same_matchers.same_expressions) d held.steps in
-    let spent = rw kept.same_matchers.same_expressions at (c.write_stretch.ensures.steps before all later c.lines.meter few) in
+    let spent = rw kept.same_matchers.same_expressions at (c.write_searched.ensures.steps before all later c.lines.meter few) in
     let took = rw (kept.same_matchers.same_expressions, c.number.ensures) at (c.in_ok-found.ensures.ok before all later) in
     let next = handed_passed c.lines.lines all n d.free g.R.CountedRead.remaining g.R.CountedRead.failures reader i.so_far.lines i.so_far.handed c.pass.new.self c.next_held-stretch.result.bytes d.width c.pass.ensures.passed in
     let (some, early) = leaves_with c.in_ok-found.found c.leaves_early-early.result c.if-found-early.true in
@@ -67,21 +100,11 @@ returns-then-found-early-clause-given g c =
 
 pub lines-preserved-then-goes_on : goal.lines-preserved-then-goes_on
 lines-preserved-then-goes_on g c =
-    let w = c.args.request.now in
-    let es = map g.M.LineMatch.expression c.args.searchers.now.matchers.now in
-    let reader = c.args.lines.now.lines.reader in
     let i = c.lines.invariant in
     let held = c.next_held-stretch.ensures in
-    let (before, all, d, n) = held.divided in
     let kept = asked_over held.same i.same in
-    let later = divided_kept (same_sought held.same) d in
-    let few = stretch_spent (map g.M.LineMatch.expression c.next_held-stretch.new.searchers.matchers.now) _ c.lines.meter c.next_held-stretch.new.meter (sym held.same.same_matchers.same_expressions) d held.steps in
-    let spent = rw kept.same_matchers.same_expressions at (c.write_stretch.ensures.steps before all later c.lines.meter few) in
-    let took = rw (kept.same_matchers.same_expressions, c.number.ensures) at (c.in_ok-found.ensures.ok before all later) in
-    let next = handed_passed c.lines.lines all n d.free g.R.CountedRead.remaining g.R.CountedRead.failures reader i.so_far.lines i.so_far.handed c.pass.new.self c.next_held-stretch.result.bytes d.width c.pass.ensures.passed in
-    let none = goes_on_with c.in_ok-found.found c.leaves_early-early.result (leaves_early w.options) i.is_early c.if-found-early.false in
-    let p = searched_among g.R.CountedRead.remaining g.R.CountedRead.failures es w.options w.many false w.name.now reader c.lines.lines c.pass.new.self _ _ _ _ c.lines.selected i.so_far all next _ _ c.requires.plain spent c.in_ok-found.found c.saturating_add-selected.result took c.saturating_add-selected.ensures none in
-    record { so_far = p; same = asked_over c.write_stretch.ensures.same kept; is_early = i.is_early }
+    let p = among g (goal.at.lines-preserved-then-goes_on g c).Else-found-early in
+    record { so_far = p; same = asked_over c.write_searched.ensures.same kept; is_early = i.is_early }
 
 pub lines-smaller-then-goes_on : goal.lines-smaller-then-goes_on
 lines-smaller-then-goes_on g c =
@@ -91,11 +114,6 @@ lines-smaller-then-goes_on g c =
     let i = c.lines.invariant in
     let held = c.next_held-stretch.ensures in
     let (before, all, d, n) = held.divided in
-    let kept = asked_over held.same i.same in
-    let later = divided_kept (same_sought held.same) d in
-    let few = stretch_spent (map g.M.LineMatch.expression c.next_held-stretch.new.searchers.matchers.now) _ c.lines.meter c.next_held-stretch.new.meter (sym held.same.same_matchers.same_expressions) d held.steps in
-    let spent = rw kept.same_matchers.same_expressions at (c.write_stretch.ensures.steps before all later c.lines.meter few) in
-    let took = rw (kept.same_matchers.same_expressions, c.number.ensures) at (c.in_ok-found.ensures.ok before all later) in
     let next = handed_passed c.lines.lines all n d.free g.R.CountedRead.remaining g.R.CountedRead.failures reader i.so_far.lines i.so_far.handed c.pass.new.self c.next_held-stretch.result.bytes d.width c.pass.ensures.passed in
     let some = line_within d (sym c.is_some-goes_on.ensures ∙ c.if-goes_on.true) in
     let on = numbers_on g.R.CountedRead.remaining g.R.CountedRead.failures es w.options w.many false w.name.now reader c.lines.lines c.pass.new.self _ _ _ _ c.lines.selected i.so_far all next in
@@ -104,26 +122,15 @@ lines-smaller-then-goes_on g c =
 pub search_line-requires : goal.search_line-requires
 search_line-requires g c =
     let held = c.next_held-stretch.ensures in
-    record { whole = c.write_stretch.ensures.same.same_whole ∙ held.same.same_whole ∙ c.lines.invariant.same.same_whole ∙ c.requires.whole }
+    record { whole = c.write_searched.ensures.same.same_whole ∙ held.same.same_whole ∙ c.lines.invariant.same.same_whole ∙ c.requires.whole }
 
 pub count_found-selected-requires : goal.count_found-selected-requires
 count_found-selected-requires g c =
     let w = c.args.request.now in
     let es = map g.M.LineMatch.expression c.args.searchers.now.matchers.now in
     let reader = c.args.lines.now.lines.reader in
-    let i = c.lines.invariant in
-    let held = c.next_held-stretch.ensures in
-    let (before, all, d, n) = held.divided in
-    let kept = asked_over held.same i.same in
-    let later = divided_kept (same_sought held.same) d in
-    let few = stretch_spent (map g.M.LineMatch.expression c.next_held-stretch.new.searchers.matchers.now) _ c.lines.meter c.next_held-stretch.new.meter (sym held.same.same_matchers.same_expressions) d held.steps in
-    let spent = rw kept.same_matchers.same_expressions at (c.write_stretch.ensures.steps before all later c.lines.meter few) in
-    let took = rw (kept.same_matchers.same_expressions, c.number.ensures) at (c.in_ok-found.ensures.ok before all later) in
-    let next = handed_passed c.lines.lines all n d.free g.R.CountedRead.remaining g.R.CountedRead.failures reader i.so_far.lines i.so_far.handed c.pass.new.self c.next_held-stretch.result.bytes d.width c.pass.ensures.passed in
-    let none = goes_on_with c.in_ok-found.found c.leaves_early-early.result (leaves_early w.options) i.is_early c.if-found-early.false in
-    let p = searched_among g.R.CountedRead.remaining g.R.CountedRead.failures es w.options w.many false w.name.now reader c.lines.lines c.pass.new.self _ _ _ _ c.lines.selected i.so_far all next _ _ c.requires.plain spent c.in_ok-found.found c.saturating_add-selected.result took c.saturating_add-selected.ensures none in
     let taken = rw c.in-Ok-None.field-0-is at c.in-Ok-None.ensures in
-    let s = searched_sent g.R.CountedRead.remaining g.R.CountedRead.failures es w.options w.many false w.name.now reader c.pass.new.self _ _ _ _ _ c.saturating_add-selected.result p (TakesAll-written g.W.CountedWrite.contents g.W.CountedWrite.failures _ c.take_next.new.out [] (taken reader p.lines p.handed).2) in
+    let s = sent g (goal.at.count_found-selected-requires g c).In-Ok-None (among g (goal.at.count_found-selected-requires g c).Else-found-early) in
     may_count g.R.CountedRead.remaining g.R.CountedRead.failures es w.options w.many false w.name.now reader c.pass.new.self c.take_next.new.lines _ _ _ _ c.saturating_add-selected.result s (taken reader s.lines s.handed).0
 
 pub lines-smaller : goal.lines-smaller
@@ -134,16 +141,9 @@ lines-smaller g c =
     let i = c.lines.invariant in
     let held = c.next_held-stretch.ensures in
     let (before, all, d, n) = held.divided in
-    let kept = asked_over held.same i.same in
-    let later = divided_kept (same_sought held.same) d in
-    let few = stretch_spent (map g.M.LineMatch.expression c.next_held-stretch.new.searchers.matchers.now) _ c.lines.meter c.next_held-stretch.new.meter (sym held.same.same_matchers.same_expressions) d held.steps in
-    let spent = rw kept.same_matchers.same_expressions at (c.write_stretch.ensures.steps before all later c.lines.meter few) in
-    let took = rw (kept.same_matchers.same_expressions, c.number.ensures) at (c.in_ok-found.ensures.ok before all later) in
     let next = handed_passed c.lines.lines all n d.free g.R.CountedRead.remaining g.R.CountedRead.failures reader i.so_far.lines i.so_far.handed c.pass.new.self c.next_held-stretch.result.bytes d.width c.pass.ensures.passed in
-    let none = goes_on_with c.in_ok-found.found c.leaves_early-early.result (leaves_early w.options) i.is_early c.if-found-early.false in
-    let p = searched_among g.R.CountedRead.remaining g.R.CountedRead.failures es w.options w.many false w.name.now reader c.lines.lines c.pass.new.self _ _ _ _ c.lines.selected i.so_far all next _ _ c.requires.plain spent c.in_ok-found.found c.saturating_add-selected.result took c.saturating_add-selected.ensures none in
     let taken = rw c.in-Ok-None.field-0-is at c.in-Ok-None.ensures in
-    let s = searched_sent g.R.CountedRead.remaining g.R.CountedRead.failures es w.options w.many false w.name.now reader c.pass.new.self _ _ _ _ _ c.saturating_add-selected.result p (TakesAll-written g.W.CountedWrite.contents g.W.CountedWrite.failures _ c.take_next.new.out [] (taken reader p.lines p.handed).2) in
+    let s = sent g (goal.at.lines-smaller g c).In-Ok-None (among g (goal.at.lines-smaller g c).Else-found-early) in
     let further = numbers_further g.R.CountedRead.remaining g.R.CountedRead.failures es w.options w.many false w.name.now reader c.lines.lines c.pass.new.self _ _ _ _ c.lines.selected i.so_far all next in
     omega (arith, further, fewer_left g.R.CountedRead.remaining g.R.CountedRead.failures es w.options w.many false w.name.now reader c.pass.new.self c.take_next.new.lines _ _ _ _ c.saturating_add-selected.result s (taken reader s.lines s.handed).0)
 
@@ -154,18 +154,10 @@ lines-preserved g c =
     let reader = c.args.lines.now.lines.reader in
     let i = c.lines.invariant in
     let held = c.next_held-stretch.ensures in
-    let (before, all, d, n) = held.divided in
     let kept = asked_over held.same i.same in
-    let later = divided_kept (same_sought held.same) d in
-    let few = stretch_spent (map g.M.LineMatch.expression c.next_held-stretch.new.searchers.matchers.now) _ c.lines.meter c.next_held-stretch.new.meter (sym held.same.same_matchers.same_expressions) d held.steps in
-    let spent = rw kept.same_matchers.same_expressions at (c.write_stretch.ensures.steps before all later c.lines.meter few) in
-    let took = rw (kept.same_matchers.same_expressions, c.number.ensures) at (c.in_ok-found.ensures.ok before all later) in
-    let next = handed_passed c.lines.lines all n d.free g.R.CountedRead.remaining g.R.CountedRead.failures reader i.so_far.lines i.so_far.handed c.pass.new.self c.next_held-stretch.result.bytes d.width c.pass.ensures.passed in
-    let none = goes_on_with c.in_ok-found.found c.leaves_early-early.result (leaves_early w.options) i.is_early c.if-found-early.false in
-    let p = searched_among g.R.CountedRead.remaining g.R.CountedRead.failures es w.options w.many false w.name.now reader c.lines.lines c.pass.new.self _ _ _ _ c.lines.selected i.so_far all next _ _ c.requires.plain spent c.in_ok-found.found c.saturating_add-selected.result took c.saturating_add-selected.ensures none in
     let taken = rw c.in-Ok-None.field-0-is at c.in-Ok-None.ensures in
-    let s = searched_sent g.R.CountedRead.remaining g.R.CountedRead.failures es w.options w.many false w.name.now reader c.pass.new.self _ _ _ _ _ c.saturating_add-selected.result p (TakesAll-written g.W.CountedWrite.contents g.W.CountedWrite.failures _ c.take_next.new.out [] (taken reader p.lines p.handed).2) in
-    let asked = asked_over c.write_stretch.ensures.same kept in
+    let s = sent g (goal.at.lines-preserved g c).In-Ok-None (among g (goal.at.lines-preserved g c).Else-found-early) in
+    let asked = asked_over c.write_searched.ensures.same kept in
     let took_line = rw asked.same_matchers.same_expressions at c.in_ok-found-2.ensures.ok in
     let spent_line = rw asked.same_matchers.same_expressions at c.in_ok-found-2.ensures.steps in
     let found = c.in_ok-found-2.found in
@@ -184,18 +176,10 @@ returns-then-found-early-2-clause-given g c =
     let reader = c.args.lines.now.lines.reader in
     let i = c.lines.invariant in
     let held = c.next_held-stretch.ensures in
-    let (before, all, d, n) = held.divided in
     let kept = asked_over held.same i.same in
-    let later = divided_kept (same_sought held.same) d in
-    let few = stretch_spent (map g.M.LineMatch.expression c.next_held-stretch.new.searchers.matchers.now) _ c.lines.meter c.next_held-stretch.new.meter (sym held.same.same_matchers.same_expressions) d held.steps in
-    let spent = rw kept.same_matchers.same_expressions at (c.write_stretch.ensures.steps before all later c.lines.meter few) in
-    let took = rw (kept.same_matchers.same_expressions, c.number.ensures) at (c.in_ok-found.ensures.ok before all later) in
-    let next = handed_passed c.lines.lines all n d.free g.R.CountedRead.remaining g.R.CountedRead.failures reader i.so_far.lines i.so_far.handed c.pass.new.self c.next_held-stretch.result.bytes d.width c.pass.ensures.passed in
-    let none = goes_on_with c.in_ok-found.found c.leaves_early-early.result (leaves_early w.options) i.is_early c.if-found-early.false in
-    let p = searched_among g.R.CountedRead.remaining g.R.CountedRead.failures es w.options w.many false w.name.now reader c.lines.lines c.pass.new.self _ _ _ _ c.lines.selected i.so_far all next _ _ c.requires.plain spent c.in_ok-found.found c.saturating_add-selected.result took c.saturating_add-selected.ensures none in
     let taken = rw c.in-Ok-None.field-0-is at c.in-Ok-None.ensures in
-    let s = searched_sent g.R.CountedRead.remaining g.R.CountedRead.failures es w.options w.many false w.name.now reader c.pass.new.self _ _ _ _ _ c.saturating_add-selected.result p (TakesAll-written g.W.CountedWrite.contents g.W.CountedWrite.failures _ c.take_next.new.out [] (taken reader p.lines p.handed).2) in
-    let asked = asked_over c.write_stretch.ensures.same kept in
+    let s = sent g (goal.at.returns-then-found-early-2-clause-given g c).In-Ok-None (among g (goal.at.returns-then-found-early-2-clause-given g c).Else-found-early) in
+    let asked = asked_over c.write_searched.ensures.same kept in
     let took_line = rw asked.same_matchers.same_expressions at c.in_ok-found-2.ensures.ok in
     let spent_line = rw asked.same_matchers.same_expressions at c.in_ok-found-2.ensures.steps in
     leaves_at g.R.CountedRead.remaining g.R.CountedRead.failures es w.options w.many false w.name.now reader c.pass.new.self c.take_next.new.lines _ _ _ _ c.saturating_add-selected.result s (taken reader s.lines s.handed).0 _ _
@@ -208,18 +192,10 @@ returns-in_err-found-2-clause-given g c =
     let reader = c.args.lines.now.lines.reader in
     let i = c.lines.invariant in
     let held = c.next_held-stretch.ensures in
-    let (before, all, d, n) = held.divided in
     let kept = asked_over held.same i.same in
-    let later = divided_kept (same_sought held.same) d in
-    let few = stretch_spent (map g.M.LineMatch.expression c.next_held-stretch.new.searchers.matchers.now) _ c.lines.meter c.next_held-stretch.new.meter (sym held.same.same_matchers.same_expressions) d held.steps in
-    let spent = rw kept.same_matchers.same_expressions at (c.write_stretch.ensures.steps before all later c.lines.meter few) in
-    let took = rw (kept.same_matchers.same_expressions, c.number.ensures) at (c.in_ok-found.ensures.ok before all later) in
-    let next = handed_passed c.lines.lines all n d.free g.R.CountedRead.remaining g.R.CountedRead.failures reader i.so_far.lines i.so_far.handed c.pass.new.self c.next_held-stretch.result.bytes d.width c.pass.ensures.passed in
-    let none = goes_on_with c.in_ok-found.found c.leaves_early-early.result (leaves_early w.options) i.is_early c.if-found-early.false in
-    let p = searched_among g.R.CountedRead.remaining g.R.CountedRead.failures es w.options w.many false w.name.now reader c.lines.lines c.pass.new.self _ _ _ _ c.lines.selected i.so_far all next _ _ c.requires.plain spent c.in_ok-found.found c.saturating_add-selected.result took c.saturating_add-selected.ensures none in
     let taken = rw c.in-Ok-None.field-0-is at c.in-Ok-None.ensures in
-    let s = searched_sent g.R.CountedRead.remaining g.R.CountedRead.failures es w.options w.many false w.name.now reader c.pass.new.self _ _ _ _ _ c.saturating_add-selected.result p (TakesAll-written g.W.CountedWrite.contents g.W.CountedWrite.failures _ c.take_next.new.out [] (taken reader p.lines p.handed).2) in
-    let asked = asked_over c.write_stretch.ensures.same kept in
+    let s = sent g (goal.at.returns-in_err-found-2-clause-given g c).In-Ok-None (among g (goal.at.returns-in_err-found-2-clause-given g c).Else-found-early) in
+    let asked = asked_over c.write_searched.ensures.same kept in
     let broke_line = rw asked.same_matchers.same_expressions at c.in_err-found-2.ensures.err in
     let spent_line = rw asked.same_matchers.same_expressions at c.in_err-found-2.ensures.steps in
     breaks_with g.R.CountedRead.remaining g.R.CountedRead.failures g.W.CountedWrite.contents g.W.CountedWrite.failures es w.options w.many false w.name.now reader c.take_next.new.lines _ c.search_line.new.out _ _ c.from_residual-in_err-found-2.result c.from_residual-in_err-found-2.ensures.1
@@ -231,18 +207,8 @@ returns-in-Ok-Some-clause-given g c =
     let w = c.args.request.now in
     let es = map g.M.LineMatch.expression c.args.searchers.now.matchers.now in
     let reader = c.args.lines.now.lines.reader in
-    let i = c.lines.invariant in
-    let held = c.next_held-stretch.ensures in
-    let (before, all, d, n) = held.divided in
-    let kept = asked_over held.same i.same in
-    let later = divided_kept (same_sought held.same) d in
-    let few = stretch_spent (map g.M.LineMatch.expression c.next_held-stretch.new.searchers.matchers.now) _ c.lines.meter c.next_held-stretch.new.meter (sym held.same.same_matchers.same_expressions) d held.steps in
-    let spent = rw kept.same_matchers.same_expressions at (c.write_stretch.ensures.steps before all later c.lines.meter few) in
-    let took = rw (kept.same_matchers.same_expressions, c.number.ensures) at (c.in_ok-found.ensures.ok before all later) in
-    let next = handed_passed c.lines.lines all n d.free g.R.CountedRead.remaining g.R.CountedRead.failures reader i.so_far.lines i.so_far.handed c.pass.new.self c.next_held-stretch.result.bytes d.width c.pass.ensures.passed in
-    let none = goes_on_with c.in_ok-found.found c.leaves_early-early.result (leaves_early w.options) i.is_early c.if-found-early.false in
-    let p = searched_among g.R.CountedRead.remaining g.R.CountedRead.failures es w.options w.many false w.name.now reader c.lines.lines c.pass.new.self _ _ _ _ c.lines.selected i.so_far all next _ _ c.requires.plain spent c.in_ok-found.found c.saturating_add-selected.result took c.saturating_add-selected.ensures none in
-    ends_as g.R.CountedRead.remaining g.R.CountedRead.failures g.W.CountedWrite.contents g.W.CountedWrite.failures es w.options w.many false w.name.now reader c.take_next.new.lines _ c.take_next.new.out _ _ c.write_stretch.new.out p.lines c.saturating_add-selected.result p.wrote p.none_early p.steps c.in-Ok-Some.end
+    let p = among g (goal.at.returns-in-Ok-Some-clause-given g c).Else-found-early in
+    ends_as g.R.CountedRead.remaining g.R.CountedRead.failures g.W.CountedWrite.contents g.W.CountedWrite.failures es w.options w.many false w.name.now reader c.take_next.new.lines _ c.take_next.new.out _ _ c.write_searched.new.out p.lines c.saturating_add-selected.result p.wrote p.none_early p.steps c.in-Ok-Some.end
     ((rw c.in-Ok-Some.field-0-is at c.in-Ok-Some.ensures) reader p.lines p.handed)
 
 pub returns-in-Err-clause-given : goal.returns-in-Err-clause-given
@@ -250,16 +216,6 @@ returns-in-Err-clause-given g c =
     let w = c.args.request.now in
     let es = map g.M.LineMatch.expression c.args.searchers.now.matchers.now in
     let reader = c.args.lines.now.lines.reader in
-    let i = c.lines.invariant in
-    let held = c.next_held-stretch.ensures in
-    let (before, all, d, n) = held.divided in
-    let kept = asked_over held.same i.same in
-    let later = divided_kept (same_sought held.same) d in
-    let few = stretch_spent (map g.M.LineMatch.expression c.next_held-stretch.new.searchers.matchers.now) _ c.lines.meter c.next_held-stretch.new.meter (sym held.same.same_matchers.same_expressions) d held.steps in
-    let spent = rw kept.same_matchers.same_expressions at (c.write_stretch.ensures.steps before all later c.lines.meter few) in
-    let took = rw (kept.same_matchers.same_expressions, c.number.ensures) at (c.in_ok-found.ensures.ok before all later) in
-    let next = handed_passed c.lines.lines all n d.free g.R.CountedRead.remaining g.R.CountedRead.failures reader i.so_far.lines i.so_far.handed c.pass.new.self c.next_held-stretch.result.bytes d.width c.pass.ensures.passed in
-    let none = goes_on_with c.in_ok-found.found c.leaves_early-early.result (leaves_early w.options) i.is_early c.if-found-early.false in
-    let p = searched_among g.R.CountedRead.remaining g.R.CountedRead.failures es w.options w.many false w.name.now reader c.lines.lines c.pass.new.self _ _ _ _ c.lines.selected i.so_far all next _ _ c.requires.plain spent c.in_ok-found.found c.saturating_add-selected.result took c.saturating_add-selected.ensures none in
-    stops_as g.R.CountedRead.remaining g.R.CountedRead.failures g.W.CountedWrite.contents g.W.CountedWrite.failures es w.options w.many false w.name.now reader c.take_next.new.lines _ c.take_next.new.out _ _ c.write_stretch.new.out p.lines c.saturating_add-selected.result p.wrote p.none_early p.steps c.in-Err.fault
+    let p = among g (goal.at.returns-in-Err-clause-given g c).Else-found-early in
+    stops_as g.R.CountedRead.remaining g.R.CountedRead.failures g.W.CountedWrite.contents g.W.CountedWrite.failures es w.options w.many false w.name.now reader c.take_next.new.lines _ c.take_next.new.out _ _ c.write_searched.new.out p.lines c.saturating_add-selected.result p.wrote p.none_early p.steps c.in-Err.fault
     (c.in-Err.ensures reader p.lines p.handed)

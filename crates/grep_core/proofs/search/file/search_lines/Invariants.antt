@@ -1,7 +1,5 @@
 use Rattle.std.proofs.Common.{◌≡◌, ◌-◌, ◌^◌, map, false}
-use Rattle.re_search.specs.Working.Asking.{SameSearchers}
-use Rattle.grep_core.specs.Run.{writer}
-use Rattle.grep_core.specs.Working.Searched.{leaves_early}
+use Rattle.grep_core.proofs.Words.{SameSearchers, writer, leaves_early}
 use Rattle.grep_core.proofs.lemmas.LinesLemmas.{SearchedSoFar}
 use Rattle.grep_core.proofs.search.file.search_lines.Given as goal
 

@@ -1,12 +1,9 @@
 use Rattle.std.proofs.Common.{◌≡◌, ◌+◌, ◌∷◌, ◌++◌, List, [], length, take, refl, sym, ap, ◌∙◌, subst, arith, append_assoc, length-append}
 use Rattle.std.proofs.lemmas.List.Elements.{All-nil}
-use Rattle.re_syntax.specs.Bytes.{Text}
-use Rattle.re_syntax.specs.Lines.{lines_of, terminated, HasNoNewline}
-use Rattle.re_search.specs.Working.Asking.{sought_by}
-use Rattle.re_search.specs.Working.Sought.{Sought, IsSought}
+use Rattle.grep_core.proofs.Words.{Text, lines_of, terminated, HasNoNewline, sought_by, Sought, IsSought}
 use Rattle.re_search.proofs.lemmas.NextLines.{block_lines, free_lines}
 use Rattle.grep_io.proofs.lemmas.PassedLemmas.{count_block, count_lines}
-use Rattle.grep_core.proofs.lemmas.StretchLemmas.{lines_within, first_bytes, before_bytes, line_bytes, end_bytes, free_up_to, free_before}
+use Rattle.grep_core.proofs.lemmas.SearchedBlockLemmas.{lines_within, first_bytes, before_bytes, line_bytes, end_bytes, free_up_to, free_before}
 use Rattle.grep_core.proofs.search.held.next_held.Goals as goal
 
 pub returns-then-not-may_number-clause-divided : goal.returns-then-not-may_number-clause-divided

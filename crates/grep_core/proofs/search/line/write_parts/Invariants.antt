@@ -1,8 +1,5 @@
 use Rattle.std.proofs.Common.{◌-◌, map, length}
-use Rattle.re_search.specs.Working.Asking.{SameSearchers, sought_by}
-use Rattle.re_search.specs.Working.Courses.{HasTaken, IsCourseOf}
-use Rattle.grep_core.specs.Run.{writer}
-use Rattle.grep_core.specs.Cost.{search_cost}
+use Rattle.grep_core.proofs.Words.{SameSearchers, sought_by, HasTaken, IsCourseOf, writer, search_cost}
 use Rattle.grep_core.proofs.lemmas.PartsLemmas.{PartsSoFar}
 use Rattle.grep_core.proofs.search.line.write_parts.Given as goal
 

@@ -1,8 +1,7 @@
 use Rattle.std.proofs.Common.{◌+◌, ◌*◌, ◌-◌, length, sym, ap, ◌∙◌, arith}
-use Rattle.memchr.specs.Find.{is_byte, places_between}
+use Rattle.grep_io.proofs.Words.{is_byte, places_between, newline}
 use Rattle.memchr.proofs.lemmas.PlaceLemmas.{places_between-none, length-places_from}
 use Rattle.grep_io.proofs.lemmas.NewlineLanes.{places_joined}
-use Rattle.re_syntax.specs.Lines.{newline}
 use Rattle.grep_io.proofs.input.newlines.count_newlines.Goals as goal
 
 pub portions-init : goal.portions-init

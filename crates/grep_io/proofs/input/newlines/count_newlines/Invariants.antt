@@ -1,6 +1,5 @@
 use Rattle.std.proofs.Common.{◌≡◌, ◌-◌, ◌≤◌, length}
-use Rattle.memchr.specs.Find.{is_byte, places_between}
-use Rattle.re_syntax.specs.Lines.{newline}
+use Rattle.grep_io.proofs.Words.{is_byte, places_between, newline}
 use Rattle.grep_io.proofs.input.newlines.count_newlines.Given as goal
 
 abbrev pub invariant-portions : goal.invariant-portions

@@ -1,8 +1,7 @@
 use Rattle.std.proofs.Common.{◌≡◌, ℕ, map, replicate, eqb, ◌==◌, if◌then◌else◌, take, drop, sym, subst, w8}
 use Rattle.std.proofs.lemmas.Simd.{tops_compared, length-chunk}
-use Rattle.std.specs.Simd.Lanes.{sel_l}
+use Rattle.grep_io.proofs.Words.{sel_l, newline}
 use Rattle.grep_io.proofs.lemmas.NewlineLanes.{ones_at}
-use Rattle.re_syntax.specs.Lines.{newline}
 use Rattle.grep_io.proofs.input.newlines.newlines_at.Goals as goal
 
 pub returns : goal.returns

@@ -1,7 +1,5 @@
 use Rattle.std.proofs.Common.{◌≡◌, ◌+◌, ◌*◌, ◌≤◌, length}
-use Rattle.std.specs.Simd.Lanes.{Each1, sum_l}
-use Rattle.memchr.specs.Find.{is_byte, places_between}
-use Rattle.re_syntax.specs.Lines.{newline}
+use Rattle.grep_io.proofs.Words.{Each1, sum_l, is_byte, places_between, newline}
 use Rattle.grep_io.proofs.input.newlines.newlines_in_vectors.Given as goal
 
 abbrev pub invariant-vectors : goal.invariant-vectors

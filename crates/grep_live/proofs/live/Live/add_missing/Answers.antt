@@ -1,8 +1,5 @@
 use Rattle.std.proofs.Common.{subst}
-use Rattle.grep_session.specs.Edits.{AddMissing, missing_file}
-use Rattle.grep_live.specs.Marks.{Watched}
-use Rattle.grep_live.specs.Following.{Carries}
-use Rattle.grep_live.specs.Working.Live.{watched_of}
+use Rattle.grep_live.proofs.Words.{AddMissing, missing_file, Watched, Carries, watched_of}
 use Rattle.grep_live.proofs.lemmas.CarryLemmas.{added_missing, marked_last}
 use Rattle.grep_live.proofs.live.Live.add_missing.Goals as goal
 

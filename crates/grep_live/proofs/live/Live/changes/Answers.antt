@@ -1,17 +1,5 @@
 use Rattle.std.proofs.Common.{◌≡◌, List, Ok, Err, refl, sym, subst, ap}
-use Rattle.re_syntax.specs.Expression.{Expression}
-use Rattle.grep_io.specs.declared.devices.counted.WriteFault.{WriteFault}
-use Rattle.grep_core.specs.Output.{written}
-use Rattle.grep_core.specs.Written.{GoesOut, StopsWithin}
-use Rattle.grep_live.specs.declared.mark.Mark.{Mark}
-use Rattle.grep_live.specs.Lists.{AllThree}
-use Rattle.grep_live.specs.Changes.{Change, IsChange}
-use Rattle.grep_live.specs.Marks.{Watched}
-use Rattle.grep_live.specs.Rows.{changes_rows}
-use Rattle.grep_live.specs.Writing.{WritesChanges, all_known}
-use Rattle.grep_live.specs.Working.Fits.{AreFit}
-use Rattle.grep_live.specs.Working.Live.{watched_of}
-use Rattle.grep_live.specs.Working.Listing.{Mean}
+use Rattle.grep_live.proofs.Words.{Expression, WriteFault, written, GoesOut, StopsWithin, Mark, AllThree, Change, IsChange, Watched, changes_rows, WritesChanges, all_known, AreFit, watched_of, Mean}
 use Rattle.grep_live.proofs.lemmas.CarryLemmas.{as_many}
 use Rattle.grep_live.proofs.lemmas.CatchLemmas.{writes_all, known_fit}
 use Rattle.grep_live.proofs.live.Live.changes.Goals as goal

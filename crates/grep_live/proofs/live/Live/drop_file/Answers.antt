@@ -1,8 +1,5 @@
 use Rattle.std.proofs.Common.{Ok, arith, subst}
-use Rattle.grep_session.specs.Edits.{DropFile}
-use Rattle.grep_live.specs.Marks.{Watched}
-use Rattle.grep_live.specs.Following.{Carries}
-use Rattle.grep_live.specs.Working.Live.{watched_of}
+use Rattle.grep_live.proofs.Words.{DropFile, Watched, Carries, watched_of}
 use Rattle.grep_live.proofs.lemmas.CarryLemmas.{as_many, carried, dropped_inside}
 use Rattle.grep_live.proofs.live.Live.drop_file.Goals as goal
 

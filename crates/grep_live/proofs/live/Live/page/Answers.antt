@@ -1,7 +1,5 @@
 use Rattle.std.proofs.Common.{Ok, Err, refl, subst}
-use Rattle.grep_io.specs.declared.devices.counted.WriteFault.{WriteFault}
-use Rattle.grep_live.specs.Marks.{Watched}
-use Rattle.grep_live.specs.Writing.{WritesPage}
+use Rattle.grep_live.proofs.Words.{WriteFault, Watched, WritesPage}
 use Rattle.grep_live.proofs.lemmas.PageLemmas.{shows_page}
 use Rattle.grep_live.proofs.live.Live.page.Goals as goal
 

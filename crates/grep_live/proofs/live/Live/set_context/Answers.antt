@@ -1,8 +1,5 @@
 use Rattle.std.proofs.Common.{Ok, refl, subst}
-use Rattle.grep_session.specs.Edits.{SetContext}
-use Rattle.grep_live.specs.Marks.{Watched}
-use Rattle.grep_live.specs.Following.{Carries}
-use Rattle.grep_live.specs.Working.Live.{watched_of}
+use Rattle.grep_live.proofs.Words.{SetContext, Watched, Carries, watched_of}
 use Rattle.grep_live.proofs.lemmas.CarryLemmas.{carried}
 use Rattle.grep_live.proofs.live.Live.set_context.Goals as goal
 

@@ -1,8 +1,5 @@
 use Rattle.std.proofs.Common.{Ok, inl, inr, refl, subst}
-use Rattle.grep_session.specs.Edits.{SetSyntax, Applies}
-use Rattle.grep_live.specs.Marks.{Watched}
-use Rattle.grep_live.specs.Following.{Carries}
-use Rattle.grep_live.specs.Working.Live.{watched_of}
+use Rattle.grep_live.proofs.Words.{SetSyntax, Applies, Watched, Carries, watched_of}
 use Rattle.grep_live.proofs.lemmas.CarryLemmas.{carried}
 use Rattle.grep_live.proofs.live.Live.set_syntax.Goals as goal
 

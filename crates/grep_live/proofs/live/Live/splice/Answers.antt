@@ -1,16 +1,12 @@
-use Rattle.std.proofs.Common.{◌≡◌, ◌∙◌, ℕ, ◌+◌, ◌-◌, Ok, length, map, ap, arith, slice_set, subst}
-use Rattle.grep_core.specs.Run.{file_at}
-use Rattle.grep_session.specs.Edits.{Splice}
-use Rattle.grep_live.specs.Marks.{Watched, touched, mark_at}
-use Rattle.grep_live.specs.Following.{Carries}
-use Rattle.grep_live.specs.Working.Live.{watched_of}
+use Rattle.std.proofs.Common.{◌≡◌, ◌∙◌, ℕ, ◌+◌, ◌-◌, Ok, length, ap, arith, slice_set, subst}
+use Rattle.grep_live.proofs.Words.{file_at, Splice, Watched, touched, mark_at, Carries, watched_of}
 use Rattle.grep_live.proofs.lemmas.CarryLemmas.{as_many, carried, splice_accepted}
 use Rattle.grep_live.proofs.live.Live.splice.Goals as goal
 
 pub touch-requires : goal.touch-requires
 touch-requires c =
     let s = c.self.inside in
-    let lines = map (λ line. line.items) c.args.lines.items in
+    let lines = c.args.lines in
     let put = splice_accepted c.args.k c.args.start c.args.count lines s.session c.splice.new.self c.in-Ok.ensures.gives in
     omega (arith, put.inside, as_many s.session.files s.marks.items c.self.invariant)
 
@@ -18,7 +14,7 @@ pub invariant_of-self-2 : goal.invariant_of-self-2
 invariant_of-self-2 c =
     let s = c.self.inside in
     let k = c.args.k in
-    let lines = map (λ line. line.items) c.args.lines.items in
+    let lines = c.args.lines in
     let old = s.marks.items in
     let same : c.saturating_sub-back.result ≡ length (file_at s.session.files k).lines - (c.args.start + c.args.count) = omega (arith, c.line_count.ensures, c.saturating_sub-after.ensures, c.saturating_sub-back.ensures) in
     let marks = c.touch.ensures ∙ ap (λ (n : ℕ). slice_set old k (touched c.args.start n (mark_at old k))) same in
@@ -29,7 +25,7 @@ pub returns-clause-carries : goal.returns-clause-carries
 returns-clause-carries c =
     let s = c.self.inside in
     let k = c.args.k in
-    let lines = map (λ line. line.items) c.args.lines.items in
+    let lines = c.args.lines in
     let old = s.marks.items in
     let same : c.saturating_sub-back.result ≡ length (file_at s.session.files k).lines - (c.args.start + c.args.count) = omega (arith, c.line_count.ensures, c.saturating_sub-after.ensures, c.saturating_sub-back.ensures) in
     let marks = c.touch.ensures ∙ ap (λ (n : ℕ). slice_set old k (touched c.args.start n (mark_at old k))) same in

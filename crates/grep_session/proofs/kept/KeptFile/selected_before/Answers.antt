@@ -1,6 +1,5 @@
 use Rattle.std.proofs.Common.{ap}
-use Rattle.line_chunks.specs.Working.Chunks.{all_of}
-use Rattle.std.specs.Option.{option_map}
+use Rattle.grep_session.proofs.Words.{all_of, option_map}
 use Rattle.grep_session.proofs.lemmas.CountLemmas.{file_counted}
 use Rattle.grep_session.proofs.kept.KeptFile.selected_before.Goals as goal
 

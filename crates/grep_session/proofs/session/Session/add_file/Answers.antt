@@ -1,28 +1,44 @@
-use Rattle.std.proofs.Common.{map, inr, refl, List, subst}
-use Rattle.re_syntax.specs.Bytes.{Text}
-use Rattle.grep_session.specs.Edits.{AddFile, EditGives}
-use Rattle.grep_session.specs.Touched.{TakesSteps}
-use Rattle.grep_session.proofs.lemmas.EditLemmas.{newline_not_memory}
-use Rattle.grep_session.proofs.lemmas.StepLemmas.{takes_none}
+use Rattle.std.proofs.Common.{◌≡◌, Ok, All, map, inl, refl, ap, ◌∙◌, sym, subst, ◌++◌, ◌∷◌, []}
+use Rattle.std.proofs.lemmas.List.{map-append}
+use Rattle.std.proofs.lemmas.List.Elements.{All-push}
+use Rattle.grep_session.proofs.Words.{matched_expression, whole_file, with_files, IsFileKept, kept_file, inputs_of}
+use Rattle.grep_session.proofs.lemmas.EditLemmas.{asked_session, file_steps}
 use Rattle.grep_session.proofs.session.Session.add_file.Goals as goal
 
-pub returns-then-any_newline-clause-gives : goal.returns-then-any_newline-clause-gives
-returns-then-any_newline-clause-gives c = (inr (rw c.deref.ensures.value at c.if-any_newline.ensures, refl), refl)
+pub returns-in-Err-clause-steps : goal.returns-in-Err-clause-steps
+returns-in-Err-clause-steps c = rw (← c.self.view_is) (file_steps c.self.inside c.self.invariant _ c.search_new.ensures.free _ _ c.search_new.ensures.steps c.args.name.items)
 
-pub returns-then-any_newline-clause-steps : goal.returns-then-any_newline-clause-steps
-returns-then-any_newline-clause-steps c = takes_none (AddFile c.args.name.items (map (λ line. line.items) c.args.lines.items)) _ _
-
-pub returns-then-any_newline-clause-memory : goal.returns-then-any_newline-clause-memory
-returns-then-any_newline-clause-memory c = λ need. newline_not_memory
-
-pub returns-clause-gives : goal.returns-clause-gives
-returns-clause-gives c = subst (λ (lines : List Text). EditGives (AddFile c.args.name.items lines) c.args.self.now c.add_lines.new.self c.add_lines.result) (rw c.deref-2.ensures.value at c.in-Ok.ensures.ok) c.add_lines.ensures.gives
+pub returns-in-Err-push-clause-steps : goal.returns-in-Err-push-clause-steps
+returns-in-Err-push-clause-steps c = rw (← c.self.view_is) (file_steps c.self.inside c.self.invariant _ c.search_new.ensures.free _ _ c.search_new.ensures.steps c.args.name.items)
 
 pub returns-clause-steps : goal.returns-clause-steps
-returns-clause-steps c = subst (λ (lines : List Text). TakesSteps (AddFile c.args.name.items lines) c.args.self.now c.args.meter.now c.add_lines.new.meter) (rw c.deref-2.ensures.value at c.in-Ok.ensures.ok) c.add_lines.ensures.steps
+returns-clause-steps c = rw (← c.self.view_is) (file_steps c.self.inside c.self.invariant _ c.search_new.ensures.free _ _ c.search_new.ensures.steps c.args.name.items)
 
-pub returns-clause-memory : goal.returns-clause-memory
-returns-clause-memory c = λ newline. absurd (newline (rw c.deref.ensures.value at c.if-any_newline.ensures))
+pub invariant_of-self : goal.invariant_of-self
+invariant_of-self c = asked_session c.self.inside _ refl refl c.self.invariant c.search_new.ensures.same_matchers c.self.invariant.kept
 
-pub returns-in-Err-clause-steps : goal.returns-in-Err-clause-steps
-returns-in-Err-clause-steps c = takes_none (AddFile c.args.name.items (map (λ line. line.items) c.args.lines.items)) _ _
+pub invariant_of-self-in-Err-push : goal.invariant_of-self-in-Err-push
+invariant_of-self-in-Err-push c =
+    let s = c.self.inside in
+    asked_session s _ refl refl c.self.invariant c.search_new.ensures.same_matchers (subst (All (IsFileKept (map matched_expression s.matchers.items) s.options)) (sym c.in-Err-push.ensures.err) c.self.invariant.kept)
+
+pub invariant_of-self-2 : goal.invariant_of-self-2
+invariant_of-self-2 c =
+    let s = c.self.inside in
+    let Kept = IsFileKept (map matched_expression s.matchers.items) s.options in
+    asked_session s _ refl refl c.self.invariant c.search_new.ensures.same_matchers (subst (All Kept) (sym c.in-Ok-push.ensures.ok) (All-push Kept s.files.items _ c.self.invariant.kept c.in-Ok.ensures.ok))
+
+pub returns-in-Err-clause-memory : goal.returns-in-Err-clause-memory
+returns-in-Err-clause-memory c = λ newline. absurd (newline c.search_new.ensures.free)
+
+pub returns-in-Err-push-clause-memory : goal.returns-in-Err-push-clause-memory
+returns-in-Err-push-clause-memory c = λ newline. absurd (newline c.search_new.ensures.free)
+
+pub returns-clause-gives : goal.returns-clause-gives
+returns-clause-gives c =
+    let s = c.self.inside in
+    let old = inputs_of s in
+    let name = c.args.name.items in
+    let files : map kept_file c.push.new.all.items ≡ old.files ++ whole_file name c.args.lines ∷ [] =
+    ap (map kept_file) c.in-Ok-push.ensures.ok ∙ map-append kept_file s.files.items _ ∙ ap (λ lines. old.files ++ whole_file name lines ∷ []) c.in-Ok.ensures.texts in
+    rw (← c.self.view_is) (inl (c.search_new.ensures.free, ap (λ fs. Ok (with_files fs old)) files))

@@ -1,7 +1,6 @@
 use Rattle.std.proofs.Common.{All, refl, map, sym, subst}
 use Rattle.std.proofs.lemmas.List.Elements.{All-push}
-use Rattle.re_search.specs.Working.Matchers.{matched_expression}
-use Rattle.grep_session.specs.Working.Kept.{IsFileKept}
+use Rattle.grep_session.proofs.Words.{matched_expression, IsFileKept}
 use Rattle.grep_session.proofs.lemmas.EditLemmas.{asked_session}
 use Rattle.re_search.proofs.lemmas.KeptMatchers.{none_asked}
 use Rattle.grep_session.proofs.session.Session.add_missing.Goals as goal

@@ -1,16 +1,7 @@
 use Rattle.std.proofs.Common.{◌≡◌, ◌+◌, ◌≤◌, ◌<◌, ◌++◌, Ok, Err, length, map, inl, inr, refl, sym, ap, subst, ◌∙◌, arith, All}
 use Rattle.std.proofs.lemmas.List.{length-map, map-append}
-use Rattle.re_syntax.specs.Lines.{list_of}
-use Rattle.re_search.specs.Reading.{IsReadable}
-use Rattle.re_search.specs.Working.Matchers.{matched_expression, wants_whole, room_of}
+use Rattle.grep_session.proofs.Words.{list_of, IsReadable, matched_expression, wants_whole, room_of, AddPatterns, EditGives, with_patterns, most_patterns, IsFileKept, AreMatchers, RefusesFirst, SameMatchers, inputs_of}
 use Rattle.grep_core.proofs.lemmas.CostLaws.{same_length}
-use Rattle.grep_session.specs.Edits.{AddPatterns, EditGives, with_patterns}
-use Rattle.re_syntax.specs.Profile.{most_patterns}
-use Rattle.grep_session.specs.Working.Kept.{IsFileKept}
-use Rattle.grep_core.specs.Working.MatcherLists.{AreMatchers}
-use Rattle.grep_session.specs.Working.Reading.{RefusesFirst}
-use Rattle.re_search.specs.Searching.{SameMatchers}
-use Rattle.grep_session.specs.Working.Sessions.{inputs_of}
 use Rattle.grep_session.proofs.lemmas.EditLemmas.{AreMatchers-same, asked_session}
 use Rattle.grep_session.proofs.lemmas.StepLemmas.{takes_none}
 use Rattle.grep_session.proofs.lemmas.NewPatternLemmas.{are_added, bounded_off, not_too_many, refuses_new, takes_new}

@@ -1,6 +1,5 @@
 use Rattle.std.proofs.Common.{◌≤◌, ◌*◌, List, length, sym, subst}
-use Rattle.re_search.specs.Matcher.{Matcher}
-use Rattle.grep_session.specs.Working.Rooms.{KeepAtMost}
+use Rattle.grep_session.proofs.Words.{Matcher, KeepAtMost}
 use Rattle.grep_session.proofs.session.Session.cached.Goals as goal
 
 pub kept_by-requires : goal.kept_by-requires

@@ -1,10 +1,7 @@
 use Rattle.std.proofs.Common.{◌<◌, Ok, refl, All, inl, length, map, arith, ap, sym, subst}
 use Rattle.std.proofs.lemmas.List.{length-map}
-use Rattle.grep_session.specs.Edits.{with_files}
-use Rattle.re_search.specs.Working.Matchers.{matched_expression}
-use Rattle.grep_session.specs.Working.Kept.{IsFileKept, kept_file}
+use Rattle.grep_session.proofs.Words.{with_files, matched_expression, IsFileKept, kept_file, inputs_of}
 use Rattle.grep_session.proofs.lemmas.DroppingLemmas.{All-remove}
-use Rattle.grep_session.specs.Working.Sessions.{inputs_of}
 use Rattle.grep_session.proofs.lemmas.SessionLemmas.{map-remove}
 use Rattle.grep_session.proofs.lemmas.EditLemmas.{asked_session}
 use Rattle.re_search.proofs.lemmas.KeptMatchers.{none_asked}

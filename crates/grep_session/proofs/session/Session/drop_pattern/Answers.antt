@@ -1,7 +1,6 @@
 use Rattle.std.proofs.Common.{◌<◌, length, map, subst, arith}
 use Rattle.std.proofs.lemmas.List.{length-map}
-use Rattle.grep_core.specs.Files.{Inputs}
-use Rattle.grep_session.specs.Edits.{DropPattern}
+use Rattle.grep_session.proofs.Words.{Inputs, DropPattern}
 use Rattle.grep_session.proofs.lemmas.StepLemmas.{takes_none}
 use Rattle.grep_session.proofs.session.Session.drop_pattern.Goals as goal
 
@@ -11,8 +10,8 @@ drop_with_parts-requires c =
     let inside : c.args.p < length (map (λ text. text.items) texts) = omega (arith, length-map texts (λ text. text.items)) in
     record { within = subst (λ (i : Inputs). c.args.p < length i.patterns) c.self.view_is inside }
 
-pub drop_plain-requires-clause-within : goal.drop_plain-requires-clause-within
-drop_plain-requires-clause-within c =
+pub drop_without_parts-requires-clause-within : goal.drop_without_parts-requires-clause-within
+drop_without_parts-requires-clause-within c =
     let texts = c.self.inside.texts.items in
     let inside : c.args.p < length (map (λ text. text.items) texts) = omega (arith, length-map texts (λ text. text.items)) in
     subst (λ (i : Inputs). c.args.p < length i.patterns) c.self.view_is inside

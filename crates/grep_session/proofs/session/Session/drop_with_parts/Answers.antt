@@ -1,12 +1,7 @@
 use Rattle.std.proofs.Common.{◌≡◌, ◌+◌, ◌≤◌, ◌<◌, Ok, length, map, inl, refl, sym, subst, ◌∙◌, arith, All}
 use Rattle.std.proofs.lemmas.List.{length-map}
-use Rattle.re_search.specs.Working.Matchers.{matched_expression, wants_whole}
-use Rattle.re_search.specs.Searching.{AllAnswer}
-use Rattle.grep_core.specs.Files.{Inputs}
+use Rattle.grep_session.proofs.Words.{matched_expression, wants_whole, AllAnswer, Inputs, most_patterns, IsFileKept, inputs_of}
 use Rattle.grep_core.proofs.lemmas.CostLaws.{same_length}
-use Rattle.re_syntax.specs.Profile.{most_patterns}
-use Rattle.grep_session.specs.Working.Kept.{IsFileKept}
-use Rattle.grep_session.specs.Working.Sessions.{inputs_of}
 use Rattle.grep_session.proofs.lemmas.EditLemmas.{AreMatchers-same, asked_session}
 use Rattle.grep_session.proofs.lemmas.SessionLemmas.{map-remove}
 use Rattle.grep_session.proofs.lemmas.DroppingLemmas.{AreMatchers-remove, All-remove}

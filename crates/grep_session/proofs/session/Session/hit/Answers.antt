@@ -1,15 +1,6 @@
 use Rattle.std.proofs.Common.{◌≡◌, ◌<◌, List, [], length, map, get_or, MatchOption, All, sym, subst, ap}
-use Rattle.std.specs.Option.{option_map}
-use Rattle.re_syntax.specs.Expression.{Expression}
-use Rattle.re_search.specs.Working.Matchers.{matched_expression}
-use Rattle.grep_core.specs.Files.{Inputs, AreMeant, Selected}
-use Rattle.grep_core.specs.Run.{file_at}
+use Rattle.grep_session.proofs.Words.{option_map, Expression, matched_expression, Inputs, AreMeant, Selected, file_at, all_of, Hit, ListedParts, span_places, IsFileKept, inputs_of}
 use Rattle.grep_core.proofs.lemmas.LawsHold.{means_one}
-use Rattle.line_chunks.specs.Working.Chunks.{all_of}
-use Rattle.grep_session.specs.declared.hit.Hit.{Hit}
-use Rattle.grep_session.specs.Listed.{ListedParts}
-use Rattle.grep_session.specs.Working.Kept.{span_places, IsFileKept}
-use Rattle.grep_session.specs.Working.Sessions.{inputs_of}
 use Rattle.grep_session.proofs.lemmas.LookingLemmas.{has_no_line, line_inside, hit_listed}
 use Rattle.grep_session.proofs.session.Session.hit.Goals as goal
 

@@ -1,8 +1,5 @@
 use Rattle.std.proofs.Common.{map, subst}
-use Rattle.re_search.specs.Working.Matchers.{matched_expression}
-use Rattle.grep_session.specs.Headline.{ReportsAllInputs}
-use Rattle.grep_session.specs.Working.Report.{reported_from}
-use Rattle.grep_session.specs.Working.Sessions.{inputs_of}
+use Rattle.grep_session.proofs.Words.{matched_expression, ReportsAllInputs, reported_from, inputs_of}
 use Rattle.grep_session.proofs.lemmas.HeadlineLaws.{reports_all_inputs}
 use Rattle.grep_session.proofs.lemmas.KeptLaws.{kept_messages}
 use Rattle.grep_session.proofs.session.Session.messages.Goals as goal

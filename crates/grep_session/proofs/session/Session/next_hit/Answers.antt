@@ -1,12 +1,6 @@
 use Rattle.std.proofs.Common.{◌≡◌, List, map, All, ap, subst, ◌∙◌, length, get_or, ◌<◌, ◌≤◌, ℕ, []}
-use Rattle.re_syntax.specs.Expression.{Expression}
-use Rattle.re_search.specs.Working.Matchers.{matched_expression}
-use Rattle.grep_core.specs.Files.{File, Inputs, AreMeant, Selected}
-use Rattle.grep_core.specs.Run.{file_at}
+use Rattle.grep_session.proofs.Words.{Expression, matched_expression, File, Inputs, AreMeant, Selected, file_at, KeptFile, IsFileKept, inputs_of}
 use Rattle.grep_core.proofs.lemmas.LawsHold.{means_one}
-use Rattle.grep_session.specs.declared.kept.KeptFile.{KeptFile}
-use Rattle.grep_session.specs.Working.Kept.{IsFileKept}
-use Rattle.grep_session.specs.Working.Sessions.{inputs_of}
 use Rattle.grep_session.proofs.lemmas.CountLemmas.{file_there, kept_there}
 use Rattle.grep_session.proofs.session.Session.next_hit.Goals as goal
 

@@ -1,13 +1,6 @@
 use Rattle.std.proofs.Common.{◌≡◌, ◌≤◌, All, [], refl, Ok, map, inl, sym, ap, subst, ◌∙◌}
-use Rattle.re_search.specs.Working.Matchers.{matched_expression, wants_whole}
-use Rattle.re_search.specs.Searching.{AllAnswer}
-use Rattle.grep_core.specs.Files.{Inputs}
+use Rattle.grep_session.proofs.Words.{matched_expression, wants_whole, AllAnswer, Inputs, read_as, most_patterns, IsFileKept, inputs_of, all_lines}
 use Rattle.grep_core.proofs.lemmas.CostLaws.{same_length}
-use Rattle.grep_session.specs.Working.Again.{read_as}
-use Rattle.re_syntax.specs.Profile.{most_patterns}
-use Rattle.grep_session.specs.Working.Kept.{IsFileKept}
-use Rattle.grep_session.specs.Working.Sessions.{inputs_of}
-use Rattle.grep_session.specs.Touched.{all_lines}
 use Rattle.grep_session.proofs.lemmas.EditLemmas.{AreMatchers-same, asked_session}
 use Rattle.grep_session.proofs.lemmas.AllPatternsRead.{ready_files, AreMatchers-options}
 use Rattle.grep_session.proofs.lemmas.RoomLemmas.{keep_same}

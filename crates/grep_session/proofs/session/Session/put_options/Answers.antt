@@ -1,6 +1,5 @@
 use Rattle.std.proofs.Common.{◌≡◌, IsTrue, map, sym, ap, subst, ◌∙◌}
-use Rattle.re_search.specs.Working.Matchers.{matched_expression}
-use Rattle.grep_core.specs.Files.{Inputs}
+use Rattle.grep_session.proofs.Words.{matched_expression, Inputs}
 use Rattle.grep_session.proofs.lemmas.AllPatternsRead.{kept_files, AreMatchers-options}
 use Rattle.grep_session.proofs.session.Session.put_options.Goals as goal
 

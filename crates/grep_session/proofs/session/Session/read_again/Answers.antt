@@ -1,11 +1,6 @@
 use Rattle.std.proofs.Common.{◌≡◌, ◌≤◌, All, Ok, Err, [], refl, length, map, inl, sym, ap, subst, ◌∙◌}
-use Rattle.re_search.specs.Working.Matchers.{matched_expression}
+use Rattle.grep_session.proofs.Words.{matched_expression, ReadsAgain, read_as, most_patterns, IsFileKept, inputs_of, all_lines}
 use Rattle.grep_core.proofs.lemmas.CostLaws.{same_length}
-use Rattle.grep_session.specs.Working.Again.{ReadsAgain, read_as}
-use Rattle.re_syntax.specs.Profile.{most_patterns}
-use Rattle.grep_session.specs.Working.Kept.{IsFileKept}
-use Rattle.grep_session.specs.Working.Sessions.{inputs_of}
-use Rattle.grep_session.specs.Touched.{all_lines}
 use Rattle.grep_session.proofs.lemmas.EditLemmas.{AreMatchers-same, asked_session}
 use Rattle.grep_session.proofs.lemmas.AllPatternsRead.{refuses_again}
 use Rattle.grep_session.proofs.lemmas.ChangeLemmas.{anew_files}

@@ -1,7 +1,5 @@
 use Rattle.std.proofs.Common.{map, subst}
-use Rattle.re_search.specs.Working.Matchers.{matched_expression}
-use Rattle.grep_session.specs.Headline.{ReportsInputs}
-use Rattle.grep_session.specs.Working.Sessions.{inputs_of}
+use Rattle.grep_session.proofs.Words.{matched_expression, ReportsInputs, inputs_of}
 use Rattle.grep_session.proofs.lemmas.HeadlineLaws.{reports_inputs}
 use Rattle.grep_session.proofs.lemmas.KeptLaws.{files_fit}
 use Rattle.grep_session.proofs.session.Session.report.Goals as goal

@@ -1,12 +1,6 @@
 use Rattle.std.proofs.Common.{◌≡◌, Ok, All, length, inl, inr, refl, sym, ap, subst, ◌∙◌}
 use Rattle.std.proofs.lemmas.Bool.{false≢true}
-use Rattle.std.specs.Cmp.{booleans_Decides}
-use Rattle.re_search.specs.Reading.{IsReadable}
-use Rattle.grep_core.specs.Files.{Inputs}
-use Rattle.grep_session.specs.Working.Again.{ReadsAgain, AreReadable, read_as}
-use Rattle.grep_session.specs.Edits.{Edit, SetFlag, Applies, option_of, with_option}
-use Rattle.grep_session.specs.Working.Sessions.{inputs_of}
-use Rattle.grep_session.specs.Touched.{TakesSteps, Touches, searched_by, parts_alone, all_lines, touched_by_flag}
+use Rattle.grep_session.proofs.Words.{booleans_Decides, IsReadable, Inputs, ReadsAgain, AreReadable, read_as, Edit, SetFlag, Applies, option_of, with_option, inputs_of, TakesSteps, Touches, searched_by, parts_alone, all_lines, touched_by_flag}
 use Rattle.grep_session.proofs.lemmas.AllPatternsRead.{sets_flag, applies_same, applies_flag}
 use Rattle.grep_session.proofs.lemmas.StepLemmas.{takes_none}
 use Rattle.grep_session.proofs.session.Session.set_flag.Goals as goal

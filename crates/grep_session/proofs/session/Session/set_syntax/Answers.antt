@@ -1,10 +1,5 @@
 use Rattle.std.proofs.Common.{◌≡◌, Ok, All, length, inl, inr, refl, sym, ap, subst, ◌∙◌}
-use Rattle.re_search.specs.Reading.{IsReadable}
-use Rattle.grep_core.specs.Files.{Inputs}
-use Rattle.grep_session.specs.Working.Again.{ReadsAgain, AreReadable, read_as}
-use Rattle.grep_session.specs.Edits.{Edit, SetSyntax, Applies}
-use Rattle.grep_session.specs.Touched.{TakesSteps, Touches, searched_by, all_lines}
-use Rattle.grep_session.specs.Working.Sessions.{inputs_of}
+use Rattle.grep_session.proofs.Words.{IsReadable, Inputs, ReadsAgain, AreReadable, read_as, Edit, SetSyntax, Applies, TakesSteps, Touches, searched_by, all_lines, inputs_of}
 use Rattle.grep_session.proofs.lemmas.AllPatternsRead.{sets_syntax}
 use Rattle.grep_session.proofs.lemmas.StepLemmas.{takes_none}
 use Rattle.grep_session.proofs.session.Session.set_syntax.Goals as goal

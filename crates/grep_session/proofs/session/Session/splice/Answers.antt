@@ -1,50 +1,91 @@
-use Rattle.std.proofs.Common.{List, map, refl, sym, subst, ◌∙◌}
-use Rattle.re_syntax.specs.Bytes.{Text}
-use Rattle.grep_core.specs.Files.{Inputs}
-use Rattle.grep_session.specs.Edits.{Splice, EditGives, HasPlace}
-use Rattle.grep_session.specs.Touched.{TakesSteps, NeedsNoMemory}
-use Rattle.grep_session.specs.Working.Sessions.{inputs_of}
-use Rattle.grep_session.proofs.lemmas.EditLemmas.{refuses_splice, needs_for_lines, newline_not_memory, empty_map}
+use Rattle.std.proofs.Common.{◌≡◌, Ok, IfSome, map, refl, sym, subst, ◌∙◌, ap, get_or, All, arith}
+use Rattle.grep_session.proofs.Words.{matched_expression, KeptFile, Splice, Applies, spliced, with_files, IsKept, IsFileKept, kept_lines, all_of, line_text, inputs_of}
+use Rattle.grep_session.proofs.lemmas.EditLemmas.{asked_session, splice_steps, applies_splice, in_kept, put, kept_put, files_put, files_same, files_kept, needs_for_lines, empty_map}
 use Rattle.grep_session.proofs.lemmas.StepLemmas.{takes_none}
 use Rattle.grep_session.proofs.session.Session.splice.Goals as goal
 
-pub returns-then-any_newline-clause-gives : goal.returns-then-any_newline-clause-gives
-returns-then-any_newline-clause-gives c =
-    let s = c.self.inside in
-    let old = inputs_of s in
-    let lines = map (λ line. line.items) c.args.lines.items in
-    let newline = rw c.deref-2.ensures.value at c.if-any_newline.ensures in
-    let place = rw c.deref.ensures.value at c.in-Ok.ensures.place in
-    rw (← c.self.view_is) (refuses_splice old _ _ _ lines place newline, refl)
+pub returns-in-Err-clause-steps : goal.returns-in-Err-clause-steps
+returns-in-Err-clause-steps c = takes_none (Splice c.args.k c.args.start c.args.count c.args.lines) _ _
 
-pub returns-then-any_newline-clause-memory : goal.returns-then-any_newline-clause-memory
-returns-then-any_newline-clause-memory c = λ need. newline_not_memory
+pub returns-in-Err-search_new-clause-steps : goal.returns-in-Err-search_new-clause-steps
+returns-in-Err-search_new-clause-steps c = rw (← c.self.view_is) (splice_steps c.self.inside c.self.invariant _ c.search_new.ensures.free _ _ c.search_new.ensures.steps _ _ _ (rw c.deref.ensures.value at c.in-Ok.ensures.place))
 
-pub returns-in-Err-copies_of-clause-memory : goal.returns-in-Err-copies_of-clause-memory
-returns-in-Err-copies_of-clause-memory c =
-    let old = inputs_of c.self.inside in
-    let lines = map (λ line. line.items) c.args.lines.items in
-    let none = rw c.deref-2.ensures.value at c.if-any_newline.ensures in
-    let place = rw c.deref.ensures.value at c.in-Ok.ensures.place in
-    rw (← c.self.view_is) (λ need. absurd (needs_for_lines old c.args.k c.args.start c.args.count lines place none (λ empty. c.in-Err-copies_of.ensures.memory (c.deref-3.ensures.value ∙ empty_map (λ line. line.items) c.args.lines.items empty)) need))
-
-pub put_lines-requires : goal.put_lines-requires
-put_lines-requires c = record { place = subst (λ (i : Inputs). HasPlace i.files c.args.k c.args.start c.args.count) c.self.view_is (rw c.deref.ensures.value at c.in-Ok.ensures.place) }
-
-pub returns-clause-gives : goal.returns-clause-gives
-returns-clause-gives c = subst (λ (lines : List Text). EditGives (Splice c.args.k c.args.start c.args.count lines) c.args.self.now c.put_lines.new.self c.put_lines.result) (rw c.deref-3.ensures.value at c.in-Ok-copies_of.ensures.ok) c.put_lines.ensures.gives
+pub returns-in-Err-put_in-clause-steps : goal.returns-in-Err-put_in-clause-steps
+returns-in-Err-put_in-clause-steps c = rw (← c.self.view_is) (splice_steps c.self.inside c.self.invariant _ c.search_new.ensures.free _ _ c.search_new.ensures.steps _ _ _ (rw c.deref.ensures.value at c.in-Ok.ensures.place))
 
 pub returns-clause-steps : goal.returns-clause-steps
-returns-clause-steps c = subst (λ (lines : List Text). TakesSteps (Splice c.args.k c.args.start c.args.count lines) c.args.self.now c.args.meter.now c.put_lines.new.meter) (rw c.deref-3.ensures.value at c.in-Ok-copies_of.ensures.ok) c.put_lines.ensures.steps
+returns-clause-steps c = rw (← c.self.view_is) (splice_steps c.self.inside c.self.invariant _ c.search_new.ensures.free _ _ c.search_new.ensures.steps _ _ _ (rw c.deref.ensures.value at c.in-Ok.ensures.place))
 
-pub returns-clause-memory : goal.returns-clause-memory
-returns-clause-memory c = λ need. c.put_lines.ensures.memory (subst (λ (lines : List Text). NeedsNoMemory (Splice c.args.k c.args.start c.args.count lines) c.args.self.now) (sym (rw c.deref-3.ensures.value at c.in-Ok-copies_of.ensures.ok)) need)
+pub returns-in-Err-put_in-clause-gives : goal.returns-in-Err-put_in-clause-gives
+returns-in-Err-put_in-clause-gives c =
+    let s = c.self.inside in
+    let d = c.index_mut.result.now in
+    let at : d ≡ get_or s.files.items c.args.k d = c.index_mut.ensures.value in
+    let same = files_same s.files.items c.args.k d c.put_in.new.file (ap (λ n. n.items) c.put_in.ensures.name ∙ ap (λ (f : KeptFile). f.name.items) at) (c.in-Err-put_in.ensures.err ∙ ap kept_lines at) in
+    ap (λ fs. with_files fs (inputs_of s)) same ∙ c.self.view_is
 
-pub returns-in-Err-clause-steps : goal.returns-in-Err-clause-steps
-returns-in-Err-clause-steps c = takes_none (Splice c.args.k c.args.start c.args.count (map (λ line. line.items) c.args.lines.items)) _ _
+pub invariant_of-self-2 : goal.invariant_of-self-2
+invariant_of-self-2 c =
+    let s = c.self.inside in
+    let es = map matched_expression s.matchers.items in
+    let d = c.index_mut.result.now in
+    let at : d ≡ get_or s.files.items c.args.k d = c.index_mut.ensures.value in
+    let place = rw c.deref.ensures.value at c.in-Ok.ensures.place in
+    let within = in_kept s.files.items c.args.k place.in_files in
+    let before : IfSome (kept_lines d) (All (IsKept es s.options)) = subst (λ (f : KeptFile). IsFileKept es s.options f) (sym at) (c.self.invariant.kept c.args.k d within) in
+    let kept = files_kept es s.options s.files.items c.args.k c.put_in.new.file _ c.self.invariant.kept c.in-Ok-put_in.ensures.ok (kept_put c.args.start c.args.count (all_of c.in-Ok-search_new.kept) es s.options (kept_lines d) before c.in-Ok-search_new.ensures.ok) in
+    asked_session s _ refl refl c.self.invariant c.search_new.ensures.same_matchers kept
 
-pub returns-then-any_newline-clause-steps : goal.returns-then-any_newline-clause-steps
-returns-then-any_newline-clause-steps c = takes_none (Splice c.args.k c.args.start c.args.count (map (λ line. line.items) c.args.lines.items)) _ _
+pub returns-clause-gives : goal.returns-clause-gives
+returns-clause-gives c =
+    let s = c.self.inside in
+    let old = inputs_of s in
+    let lines = c.args.lines in
+    let none = c.search_new.ensures.free in
+    let place = rw c.deref.ensures.value at c.in-Ok.ensures.place in
+    let d = c.index_mut.result.now in
+    let at : d ≡ get_or s.files.items c.args.k d = c.index_mut.ensures.value in
+    let within = in_kept s.files.items c.args.k place.in_files in
+    let files = files_put c.args.start c.args.count (all_of c.in-Ok-search_new.kept) s.files.items c.args.k d c.put_in.new.file within (ap (λ n. n.items) c.put_in.ensures.name ∙ ap (λ (f : KeptFile). f.name.items) at)
+    (c.in-Ok-put_in.ensures.ok ∙ ap (λ (f : KeptFile). put c.args.start c.args.count (all_of c.in-Ok-search_new.kept) (kept_lines f)) at) place.opens in
+    let all = files ∙ ap (λ ls. spliced old.files c.args.k c.args.start c.args.count ls) c.in-Ok-search_new.ensures.texts in
+    rw (← c.self.view_is) (subst (λ fs. Applies (Splice c.args.k c.args.start c.args.count lines) old (Ok (with_files fs old))) (sym all) (applies_splice old _ _ _ lines place none))
 
-pub returns-in-Err-copies_of-clause-steps : goal.returns-in-Err-copies_of-clause-steps
-returns-in-Err-copies_of-clause-steps c = takes_none (Splice c.args.k c.args.start c.args.count (map (λ line. line.items) c.args.lines.items)) _ _
+pub returns-in-Err-search_new-clause-memory : goal.returns-in-Err-search_new-clause-memory
+returns-in-Err-search_new-clause-memory c =
+    let s = c.self.inside in
+    let old = inputs_of s in
+    let lines = c.args.lines in
+    let none = c.search_new.ensures.free in
+    let place = rw c.deref.ensures.value at c.in-Ok.ensures.place in
+    rw (← c.self.view_is) (λ need. absurd (needs_for_lines old c.args.k c.args.start c.args.count lines place none (λ empty. c.in-Err-search_new.ensures.memory empty) need))
+
+pub returns-in-Err-put_in-clause-memory : goal.returns-in-Err-put_in-clause-memory
+returns-in-Err-put_in-clause-memory c =
+    let s = c.self.inside in
+    let old = inputs_of s in
+    let lines = c.args.lines in
+    let none = c.search_new.ensures.free in
+    let place = rw c.deref.ensures.value at c.in-Ok.ensures.place in
+    rw (← c.self.view_is) (λ need. absurd (needs_for_lines old c.args.k c.args.start c.args.count lines place none (λ empty. c.in-Err-put_in.ensures.memory (empty_map line_text (all_of c.in-Ok-search_new.kept) (c.in-Ok-search_new.ensures.texts ∙ empty))) need))
+
+pub index_mut-requires : goal.index_mut-requires
+index_mut-requires c =
+    let files = c.self.inside.files in
+    let place = rw c.deref.ensures.value at c.in-Ok.ensures.place in
+    omega (arith, in_kept files.items c.args.k place.in_files, files.ok.0)
+
+pub invariant_of-self : goal.invariant_of-self
+invariant_of-self c = asked_session c.self.inside _ refl refl c.self.invariant c.search_new.ensures.same_matchers c.self.invariant.kept
+
+pub invariant_of-self-in-Err-put_in : goal.invariant_of-self-in-Err-put_in
+invariant_of-self-in-Err-put_in c =
+    let s = c.self.inside in
+    let es = map matched_expression s.matchers.items in
+    let d = c.index_mut.result.now in
+    let at : d ≡ get_or s.files.items c.args.k d = c.index_mut.ensures.value in
+    let place = rw c.deref.ensures.value at c.in-Ok.ensures.place in
+    let within = in_kept s.files.items c.args.k place.in_files in
+    let before : IfSome (kept_lines d) (All (IsKept es s.options)) = subst (λ (f : KeptFile). IsFileKept es s.options f) (sym at) (c.self.invariant.kept c.args.k d within) in
+    let kept = files_kept es s.options s.files.items c.args.k c.put_in.new.file _ c.self.invariant.kept c.in-Err-put_in.ensures.err before in
+    asked_session s _ refl refl c.self.invariant c.search_new.ensures.same_matchers kept

@@ -1,9 +1,5 @@
 use Rattle.std.proofs.Common.{map, sym, subst}
-use Rattle.re_search.specs.Working.Matchers.{matched_expression}
-use Rattle.grep_core.specs.Messages.{StatusOf}
-use Rattle.grep_session.specs.Headline.{IsStatusOfInputs}
-use Rattle.grep_session.specs.Working.Kept.{kept_file}
-use Rattle.grep_session.specs.Working.Sessions.{inputs_of}
+use Rattle.grep_session.proofs.Words.{matched_expression, StatusOf, IsStatusOfInputs, kept_file, inputs_of}
 use Rattle.grep_session.proofs.lemmas.HeadlineLaws.{status_of_inputs}
 use Rattle.grep_session.proofs.lemmas.KeptLaws.{kept_status}
 use Rattle.grep_session.proofs.session.Session.status.Goals as goal

@@ -1,6 +1,5 @@
 use Rattle.std.proofs.Common.{arith, ◌∙◌, ap, length}
-use Rattle.std.specs.Prelude.{not, ◌==◌}
-use Rattle.line_finds.specs.Working.Finds.{Finds}
+use Rattle.line_chunks.proofs.Words.{not, ◌==◌, Finds}
 use Rattle.line_chunks.proofs.lemmas.SeenLaws.{as_many, found_at}
 use Rattle.line_chunks.proofs.chunk.Chunk.is_matched.Goals as goal
 

@@ -1,6 +1,5 @@
 use Rattle.std.proofs.Common.{arith, ap, length}
-use Rattle.line_chunks.specs.Working.Chunks.{all_of, line_without}
-use Rattle.line_chunks.specs.Working.Sums.{chunks_of}
+use Rattle.line_chunks.proofs.Words.{all_of, line_without, chunks_of}
 use Rattle.line_chunks.proofs.lemmas.Columns.{lines_mapped}
 use Rattle.line_chunks.proofs.kept.KeptLines.drop_number.Goals as goal
 

@@ -1,7 +1,5 @@
 use Rattle.std.proofs.Common.{arith, ap, length}
-use Rattle.std.specs.Vec.Iter.{into_iter_items}
-use Rattle.line_chunks.specs.Working.Chunks.{all_of}
-use Rattle.line_chunks.specs.Working.Sums.{chunks_of}
+use Rattle.line_chunks.proofs.Words.{into_iter_items, all_of, chunks_of}
 use Rattle.line_chunks.proofs.lemmas.Columns.{lines_with_columns}
 use Rattle.line_chunks.proofs.kept.KeptLines.put_columns.Goals as goal
 

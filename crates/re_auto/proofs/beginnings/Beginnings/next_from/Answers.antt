@@ -1,7 +1,5 @@
 use Rattle.std.proofs.Common.{slice_index}
-use Rattle.memchr.specs.Find.{is_byte, is_byte2, is_byte3}
-use Rattle.re_auto.specs.Working.Beginnings.{Names}
-use Rattle.re_auto.specs.declared.beginnings.Few.TheVariants.{One, Two, Three}
+use Rattle.re_auto.proofs.Words.{is_byte, is_byte2, is_byte3, Names, One, Two, Three}
 use Rattle.re_auto.proofs.lemmas.BeginningLemmas.{first_found, says_one, says_two, says_three}
 use Rattle.re_auto.proofs.lemmas.PartLemmas.{via}
 use Rattle.re_auto.proofs.beginnings.Beginnings.next_from.Goals as goal

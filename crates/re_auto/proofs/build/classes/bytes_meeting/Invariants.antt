@@ -1,6 +1,5 @@
 use Rattle.std.proofs.Common.{◌≡◌, ℕ, ◌<◌, false, IsTrue, length, get_or}
-use Rattle.std.specs.Prelude.{◌↔◌}
-use Rattle.re_auto.specs.Working.Bits.{Has, row_of}
+use Rattle.re_auto.proofs.Words.{◌↔◌, Has, row_of}
 use Rattle.re_auto.proofs.build.classes.bytes_meeting.Given as goal
 
 abbrev pub invariant-bytes : goal.invariant-bytes

@@ -1,7 +1,5 @@
 use Rattle.std.proofs.Common.{◌+◌, ◌*◌, ◌∙◌, min, map, sym, ap}
-use Rattle.re_syntax.specs.Expression.{cat, expression_of}
-use Rattle.re_syntax.specs.Holds.{positions, copies}
-use Rattle.re_syntax.specs.Profile.{most_positions}
+use Rattle.re_auto.proofs.Words.{cat, expression_of, positions, copies, most_positions}
 use Rattle.re_auto.proofs.lemmas.CountLaws.{count-Alt, count-Repeat, counted_more, min_product}
 use Rattle.re_auto.proofs.build.count.+count.Goals as goal
 

@@ -1,7 +1,5 @@
 use Rattle.std.proofs.Common.{◌+◌, ◌≡◌, map, min, take}
-use Rattle.re_syntax.specs.Expression.{cat, expression_of}
-use Rattle.re_syntax.specs.Holds.{positions}
-use Rattle.re_syntax.specs.Profile.{most_positions}
+use Rattle.re_auto.proofs.Words.{cat, expression_of, positions, most_positions}
 use Rattle.re_auto.proofs.build.count.+count.Given as goal
 
 abbrev pub invariant-count_all-members : goal.invariant-count_all-members

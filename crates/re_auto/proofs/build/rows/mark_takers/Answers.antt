@@ -1,6 +1,5 @@
 use Rattle.std.proofs.Common.{arith, ◌≡◌, length, sym, ap, ◌∙◌}
-use Rattle.re_syntax.specs.Sets.{members}
-use Rattle.re_auto.specs.Working.Bits.{Has, row_of}
+use Rattle.re_auto.proofs.Words.{members, Has, row_of}
 use Rattle.re_auto.proofs.lemmas.RowLemmas.{row_within, marked, not_marked, same_truth, other_truth}
 use Rattle.re_auto.proofs.build.rows.mark_takers.Goals as goal
 use Rattle.re_auto.proofs.build.rows.mark_takers.Goals.{then-has-wanted, else-has-wanted}

@@ -1,7 +1,5 @@
 use Rattle.std.proofs.Common.{◌≡◌, ℕ, ◌<◌, length, ◌⊎◌}
-use Rattle.std.specs.Prelude.{◌↔◌}
-use Rattle.re_syntax.specs.Sets.{members}
-use Rattle.re_auto.specs.Working.Bits.{Has, row_of}
+use Rattle.re_auto.proofs.Words.{◌↔◌, members, Has, row_of}
 use Rattle.re_auto.proofs.build.rows.mark_takers.Given as goal
 
 abbrev pub invariant-bytes : goal.invariant-bytes

@@ -1,6 +1,6 @@
 use Rattle.std.proofs.Common.{◌≡◌, ℕ, ◌<◌, ◌≤◌, ◌⊎◌, get_or, length}
 use Rattle.std.specs.Prelude.{◌↔◌}
-use Rattle.re_syntax.specs.Expression.{expression_of}
+use Rattle.re_syntax.specs.Working.Trees.{expression_of}
 use Rattle.re_auto.specs.Working.Positions.{part_of}
 use Rattle.re_ends.specs.Working.GreatestEnds.{AreEndsAt, MatchesPast}
 use Rattle.re_ends.specs.Working.EndPairs.{AreEndsFor}

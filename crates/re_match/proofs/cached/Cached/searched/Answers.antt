@@ -1,8 +1,5 @@
 use Rattle.std.proofs.Common.{refl, inl, sym, ap, ◌∙◌, subst}
-use Rattle.re_syntax.specs.Expression.{expression_of}
-use Rattle.re_steps.specs.Working.Stages.{Goes, mode_for}
-use Rattle.re_steps.specs.Working.Rows.{cache_of}
-use Rattle.re_match.specs.Working.Simulated.{TreeMatcher}
+use Rattle.re_match.proofs.Words.{expression_of, Goes, mode_for, cache_of, TreeMatcher}
 use Rattle.re_steps.proofs.lemmas.StageLaws.{searches_readied}
 use Rattle.re_match.proofs.cached.Cached.searched.Goals as goal
 
@@ -40,29 +37,23 @@ returns-in-GaveUp-clause-searches c =
           (subst (λ set. Goes (expression_of inside.simulated.tree) (mode_for inside.simulated.whole) c.args.line.now c.in-GaveUp.place left.first (record { set = set; cache = now; steps = c.search.new.meter })) (sym c.give_up.ensures.keeps.scratch) (left.goes now none));
     }))
 
-pub returns-then-not-is_ready-clause-same_tree : goal.returns-then-not-is_ready-clause-same_tree
-returns-then-not-is_ready-clause-same_tree c = rw (← c.self.view_is) (ap (λ (s : TreeMatcher). s.tree) c.step_over.ensures.same)
+pub returns-then-not-is_ready-clause-same : goal.returns-then-not-is_ready-clause-same
+returns-then-not-is_ready-clause-same c = record {
+  same_tree = rw (← c.self.view_is) (ap (λ (s : TreeMatcher). s.tree) c.step_over.ensures.same);
+  same_whole = rw (← c.self.view_is) (ap (λ (s : TreeMatcher). s.whole) c.step_over.ensures.same);
+  same_most = rw (← c.self.view_is) c.is_ready.ensures.keeps.most;
+}
 
-pub returns-then-not-is_ready-clause-same_whole : goal.returns-then-not-is_ready-clause-same_whole
-returns-then-not-is_ready-clause-same_whole c = rw (← c.self.view_is) (ap (λ (s : TreeMatcher). s.whole) c.step_over.ensures.same)
+pub returns-in-Reported-clause-same : goal.returns-in-Reported-clause-same
+returns-in-Reported-clause-same c = record {
+  same_tree = rw (← c.self.view_is) refl;
+  same_whole = rw (← c.self.view_is) refl;
+  same_most = rw (← c.self.view_is) (c.in-Reported.ensures.lasts.most ∙ c.is_ready.ensures.keeps.most);
+}
 
-pub returns-in-GaveUp-clause-same_tree : goal.returns-in-GaveUp-clause-same_tree
-returns-in-GaveUp-clause-same_tree c = rw (← c.self.view_is) (ap (λ (s : TreeMatcher). s.tree) c.finish.ensures.same)
-
-pub returns-in-GaveUp-clause-same_whole : goal.returns-in-GaveUp-clause-same_whole
-returns-in-GaveUp-clause-same_whole c = rw (← c.self.view_is) (ap (λ (s : TreeMatcher). s.whole) c.finish.ensures.same)
-
-pub returns-in-Reported-clause-same_tree : goal.returns-in-Reported-clause-same_tree
-returns-in-Reported-clause-same_tree c = rw (← c.self.view_is) refl
-
-pub returns-in-Reported-clause-same_whole : goal.returns-in-Reported-clause-same_whole
-returns-in-Reported-clause-same_whole c = rw (← c.self.view_is) refl
-
-pub returns-then-not-is_ready-clause-same_most : goal.returns-then-not-is_ready-clause-same_most
-returns-then-not-is_ready-clause-same_most c = rw (← c.self.view_is) c.is_ready.ensures.keeps.most
-
-pub returns-in-Reported-clause-same_most : goal.returns-in-Reported-clause-same_most
-returns-in-Reported-clause-same_most c = rw (← c.self.view_is) (c.in-Reported.ensures.lasts.most ∙ c.is_ready.ensures.keeps.most)
-
-pub returns-in-GaveUp-clause-same_most : goal.returns-in-GaveUp-clause-same_most
-returns-in-GaveUp-clause-same_most c = rw (← c.self.view_is) (c.give_up.ensures.keeps.most ∙ c.in-GaveUp.ensures.lasts.most ∙ c.is_ready.ensures.keeps.most)
+pub returns-in-GaveUp-clause-same : goal.returns-in-GaveUp-clause-same
+returns-in-GaveUp-clause-same c = record {
+  same_tree = rw (← c.self.view_is) (ap (λ (s : TreeMatcher). s.tree) c.finish.ensures.same);
+  same_whole = rw (← c.self.view_is) (ap (λ (s : TreeMatcher). s.whole) c.finish.ensures.same);
+  same_most = rw (← c.self.view_is) (c.give_up.ensures.keeps.most ∙ c.in-GaveUp.ensures.lasts.most ∙ c.is_ready.ensures.keeps.most);
+}

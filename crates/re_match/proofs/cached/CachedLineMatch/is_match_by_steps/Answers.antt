@@ -1,5 +1,4 @@
-use Rattle.re_syntax.specs.Expression.{expression_of}
-use Rattle.re_steps.specs.Working.Stages.{mode_for}
+use Rattle.re_match.proofs.Words.{expression_of, mode_for}
 use Rattle.re_steps.proofs.lemmas.StageLaws.{searches_say, searches_steps}
 use Rattle.re_match.proofs.cached.CachedLineMatch.is_match_by_steps.Goals as goal
 

@@ -1,6 +1,5 @@
 use Rattle.std.proofs.Common.{rules, ◌≡◌, [], map, sym, ap, ◌∙◌}
-use Rattle.re_syntax.specs.Lines.{lines_of}
-use Rattle.re_strings.specs.Working.Keys.{keys}
+use Rattle.re_match.proofs.Words.{lines_of, keys}
 use Rattle.re_match.proofs.fixed_set.FixedSet.by_keys.Goals as goal
 
 pub invariant_of-result : goal.invariant_of-result

@@ -1,7 +1,6 @@
 use Rattle.std.proofs.Common.{None, Some, refl, inl, inr, sym, ◌∙◌, slice_range, length-take-le}
 use Rattle.std.proofs.lemmas.Bool.{false≢true}
-use Rattle.re_syntax.specs.Lines.{lines_of}
-use Rattle.re_match.specs.Working.Literals.{Literals}
+use Rattle.re_match.proofs.Words.{lines_of, Literals}
 use Rattle.re_syntax.proofs.lemmas.LinesLaws.{AreLines-lines_of}
 use Rattle.re_match.proofs.lemmas.SetAround.{set_around, stops_around}
 use Rattle.re_match.proofs.lemmas.SetMatches.{empty_matches}

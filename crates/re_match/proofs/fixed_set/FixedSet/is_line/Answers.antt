@@ -1,9 +1,5 @@
 use Rattle.std.proofs.Common.{rules, ◌≡◌, [], map, subst, sym, ap}
-use Rattle.std.specs.Prelude.{◌↔◌, IsTrue}
-use Rattle.re_syntax.specs.Lines.{lines_of}
-use Rattle.re_strings.specs.Working.FixedSets.{IsString}
-use Rattle.re_match.specs.Working.Literals.{Literals}
-use Rattle.re_strings.specs.Working.Keys.{keys}
+use Rattle.re_match.proofs.Words.{◌↔◌, IsTrue, lines_of, IsString, Literals, keys}
 use Rattle.re_match.proofs.lemmas.SetMatches.{line_decides, no_bytes}
 use Rattle.re_match.proofs.fixed_set.FixedSet.is_line.Goals as goal
 

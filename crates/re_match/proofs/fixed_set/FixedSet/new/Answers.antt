@@ -1,6 +1,5 @@
 use Rattle.std.proofs.Common.{map, sym, ap, ◌∙◌}
-use Rattle.re_syntax.specs.Lines.{lines_of}
-use Rattle.re_strings.specs.Working.Keys.{keys}
+use Rattle.re_match.proofs.Words.{lines_of, keys}
 use Rattle.re_strings.proofs.lemmas.KeyLaws.{lines_lowered, lines_plain}
 use Rattle.re_match.proofs.fixed_set.FixedSet.new.Goals as goal
 

@@ -1,7 +1,5 @@
 use Rattle.std.proofs.Common.{false}
-use Rattle.re_syntax.specs.Bytes.{Text}
-use Rattle.re_syntax.specs.Holds.{Matches}
-use Rattle.re_match.specs.Working.Literals.{any_literal}
+use Rattle.re_match.proofs.Words.{Text, Matches, any_literal}
 use Rattle.re_needle.proofs.lemmas.NextLines.{none_next, next_from}
 use Rattle.re_match.proofs.fixed_set.FixedSet.next_line.Goals as goal
 

@@ -1,6 +1,5 @@
 use Rattle.std.proofs.Common.{inl, inr}
-use Rattle.re_syntax.specs.Lines.{lines_of}
-use Rattle.re_match.specs.Working.Literals.{Literals}
+use Rattle.re_match.proofs.Words.{lines_of, Literals}
 use Rattle.re_match.proofs.lemmas.SetMatches.{best_is_part}
 use Rattle.re_match.proofs.fixed_set.FixedSet.occurrence.Goals as goal
 

@@ -1,7 +1,6 @@
 use Rattle.std.proofs.Common.{refl, inl, inr, sym, ◌∙◌}
 use Rattle.std.proofs.lemmas.Bool.{false≢true}
-use Rattle.re_syntax.specs.Lines.{lines_of}
-use Rattle.re_match.specs.Working.Literals.{Literals}
+use Rattle.re_match.proofs.Words.{lines_of, Literals}
 use Rattle.re_match.proofs.lemmas.SetMatches.{empty_matches, ends_decide}
 use Rattle.re_match.proofs.fixed_set.FixedSet.stands_in.Goals as goal
 

@@ -1,16 +1,16 @@
-use Rattle.std.proofs.Common.{◌+◌, ◌-◌, ◌≤◌, length, drop, ◌∙◌, arith, length-drop}
+use Rattle.std.proofs.Common.{◌+◌, ◌-◌, ◌≤◌, length, drop, arith, length-drop}
 use Rattle.std.proofs.lemmas.List.{take_rest}
-use Rattle.re_syntax.specs.Bytes.{Text}
-use Rattle.re_syntax.specs.Holds.{Matches}
+use Rattle.re_match.proofs.Words.{Text, Matches}
 use Rattle.re_needle.proofs.lemmas.NextLines.{CountsTo, counts_next, counts_all}
 use Rattle.re_match.proofs.lemmas.StepSums.{adds_both, adds_within}
+use Rattle.re_match.proofs.lemmas.SameLaws.{same_twice}
 use Rattle.re_match.proofs.line_match.LineMatch.count_matched.Goals as goal
 
 pub returns-in_default-clause-reported : goal.returns-in_default-clause-reported
 returns-in_default-clause-reported g c =
     let i = c.lines.invariant in
     counts_all (λ (line : Text). Matches (g.Self.LineMatch.expression c.args.self.now) line (g.Self.LineMatch.whole c.args.self.now)) c.args.block.now c.lines.rest.now c.lines.count i.counts
-    (rw (← i.same_expression, ← i.same_whole) c.in_default.ensures.reported)
+    (rw (← i.same.same_expression, ← i.same.same_whole) c.in_default.ensures.reported)
 
 pub lines-preserved : goal.lines-preserved
 lines-preserved g c =
@@ -21,14 +21,12 @@ lines-preserved g c =
     let within = c.in-Some.ensures.within in
     let next : CountsTo (λ (line : Text). Matches (g.Self.LineMatch.expression c.args.self.now) line (g.Self.LineMatch.whole c.args.self.now)) block (drop (at.end + 1) rest) (c.lines.count + 1) =
     counts_next (λ (line : Text). Matches (g.Self.LineMatch.expression c.args.self.now) line (g.Self.LineMatch.whole c.args.self.now)) block rest c.lines.count at within.1 i.counts
-    (rw (← i.same_expression, ← i.same_whole) c.in-Some.ensures.reported) in
+    (rw (← i.same.same_expression, ← i.same.same_whole) c.in-Some.ensures.reported) in
     let few : length block - length rest + (at.end + 1) ≤ length block - length (drop (at.end + 1) rest) = omega (arith, length-drop (at.end + 1) rest, i.counts.few, within.1) in
     rw take_rest
     record {
       counts = next;
-      same_expression = c.next_matched.ensures.same_expression ∙ i.same_expression;
-      same_whole = c.next_matched.ensures.same_whole ∙ i.same_whole;
-      same_room = c.next_matched.ensures.same_room ∙ i.same_room;
+      same = same_twice c.next_matched.ensures.same i.same;
       steps = adds_within (length block - length rest + (at.end + 1)) (length block - length (drop (at.end + 1) rest)) _ _ few
           (adds_both (length block - length rest) (at.end + 1) _ _ _ i.steps c.in-Some.ensures.steps);
     }

@@ -1,12 +1,7 @@
-use Rattle.std.proofs.Common.{◌≡◌, ◌≤◌, Some, sym, subst, refl}
-use Rattle.std.specs.Prelude.{IfSome}
-use Rattle.re_needle.specs.Working.Needles.{run_of}
-use Rattle.re_needle.specs.Working.Blocks.{PassesUnmatched}
-use Rattle.re_needle.specs.Working.Runs.{FindsRun, look_cost}
+use Rattle.std.proofs.Common.{◌≤◌, subst}
+use Rattle.re_match.proofs.Words.{IfSome, run_of, FindsRun}
 use Rattle.re_needle.proofs.lemmas.BlockLemmas.{passes_unmatched_run}
 use Rattle.re_needle.proofs.lemmas.BegunLines.{passes_unmatched_begun}
-use Rattle.re_match.specs.declared.sweeps.Sweep.{Sweep}
-use Rattle.re_match.specs.Working.Sweeping.{StopsAt}
 use Rattle.re_match.proofs.lemmas.SweptLines.{stops_seen, stops_matched}
 use Rattle.re_match.proofs.prefilter.Prefilter.first_line.Goals as goal
 

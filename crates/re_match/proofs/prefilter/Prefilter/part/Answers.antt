@@ -1,9 +1,6 @@
-use Rattle.std.proofs.Common.{false, ◌+◌, ◌-◌, ◌≤◌, length, drop, None, Some, length-drop, arith}
+use Rattle.std.proofs.Common.{false, ◌+◌, ◌-◌, length, None, Some}
 use Rattle.std.proofs.lemmas.List.{take_rest}
-use Rattle.re_meter.proofs.lemmas.Adding.{only_passed, adds_within}
-use Rattle.re_syntax.specs.Expression.{expression_of}
-use Rattle.re_needle.specs.Working.Runs.{look_cost}
-use Rattle.re_needle.proofs.lemmas.Looks.{look_within}
+use Rattle.re_syntax.specs.Working.Trees.{expression_of}
 use Rattle.re_needle.proofs.lemmas.NeedleLaws.{lacks_part, all_is_part}
 use Rattle.re_match.proofs.lemmas.StepSums.{look_adds}
 use Rattle.re_match.proofs.prefilter.Prefilter.part.Goals as goal

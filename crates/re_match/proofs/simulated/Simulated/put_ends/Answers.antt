@@ -1,6 +1,5 @@
 use Rattle.std.proofs.Common.{[], ◌∷◌, false}
-use Rattle.re_syntax.specs.Expression.{expression_of}
-use Rattle.re_ends.specs.Working.GreatestEnds.{FoundPast, MatchesPast}
+use Rattle.re_match.proofs.Words.{expression_of, FoundPast, MatchesPast}
 use Rattle.re_ends.proofs.lemmas.FoundEnds.{adds_alike, matched_found}
 use Rattle.re_match.proofs.simulated.Simulated.put_ends.Goals as goal
 

@@ -1,13 +1,12 @@
 use Rattle.std.proofs.Common.{true, false, ◌≡◌, sym, ap, ◌∙◌}
-use Rattle.re_syntax.specs.Expression.{expression_of}
+use Rattle.re_match.proofs.Words.{expression_of, TreeMatcher}
 use Rattle.re_ends.proofs.lemmas.FoundEnds.{adds_alike, whole_found}
-use Rattle.re_match.specs.Working.Simulated.{TreeMatcher}
 use Rattle.re_match.proofs.simulated.SimulatedLineMatch.add_ends.Goals as goal
 
 pub returns-then-self-clause-added : goal.returns-then-self-clause-added
 returns-then-self-clause-added c =
     let whole : c.args.self.now.whole ≡ true = ap (λ (m : TreeMatcher). m.whole) (sym c.self.view_is) ∙ c.if-self.true in
-    rw whole (adds_alike _ _ c.args.line.now c.args.ends.now c.add_line.new.ends (whole_found (expression_of c.args.self.now.tree) c.args.line.now c.search-matched.result (rw whole at c.search-matched.ensures.reported)) c.add_line.ensures)
+    rw whole (adds_alike _ _ c.args.line.now c.args.ends.now c.add_line.new.ends (whole_found (expression_of c.args.self.now.tree) c.args.line.now c.is_match-matched.result (rw whole at c.is_match-matched.ensures.reported)) c.add_line.ensures)
 
 pub returns-clause-added : goal.returns-clause-added
 returns-clause-added c =

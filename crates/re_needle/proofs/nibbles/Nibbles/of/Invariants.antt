@@ -1,6 +1,5 @@
 use Rattle.std.proofs.Common.{◌≢◌, ℕ, ◌<◌, IsTrue}
-use Rattle.re_syntax.specs.Sets.{members}
-use Rattle.re_needle.specs.Working.Runs.{bits_of}
+use Rattle.re_needle.proofs.Words.{members, bits_of}
 use Rattle.re_needle.proofs.nibbles.Nibbles.of.Given as goal
 
 abbrev pub invariant-bytes : goal.invariant-bytes

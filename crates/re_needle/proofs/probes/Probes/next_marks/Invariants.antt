@@ -1,7 +1,5 @@
 use Rattle.std.proofs.Common.{◌≡◌, ℕ, ◌+◌, ◌-◌, ◌<◌, ◌≤◌}
-use Rattle.std.specs.Int.{bit_at}
-use Rattle.memchr.specs.Find.{Nowhere}
-use Rattle.re_needle.specs.Working.Runs.{AllPass}
+use Rattle.re_needle.proofs.Words.{bit_at, Nowhere, AllPass}
 use Rattle.re_needle.proofs.probes.Probes.next_marks.Given as goal
 
 abbrev pub invariant-quiet : goal.invariant-quiet

@@ -1,7 +1,5 @@
 use Rattle.std.proofs.Common.{◌-◌, ◌≤◌, map}
-use Rattle.memchr.specs.Find.{Nowhere}
-use Rattle.re_syntax.specs.Sets.{members}
-use Rattle.re_needle.specs.Working.Runs.{RunStandsAt}
+use Rattle.re_needle.proofs.Words.{Nowhere, members, RunStandsAt}
 use Rattle.re_needle.proofs.set_finder.SetFinder.find_by.Given as goal
 
 abbrev pub invariant-runs : goal.invariant-runs

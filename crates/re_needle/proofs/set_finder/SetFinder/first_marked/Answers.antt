@@ -1,8 +1,7 @@
 use Rattle.std.proofs.Common.{◌≡◌, ◌+◌, map, refl, sym, ◌∙◌, subst, arith}
 use Rattle.std.proofs.lemmas.Bool.{false≢true}
 use Rattle.memchr.proofs.lemmas.ScanLemmas.{unmarked, Nowhere-unset}
-use Rattle.re_syntax.specs.Sets.{members}
-use Rattle.re_needle.specs.Working.Runs.{RunStandsAt}
+use Rattle.re_needle.proofs.Words.{members, RunStandsAt}
 use Rattle.re_needle.proofs.set_finder.SetFinder.first_marked.Goals as goal
 
 pub returns : goal.returns

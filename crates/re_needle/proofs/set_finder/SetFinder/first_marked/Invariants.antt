@@ -1,7 +1,5 @@
 use Rattle.std.proofs.Common.{◌+◌, map}
-use Rattle.memchr.specs.Lanes.{Marks}
-use Rattle.re_syntax.specs.Sets.{members}
-use Rattle.re_needle.specs.Working.Runs.{RunStandsAt}
+use Rattle.re_needle.proofs.Words.{Marks, members, RunStandsAt}
 use Rattle.re_needle.proofs.set_finder.SetFinder.first_marked.Given as goal
 
 abbrev pub invariant-marks : goal.invariant-marks

@@ -2,7 +2,7 @@ use Rattle.std.proofs.Common.{◌≡◌, ◌+◌, length, map, take, arith, refl
 use Rattle.std.proofs.lemmas.Bool.{false≢true}
 use Rattle.std.proofs.lemmas.List.{length-map}
 use Rattle.re_search.proofs.lemmas.OneMatcherMore.{one_more, value_at, within, none_more, one_matches, asked_more}
-use Rattle.re_search.proofs.lemmas.KeptMatchers.{one_asked}
+use Rattle.re_search.proofs.lemmas.KeptMatchers.{one_kept}
 use Rattle.re_search.proofs.filter.Filter.is_matched_from.Goals as goal
 
 pub loop-place-preserved : goal.loop-place-preserved
@@ -20,7 +20,7 @@ loop-place-preserved g c =
     record {
       reported = none_more _ _ _ i _ _ (within whole old now ws i d h).1 (value_at whole old now ws i d h _) (one_more expression old now es i d h)
           c.loop-place.invariant.reported (λ m. false≢true (c.if-is_match.ensures.reported.1 m));
-      same_matchers = one_asked same i d _ c.is_match.ensures.same_expression c.is_match.ensures.same_whole c.is_match.ensures.same_room;
+      same_matchers = one_kept same i d _ c.is_match.ensures.same;
       steps = asked_more i c.args.stepped (length c.args.line.now + 1) c.args.meter.now c.loop-place.meter c.is_match.new.meter c.loop-place.invariant.steps c.is_match.ensures.steps;
     }
 
@@ -39,7 +39,7 @@ returns-then-is_match-clause-reported g c =
     (c.if-is_match.ensures.reported.0 refl)
 
 pub returns-then-is_match-clause-same_matchers : goal.returns-then-is_match-clause-same_matchers
-returns-then-is_match-clause-same_matchers g c = one_asked c.loop-place.invariant.same_matchers _ c.index-matchers-place.result _ c.is_match.ensures.same_expression c.is_match.ensures.same_whole c.is_match.ensures.same_room
+returns-then-is_match-clause-same_matchers g c = one_kept c.loop-place.invariant.same_matchers _ c.index-matchers-place.result _ c.is_match.ensures.same
 
 pub returns-clause-reported : goal.returns-clause-reported
 returns-clause-reported g c =

@@ -1,6 +1,5 @@
 use Rattle.std.proofs.Common.{◌+◌, ◌-◌, ◌*◌, length, map, take, false}
-use Rattle.re_auto.specs.Searching.{DecidesMatchOfAll, SameMatchers}
-use Rattle.re_meter.specs.Meters.{AddsUpTo}
+use Rattle.re_search.proofs.Words.{DecidesMatchOfAll, SameMatchers, AddsUpTo}
 use Rattle.re_search.proofs.filter.Filter.is_matched_from.Given as goal
 
 abbrev pub invariant-loop-place : goal.invariant-loop-place

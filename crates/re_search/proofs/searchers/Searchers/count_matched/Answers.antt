@@ -1,11 +1,51 @@
+use Rattle.std.proofs.Common.{◌≡◌, ◌+◌, None, Some, length, map, drop, get_or, slice_set, refl, ap, subst, arith, length-drop}
+use Rattle.std.proofs.lemmas.List.{take_rest, get_or_default}
+use Rattle.re_search.proofs.Words.{lines_of, expressions_by, sought_by, Sought, IsSought, FindsSought, SameMatchers}
+use Rattle.re_search.proofs.lemmas.KeptMatchers.{none_asked, one_kept, asked_over, same_sought}
+use Rattle.re_search.proofs.lemmas.OneMatcher.{only_one, counts_of_one}
+use Rattle.re_needle.proofs.lemmas.NextLines.{CountsTo, counts_next, counts_all}
+use Rattle.re_search.proofs.lemmas.SearchedBlocks.{adds_on_by}
 use Rattle.re_search.proofs.searchers.Searchers.count_matched.Goals as goal
+
+pub returns-in_default-clause-reported : goal.returns-in_default-clause-reported
+returns-in_default-clause-reported g c =
+    let i = c.lines.invariant in
+    let s : Sought = sought_by g.M.LineMatch.expression c.args.self.now in
+    counts_all (IsSought s) c.args.block.now c.lines.rest.now c.lines.count i.counts
+    (subst (λ q. FindsSought q (lines_of c.lines.rest.now) None) (same_sought i.same) c.in_default.ensures.reported)
+
+pub lines-preserved : goal.lines-preserved
+lines-preserved g c =
+    let e = g.M.LineMatch.expression in
+    let i = c.lines.invariant in
+    let s : Sought = sought_by e c.args.self.now in
+    let block = c.args.block.now in
+    let rest = c.lines.rest.now in
+    let at = c.in-Some.at in
+    let within = c.in-Some.ensures.within in
+    let found = subst (λ q. FindsSought q (lines_of rest) (Some at)) (same_sought i.same) c.in-Some.ensures.reported in
+    let next : CountsTo (IsSought s) block (drop (at.end + 1) rest) (c.lines.count + 1) = counts_next (IsSought s) block rest c.lines.count at within.1 i.counts found in
+    let n = length (expressions_by e c.args.self.now) in
+    let many : length (expressions_by e c.lines.self) ≡ n = ap length i.same.same_matchers.same_expressions in
+    rw take_rest
+    record {
+      counts = next;
+      same = asked_over c.next_matched.ensures.same i.same;
+      steps = adds_on_by n (length block) (length rest) (length (drop (at.end + 1) rest)) at.end _ _ _ (omega (arith, i.counts.few)) within.1 (length-drop (at.end + 1) rest) i.steps (rw many at c.in-Some.ensures.steps);
+    }
 
 pub invariant_of-self : goal.invariant_of-self
 invariant_of-self g c =
-    let same = c.count_of_one.ensures.same_matchers in
+    let ms = c.args.self.now.matchers.now in
+    let same : SameMatchers g.M.LineMatch.expression g.M.LineMatch.whole g.M.LineMatch.room ms (slice_set ms 0 c.count_matched.new.self) = one_kept none_asked 0 c.index-matchers-0.result c.count_matched.new.self c.count_matched.ensures.same in
     record { alike = rw same.same_wholes c.args.self.now.alike; needed = λ x e. rw same.same_expressions (c.args.self.now.needed x e) }
 
-pub invariant_of-self-2 : goal.invariant_of-self-2
-invariant_of-self-2 g c =
-    let same = c.count_of_all.ensures.same_matchers in
-    record { alike = rw same.same_wholes c.args.self.now.alike; needed = λ x e. rw same.same_expressions (c.args.self.now.needed x e) }
+pub returns-then-has_one_alone-clause-reported : goal.returns-then-has_one_alone-clause-reported
+returns-then-has_one_alone-clause-reported g c =
+    let e = g.M.LineMatch.expression in
+    let w = g.M.LineMatch.whole in
+    let ms = c.args.self.now.matchers.now in
+    let one : length ms ≡ 1 = c.if-has_one_alone.ensures refl in
+    let m = get_or ms 0 c.index-matchers-0.result in
+    let is : get_or ms 0 m ≡ m = get_or_default ms 0 m c.index-matchers-0.result (omega (arith, one)) in
+    counts_of_one (map e ms) (map w ms) (e m) (w m) (only_one e ms m one is) (only_one w ms m one is) (lines_of c.args.block.now) c.count_matched.result c.count_matched.ensures.reported c.args.self.now.whole c.args.self.now.alike

@@ -1,7 +1,7 @@
 use Rattle.std.proofs.Common.{◌≡◌, map, take, arith, take_all}
 use Rattle.std.proofs.lemmas.List.{length-map}
 use Rattle.re_search.proofs.lemmas.OneMatcherMore.{one_more, value_at, within, steps_more}
-use Rattle.re_search.proofs.lemmas.KeptMatchers.{one_asked}
+use Rattle.re_search.proofs.lemmas.KeptMatchers.{one_kept}
 use Rattle.re_search.proofs.lemmas.CourseLaws.{ends_more}
 use Rattle.re_search.proofs.searchers.parts.add_all_ends.Goals as goal
 
@@ -19,7 +19,7 @@ loop-matcher-preserved g c =
       added =
           ends_more (map expression old) (map whole old) c.args.line.now i _ _ c.args.whole c.args.ends.now c.loop-matcher.ends c.add_ends.new.ends (within whole old now same.same_wholes i d h).1 (value_at whole old now same.same_wholes i d h _)
           (one_more expression old now same.same_expressions i d h) c.requires.alike c.loop-matcher.invariant.added c.add_ends.ensures.added;
-      same_matchers = one_asked same i d _ c.add_ends.ensures.same_expression c.add_ends.ensures.same_whole c.add_ends.ensures.same_room;
+      same_matchers = one_kept same i d _ c.add_ends.ensures.same;
       steps = steps_more i _ _ _ _ c.loop-matcher.invariant.steps c.add_ends.ensures.steps;
     }
 

@@ -1,9 +1,6 @@
 use Rattle.std.proofs.Common.{◌≡◌, ◌∙◌, ℕ, get_or, map, subst, sym, ap, refl}
 use Rattle.std.proofs.lemmas.List.{with_items_is}
-use Rattle.re_ends.specs.Working.GreatestEnds.{FoundPast}
-use Rattle.re_search.specs.Working.Sought.{Sought}
-use Rattle.re_meter.specs.Meters.{with_refusal}
-use Rattle.re_search.specs.Working.Courses.{AreEnds}
+use Rattle.re_search.proofs.Words.{FoundPast, Sought, with_refusal, AreEnds}
 use Rattle.re_search.proofs.lemmas.CourseLaws.{ends_of_zeros, zero_at, refused}
 use Rattle.re_search.proofs.searchers.parts.learn.Goals as goal
 

@@ -1,7 +1,6 @@
 use Rattle.std.proofs.Common.{◌*◌, ◌+◌, ◌-◌, length, map, subst}
-use Rattle.re_auto.specs.Searching.{AddsAtMost}
-use Rattle.re_search.specs.Working.Sought.{Sought}
-use Rattle.re_search.specs.Working.Courses.{IsKnownOf}
+use Rattle.re_search.proofs.Words.{Sought, IsKnownOf}
+use Rattle.re_auto.specs.Searches.{AddsAtMost}
 use Rattle.re_search.proofs.lemmas.SearchedBlocks.{same_length}
 use Rattle.re_search.proofs.lemmas.CourseLaws.{searched, looked_up}
 use Rattle.re_search.proofs.searchers.parts.next_part.Goals as goal

@@ -1,7 +1,5 @@
 use Rattle.std.proofs.Common.{◌≡◌, ◌+◌, ◌-◌, ◌≤◌, length, subst, arith, add-one}
-use Rattle.re_syntax.specs.Expression.{expression_of}
-use Rattle.re_auto.specs.declared.mode.Mode.TheVariants.{Search}
-use Rattle.re_meter.specs.Meters.{AddsUpTo}
+use Rattle.re_steps.proofs.Words.{expression_of, Search, AddsUpTo}
 use Rattle.re_meter.proofs.lemmas.Adding.{adds_none, adds_within, adds_both, built_adds}
 use Rattle.re_steps.proofs.lemmas.StageLaws.{passed_adds}
 use Rattle.re_steps.proofs.lemmas.BestSpans.{carries_none, best_is_part}

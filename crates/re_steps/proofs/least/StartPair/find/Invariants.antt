@@ -1,8 +1,5 @@
 use Rattle.std.proofs.Common.{◌≡◌, ◌-◌, ◌≤◌, length}
-use Rattle.re_syntax.specs.Expression.{expression_of}
-use Rattle.re_auto.specs.Working.StartSets.{place_of}
-use Rattle.re_meter.specs.Meters.{AddsUpTo}
-use Rattle.re_steps.specs.Working.Simulations.{AreStartsFor, Carries}
+use Rattle.re_steps.proofs.Words.{expression_of, place_of, AddsUpTo, AreStartsFor, Carries}
 use Rattle.re_steps.proofs.least.StartPair.find.Given as goal
 
 abbrev pub invariant-places : goal.invariant-places

@@ -1,6 +1,5 @@
 use Rattle.std.proofs.Common.{◌≡◌, None, refl, sym, ◌∙◌}
-use Rattle.re_syntax.specs.Expression.{expression_of}
-use Rattle.re_auto.specs.declared.mode.Mode.TheVariants.{Search}
+use Rattle.re_steps.proofs.Words.{expression_of, Search}
 use Rattle.re_steps.proofs.lemmas.BestSpans.{none_of, carries_past}
 use Rattle.re_steps.proofs.least.StartPair.skip.Goals as goal
 

@@ -1,7 +1,5 @@
 use Rattle.std.proofs.Common.{◌≡◌, suc, ◌+◌, Some, None, refl, ap, ◌∙◌, add-one}
-use Rattle.re_syntax.specs.Expression.{expression_of}
-use Rattle.re_syntax.specs.Working.BestStretches.{better}
-use Rattle.re_syntax.specs.Working.BestStretches.{places}
+use Rattle.re_steps.proofs.Words.{expression_of, better, places}
 use Rattle.re_syntax.proofs.lemmas.BestStretches.{better_places}
 use Rattle.re_steps.proofs.lemmas.BestSpans.{carries_on}
 use Rattle.re_steps.proofs.least.StartPair.step.Goals as goal

@@ -1,6 +1,5 @@
 use Rattle.std.proofs.Common.{add-one}
-use Rattle.re_syntax.specs.Expression.{expression_of}
-use Rattle.re_auto.specs.declared.mode.Mode.TheVariants.{Search}
+use Rattle.re_steps.proofs.Words.{expression_of, Search}
 use Rattle.re_steps.proofs.lemmas.StageLaws.{goes_to, goes_built}
 use Rattle.re_steps.proofs.sets.SetPair.pass.Goals as goal
 

@@ -1,6 +1,5 @@
 use Rattle.std.proofs.Common.{◌≡◌, inl, inr, refl, arith, add-one}
-use Rattle.re_syntax.specs.Expression.{expression_of}
-use Rattle.re_auto.specs.declared.mode.Mode.TheVariants.{Search, Whole}
+use Rattle.re_steps.proofs.Words.{expression_of, Search, Whole}
 use Rattle.re_steps.proofs.lemmas.StageLaws.{goes_built}
 use Rattle.re_steps.proofs.sets.SetPair.rest_is_line.Goals as goal
 

@@ -1,8 +1,5 @@
 use Rattle.std.proofs.Common.{◌≡◌, []}
-use Rattle.re_syntax.specs.Expression.{expression_of}
-use Rattle.re_auto.specs.declared.mode.Mode.TheVariants.{Whole}
-use Rattle.re_steps.specs.Working.Simulations.{AreSetsFor}
-use Rattle.re_steps.specs.Working.Stages.{Cache, Stage, Goes}
+use Rattle.re_steps.proofs.Words.{expression_of, Whole, AreSetsFor, Cache, Stage, Goes}
 use Rattle.re_steps.proofs.sets.SetPair.rest_is_line.Given as goal
 
 abbrev pub invariant-places : goal.invariant-places

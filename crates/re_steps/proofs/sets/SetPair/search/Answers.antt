@@ -1,6 +1,5 @@
 use Rattle.std.proofs.Common.{inl, refl}
-use Rattle.re_syntax.specs.Expression.{expression_of}
-use Rattle.re_steps.specs.Working.Stages.{Stage}
+use Rattle.re_steps.proofs.Words.{expression_of, Stage}
 use Rattle.re_steps.proofs.lemmas.StageLaws.{goes_nowhere}
 use Rattle.re_steps.proofs.sets.SetPair.search.Goals as goal
 

@@ -1,7 +1,5 @@
 use Rattle.std.proofs.Common.{List, ◌≤◌, ◌-◌, length}
-use Rattle.re_syntax.specs.Bytes.{Text}
-use Rattle.re_strings.specs.Working.FixedSets.{AreLeapsOf, NoneBegins}
-use Rattle.re_strings.specs.Working.Keys.{keys}
+use Rattle.re_strings.proofs.Words.{Text, AreLeapsOf, NoneBegins, keys}
 use Rattle.re_strings.proofs.leaps.Leaps.leap.Given as goal
 
 abbrev pub invariant-windows : goal.invariant-windows

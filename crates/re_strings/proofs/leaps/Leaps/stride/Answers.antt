@@ -1,6 +1,5 @@
 use Rattle.std.proofs.Common.{◌≡◌, ◌+◌, ◌-◌, subst, arith}
-use Rattle.re_strings.specs.Working.Keys.{keys}
-use Rattle.re_strings.specs.Working.FixedSets.{NoneBegins}
+use Rattle.re_strings.proofs.Words.{keys, NoneBegins}
 use Rattle.re_strings.proofs.lemmas.SetLeaps.{none_begins_at_first, none_begins_on}
 use Rattle.re_strings.proofs.leaps.Leaps.stride.Goals as goal
 

@@ -1,6 +1,5 @@
 use Rattle.std.proofs.Common.{◌≡◌}
-use Rattle.re_syntax.specs.Bytes.{Bytes}
-use Rattle.re_syntax.specs.Sets.{members}
+use Rattle.re_syntax.proofs.Words.{Bytes, members}
 use Rattle.re_syntax.proofs.lemmas.ClosedLaws.{closed_below}
 use Rattle.re_syntax.proofs.bytes.ByteSet.closed.Given as goal
 

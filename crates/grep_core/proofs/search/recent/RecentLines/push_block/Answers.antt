@@ -1,9 +1,7 @@
 use Rattle.std.proofs.Common.{rules, ◌≡◌, [], ◌∷◌, ◌++◌, ◌-◌, length, map, take, drop, sym, ap, ◌∙◌, append_assoc, append-nil, arith}
 use Rattle.std.proofs.lemmas.List.{length-drop, take_all}
-use Rattle.re_syntax.specs.Lines.{lines_of, terminated}
+use Rattle.grep_core.proofs.Words.{lines_of, terminated, LastLines, with_lines, last_of}
 use Rattle.re_syntax.proofs.lemmas.LinesLaws.{lines_of-terminated}
-use Rattle.grep_core.specs.Working.LastLines.{LastLines, with_lines}
-use Rattle.grep_core.specs.Working.Progress.{last_of}
 use Rattle.grep_core.proofs.lemmas.BlockLines.{holds_none, holds_more, holds_last, last_free}
 use Rattle.grep_core.proofs.lemmas.RecentLinesLemmas.{few_held}
 use Rattle.grep_core.proofs.search.recent.RecentLines.push_block.Goals as goal

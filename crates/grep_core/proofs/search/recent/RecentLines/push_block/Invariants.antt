@@ -1,7 +1,5 @@
 use Rattle.std.proofs.Common.{◌≡◌, List, ◌++◌, drop}
-use Rattle.re_syntax.specs.Bytes.{Text}
-use Rattle.re_syntax.specs.Lines.{lines_of}
-use Rattle.grep_core.specs.Working.LastLines.{with_lines}
+use Rattle.grep_core.proofs.Words.{Text, lines_of, with_lines}
 use Rattle.grep_core.proofs.search.recent.RecentLines.push_block.Given as goal
 
 -- some lines are held, and the others are left

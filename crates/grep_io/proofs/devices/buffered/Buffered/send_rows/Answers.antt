@@ -1,6 +1,5 @@
 use Rattle.std.proofs.Common.{subst, arith}
-use Rattle.re_syntax.specs.Lines.{HasNoNewline}
-use Rattle.grep_io.specs.Working.Sent.{EndsRows}
+use Rattle.grep_io.proofs.Words.{HasNoNewline, EndsRows}
 use Rattle.grep_io.proofs.lemmas.BufferLemmas.{part_sent, rows_make_room, rows_sent}
 use Rattle.grep_io.proofs.devices.buffered.Buffered.send_rows.Goals as goal
 

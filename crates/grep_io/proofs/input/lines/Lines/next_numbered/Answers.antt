@@ -1,7 +1,5 @@
 use Rattle.std.proofs.Common.{◌≡◌, ◌≢◌, ◌<◌, ◌∙◌, [], Err, sym, ap, arith}
-use Rattle.grep_io.specs.declared.input.lines.Stage.TheVariants.{Ended}
-use Rattle.grep_io.specs.Reading.{most_lines}
-use Rattle.grep_io.specs.Working.Numbered.{Numbered}
+use Rattle.grep_io.proofs.Words.{Ended, most_lines, Numbered}
 use Rattle.grep_io.proofs.lemmas.WindowLemmas.{none_in_nothing, one_line, one_line_and_few}
 use Rattle.grep_io.proofs.lemmas.NumberedLemmas.{next_is_line, next_is_end, next_is_cut, next_is_past, next_is_refused}
 use Rattle.grep_io.proofs.input.lines.Lines.next_numbered.Goals as goal

@@ -1,6 +1,5 @@
 use Rattle.std.proofs.Common.{◌≡◌, ◌-◌, ◌^◌, length}
-use Rattle.std.specs.Io.KnownBytes.{prepend_known, Keeps}
-use Rattle.grep_io.specs.declared.input.lines.Stage.TheVariants.{Open}
+use Rattle.grep_io.proofs.Words.{prepend_known, Keeps, Open}
 use Rattle.grep_io.proofs.input.lines.Lines.read_on.Given as goal
 
 -- nothing is lost, and nothing has failed

@@ -1,8 +1,6 @@
 use Rattle.std.proofs.Common.{◌≡◌, ◌+◌, ◌-◌, ◌≤◌, length, sym, ◌∙◌, ap, subst, rules, arith}
-use Rattle.std.specs.Prelude.{⊤}
+use Rattle.grep_io.proofs.Words.{⊤, PassesAll, Held, waiting}
 use Rattle.re_syntax.proofs.lemmas.LinesLaws.{none_in_empty}
-use Rattle.re_needle.specs.Working.Blocks.{PassesAll}
-use Rattle.grep_io.specs.Working.Held.{Held, waiting}
 use Rattle.grep_io.proofs.lemmas.WindowBlocks.{past_waiting, passed_before, ahead_after}
 use Rattle.grep_io.proofs.input.window.Window.pass.Goals as goal
 

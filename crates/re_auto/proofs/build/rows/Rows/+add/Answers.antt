@@ -1,12 +1,8 @@
 use Rattle.std.proofs.Common.{rules, ◌≡◌, ◌<◌, IfOk, [], map, drop, Some, None, refl, sym, ap, ◌∙◌, subst, arith}
 use Rattle.std.proofs.Math.Seq.{drop-length}
 use Rattle.std.proofs.lemmas.Result.{IfOk-weaker}
-use Rattle.re_syntax.specs.Expression.{alt, cat, expression_of, empty, begin, end, repeat}
-use Rattle.re_syntax.specs.Holds.{positions}
-use Rattle.re_syntax.specs.declared.tree.Tree.{the_lemmas}
+use Rattle.re_auto.proofs.Words.{alt, cat, empty, begin, end, repeat, expression_of, positions, the_lemmas, HasWidth, IsTail, IsAddedOf, part_of}
 use Rattle.re_syntax.proofs.lemmas.ExpressionLaws.{expression-Empty, expression-Set, expression-Not, expression-Begin, expression-End, expression-Cat, expression-Alt}
-use Rattle.re_auto.specs.Working.Building.{HasWidth, IsTail, IsAddedOf}
-use Rattle.re_auto.specs.Working.Positions.{part_of}
 use Rattle.re_auto.proofs.lemmas.Numbered.{part_numbered}
 use Rattle.re_auto.proofs.lemmas.PartLemmas.{always, never_holds, width_of}
 use Rattle.re_auto.proofs.lemmas.AddedLemmas.{blank_added, turn_added, branch_added, may_join, may_repeat, room_left, front, member_fits, branch_fits}

@@ -1,11 +1,6 @@
 use Rattle.std.proofs.Common.{refl, ◌≡◌, ◌∙◌, ap, length}
-use Rattle.std.specs.Vec.{with_items}
+use Rattle.re_auto.proofs.Words.{with_items, expression_of, part_of, IsNext, Has, IsNextSet}
 use Rattle.std.proofs.lemmas.List.{with_items_is}
-use Rattle.re_syntax.specs.Expression.{expression_of}
-use Rattle.re_auto.specs.Working.Positions.{part_of}
-use Rattle.re_auto.specs.Working.Stepping.{IsNext}
-use Rattle.re_auto.specs.Working.Bits.{Has}
-use Rattle.re_auto.specs.Working.StateSets.{IsNextSet}
 use Rattle.re_auto.proofs.lemmas.SetsByWords.{stands_next, next_small}
 use Rattle.re_auto.proofs.step.automaton.Automaton.advance.Goals as goal
 

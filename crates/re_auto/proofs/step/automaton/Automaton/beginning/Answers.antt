@@ -1,9 +1,5 @@
 use Rattle.std.proofs.Common.{true, false}
-use Rattle.re_syntax.specs.Expression.{expression_of}
-use Rattle.re_syntax.specs.Holds.{positions}
-use Rattle.re_auto.specs.Working.Bits.{Are}
-use Rattle.re_auto.specs.Working.Positions.{part_of}
-use Rattle.re_auto.specs.Working.Tables.{AreTablesOf, words_for}
+use Rattle.re_auto.proofs.Words.{expression_of, positions, Are, part_of, AreTablesOf, words_for}
 use Rattle.re_auto.proofs.step.automaton.Automaton.beginning.Goals as goal
 
 pub returns-then-at_begin : goal.returns-then-at_begin

@@ -1,6 +1,5 @@
 use Rattle.std.proofs.Common.{true≢false, sym, ◌∙◌}
-use Rattle.re_syntax.specs.Expression.{expression_of}
-use Rattle.re_auto.specs.Working.Tables.{AreTablesOf}
+use Rattle.re_auto.proofs.Words.{expression_of, AreTablesOf}
 use Rattle.re_auto.proofs.lemmas.SetsByWords.{nowhere_stays}
 use Rattle.re_auto.proofs.step.automaton.Automaton.begins.Goals as goal
 

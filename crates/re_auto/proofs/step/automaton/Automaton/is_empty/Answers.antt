@@ -1,5 +1,4 @@
-use Rattle.re_syntax.specs.Expression.{expression_of}
-use Rattle.re_auto.specs.Working.Tables.{AreTablesOf}
+use Rattle.re_auto.proofs.Words.{expression_of, AreTablesOf}
 use Rattle.re_auto.proofs.step.automaton.Automaton.is_empty.Goals as goal
 
 pub returns-in-true-true : goal.returns-in-true-true

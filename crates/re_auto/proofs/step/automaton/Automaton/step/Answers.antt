@@ -1,7 +1,5 @@
 use Rattle.std.proofs.Common.{◌≡◌, arith, sym, ◌∙◌}
-use Rattle.re_syntax.specs.Expression.{expression_of}
-use Rattle.re_syntax.specs.Holds.{positions}
-use Rattle.re_auto.specs.Working.Tables.{AreTablesOf, words_for}
+use Rattle.re_auto.proofs.Words.{expression_of, positions, AreTablesOf, words_for}
 use Rattle.re_auto.proofs.step.automaton.Automaton.step.Goals as goal
 
 pub only_word-requires : goal.only_word-requires

@@ -1,7 +1,5 @@
 use Rattle.std.proofs.Common.{◌≡◌, length, refl, sym, ◌∙◌}
-use Rattle.re_syntax.specs.Expression.{expression_of}
-use Rattle.re_syntax.specs.Holds.{positions}
-use Rattle.re_auto.specs.Working.Tables.{AreTablesOf}
+use Rattle.re_auto.proofs.Words.{expression_of, positions, AreTablesOf}
 use Rattle.re_auto.proofs.lemmas.RowLemmas.{row_within}
 use Rattle.re_auto.proofs.step.automaton.Automaton.step_words.Goals as goal
 

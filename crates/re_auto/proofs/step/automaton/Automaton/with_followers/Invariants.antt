@@ -1,7 +1,5 @@
 use Rattle.std.proofs.Common.{ℕ}
-use Rattle.re_syntax.specs.Expression.{expression_of}
-use Rattle.re_auto.specs.Working.Bits.{InWord}
-use Rattle.re_auto.specs.Working.Positions.{part_of}
+use Rattle.re_auto.proofs.Words.{expression_of, InWord, part_of}
 use Rattle.re_auto.proofs.lemmas.BitLemmas.{AreAmong, AddsUp}
 use Rattle.re_auto.proofs.step.automaton.Automaton.with_followers.Given as goal
 

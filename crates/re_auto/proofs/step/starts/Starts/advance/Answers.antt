@@ -1,10 +1,6 @@
 use Rattle.std.proofs.Common.{arith, ◌≡◌, ◌∙◌, ap, length}
-use Rattle.std.specs.Vec.{with_items}
+use Rattle.re_auto.proofs.Words.{with_items, expression_of, part_of, IsNextStarts, least_of, AreNext}
 use Rattle.std.proofs.lemmas.List.{with_items_is}
-use Rattle.re_syntax.specs.Expression.{expression_of}
-use Rattle.re_auto.specs.Working.Positions.{part_of}
-use Rattle.re_auto.specs.Working.Starts.{IsNextStarts}
-use Rattle.re_auto.specs.Working.StartSets.{least_of, AreNext}
 use Rattle.re_auto.proofs.lemmas.Numbered.{part_numbered}
 use Rattle.re_auto.proofs.lemmas.StartsByLists.{next_starts, starts_next}
 use Rattle.re_auto.proofs.step.starts.Starts.advance.Goals as goal

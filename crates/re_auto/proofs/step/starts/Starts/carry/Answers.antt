@@ -1,6 +1,5 @@
 use Rattle.std.proofs.Common.{arith, ◌∙◌}
-use Rattle.re_syntax.specs.Expression.{expression_of}
-use Rattle.re_auto.specs.Working.StartSets.{Carries, Brings}
+use Rattle.re_auto.proofs.Words.{expression_of, Carries, Brings}
 use Rattle.re_auto.proofs.lemmas.BitLemmas.{word_added, all_added, chained}
 use Rattle.re_auto.proofs.step.starts.Starts.carry.Goals as goal
 

@@ -1,8 +1,5 @@
 use Rattle.std.proofs.Common.{ℕ, ◌*◌, ◌≤◌, ◌⊎◌}
-use Rattle.std.specs.Prelude.{◌↔◌}
-use Rattle.re_syntax.specs.Expression.{expression_of}
-use Rattle.re_auto.specs.Working.Bits.{Has}
-use Rattle.re_auto.specs.Working.StartSets.{AreAlike, Carries, Brings}
+use Rattle.re_auto.proofs.Words.{◌↔◌, expression_of, Has, AreAlike, Carries, Brings}
 use Rattle.re_auto.proofs.step.starts.Starts.carry.Given as goal
 
 -- what is already carried and what is left to carry are together the whole

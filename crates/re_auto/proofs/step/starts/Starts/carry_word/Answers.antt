@@ -1,8 +1,6 @@
 use Rattle.std.proofs.Common.{arith, ◌∙◌, ◌<◌, ◌+◌, ◌*◌, inl}
 use Rattle.std.proofs.lemmas.List.{get_or_read_under}
-use Rattle.re_syntax.specs.Expression.{expression_of}
-use Rattle.re_auto.specs.Working.Bits.{Has}
-use Rattle.re_auto.specs.Working.StartSets.{Carries, Brings}
+use Rattle.re_auto.proofs.Words.{expression_of, Has, Carries, Brings}
 use Rattle.re_auto.proofs.lemmas.BitLemmas.{at_word}
 use Rattle.re_auto.proofs.lemmas.StartsByLists.{one_row}
 use Rattle.re_auto.proofs.lemmas.BitLemmas.{one_added, none_left, chained}

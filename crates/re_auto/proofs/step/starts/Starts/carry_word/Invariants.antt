@@ -1,6 +1,5 @@
 use Rattle.std.proofs.Common.{ℕ, ◌+◌, ◌*◌, get_or}
-use Rattle.re_syntax.specs.Expression.{expression_of}
-use Rattle.re_auto.specs.Working.StartSets.{AreAlike, Carries, Brings}
+use Rattle.re_auto.proofs.Words.{expression_of, AreAlike, Carries, Brings}
 use Rattle.re_auto.proofs.lemmas.BitLemmas.{AreAmong, AddsUp}
 use Rattle.re_auto.proofs.step.starts.Starts.carry_word.Given as goal
 

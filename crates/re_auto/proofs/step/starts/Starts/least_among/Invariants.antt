@@ -1,7 +1,5 @@
 use Rattle.std.proofs.Common.{ℕ, ◌*◌, ◌≤◌, ◌⊎◌, get_or}
-use Rattle.std.specs.Prelude.{◌↔◌}
-use Rattle.re_auto.specs.Working.Bits.{Has}
-use Rattle.re_auto.specs.Working.StartSets.{AtMost}
+use Rattle.re_auto.proofs.Words.{◌↔◌, Has, AtMost}
 use Rattle.re_auto.proofs.step.starts.Starts.least_among.Given as goal
 
 -- what is already found and what is left to see are together the whole

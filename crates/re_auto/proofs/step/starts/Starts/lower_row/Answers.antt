@@ -1,7 +1,5 @@
 use Rattle.std.proofs.Common.{arith, ◌∙◌, ◌≡◌, ◌≤◌, get_or}
-use Rattle.std.specs.Prelude.{bit_and}
-use Rattle.re_auto.specs.Working.Bits.{Has}
-use Rattle.re_auto.specs.Working.StartSets.{Carries}
+use Rattle.re_auto.proofs.Words.{bit_and, Has, Carries}
 use Rattle.re_auto.proofs.lemmas.BitLemmas.{named_added, all_named, none_past, both_at_word, same_named, chained}
 use Rattle.re_auto.proofs.step.starts.Starts.lower_row.Goals as goal
 

@@ -1,7 +1,5 @@
 use Rattle.std.proofs.Common.{◌≡◌, ℕ, ◌*◌, ◌≤◌, ◌⊎◌}
-use Rattle.std.specs.Prelude.{◌↔◌}
-use Rattle.re_auto.specs.Working.Bits.{Has}
-use Rattle.re_auto.specs.Working.StartSets.{AreAlike, Carries}
+use Rattle.re_auto.proofs.Words.{◌↔◌, Has, AreAlike, Carries}
 use Rattle.re_auto.proofs.step.starts.Starts.lower_row.Given as goal
 
 -- what is already given and what is left to give are together the whole

@@ -1,0 +1,235 @@
+-- The lines of a block up to the first that is matched, and the rows of several lines.
+use Rattle.std.proofs.Common.{Bor, MatchOption, Option, None, Some, ◌≡◌, ◌⊎◌, ℕ, nat_eq, ◌+◌, ◌-◌, ◌*◌, ◌<◌, ◌≤◌, ◌&&◌, ◌||◌, IsTrue, not, inr, Bool, true, false, Decides, append-nil, List, [], ◌∷◌, ◌++◌, All, length, take, drop, slice_range, refl, sym, ap, ◌∙◌, subst, arith, append_assoc, inl, length-append, if◌then◌else◌}
+use Rattle.grep_core.proofs.Words.{is_some, Text, Expression, newline, terminated, lines_of, HasNoNewline, Span, IsBlock, IsNext, Sought, IsSought, Options, Selected, colon, head, lines, form, shown_number, written, IsBare, rows_selected, RowsOfSelected, RowsOfLine, RowsOfLines, name_shown, IsDivided, SearchedBlock}
+use Rattle.std.proofs.lemmas.Bool.{false≢true, cases_lt}
+use Rattle.std.proofs.Math.Seq.{take-append_seam, drop-append_seam}
+use Rattle.std.proofs.lemmas.List.{nil_from_length}
+use Rattle.std.proofs.lemmas.List.Elements.{All-cons, All-nil, All-head, All-tail}
+use Rattle.re_syntax.proofs.lemmas.LinesLaws.{lines_of-terminated, terminated-append}
+use Rattle.re_search.proofs.lemmas.NextLines.{block_lines, free_lines}
+use Rattle.re_search.specs.Meters.{Steps}
+use Rattle.re_search.specs.Searches.{AddsAtMost}
+use Rattle.grep_core.proofs.lemmas.Verdicts.{decided_yes, decided_no}
+
+-- ---- where the lines lie
+
+-- there are no more lines than bytes
+pub lines_within : (ls : List Text) → length ls ≤ length (terminated ls)
+lines_within [] = omega arith
+lines_within (l ∷ ls) = omega (arith, length-append l (newline ∷ terminated ls), lines_within ls)
+
+-- one line more has one byte more than its own
+pub bytes_with : (ls : List Text) (l : Text) → length (terminated (ls ++ l ∷ [])) ≡ length (terminated ls) + (length l + 1)
+bytes_with ls l = ap length (terminated-append ls (l ∷ [])) ∙ length-append (terminated ls) (l ++ newline ∷ []) ∙ ap (λ n. length (terminated ls) + n) (length-append l (newline ∷ []))
+
+module _ (P : Text → Type 0) (block : Text) (place : Span) (whole : IsBlock block) (n : IsNext P (lines_of block) place) where
+  -- the block is the lines before the next one, that line, and those after it
+  bytes_are : block ≡ terminated n.before ++ (n.line ++ newline ∷ terminated n.after)
+  bytes_are = block_lines block whole ∙ ap terminated n.divided ∙ terminated-append n.before (n.line ∷ n.after)
+
+  -- up to that line, with it
+  pub first_bytes : block ≡ terminated (n.before ++ n.line ∷ []) ++ terminated n.after
+  first_bytes =
+      block_lines block whole ∙ ap terminated (n.divided ∙ sym (append_assoc n.before (n.line ∷ []) n.after)) ∙ terminated-append (n.before ++ n.line ∷ []) n.after
+
+  pub before_bytes : take place.start block ≡ terminated n.before
+  before_bytes = ap (λ k. take k block) n.starts ∙ ap (take (length (terminated n.before))) bytes_are ∙ take-append_seam (terminated n.before) (n.line ++ newline ∷ terminated n.after)
+
+  pub line_bytes : slice_range block place.start place.end ≡ n.line
+  line_bytes =
+      let left : drop place.start block ≡ n.line ++ newline ∷ terminated n.after = ap (λ k. drop k block) n.starts ∙ ap (drop (length (terminated n.before))) bytes_are ∙ drop-append_seam (terminated n.before) (n.line ++ newline ∷ terminated n.after) in
+      let long : place.end - place.start ≡ length n.line = omega (arith, n.ends) in
+      ap (λ k. take k (drop place.start block)) long ∙ ap (take (length n.line)) left ∙ take-append_seam n.line (newline ∷ terminated n.after)
+
+  pub end_bytes : place.end + 1 ≡ length (terminated (n.before ++ n.line ∷ []))
+  end_bytes = omega (arith, n.ends, n.starts, bytes_with n.before n.line)
+
+  pub free_up_to : All HasNoNewline (n.before ++ n.line ∷ [])
+  free_up_to = first_free (n.before ++ n.line ∷ []) n.after (subst (All HasNoNewline) (n.divided ∙ sym (append_assoc n.before (n.line ∷ []) n.after)) (free_lines block whole))
+    where
+      first_free : (xs ys : List Text) → All HasNoNewline (xs ++ ys) → All HasNoNewline xs
+      first_free [] ys h = All-nil HasNoNewline
+      first_free (x ∷ xs) ys h = All-cons HasNoNewline x xs (All-head HasNoNewline x (xs ++ ys) h) (first_free xs ys (All-tail HasNoNewline x (xs ++ ys) h))
+
+-- the lines before the last of some have no newline
+pub free_before : (xs ys : List Text) → All HasNoNewline (xs ++ ys) → All HasNoNewline xs
+free_before [] ys h = All-nil HasNoNewline
+free_before (x ∷ xs) ys h = All-cons HasNoNewline x xs (All-head HasNoNewline x (xs ++ ys) h) (free_before xs ys (All-tail HasNoNewline x (xs ++ ys) h))
+
+-- ---- what is written for them
+
+module _ (es : List Expression) (options : Options) (many : Bool) (name : Text) where
+  -- lines that are not selected have no rows
+  pub rows_unselected : (number : ℕ) (ls : List Text) → All (λ line. ¬ Selected es options line) ls → RowsOfLines es options many name number ls [] 0
+  rows_unselected number [] none = (refl, refl)
+  rows_unselected number (l ∷ ls) none =
+      let out = All-head (λ line. ¬ Selected es options line) l ls none in
+      ([], [], false, 0, inr (out, refl), decided_no out, rows_unselected (number + 1) ls (All-tail (λ line. ¬ Selected es options line) l ls none), refl, refl)
+
+  -- one line more
+  pub rows_one_more : (number : ℕ) (ls : List Text) (line : Text) (rows own : List Text) (found : ℕ) (selected : Bool) → RowsOfLines es options many name number ls rows found → RowsOfLine es options many name (number + length ls) line own → Decides selected (Selected es options line)
+      → RowsOfLines es options many name number (ls ++ line ∷ []) (rows ++ own) (if selected then found + 1 else found)
+  rows_one_more number [] line rows own found selected (none, zero) one reported =
+      let at : number + 0 ≡ number = omega arith in
+      let counted : (if selected then found + 1 else found) ≡ (if selected then 0 + 1 else 0) = ap (λ n. if selected then n + 1 else n) zero in
+      (own, [], selected, 0, subst (λ n. RowsOfLine es options many name n line own) at one, reported, (refl, refl), ap (λ r. r ++ own) none ∙ sym (append-nil own), counted)
+  rows_one_more number (l ∷ ls) line rows own found selected (first, rest, b, others, is_first, reported_too, are_rest, joined, counted) one reported =
+      let at : number + length (l ∷ ls) ≡ number + 1 + length ls = omega arith in
+      let later = rows_one_more (number + 1) ls line rest own others selected are_rest (subst (λ n. RowsOfLine es options many name n line own) at one) reported in
+      (first, rest ++ own, b, (if selected then others + 1 else others), is_first, reported_too, later, ap (λ r. r ++ own) joined ∙ append_assoc first rest own, both b selected counted)
+    where
+      both : (b s : Bool) → found ≡ (if b then others + 1 else others) → (if s then found + 1 else found) ≡ (if b then (if s then others + 1 else others) + 1 else (if s then others + 1 else others))
+      both true true e = omega (arith, e)
+      both true false e = e
+      both false true e = omega (arith, e)
+      both false false e = e
+
+  -- where each selected line is a row, and nothing else
+  pub rows_numbered : form options ≡ lines → (number : ℕ) (ls : List Text) → All (Selected es options) ls → RowsOfLines es options many name number ls (rows_selected options many name number ls) (length ls)
+  rows_numbered asked number [] all = (refl, refl)
+  rows_numbered asked number (l ∷ ls) all =
+      let own : List Text = (head colon (name_shown many name) (shown_number options number) ++ l) ∷ [] in
+      let are : RowsOfSelected es options many (form options) name number l own = subst (λ shape. RowsOfSelected es options many shape name number l own) (sym asked) refl in
+      let selected = All-head (Selected es options) l ls all in
+      (own, rows_selected options many name (number + 1) ls, true, length ls, inl (selected, are), decided_yes selected, rows_numbered asked (number + 1) ls (All-tail (Selected es options) l ls all), refl, (let long : length (l ∷ ls) ≡ length ls + 1 = omega arith in long))
+
+  -- no more lines are selected than there are
+  pub found_within : (number : ℕ) (ls rows : List Text) (found : ℕ) → RowsOfLines es options many name number ls rows found → found ≤ length ls
+  found_within number [] rows found (none, zero) = omega (arith, zero)
+  found_within number (l ∷ ls) rows found (own, later, b, others, is, reported_too, are, joined, counted) = at_most b counted (found_within (number + 1) ls later others are)
+    where
+      at_most : (b : Bool) → found ≡ (if b then others + 1 else others) → others ≤ length ls → found ≤ length (l ∷ ls)
+      at_most true e few = omega (arith, e, few)
+      at_most false e few = omega (arith, e, few)
+
+  -- the lines of a stretch before one that is selected have no rows, and that line has its own
+  pub rows_matched : (number : ℕ) (before : List Text) (line : Text) (own : List Text) → All (λ l. ¬ Selected es options l) before → Selected es options line → (at : ℕ) → at ≡ number + length before → RowsOfSelected es options many (form options) name at line own
+      → RowsOfLines es options many name number (before ++ line ∷ []) own 1
+  rows_matched number before line own none selected at is are =
+      rows_one_more number before line [] own 0 true (rows_unselected number before none) (subst (λ n. RowsOfLine es options many name n line own) is (inl (selected, are))) (decided_yes selected)
+
+  -- under `-v` those lines are selected, and the one after them is not
+  pub rows_unmatched : (number : ℕ) (before rows : List Text) (line : Text) → RowsOfLines es options many name number before rows (length before) → ¬ Selected es options line → RowsOfLines es options many name number (before ++ line ∷ []) rows (length before)
+  rows_unmatched number before rows line are out =
+      subst (λ r. RowsOfLines es options many name number (before ++ line ∷ []) r (length before)) (append-nil rows) (rows_one_more number before line rows [] (length before) false are (inr (out, refl)) (decided_no out))
+
+-- bare rows are the lines with their newlines
+pub bare_bytes : (options : Options) (many : Bool) (name : Text) → IsBare options many → (number : ℕ) (ls : List Text) → written [] (rows_selected options many name number ls) ≡ terminated ls
+bare_bytes options many name bare number [] = refl
+bare_bytes options many name bare number (l ∷ ls) =
+    let none : head colon (name_shown many name) (shown_number options number) ≡ [] = rw (bare.no_name, bare.no_number) refl in
+    ap (λ h. ((h ++ l) ++ newline ∷ []) ++ written [] (rows_selected options many name (number + 1) ls)) none ∙ append_assoc l (newline ∷ []) (written [] (rows_selected options many name (number + 1) ls))
+    ∙ ap (λ t. l ++ newline ∷ t) (bare_bytes options many name bare (number + 1) ls)
+
+-- under `-v` a line is selected exactly if it is not matched, and else if it is
+module _ (es : List Expression) (options : Options) (whole : Bool) (asks : whole ≡ options.line_regexp) where
+  abbrev s : Sought
+  s = record { expressions = es; whole = whole }
+
+  pub selected_matched : options.invert_match ≡ false → (line : Text) → IsSought s line → Selected es options line
+  selected_matched plain line h = rw plain (rw asks at h)
+
+  pub unselected_unmatched : options.invert_match ≡ false → (ls : List Text) → All (λ line. ¬ IsSought s line) ls → All (λ line. ¬ Selected es options line) ls
+  unselected_unmatched plain ls none = λ k d below h. none k d below (rw asks (rw plain at h))
+
+  pub selected_unmatched : options.invert_match ≡ true → (ls : List Text) → All (λ line. ¬ IsSought s line) ls → All (Selected es options) ls
+  selected_unmatched inverts ls none = λ k d below. rw inverts (λ m. none k d below (rw asks m))
+
+  pub unselected_matched : options.invert_match ≡ true → (line : Text) → IsSought s line → ¬ Selected es options line
+  unselected_matched inverts line h = λ selected. (rw inverts at selected) (rw asks at h)
+
+-- where a stretch has lines only if lines are selected that are matched, they are
+pub plain_if : (invert : Bool) (count : ℕ) → (invert ≡ true → count ≡ 0) → 1 ≤ count → invert ≡ false
+plain_if true count none some = absurd (omega (arith, some, none refl))
+plain_if false count none some = refl
+
+-- then none of the lines before the matched one is selected
+pub unselected_before : (es : List Expression) (options : Options) (whole : Bool) → whole ≡ options.line_regexp → (count : ℕ) → (options.invert_match ≡ true → count ≡ 0) → (ls : List Text) → length ls ≤ count → All (λ line. ¬ IsSought (record { expressions = es; whole = whole }) line) ls → All (λ line. ¬ Selected es options line) ls
+unselected_before es options whole asks count none ls few unsought = λ k d below.
+    unselected_unmatched es options whole asks (plain_if options.invert_match count none (omega (arith, few, below))) ls unsought k d below
+
+-- a stretch is asked for under `-v` only where rows are bare
+pub bare_if : {count : ℕ} {P : Type 0} (invert bare : Bool) → ((not invert || bare) ≡ false → count ≡ 0) → (IsTrue bare → P) → invert ≡ true → (count ≡ 0) ⊎ P
+bare_if true true none is e = inr (is refl)
+bare_if true false none is e = inl (none refl)
+bare_if false bare none is e = absurd (false≢true e)
+
+-- a stretch is divided as well for matchers that search for the same
+pub divided_kept : {old new : Sought} {stretch : SearchedBlock} {before all : List Text} → new ≡ old → IsDivided old stretch before all → IsDivided new stretch before all
+divided_kept {old} {new} {stretch} {before} {all} same d = subst (λ s. IsDivided s stretch before all) (sym same) d
+
+-- its search took at most a step for each of its bytes and each expression, and passed no more bytes
+pub stretch_spent : {s : Sought} {stretch : SearchedBlock} {before all : List Text} (es ds : List Expression) (old new : Steps) → ds ≡ es → IsDivided s stretch before all → AddsAtMost (length ds * stretch.bytes) old new → AddsAtMost (length es * length (terminated all)) old new
+stretch_spent {s} {stretch} {before} {all} es ds old new same d few = subst (λ n. AddsAtMost (length es * n) old new) d.width (subst (λ fs. AddsAtMost (length fs * stretch.bytes) old new) same few)
+
+-- a stretch that ends with a line has one
+pub line_within : {s : Sought} {stretch : SearchedBlock} {before all : List Text} → IsDivided s stretch before all → is_some stretch.line ≡ true → 1 ≤ length all
+line_within {s} {stretch} {before} {all} d some = one stretch.line some d.next
+  where
+    one : (line : Option (Bor Text)) → is_some line ≡ true → MatchOption line (all ≡ before) (λ l. IsSought s l.now × (all ≡ before ++ l.now ∷ [])) → 1 ≤ length all
+    one None none h = absurd (false≢true none)
+    one (Some l) some (holds, is) = omega (arith, ap length is, length-append before (l.now ∷ []))
+
+-- where a stretch is asked for only where no line is shown after a selected one, and where a line is
+-- selected that is matched, both hold if it has a line
+module _ (left : ℕ) (invert : Bool) (count : ℕ) (none : (nat_eq left 0 && not invert) ≡ false → count ≡ 0) where
+  pub asked_forward : invert ≡ true → count ≡ 0
+  asked_forward e = none (ap (λ b. nat_eq left 0 && not b) e ∙ and_false (nat_eq left 0))
+    where
+      and_false : (b : Bool) → (b && false) ≡ false
+      and_false true = refl
+      and_false false = refl
+
+  pub asked_due : (fewer : ℕ) → fewer ≤ count → (fewer ≡ 0) ⊎ (left ≡ 0)
+  asked_due fewer few = elim (cases_lt 0 left) [
+    | inl some ↦ inl (let zero : count ≡ 0 = none (ap (λ b. b && not invert) (apart left some)) in omega (arith, few, zero))
+    | inr zero ↦ inr (omega (arith, zero))
+  ]
+    where
+      apart : (n : ℕ) → 0 < n → nat_eq n 0 ≡ false
+      apart n some = search (arith, some)
+
+module _ {s : Sought} {stretch : SearchedBlock} {before all : List Text} (d : IsDivided s stretch before all) where
+  -- the lines before the last are some of them
+  within_next : (line : Option (Bor Text)) → MatchOption line (all ≡ before) (λ l. IsSought s l.now × (all ≡ before ++ l.now ∷ [])) → length before ≤ length all
+  within_next None same = omega (arith, ap length same)
+  within_next (Some l) (holds, is) = omega (arith, ap length is, length-append before (l.now ∷ []))
+
+  free_next : (line : Option (Bor Text)) → MatchOption line (all ≡ before) (λ l. IsSought s l.now × (all ≡ before ++ l.now ∷ [])) → All HasNoNewline before
+  free_next None same = subst (All HasNoNewline) same d.free
+  free_next (Some l) (holds, is) = free_before before (l.now ∷ []) (subst (All HasNoNewline) is d.free)
+
+  pub before_within : length before ≤ stretch.count
+  before_within = omega (arith, within_next stretch.line d.next, d.counted)
+
+  pub before_counted : stretch.before_count ≤ stretch.count
+  before_counted = omega (arith, before_within, d.many)
+
+  pub before_free : All HasNoNewline before
+  before_free = free_next stretch.line d.next
+
+  -- they are whole lines
+  pub before_block : IsBlock stretch.before.now
+  before_block = (before, before_free, d.bytes)
+
+  pub before_lines : lines_of stretch.before.now ≡ before
+  before_lines = ap lines_of d.bytes ∙ lines_of-terminated before before_free
+
+  -- under `-v` they are its rows, and where it has none there is nothing to write
+  pub stretch_inverted : (es : List Expression) (options : Options) (whole : Bool) → whole ≡ options.line_regexp → s ≡ record { expressions = es; whole = whole } → (many : Bool) (name : Text) → options.invert_match ≡ true → (number : ℕ) → (stretch.count ≡ 0) ⊎ IsBare options many
+      → (rows : List Text) × RowsOfLines es options many name number all rows (length before) × (stretch.before.now ≡ written [] rows)
+  stretch_inverted es options whole asks same many name inverts number (inl empty) =
+      let none : all ≡ [] = nil_from_length all (omega (arith, empty, d.counted)) in
+      let none_before : before ≡ [] = nil_from_length before (omega (arith, empty, before_within)) in
+      ([], subst (λ ls. RowsOfLines es options many name number ls [] (length before)) (sym none) (refl, ap length none_before), d.bytes ∙ ap terminated none_before)
+  stretch_inverted es options whole asks same many name inverts number (inr bare) =
+      (rows_selected options many name number before, rest stretch.line d.next, d.bytes ∙ sym (bare_bytes options many name bare number before))
+    where
+      first : RowsOfLines es options many name number before (rows_selected options many name number before) (length before)
+      first = rows_numbered es options many name bare.asked number before (selected_unmatched es options whole asks inverts before (subst (λ t. All (λ line. ¬ IsSought t line) before) same d.none))
+
+      rest : (line : Option (Bor Text)) → MatchOption line (all ≡ before) (λ l. IsSought s l.now × (all ≡ before ++ l.now ∷ [])) → RowsOfLines es options many name number all (rows_selected options many name number before) (length before)
+      rest None is = subst (λ ls. RowsOfLines es options many name number ls (rows_selected options many name number before) (length before)) (sym is) first
+      rest (Some l) (holds, is) =
+          subst (λ ls. RowsOfLines es options many name number ls (rows_selected options many name number before) (length before)) (sym is)
+          (rows_unmatched es options many name number before (rows_selected options many name number before) l.now first (unselected_matched es options whole asks inverts l.now (subst (λ t. IsSought t l.now) same holds)))

@@ -1,0 +1,35 @@
+-- What is written for several lines of a file, one after the other.
+use Rattle.std.specs.Prelude.{◌≡◌, ℕ, ◌+◌, Bool, IsTrue, ◌↔◌, List, [], ◌∷◌, ◌++◌, if◌then◌else◌}
+use Rattle.re_syntax.specs.Bytes.{Text}
+use Rattle.re_syntax.specs.Expression.{Expression}
+use Rattle.grep_core.specs.declared.options.Options.{Options}
+use Rattle.grep_io.specs.Counted.{one_more}
+use Rattle.grep_core.specs.Files.{Selected}
+use Rattle.grep_core.specs.Run.{Writer, TakesAll, TakesFront}
+use Rattle.grep_core.specs.Working.OneLine.{RowsOfLine}
+
+module _ (es : List Expression) (options : Options) (many : Bool) (name : Text) where
+  -- the rows of the lines, the first of which has this number; `found` of them are selected
+  abbrev pub RowsOfLines : ℕ → List Text → List Text → ℕ → Type 0
+  RowsOfLines number [] rows found = (rows ≡ []) × (found ≡ 0)
+  RowsOfLines number (line ∷ lines) rows found =
+      (own : List Text) × (later : List Text) × (selected : Bool) × (others : ℕ)
+      × RowsOfLine es options many name number line own
+      × (IsTrue selected ↔ Selected es options line)
+      × RowsOfLines (number + 1) lines later others
+      × (rows ≡ own ++ later) × (found ≡ (if selected then others + 1 else others))
+
+  module _ (number : ℕ) (lines : List Text) (old new : Writer) where
+    -- they were written
+    pub record TakesLines (found : ℕ) : Type 0 where
+      pub rows : List Text
+      pub are_rows : RowsOfLines number lines rows found
+      pub wrote : TakesAll old new rows
+
+    -- a beginning of them was written, and a write failed
+    pub record BreaksLines : Type 0 where
+      pub rows : List Text
+      pub found : ℕ
+      pub are_rows : RowsOfLines number lines rows found
+      pub wrote : TakesFront old new rows
+      pub counted : new.failures ≡ one_more old.failures

@@ -1,0 +1,28 @@
+-- The lines that are held in one piece, as far as they were searched at once.
+use Rattle.std.specs.Prelude.{◌≡◌, ◌+◌, ◌≤◌, List, [], ◌∷◌, ◌++◌, All, MatchOption, length}
+use Rattle.re_syntax.specs.Bytes.{Text}
+use Rattle.re_syntax.specs.Lines.{HasNoNewline, terminated}
+use Rattle.re_search.specs.Working.Sought.{Sought, IsSought}
+use Rattle.grep_io.specs.declared.input.lines.Stage.TheVariants.{Ended}
+use Rattle.grep_core.specs.declared.search.searched_block.SearchedBlock.{SearchedBlock}
+use Rattle.grep_io.specs.Reading.{most_lines}
+use Rattle.grep_io.specs.Working.Numbered.{Numbered}
+
+-- the stretch is all these lines: those before the first that is matched, and that line, if there
+-- is one
+pub record IsDivided (sought : Sought) (stretch : SearchedBlock) (before all : List Text) : Type 0 where
+  pub free : All HasNoNewline all
+  pub bytes : stretch.before.now ≡ terminated before
+  pub many : stretch.before_count ≡ length before
+  pub width : stretch.bytes ≡ length (terminated all)
+  pub counted : stretch.count ≡ length all
+  pub none : All (λ line. ¬ IsSought sought line) before
+  pub next : MatchOption stretch.line (all ≡ before)
+      (λ line. IsSought sought line.now × (all ≡ before ++ line.now ∷ []))
+
+-- these are the next lines, each with its newline, and all of them can be numbered
+pub record IsNextOf {R : Type 0} (now : Numbered R) (all : List Text) : Type 0 where
+  pub rest : Text
+  pub ahead : now.lines.ahead ≡ terminated all ++ rest
+  pub few : now.number + length all ≤ most_lines
+  pub open_still : now.lines.stage ≡ Ended → now.lines.ahead ≡ []

@@ -1,0 +1,69 @@
+//! The search of one source, whose selected lines are only counted.
+ghost use Rattle.std.specs.Prelude.{◌≡◌, ℕ, ◌-◌, ◌≤◌, [], Err, IfOk, false, if◌then◌else◌};
+ghost use Rattle.re_search.specs.Working.Searchers.{SameSearchers, asks_whole, expressions_by};
+ghost use Rattle.grep_core.specs.Output.{counts, form};
+ghost use Rattle.grep_io.specs.Reading.{open_source, OneLeft};
+ghost use Rattle.grep_core.specs.Run.{writer};
+ghost use Rattle.grep_core.specs.Working.Given.{SearchGives};
+
+use crate::options::Options;
+use crate::output::request::FileRequest;
+use crate::search::file::count_found;
+use crate::search::line::search_line;
+use crate::search::next_line::take_next;
+use crate::status::{FileEnd, FileFound, SearchFault};
+use grep_io::{CountedRead, CountedWrite, Lines, ReadFault, Stage};
+use re_search::{LineMatch, Meter, Searchers};
+
+// How many of `count` lines are selected, if `matched` are matched (XCU grep, option `-v`).
+fn count_selected(options: &Options, count: u64, matched: u64) -> u64
+    requires { matched ≤ count }
+    ensures { result ≡ (if options.now.invert_match then count - matched else matched) }
+{
+    if options.invert_match {
+        count - matched
+    } else {
+        matched
+    }
+}
+
+/// Searches the lines of a reader, from the first on, where only the number of selected lines is
+/// written, and that after the last line. Buffered output is sent before a read, which may wait.
+pub fn count_lines<R: CountedRead, M: LineMatch, W: CountedWrite>(
+    lines: &mut Lines<R>,
+    searchers: &mut Searchers<'_, '_, M>,
+    request: &FileRequest,
+    out: &mut W,
+    meter: &mut Meter,
+) -> Result<FileFound, SearchFault>
+    requires none_ahead { lines.old.lines.ahead ≡ [] }
+    requires still_open { lines.old.lines.stage ≡ Stage.Open }
+    requires none_numbered { lines.old.number ≡ 0 }
+    requires is_asked { form request.now.options ≡ counts }
+    requires whole { asks_whole searchers.old ≡ request.now.options.line_regexp }
+    ensures given { SearchGives (expressions_by M.expression searchers.old) request.now.options
+        request.now.many false (open_source request.now.name.now (R.remaining lines.old.lines.reader))
+        (OneLeft (R.remaining lines.new.lines.reader))
+        (R.failures lines.old.lines.reader) (R.failures lines.new.lines.reader)
+        (writer W.contents W.failures out.old) (writer W.contents W.failures out.new)
+        meter.old meter.new result }
+    ensures same { SameSearchers M.expression M.whole M.room searchers.old searchers.new }
+{
+    let options = &request.options;
+    let mut selected: u64 = 0;
+    'lines: loop {
+        let block = lines.ready_lines();
+        let (bytes, count) = (block.bytes.len(), block.count);
+        let matched = searchers.count_matched(block.bytes, meter);
+        lines.pass(bytes, count);
+        selected = selected.saturating_add(count_selected(options, count, matched));
+        match take_next(lines, out) {
+            Ok(None) => {}
+            Ok(Some(end)) => return Ok(FileFound { end, selected }),
+            Err(fault) => return Err(fault),
+        }
+        let count = lines.number();
+        let found = search_line(searchers, request, count, lines.line(), out, meter)?;
+        selected = count_found(selected, found);
+    }
+}

@@ -1,0 +1,47 @@
+use Rattle.std.proofs.Common.{◌<◌, [], length, arith}
+use Rattle.grep_live.proofs.Words.{file_at, IsChange, new_mark, changes_rows}
+use Rattle.grep_session.proofs.lemmas.Writing.{none_written, writes_err}
+use Rattle.grep_live.proofs.lemmas.ListLemmas.{three-length, three-at}
+use Rattle.grep_live.proofs.lemmas.ChangesLemmas.{no_change, reported_on, reported_stops, reported_all}
+use Rattle.grep_live.proofs.lemmas.CatchLemmas.{marked_front}
+use Rattle.grep_live.proofs.change_rows.write_changes.Goals as goal
+
+pub loop-k-init : goal.loop-k-init
+loop-k-init g c = λ es meant changes are. none_written g.W.CountedWrite.contents g.W.CountedWrite.failures c.args.margin.now c.args.out.now (changes_rows 0 changes)
+
+pub write_change-requires : goal.write_change-requires
+write_change-requires g c =
+    let k = c.loop-k.k in
+    let front = marked_front c.args.session.now.files c.args.marks.now k c.requires c.loop-k-test.true in
+    front
+
+pub returns-in_err-write_change : goal.returns-in_err-write_change
+returns-in_err-write_change g c =
+    let inputs = c.args.session.now in
+    let marks = c.args.marks.now in
+    let k = c.loop-k.k in
+    λ es meant changes are.
+    let long = three-length (IsChange es inputs.options) inputs.files marks changes are in
+    let inside : k < length changes = omega (arith, long.1, c.loop-k-test.true) in
+    let change = three-at (IsChange es inputs.options) inputs.files marks changes k (file_at [] k) new_mark no_change (omega (arith, long.0, c.loop-k-test.true)) are in
+    writes_err g.W.CountedWrite.contents g.W.CountedWrite.failures c.args.margin.now _ _ _ c.from_residual.result c.from_residual.ensures.0
+    (reported_stops inputs marks g.W.CountedWrite.contents g.W.CountedWrite.failures c.args.margin.now es changes c.args.out.now c.loop-k.out c.write_change.new.out k inside (c.loop-k.invariant es meant changes are) (c.in_err-write_change.ensures es meant _ change))
+
+pub loop-k-preserved : goal.loop-k-preserved
+loop-k-preserved g c =
+    let inputs = c.args.session.now in
+    let marks = c.args.marks.now in
+    let k = c.loop-k.k in
+    λ es meant changes are.
+    let long = three-length (IsChange es inputs.options) inputs.files marks changes are in
+    let inside : k < length changes = omega (arith, long.1, c.loop-k-test.true) in
+    let change = three-at (IsChange es inputs.options) inputs.files marks changes k (file_at [] k) new_mark no_change (omega (arith, long.0, c.loop-k-test.true)) are in
+    reported_on inputs marks g.W.CountedWrite.contents g.W.CountedWrite.failures c.args.margin.now es changes c.args.out.now c.loop-k.out c.write_change.new.out k inside (c.loop-k.invariant es meant changes are) (c.in_ok-write_change.ensures es meant _ change)
+
+pub returns : goal.returns
+returns g c =
+    let inputs = c.args.session.now in
+    let marks = c.args.marks.now in
+    λ es meant changes are.
+    let long = three-length (IsChange es inputs.options) inputs.files marks changes are in
+    reported_all inputs marks g.W.CountedWrite.contents g.W.CountedWrite.failures c.args.margin.now es changes c.args.out.now c.loop-k.out c.loop-k.k (omega (arith, long.1, c.loop-k-test.false)) (c.loop-k.invariant es meant changes are)

@@ -1,5 +1,0 @@
-use Rattle.grep_live.proofs.lemmas.ChangesLemmas.{ReportedUpTo}
-use Rattle.grep_live.proofs.changing.write_changes.Given as goal
-
-abbrev pub invariant-loop-k : goal.invariant-loop-k
-invariant-loop-k g l = ReportedUpTo l.session l.marks g.W.CountedWrite.contents g.W.CountedWrite.failures l.margin l.fn.out l.out l.k

@@ -1,9 +1,0 @@
-use Rattle.std.proofs.Common.{List}
-use Rattle.re_syntax.specs.Expression.{Expression}
-use Rattle.grep_live.specs.Hits.{View, AreHits}
-use Rattle.grep_live.specs.Working.Listing.{Mean}
-use Rattle.grep_live.proofs.lemmas.PageLemmas.{CountedFiles}
-use Rattle.grep_live.proofs.paging.count_all.Given as goal
-
-abbrev pub invariant-loop-k : goal.invariant-loop-k
-invariant-loop-k l = (es : List Expression) → Mean l.session es → (view : View) → AreHits es l.session.options l.session.files view → CountedFiles view l.k l.total

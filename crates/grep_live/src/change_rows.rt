@@ -1,0 +1,117 @@
+//! What changed of the files of a session, as rows.
+ghost use Rattle.std.specs.Prelude.{◌≡◌, ◌-◌, ◌≤◌, ◌&&◌, ◌∷◌, List, map, length, nat_eq};
+ghost use Rattle.re_syntax.specs.Expression.{Expression};
+ghost use Rattle.grep_core.specs.Output.{written};
+ghost use Rattle.grep_core.specs.Run.{file_at};
+ghost use Rattle.grep_core.specs.Written.{Writes};
+ghost use Rattle.grep_live.specs.Lists.{AllThree};
+ghost use Rattle.grep_live.specs.Hits.{Hit};
+ghost use Rattle.grep_live.specs.Changes.{Change, IsChange};
+ghost use Rattle.grep_live.specs.Rows.{hit_row, change_row, change_rows, changes_rows};
+ghost use Rattle.grep_live.specs.Working.Fits.{AreFit};
+ghost use Rattle.grep_live.specs.Working.LineHits.{Mean, HitsBetween};
+
+use crate::hits::{LineRange, count_hits, first_hit};
+use crate::mark::Mark;
+use crate::rows::{write_hit_row, write_number_row};
+use grep_core::{CountedWrite, WriteFault};
+use grep_session::Session;
+
+/// Writes a row for each hit among some lines.
+fn write_hits<W: CountedWrite>(
+    session: &Session,
+    stretch: LineRange,
+    margin: &[u8],
+    out: &mut W,
+) -> Result<(), WriteFault>
+    requires in_order { stretch.from ≤ stretch.to }
+    requires within { stretch.to ≤ length (file_at session.now.files stretch.k).lines }
+    ensures { (es : List Expression) → Mean session.now es → (hits : List Hit) →
+        HitsBetween es session.now stretch.k stretch.from stretch.to hits → Writes W.contents W.failures out.old out.new
+        (written margin.now (map hit_row hits)) result }
+{
+    let mut from = stretch.from;
+    while let Some(found) = first_hit(session, LineRange { from, ..stretch }) {
+        write_hit_row(out, margin, b"r", &[found.place], found.hit)?;
+        from = found.place + 1;
+    }
+    Ok(())
+}
+
+/// Whether no line was removed and none was added.
+fn is_idle(removed: usize, added: usize) -> bool
+    ensures { result ≡ (nat_eq removed 0 && nat_eq added 0) }
+{
+    (removed == 0) & (added == 0)
+}
+
+/// Writes the rows of a change of a file: `removed` lines were replaced by those of the stretch, and
+/// a row for each hit among the new ones.
+fn write_rows<W: CountedWrite>(
+    session: &Session,
+    removed: usize,
+    stretch: LineRange,
+    margin: &[u8],
+    out: &mut W,
+) -> Result<(), WriteFault>
+    requires in_order { stretch.from ≤ stretch.to }
+    requires within { stretch.to ≤ length (file_at session.now.files stretch.k).lines }
+    ensures { (es : List Expression) → Mean session.now es → (hits : List Hit) →
+        HitsBetween es session.now stretch.k stretch.from stretch.to hits → Writes W.contents W.failures out.old out.new
+        (written margin.now (change_row stretch.k (record {
+          front = stretch.from;
+          removed = removed;
+          added = stretch.to - stretch.from;
+          come = hits;
+        }) ∷ map hit_row hits)) result }
+{
+    let LineRange { k, from, to } = stretch;
+    let count = count_hits(session, stretch);
+    let numbers = [k, from, removed, to - from, count];
+    write_number_row(out, margin, b"h", &numbers)?;
+    write_hits(session, stretch, margin, out)
+}
+
+/// Writes what changed of file `k`, by its mark.
+fn write_change<W: CountedWrite>(
+    session: &Session,
+    k: usize,
+    mark: &Mark,
+    margin: &[u8],
+    out: &mut W,
+) -> Result<(), WriteFault>
+    requires { mark.now.front ≤ length (file_at session.now.files k).lines }
+    ensures { (es : List Expression) → Mean session.now es → (change : Change) →
+        IsChange es session.now.options (file_at session.now.files k) mark.now change →
+        Writes W.contents W.failures out.old out.new (written margin.now (change_rows k change))
+        result }
+{
+    let removed = mark.removed();
+    let added = mark.added(session.line_count(k));
+    if is_idle(removed, added) {
+        return Ok(());
+    }
+    let from = mark.front;
+    let to = from + added;
+    let stretch = LineRange { k, from, to };
+    write_rows(session, removed, stretch, margin, out)
+}
+
+/// Writes what changed of each file, by its mark.
+pub fn write_changes<W: CountedWrite>(
+    session: &Session,
+    marks: &[Mark],
+    margin: &[u8],
+    out: &mut W,
+) -> Result<(), WriteFault>
+    requires { AreFit session.now.files marks.now }
+    ensures { (es : List Expression) → Mean session.now es → (changes : List Change) →
+        AllThree (IsChange es session.now.options) session.now.files marks.now changes →
+        Writes W.contents W.failures out.old out.new (written margin.now (changes_rows 0 changes))
+        result }
+{
+    for (k, mark) in marks.iter().enumerate() {
+        write_change(session, k, mark, margin, out)?;
+    }
+    Ok(())
+}

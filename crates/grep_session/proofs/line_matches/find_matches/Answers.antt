@@ -1,0 +1,94 @@
+use Rattle.std.proofs.Common.{◌≡◌, ◌+◌, ◌-◌, ◌*◌, ◌<◌, ◌≤◌, length, map, take, drop, get_or, sym, ap, subst, ◌∙◌, take_all, length-take, arith, ◌∷◌, []}
+use Rattle.std.proofs.lemmas.List.{length-map, drop_all}
+use Rattle.grep_session.proofs.Words.{terminated, AddsAtMost, line_text, AddsColumn, AreLeft, first_sought}
+use Rattle.re_search.proofs.lemmas.KeptMatchers.{none_asked, one_asked}
+use Rattle.re_search.proofs.lemmas.OneMatcherMore.{one_more, value_at, within}
+use Rattle.re_meter.proofs.lemmas.Adding.{adds_none}
+use Rattle.grep_core.proofs.lemmas.CostLaws.{adds_for_more, adds_once_more}
+use Rattle.grep_session.proofs.lemmas.ColumnLoops.{columns_none, columns_next, sought_within}
+use Rattle.grep_session.proofs.line_matches.find_matches.Goals as goal
+
+pub loop-number-init : goal.loop-number-init
+loop-number-init g c =
+    let es = map g.M.LineMatch.expression c.args.matchers.now in
+    let texts = map line_text c.args.chunk.now in
+    let entire = c.args.search.now.options.line_regexp in
+    let first = c.first_sought-first.result in
+    let left = c.in_ok-matches.matches in
+    let size : c.len.result ≡ length texts = c.len.ensures ∙ sym (length-map c.args.chunk.now line_text) in
+    let sought = sought_within c.args.change (length c.args.matchers.now) c.requires.within in
+    let none : drop first (take first es) ≡ [] = drop_all first (take first es) (omega (arith, length-take first es)) in
+    record {
+      low = omega arith;
+      high = omega (arith, sought, c.first_sought-first.ensures);
+      found = (left, subst (λ n. AreLeft c.args.change n c.args.old.now left) size c.in_ok-matches.ensures, subst (λ fs. AddsColumn texts entire first fs left left) (sym none) (columns_none texts entire first left));
+      same_matchers = none_asked;
+      steps = adds_none _ _ _;
+    }
+
+pub loop-number-preserved : goal.loop-number-preserved
+loop-number-preserved g c =
+    let expression = g.M.LineMatch.expression in
+    let whole = g.M.LineMatch.whole in
+    let s = c.loop-number.invariant in
+    let same = s.same_matchers in
+    let old = c.args.matchers.now in
+    let now = c.loop-number.matchers in
+    let k = c.loop-number.number in
+    let d = c.index-matchers-number.result in
+    let h : k < length old = omega (arith, c.loop-number-test.true) in
+    let entire = c.args.search.now.options.line_regexp in
+    let texts = map line_text c.args.chunk.now in
+    let first = c.first_sought-first.result in
+    let asks : whole (get_or now k d) ≡ entire = sym (value_at whole old now same.same_wholes k d h entire) ∙ c.requires.whole k entire (within whole old now same.same_wholes k d h).1 in
+    let there : k < length (map expression old) = (within expression old now same.same_expressions k d h).1 in
+    let next : k - first + 1 ≡ k + 1 - first = omega (arith, s.low) in
+    let bytes = length (terminated texts) in
+    record {
+      low = omega (arith, s.low);
+      high = omega (arith, h);
+      found = (
+        s.found.0,
+        s.found.1,
+        columns_next texts entire first k (map expression old) (expression (get_or now k d)) s.found.0 c.loop-number.matches c.add_column.new.matches s.low there (one_more expression old now same.same_expressions k d h) s.found.2
+            (subst (λ w. AddsColumn texts w k (expression (get_or now k d) ∷ []) c.loop-number.matches c.add_column.new.matches) asks c.in_ok-add_column.ensures.ok),
+      );
+      same_matchers = one_asked same k d _ c.add_column.ensures.same_expression c.add_column.ensures.same_whole c.add_column.ensures.same_room;
+      steps = subst (λ n. AddsAtMost (n * bytes) c.args.meter.now c.add_column.new.meter) next (adds_once_more (k - first) bytes _ _ _ s.steps c.add_column.ensures.steps);
+    }
+
+pub returns-in_err-add_column-clause-same_matchers : goal.returns-in_err-add_column-clause-same_matchers
+returns-in_err-add_column-clause-same_matchers g c = one_asked c.loop-number.invariant.same_matchers c.loop-number.number c.index-matchers-number.result _ c.add_column.ensures.same_expression c.add_column.ensures.same_whole c.add_column.ensures.same_room
+
+pub returns-in_err-add_column-clause-steps : goal.returns-in_err-add_column-clause-steps
+returns-in_err-add_column-clause-steps g c =
+    let s = c.loop-number.invariant in
+    let k = c.loop-number.number in
+    let first = c.first_sought-first.result in
+    let many = length c.args.matchers.now in
+    let more : k - first + 1 ≤ many - first_sought c.args.change many = omega (arith, s.low, c.loop-number-test.true, c.first_sought-first.ensures) in
+    let bytes = length (terminated (map line_text c.args.chunk.now)) in
+    adds_for_more (k - first + 1) (many - first_sought c.args.change many) bytes 0 _ _ more (adds_once_more (k - first) bytes _ _ _ s.steps c.add_column.ensures.steps)
+
+pub returns-clause-ok : goal.returns-clause-ok
+returns-clause-ok g c =
+    let s = c.loop-number.invariant in
+    let es = map g.M.LineMatch.expression c.args.matchers.now in
+    let texts = map line_text c.args.chunk.now in
+    let entire = c.args.search.now.options.line_regexp in
+    let many : length c.args.matchers.now ≡ length es = sym (length-map c.args.matchers.now g.M.LineMatch.expression) in
+    let place : c.first_sought-first.result ≡ first_sought c.args.change (length es) = c.first_sought-first.ensures ∙ ap (first_sought c.args.change) many in
+    let all : take c.loop-number.number es ≡ es = take_all _ _ (omega (arith, many, s.high, c.loop-number-test.false)) in
+    let adds = subst (λ fs. AddsColumn texts entire c.first_sought-first.result (drop c.first_sought-first.result fs) s.found.0 c.loop-number.matches) all s.found.2 in
+    record {
+      left = s.found.0;
+      are_left = s.found.1;
+      adds = subst (λ n. AddsColumn texts entire n (drop n es) s.found.0 c.loop-number.matches) place adds;
+    }
+
+pub returns-clause-steps : goal.returns-clause-steps
+returns-clause-steps g c =
+    let s = c.loop-number.invariant in
+    let many = length c.args.matchers.now in
+    let last : c.loop-number.number - c.first_sought-first.result ≡ many - first_sought c.args.change many = omega (arith, s.high, c.loop-number-test.false, c.first_sought-first.ensures) in
+    subst (λ n. AddsAtMost (n * length (terminated (map line_text c.args.chunk.now))) c.args.meter.now c.loop-number.meter) last s.steps

@@ -1,0 +1,39 @@
+use Rattle.std.proofs.Common.{◌≡◌, ◌++◌, [], All, List, length, map, sym, ap, subst, refl, ◌∙◌, arith}
+use Rattle.grep_session.proofs.Words.{into_iter_items, Text, matched_expression, all_of, line_text, with_columns, FitColumns, CostAnew, SearchesEach, IsKept}
+use Rattle.grep_session.proofs.lemmas.EditLemmas.{empty_map}
+use Rattle.grep_session.proofs.lemmas.FoundLemmas.{fit_all, right_all, texts_with_columns, all_anew, all_anew_chunks}
+use Rattle.grep_session.proofs.search.search_new.Goals as goal
+
+pub returns-in_err-find_in_lines-clause-steps : goal.returns-in_err-find_in_lines-clause-steps
+returns-in_err-find_in_lines-clause-steps c =
+    let steps = rw c.deref_mut.ensures.value at c.find_in_lines.ensures.steps in
+    subst (λ (ls : List Text). SearchesEach (CostAnew (map matched_expression c.args.matchers.now.items) c.args.options.now) ls c.args.meter.now c.find_in_lines.new.meter) c.kept_of-lines.ensures.same (steps [] _ refl (all_anew [] c.args.options.now (all_of c.kept_of-lines.result)))
+
+pub returns-clause-steps : goal.returns-clause-steps
+returns-clause-steps c =
+    let steps = rw c.deref_mut.ensures.value at c.find_in_lines.ensures.steps in
+    subst (λ (ls : List Text). SearchesEach (CostAnew (map matched_expression c.args.matchers.now.items) c.args.options.now) ls c.args.meter.now c.find_in_lines.new.meter) c.kept_of-lines.ensures.same (steps [] _ refl (all_anew [] c.args.options.now (all_of c.kept_of-lines.result)))
+
+pub returns-in_err-find_in_lines-clause-memory : goal.returns-in_err-find_in_lines-clause-memory
+returns-in_err-find_in_lines-clause-memory c = λ e.
+    let none = empty_map line_text (all_of c.kept_of-lines.result) (c.kept_of-lines.ensures.same ∙ e) in
+    absurd (let no : ⊥ = omega (arith, c.if-len-eq0.false, c.len.ensures, ap length none) in no)
+
+pub put_columns-requires : goal.put_columns-requires
+put_columns-requires c =
+    let a = c.in_ok-find_in_lines.ensures.ok in
+    let found : into_iter_items c.into_iter.result ≡ a.found = c.into_iter.ensures.rest ∙ a.added ∙ ap (λ l. l ++ a.found) c.new-found.ensures.items in
+    subst (FitColumns c.kept_of-lines.result) (sym found) (fit_all c.kept_of-lines.result a.found a.fit)
+
+pub returns-clause-texts : goal.returns-clause-texts
+returns-clause-texts c = ap (λ cs. map line_text (all_of cs)) c.put_columns.ensures.lines ∙ texts_with_columns c.kept_of-lines.result (into_iter_items c.into_iter.result) ∙ c.kept_of-lines.ensures.same
+
+pub returns-clause-ok : goal.returns-clause-ok
+returns-clause-ok c =
+    let a = rw c.deref_mut.ensures.value at c.in_ok-find_in_lines.ensures.ok in
+    let es = map matched_expression c.args.matchers.now.items in
+    let options = c.args.options.now in
+    let chunks = c.kept_of-lines.result in
+    let found : into_iter_items c.into_iter.result ≡ a.found = c.into_iter.ensures.rest ∙ a.added ∙ ap (λ l. l ++ a.found) c.new-found.ensures.items in
+    let right = a.are_right [] es refl (all_anew_chunks [] options chunks) in
+    subst (λ cs. All (IsKept es options) (all_of cs)) (sym (c.put_columns.ensures.lines ∙ ap (with_columns chunks) found)) (right_all es options chunks a.found right)

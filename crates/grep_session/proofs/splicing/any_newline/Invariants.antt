@@ -1,6 +1,0 @@
-use Rattle.std.proofs.Common.{All, take}
-use Rattle.re_syntax.specs.Lines.{HasNoNewline}
-use Rattle.grep_session.proofs.splicing.any_newline.Given as goal
-
-abbrev pub invariant-loop-line : goal.invariant-loop-line
-invariant-loop-line l = All (λ line. HasNoNewline line.items) (take l.line-index l.lines)

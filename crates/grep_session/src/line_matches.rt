@@ -1,0 +1,109 @@
+//! Which patterns match which lines of a chunk.
+ghost use Rattle.std.specs.Prelude.{◌≡◌, ◌+◌, ◌-◌, ◌*◌, ◌<◌, ◌≤◌, [], ◌∷◌, length, map};
+ghost use Rattle.std.specs.Prelude.{IfOk};
+ghost use Rattle.re_syntax.specs.Lines.{terminated};
+ghost use Rattle.re_syntax.specs.Profile.{most_patterns};
+ghost use Rattle.re_search.specs.Searches.{AllAnswer, AddsAtMost};
+ghost use Rattle.line_chunks.specs.Working.Chunks.{line_text};
+ghost use Rattle.line_chunks.specs.Working.Finds.{AreBelow};
+ghost use Rattle.grep_session.specs.Working.Changed.{IsWithin};
+ghost use Rattle.grep_session.specs.Working.Columns.{first_sought, AreLeft, AddsColumn, AreMatches};
+ghost use Rattle.re_search.specs.Searches.{SameMatchers};
+
+use crate::change::Change;
+use crate::search::SearchContext;
+use line_chunks::{Chunk, Matches};
+use re_search::{LineMatch, Meter};
+use std::alloc::AllocError;
+
+/// Adds the lines of a chunk that the matcher matches.
+fn add_column<M: LineMatch>(
+    matcher: &mut M,
+    number: usize,
+    chunk: &Chunk,
+    matches: &mut Matches,
+    meter: &mut Meter,
+) -> Result<(), AllocError>
+    ensures ok { IfOk result
+        (λ _.
+        AddsColumn (map line_text chunk.now) (M.whole matcher.old) number
+        (M.expression matcher.old ∷ []) matches.old matches.new) }
+    ensures same_expression { M.expression matcher.new ≡ M.expression matcher.old }
+    ensures same_whole { M.whole matcher.new ≡ M.whole matcher.old }
+    ensures same_room { M.room matcher.new ≡ M.room matcher.old }
+    ensures steps { AddsAtMost (length (terminated (map line_text chunk.now))) meter.old meter.new }
+{
+    let mut from = 0;
+    while from < chunk.len() {
+        let Some(at) = matcher.next_matched(chunk.text_from(from), meter) else {
+            return Ok(());
+        };
+        let k = chunk.number_at(from, chunk.start(from) + at.start);
+        matches.note(k, number)?;
+        from = k + 1;
+    }
+    Ok(())
+}
+
+/// Of so many patterns, the number of the first that is searched for after a change.
+fn first_sought(change: Change, many: usize) -> usize
+    ensures { result ≡ first_sought change many }
+{
+    match change {
+        Change::Rebuild => 0,
+        Change::PartsOnly => many,
+        Change::Added(first) => first,
+        Change::Dropped(_) => many,
+    }
+}
+
+/// The old pairs that stay after a change.
+fn left_matches(
+    search: &SearchContext,
+    change: Change,
+    size: usize,
+    old: &Matches,
+) -> Result<Matches, AllocError>
+    requires { AreBelow size old.now }
+    ensures { IfOk result (AreLeft change size old.now) }
+{
+    match change {
+        Change::Rebuild => Ok(Matches::new(search.alloc)),
+        Change::PartsOnly => old.copied(search.alloc),
+        Change::Added(_) => old.copied(search.alloc),
+        Change::Dropped(p) => {
+            let mut matches = old.copied(search.alloc)?;
+            matches.drop_number(p);
+            Ok(matches)
+        }
+    }
+}
+
+/// Which patterns match which lines of a chunk after a change; `old` says it before the change.
+pub fn find_matches<M: LineMatch>(
+    search: &SearchContext,
+    matchers: &mut [M],
+    change: Change,
+    chunk: &Chunk,
+    old: &Matches,
+    meter: &mut Meter,
+) -> Result<Matches, AllocError>
+    requires whole { AllAnswer search.now.options.line_regexp (map M.whole matchers.old) }
+    requires few { length matchers.old ≤ most_patterns }
+    requires within { IsWithin change (length matchers.old) }
+    requires below { AreBelow (length chunk.now) old.now }
+    ensures ok { IfOk result
+        (AreMatches change (map line_text chunk.now) search.now.options.line_regexp
+        (map M.expression matchers.old) old.now) }
+    ensures same_matchers { SameMatchers M.expression M.whole M.room matchers.old matchers.new }
+    ensures steps { AddsAtMost
+        ((length matchers.old - first_sought change (length matchers.old))
+        * length (terminated (map line_text chunk.now))) meter.old meter.new }
+{
+    let mut matches = left_matches(search, change, chunk.len(), old)?;
+    let first = first_sought(change, matchers.len());
+    for number in first..matchers.len() {
+        add_column(&mut matchers[number], number, chunk, &mut matches, meter)?;
+    }
+    Ok(matches)
+}

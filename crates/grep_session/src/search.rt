@@ -1,0 +1,104 @@
+//! What is found in lines, and kept.
+ghost use Rattle.std.specs.Prelude.{◌≡◌, ◌≤◌, length, map, IfOk, IfErr, [], All};
+ghost use Rattle.re_search.specs.Working.Matchers.{matched_expression, wants_whole, room_of};
+ghost use Rattle.re_search.specs.Searches.{AllAnswer};
+ghost use Rattle.re_syntax.specs.Lines.{HasNoNewline};
+ghost use Rattle.re_syntax.specs.Profile.{most_patterns};
+ghost use Rattle.line_chunks.specs.Working.Chunks.{all_of, line_text};
+ghost use Rattle.grep_session.specs.Touched.{PartsCostOf};
+ghost use Rattle.grep_session.specs.Working.Changed.{CostAnew, SearchesEach, SearchesOne};
+ghost use Rattle.grep_session.specs.Working.Kept.{ArePartsKept, IsKept};
+ghost use Rattle.re_search.specs.Searches.{SameMatchers};
+
+use crate::change::Change;
+use crate::columns::find_in_lines;
+use crate::new_lines::{NewLines, kept_of};
+use grep_core::Options;
+use line_chunks::KeptLines;
+use re_search::{Course, LineMatch, Matcher, Meter, Span, next_part};
+use std::alloc::{AllocError, Global};
+
+/// Allocator and options of a search.
+#[derive(Clone, Copy, Drop)]
+pub struct SearchContext {
+    /// Where what is found is kept.
+    pub alloc: Global,
+    /// The options under which lines are searched.
+    pub options: Options,
+}
+
+/// The parts of the line under `-o`, otherwise none.
+pub fn parts_of<M: LineMatch>(
+    search: &SearchContext,
+    matchers: &mut [M],
+    line: &[u8],
+    meter: &mut Meter,
+) -> Result<Vec<Span>, AllocError>
+    requires whole { AllAnswer search.now.options.line_regexp (map M.whole matchers.old) }
+    ensures ok { IfOk result
+        (λ spans. ArePartsKept (map M.expression matchers.old) search.now.options line.now spans.items) }
+    ensures same_matchers { SameMatchers M.expression M.whole M.room matchers.old matchers.new }
+    ensures steps { SearchesOne (PartsCostOf (map M.expression matchers.old) search.now.options) line.now
+        meter.old meter.new }
+{
+    let mut spans = Vec::new(search.alloc);
+    if !search.options.only_matching {
+        return Ok(spans);
+    }
+    let mut course = Course::new(search.alloc, matchers.len(), line, meter);
+    let mut from = 0;
+    while let Some(part) = next_part(
+        matchers,
+        search.options.line_regexp,
+        line,
+        from,
+        &mut course,
+        meter,
+    ) {
+        spans.push(part)?;
+        from = part.end;
+    }
+    Ok(spans)
+}
+
+/// The lines with all that the matchers of a session find in them.
+pub fn search_new(
+    alloc: Global,
+    matchers: &mut Vec<Matcher>,
+    options: &Options,
+    given: NewLines,
+    meter: &mut Meter,
+) -> Result<KeptLines, AllocError>
+    requires whole { AllAnswer options.now.line_regexp (map wants_whole matchers.old.items) }
+    requires few { length matchers.old.items ≤ most_patterns }
+    ensures ok { IfOk result
+        (λ lines.
+        All (IsKept (map matched_expression matchers.old.items) options.now) (all_of lines)) }
+    ensures texts { IfOk result (λ lines. map line_text (all_of lines) ≡ given) }
+    ensures free { All HasNoNewline given }
+    ensures same_matchers { SameMatchers matched_expression wants_whole room_of matchers.old.items
+        matchers.new.items }
+    ensures memory { given ≡ [] → IfErr result (λ _. ⊥) }
+    ensures steps { SearchesEach (CostAnew (map matched_expression matchers.old.items) options.now)
+        given meter.old meter.new }
+{
+    let mut lines = kept_of(given);
+    if lines.len() == 0 {
+        return Ok(lines);
+    }
+    let search = SearchContext {
+        alloc,
+        options: *options,
+    };
+    let mut found = Vec::new(alloc);
+    find_in_lines(
+        &search,
+        matchers,
+        Change::Rebuild,
+        &lines,
+        &mut found,
+        meter,
+    )?;
+    lines.put_columns(&mut found.into_iter());
+    Ok(lines)
+}

@@ -1,7 +1,0 @@
-use Rattle.std.proofs.Common.{[], refl}
-use Rattle.grep_utility.specs.Words.{pieces, texts_of}
-use Rattle.grep_utility.proofs.lemmas.PieceLemmas.{group-end}
-use Rattle.grep_utility.proofs.words.pieces.pieces_of.Goals as goal
-
-pub returns : goal.returns
-returns c = group-end (pieces (texts_of c.args.words.now)) [] refl

@@ -1,0 +1,7 @@
+use Rattle.std.proofs.Common.{[], refl}
+use Rattle.grep_utility.specs.Words.{pieces, texts_of}
+use Rattle.grep_utility.proofs.lemmas.TokenLemmas.{group-end}
+use Rattle.grep_utility.proofs.words.tokens.tokens_of.Goals as goal
+
+pub returns : goal.returns
+returns c = group-end (pieces (texts_of c.args.words.now)) [] refl

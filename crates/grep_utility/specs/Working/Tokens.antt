@@ -1,0 +1,50 @@
+-- How words are cut into pieces from the first one on.
+use Rattle.std.specs.Prelude.{◌≡◌, List, [], ◌∷◌, map, Option, Some, None, Result, Ok, Err}
+use Rattle.std.specs.Borrow.{Bor}
+use Rattle.std.specs.Str.{chars}
+use Rattle.re_syntax.specs.Bytes.{Text}
+use Rattle.grep_utility.specs.Words.{Token, flag, reads_as, source, list, file, around, operand, fault}
+use Rattle.grep_utility.specs.Words.{an_operand, ends_options, a_group, word_of, group, pieces}
+use Rattle.grep_utility.specs.Words.{texts_of, asked, Draft}
+use Rattle.grep_utility.specs.declared.words.UsageFault.{UsageFault}
+use Rattle.grep_utility.specs.declared.words.Draft as code_draft
+use Rattle.grep_utility.specs.declared.words.tokens.Token as code
+use Rattle.grep_utility.specs.declared.words.tokens.Token.TheVariants as piece
+use Rattle.grep_utility.specs.declared.words.tokens.Word as kind
+use Rattle.grep_utility.specs.declared.words.tokens.Word.TheVariants.{Operand, EndOfOptions, Group}
+use Rattle.grep_utility.specs.declared.words.tokens.WordTokens.{WordTokens}
+
+abbrev pub token_of : Result code.Token UsageFault → Token
+token_of (Ok (piece.Flag f)) = flag f
+token_of (Ok (piece.Syntax s)) = reads_as s
+token_of (Ok (piece.List text)) = source (list text.now)
+token_of (Ok (piece.File name)) = source (file name.now)
+token_of (Ok (piece.Around side count)) = around side count
+token_of (Ok (piece.Operand text)) = operand text.now
+token_of (Err f) = fault f
+
+-- the request and the numbers so far
+abbrev pub drafted : code_draft.Draft → Draft
+drafted d = record { asked = asked d.request; numbers = d.around }
+
+-- what a word is, with the first character of a group
+abbrev pub IsWord : Text → kind.Word → Type 0
+IsWord word Operand = word_of word ≡ an_operand
+IsWord word EndOfOptions = word_of word ≡ ends_options
+IsWord word (Group letter rest) = word_of word ≡ a_group (letter ∷ chars rest.now)
+
+-- the pieces of words, where these letters of a group are left before them, or `--` was read
+abbrev pub tokens_from : Option (Bor Text) → List Text → List Token
+tokens_from None words = map operand words
+tokens_from (Some letters) words = group (pieces words) (chars letters.now)
+
+-- no letter of a group is left, and no `--` was read
+abbrev pub AreUsedUp : Option (Bor Text) → Type 0
+AreUsedUp None = ⊥
+AreUsedUp (Some letters) = chars letters.now ≡ []
+
+abbrev pub words_left : WordTokens → List Text
+words_left p = texts_of p.words.now
+
+abbrev pub tokens_left : WordTokens → List Token
+tokens_left p = tokens_from p.letters (words_left p)

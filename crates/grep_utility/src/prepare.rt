@@ -1,0 +1,69 @@
+//! A command before its search: its patterns are read.
+ghost use Rattle.std.specs.Prelude.{◌≡◌, ℕ, List, Option, nat_lt, length, map, IfOk, IfErr};
+ghost use Rattle.std.specs.Option.{ForSome};
+ghost use Rattle.re_syntax.specs.Bytes.{Text};
+ghost use Rattle.re_syntax.specs.Lines.{lines_of};
+ghost use Rattle.re_search.specs.Working.Filters.{AreNeeded};
+ghost use Rattle.re_search.specs.Working.Matchers.{matched_expression};
+ghost use Rattle.grep_core.specs.Sources.{Returns};
+ghost use Rattle.grep_utility.specs.Words.{asked};
+ghost use Rattle.grep_utility.specs.Working.Prepared.{IsPrepared, IsDue};
+
+use crate::files::Files;
+use crate::patterns::{PatternsFault, read_patterns};
+use crate::searchers::{OwnedSearchers, has_more_than, searchers_of};
+use crate::words::Request;
+use re_syntax::{FaultKind, MOST_PATTERNS, PatternFault};
+use std::alloc::Global;
+
+/// A request, and where memory for it comes from.
+#[derive(Clone, Copy)]
+pub struct Task<'a> {
+    pub alloc: Global,
+    pub request: &'a Request,
+}
+
+/// Why a command ends before its search.
+#[derive(Clone, Copy, Drop)]
+pub enum CommandFault<'a> {
+    /// The patterns were not read.
+    Unread(PatternsFault<'a>),
+    /// There are more patterns than are allowed.
+    TooMany,
+    /// The pattern at this place, counted from 0, is refused.
+    Refused(usize, PatternFault),
+}
+
+/// The searchers for the patterns of a request, or why the command ends before its search.
+pub fn prepare<'a, F: Files>(
+    task: &Task<'a>,
+    files: &mut F,
+) -> Result<OwnedSearchers, CommandFault<'a>>
+    ensures same_loan { F.loan files.new ≡ F.loan files.old }
+    ensures back { (left : List (Option Text)) × Returns F.returned_readers files.old files.new left }
+    ensures ok { IfOk result (λ searchers. IsPrepared (asked task.now.request.now) (F.folder files.old)
+        (F.folder files.new) searchers.matchers.items) }
+    ensures none_failed { IfOk result (λ _. F.failures files.new ≡ F.failures files.old) }
+    ensures needed { IfOk result (λ searchers. ForSome searchers.needed
+        (λ strings. AreNeeded strings (map matched_expression searchers.matchers.items))) }
+    ensures err { IfErr result (λ fault. IsDue (asked task.now.request.now) (F.folder files.old)
+        (F.failures files.old) (F.failures files.new) fault) }
+{
+    let request = task.request;
+    let texts = match read_patterns(task.alloc, files, &request.sources) {
+        Ok(texts) => texts,
+        Err(fault) => return Err(CommandFault::Unread(fault)),
+    };
+    if has_more_than(MOST_PATTERNS, &texts) {
+        return Err(CommandFault::TooMany);
+    }
+    match searchers_of(task.alloc, &texts, request.syntax, &request.options) {
+        Ok(searchers) => Ok(searchers),
+        Err((place, fault)) => {
+            if fault.kind == FaultKind::Memory {
+                return Err(CommandFault::Unread(PatternsFault::Memory));
+            }
+            Err(CommandFault::Refused(place, fault))
+        }
+    }
+}

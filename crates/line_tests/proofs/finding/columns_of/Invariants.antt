@@ -1,6 +1,0 @@
-use Rattle.std.proofs.Common.{◌≡◌, length, take}
-use Rattle.line_chunks.specs.Working.Chunks.{FitColumns}
-use Rattle.line_tests.proofs.finding.columns_of.Given as goal
-
-abbrev pub invariant-loop-i : goal.invariant-loop-i
-invariant-loop-i l = (length l.columns.items ≡ l.i) × FitColumns (take l.i l.lines) l.columns.items

@@ -1,5 +1,0 @@
-use Rattle.line_chunks.specs.Working.Finds.{AreBelow}
-use Rattle.line_tests.proofs.finding.matches_of.Given as goal
-
-abbrev pub invariant-loop-k : goal.invariant-loop-k
-invariant-loop-k l = AreBelow l.k l.matches

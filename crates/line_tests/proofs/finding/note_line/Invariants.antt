@@ -1,6 +1,0 @@
-use Rattle.std.proofs.Common.{◌+◌}
-use Rattle.line_chunks.specs.Working.Finds.{AreBelow}
-use Rattle.line_tests.proofs.finding.note_line.Given as goal
-
-abbrev pub invariant-loop-p : goal.invariant-loop-p
-invariant-loop-p l = AreBelow (l.k + 1) l.matches

@@ -1,0 +1,47 @@
+-- What a search of a line finds, and how much work it takes.
+use Rattle.std.specs.Prelude.{◌≡◌, ℕ, zero, suc, ◌↔◌, Bool, List, min, Option, MatchOption, All, Any, IsTrue, map}
+use Rattle.re_syntax.specs.Bytes.{Text}
+use Rattle.re_syntax.specs.Expression.{Expression}
+use Rattle.re_syntax.specs.Holds.{Matches}
+use Rattle.re_syntax.specs.Parts.{IsFound, IsPart}
+pub use Rattle.re_meter.specs.Meters.{AddsAtMost}
+use Rattle.re_syntax.specs.declared.span.Span.{Span}
+
+-- the span is the next part of the line for these expressions (XBD 9.1); None says that there is
+-- none
+abbrev pub FindsPart : List Expression → Text → Bool → ℕ → Option Span → Type 0
+FindsPart es line whole from found =
+    MatchOption found ((i j : ℕ) → ¬ IsFound es line whole from i j)
+    (λ span. IsPart es line whole from span.start span.end)
+
+-- some expression matches the line, which is then selected (XCU grep)
+abbrev pub SomeMatches : List Expression → Text → Bool → Type 0
+SomeMatches es line whole = Any (λ e. Matches e line whole) es
+
+-- each matcher gives this answer to whether the whole line has to be matched (XCU grep, option -x)
+abbrev pub AllAnswer : Bool → List Bool → Type 0
+AllAnswer whole wholes = All (λ w. w ≡ whole) wholes
+
+-- the span is the next part for these expressions, by the answer that all matchers give
+abbrev pub FindsPartOfAll : List Expression → List Bool → Text → ℕ → Option Span → Type 0
+FindsPartOfAll es wholes line from found =
+    (whole : Bool) → AllAnswer whole wholes → FindsPart es line whole from found
+
+-- the verdict says whether some expression matches the line, by the answer that all matchers give
+abbrev pub DecidesMatchOfAll : List Expression → List Bool → Text → Bool → Type 0
+DecidesMatchOfAll es wholes line verdict =
+    (whole : Bool) → AllAnswer whole wholes → IsTrue verdict ↔ SomeMatches es line whole
+
+-- the same matchers in the same order: each has its expression as before, asks for whole lines or
+-- not as before, and may keep as much as before
+pub record SameMatchers {M : Type 0} (expression : M → Expression) (whole : M → Bool)
+    (room : M → ℕ) (old new : List M) : Type 0 where
+  pub same_expressions : map expression new ≡ map expression old
+  pub same_wholes : map whole new ≡ map whole old
+  pub same_rooms : map room new ≡ map room old
+
+-- how many searches of a line its parts cost, by how often they are asked for: no more than four,
+-- unless the allocation for their ends failed
+abbrev pub searches_for : ℕ → ℕ → ℕ
+searches_for zero times = min times 4
+searches_for (suc refusals) times = times

@@ -1,6 +1,0 @@
-use Rattle.std.proofs.Common.{refl, rules}
-use Rattle.re_match.proofs.lemmas.ReadingLaws.{fixed_positions}
-use Rattle.re_match.proofs.matcher.spelled_positions.Goals as goal
-
-pub returns-in-Fixed-clause-counted : goal.returns-in-Fixed-clause-counted
-returns-in-Fixed-clause-counted c = rw c.in-Fixed.is (fixed_positions c.args.text.now _ refl (search rules))

@@ -1,0 +1,49 @@
+-- ScanBackoff over lines and blocks: what they pass, where a sweep stops, and what is known of the line
+-- there.
+use Rattle.std.specs.Prelude.{◌≡◌, ℕ, ◌+◌, ◌≤◌, ◌⊎◌, Bool, List, Option, min, length, slice_range}
+use Rattle.re_syntax.specs.Bytes.{Bytes, Text}
+use Rattle.re_syntax.specs.Expression.{Expression}
+use Rattle.re_syntax.specs.Holds.{Matches}
+use Rattle.re_meter.specs.Meters.{Steps, many_passed}
+use Rattle.re_needle.specs.Working.Blocks.{IsLineFrom}
+use Rattle.re_needle.specs.Working.Needles.{RunIsNeeded, RunBegins}
+use Rattle.re_needle.specs.Working.Runs.{FindsRun, look_cost}
+use Rattle.re_match.specs.declared.sweeps.Stop.{Stop}
+use Rattle.re_match.specs.declared.sweeps.Stop.TheVariants.{Unseen, Seen, Matched}
+use Rattle.re_match.specs.declared.sweeps.Sweep.{Sweep}
+
+-- the block was looked over up to a place of the line, or to the end of its newline; not beyond the
+-- line's beginning if nothing was seen of it; and the line is matched if the sweep says so
+pub record StopsAt (e : Expression) (whole : Bool) (block : Text) (sweep : Sweep) : Type 0 where
+  pub within : sweep.reached ≤ length block
+  pub near : (end : ℕ) → IsLineFrom block sweep.start end → sweep.reached ≤ end + 1
+  pub unseen : sweep.stop ≡ Unseen → sweep.reached ≤ sweep.start
+  pub matched : sweep.stop ≡ Matched → (end : ℕ) → IsLineFrom block sweep.start end →
+      Matches e (slice_range block sweep.start end) whole
+
+-- how many bytes of a line may still be passed
+abbrev pub left_for : Stop → ℕ → ℕ
+left_for Unseen most = most
+left_for Seen most = 0
+left_for Matched most = 0
+
+-- ---- looks over a line
+
+-- a run that the expression needs was looked for, from the line's first byte on
+pub record LooksForNeeded (e : Expression) (line : Text) (old new : Steps) : Type 0 where
+  pub run : List Bytes
+  pub needed : RunIsNeeded run e
+  pub found : Option ℕ
+  pub finds : FindsRun line run found
+  pub passed : new ≡ many_passed (look_cost line found) old
+
+-- the line's beginning was compared with a run that each match begins with
+pub record LooksAtFirst (e : Expression) (line : Text) (old new : Steps) : Type 0 where
+  pub run : List Bytes
+  pub begins : RunBegins run e
+  pub passed : new ≡ many_passed (min (length run) (length line)) old
+
+-- the line was looked over once, or not at all
+abbrev pub LooksOver : Expression → Text → Steps → Steps → Type 0
+LooksOver e line old new =
+    (new ≡ old) ⊎ (LooksForNeeded e line old new ⊎ LooksAtFirst e line old new)

@@ -1,0 +1,9 @@
+use Rattle.std.proofs.Common.{drop, map}
+use Rattle.re_needle.specs.Working.Outlines.{shown}
+use Rattle.re_needle.proofs.leading_sets.leading_sets.Goals as goal
+
+pub returns : goal.returns
+returns c = (map shown (drop c.marks.mark-index c.args.marks.now), c.marks.invariant)
+
+pub returns-in_default : goal.returns-in_default
+returns-in_default c = (map shown (drop c.marks.mark-index c.args.marks.now), c.marks.invariant)

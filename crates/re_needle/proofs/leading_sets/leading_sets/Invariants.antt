@@ -1,0 +1,6 @@
+use Rattle.std.proofs.Common.{◌≡◌, ◌++◌, drop, map, Some}
+use Rattle.re_needle.proofs.Words.{members, shown}
+use Rattle.re_needle.proofs.leading_sets.leading_sets.Given as goal
+
+abbrev pub invariant-marks : goal.invariant-marks
+invariant-marks l = map shown l.marks ≡ map Some (map members l.sets.items) ++ map shown (drop l.mark-index l.marks)

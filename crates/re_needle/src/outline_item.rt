@@ -1,0 +1,12 @@
+//! Marks of outlines.
+
+use re_syntax::ByteSet;
+
+/// A mark of an outline.
+#[derive(Clone, Copy)]
+pub enum OutlineItem {
+    /// One byte of the set.
+    Set(ByteSet),
+    /// Any bytes, or none.
+    Gap,
+}

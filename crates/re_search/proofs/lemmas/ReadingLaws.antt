@@ -1,0 +1,79 @@
+-- What the text of a pattern means, and why it is refused.
+use Rattle.std.proofs.Common.{◌≡◌, ℕ, ◌*◌, ◌<◌, ◌^◌, [], ◌∷◌, length, IsTrue, Bool, true, false, true≢false, inl, inr, map, refl, sym, ap, ◌∙◌, ◌≤◌, arith, if◌then◌else◌}
+use Rattle.re_search.proofs.Words.{PatternFault, Syntax, Basic, Extended, Fixed, Text, HasPositions, TooLarge, Expression, empty, one_of, none_of, begin, end, cat_none, cat_more, alt_none, alt_more, repeat, byte, cat, sequence, folded, copies, positions, most_positions, IsMeant, as_fixed, has_limit, IsReadable, IsNotSpelled, IsRefusedFor}
+use Rattle.re_syntax.proofs.lemmas.SpelledUnique.{spells_one}
+
+-- a string that is not folded means the sequence of its bytes
+pub string_means : (syntax : Syntax) (fold : Bool) (text : Text) → has_limit syntax fold ≡ false → IsMeant syntax fold text (sequence (map byte text))
+string_means Fixed false text free = (sequence (map byte text), as_fixed, refl)
+string_means Fixed true text free = absurd (true≢false free)
+string_means Basic fold text free = absurd (true≢false free)
+string_means Extended fold text free = absurd (true≢false free)
+
+-- a text means one expression
+pub means_one : (syntax : Syntax) (fold : Bool) (text : Text) (d e : Expression) → IsMeant syntax fold text d → IsMeant syntax fold text e → d ≡ e
+means_one syntax fold text d e m n = m.2 ∙ ap (λ s. if fold then folded s else s) (spells_one text syntax m.0 n.0 m.1 n.1) ∙ sym n.2
+
+-- a text that is not spelled means nothing
+means_none : (syntax : Syntax) (fold : Bool) (text : Text) (fault : PatternFault) (e : Expression) → IsNotSpelled syntax text fault → IsMeant syntax fold text e → ⊥
+means_none Basic fold text fault e refused m = refused.none m.0 m.1
+means_none Extended fold text fault e refused m = refused.none m.0 m.1
+means_none Fixed fold text fault e refused m = refused
+
+-- folding does not change the number of positions
+folded_positions : (e : Expression) → positions (folded e) ≡ positions e
+folded_positions empty = refl
+folded_positions (one_of s) = refl
+folded_positions (none_of s) = refl
+folded_positions begin = refl
+folded_positions end = refl
+folded_positions cat_none = refl
+folded_positions (cat_more e rest) = omega (arith, folded_positions e, folded_positions rest)
+folded_positions alt_none = refl
+folded_positions (alt_more e rest) = omega (arith, folded_positions e, folded_positions rest)
+folded_positions (repeat e least most) = ap (λ n. copies least most * n) (folded_positions e)
+
+-- what a text means has the same number as what it spells
+meant_positions : (fold : Bool) (s : Expression) → positions (if fold then folded s else s) ≡ positions s
+meant_positions true s = folded_positions s
+meant_positions false s = refl
+
+-- a text with too many positions is refused for that
+pub too_many : (syntax : Syntax) (fold : Bool) (text : Text) (count : ℕ) (fault : PatternFault) → IsTrue (has_limit syntax fold) → HasPositions syntax text count →
+    most_positions < count → ◌≡◌ {A = PatternFault} fault (record { kind = TooLarge; at = 0 }) → IsRefusedFor syntax fold text fault
+too_many syntax fold text count fault limited has many e =
+    let meaning : Expression = if fold then folded has.expression else has.expression in
+    inr (record {
+      reported = e;
+      limited = limited;
+      meaning = meaning;
+      meant = (has.expression, has.spelled, refl);
+      large = omega (arith, many, has.counted, meant_positions fold has.expression);
+    })
+
+-- a text has no more positions than were counted
+pub few_meant : (syntax : Syntax) (fold : Bool) (text : Text) (count : ℕ) (e : Expression) → HasPositions syntax text count → count ≤ most_positions → IsMeant syntax fold text e → positions e ≤ most_positions
+few_meant syntax fold text count e has few m =
+    let same = spells_one text syntax m.0 has.expression m.1 has.spelled in
+    omega (arith, few, has.counted, ap positions m.2, meant_positions fold m.0, ap positions same)
+
+-- the positions of a fixed string are its bytes
+positions_bytes : (t : Text) → positions (cat (map byte t)) ≡ length t
+positions_bytes [] = refl
+positions_bytes (b ∷ t) = omega (arith, positions_bytes t)
+
+positions_string : (t : Text) → positions (sequence (map byte t)) ≡ length t
+positions_string [] = refl
+positions_string (b ∷ []) = refl
+positions_string (b ∷ c ∷ t) = positions_bytes (b ∷ c ∷ t)
+
+pub fixed_positions : (t : Text) (count : ℕ) → count ≡ length t → count < 2 ^ 64 → HasPositions Fixed t count
+fixed_positions t count e small = record { expression = sequence (map byte t); spelled = as_fixed; counted = omega (arith, e, small, positions_string t) }
+
+-- a text that is refused is not readable
+pub refused_unreadable : (syntax : Syntax) (fold : Bool) (text : Text) (fault : PatternFault) → IsRefusedFor syntax fold text fault → IsReadable syntax fold text → ⊥
+refused_unreadable syntax fold text fault (inl none) readable = means_none syntax fold text fault readable.0 none readable.1
+refused_unreadable syntax fold text fault (inr large) readable =
+    let same : readable.0 ≡ large.meaning = means_one syntax fold text readable.0 large.meaning readable.1 large.meant in
+    let few : positions readable.0 ≤ most_positions = readable.2 large.limited in
+    omega (arith, large.large, few, ap positions same)

@@ -1,0 +1,6 @@
+use Rattle.std.proofs.Common.{◌≡◌, map, take}
+use Rattle.re_search.proofs.Words.{byte, expression_of}
+use Rattle.re_search.proofs.plain.bytes_of.Given as goal
+
+abbrev pub invariant-trees : goal.invariant-trees
+invariant-trees l = map expression_of (take l.place l.trees) ≡ map byte l.text.items

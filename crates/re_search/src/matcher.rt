@@ -1,0 +1,357 @@
+//! Matchers made from the texts of patterns.
+ghost use Rattle.std.specs.Prelude.{◌≡◌, ◌+◌, ◌-◌, ◌<◌, ◌≤◌, ◌↔◌, ◌⊎◌, [], ◌∷◌, true, false, IsTrue};
+ghost use Rattle.std.specs.Prelude.{IfOk, IfErr, IfSome, length, map};
+ghost use Rattle.re_syntax.specs.Working.Trees.{expression_of, members};
+ghost use Rattle.re_syntax.specs.Holds.{Matches, positions};
+ghost use Rattle.re_syntax.specs.Working.Counted.{HasPositions};
+ghost use Rattle.re_syntax.specs.Profile.{most_positions, most_states};
+ghost use Rattle.re_syntax.specs.Spelled.{IsSpelled, IsMeant, has_limit};
+ghost use Rattle.re_needle.specs.Working.Needles.{IsNeeded, RunIsNeeded};
+ghost use Rattle.re_search.specs.Reading.{IsSmallFor, IsReadable, IsOutOfMemory, IsNotSpelled};
+ghost use Rattle.re_search.specs.Reading.{IsRefusedFor};
+ghost use Rattle.re_search.specs.Working.Matchers.{matched_expression, wants_whole, is_fixed};
+ghost use Rattle.re_search.specs.Working.Matchers.{room_of, entries_of, CountsSteps};
+ghost use Rattle.re_match.specs.Working.Same.{SameMatcher};
+ghost use Rattle.re_auto.specs.Searches.{FindsPart};
+ghost use Rattle.re_meter.specs.Meters.{AddsAtMost};
+ghost use Rattle.re_ends.specs.Working.GreatestEnds.{AddsEnds, FoundPast};
+
+use crate::plain::string_of;
+use re_auto::Meter;
+use re_match::{Cached, Fixed, FixedSet, LineMatch, Simulated};
+use re_syntax::{
+    ByteSet, FaultKind, MOST_POSITIONS, PatternFault, Span, Syntax, Tree, basic_positions,
+    extended_positions, read_basic, read_extended, read_fixed,
+};
+use std::alloc::{AllocError, Global};
+use std::num::NonZeroUsize;
+
+/// A matcher of any kind. The large ones are boxed, so that a matcher is moved and dropped as a
+/// pointer.
+#[derive(Drop)]
+pub enum Matcher {
+    /// Looks for a string.
+    Fixed(Fixed),
+    /// Looks for many strings at once.
+    FixedSet(Box<FixedSet>),
+    /// Steps an automaton.
+    Simulated(Box<Simulated>),
+    /// Steps an automaton, and keeps the steps between its sets of positions.
+    Cached(Box<Cached>),
+}
+
+impl Matcher {
+    /// The matcher for the text of a pattern, read in its syntax; with `fold` both cases of each
+    /// letter are alike (XCU grep, option `-i`), and with `whole` the whole line has to be matched
+    /// (option `-x`). A text that is one string is looked for as it is; a fixed string that is not
+    /// folded may be of any length. All other patterns get an automaton and a cache of at most
+    /// `states` entries, from 1 to 65,536. The cache is left out if its allocation fails.
+    ///
+    /// # Errors
+    ///
+    /// `FaultKind::Memory` at 0 if out of memory; if the text is no expression, the fault of
+    /// [`re_syntax::read_basic`] or [`re_syntax::read_extended`]; `FaultKind::TooLarge` at 0 if its
+    /// expression has more than 4,096 positions once its intervals are written out.
+    pub fn new(
+        alloc: Global,
+        text: &[u8],
+        syntax: Syntax,
+        fold: bool,
+        whole: bool,
+        states: usize,
+    ) -> Result<Matcher, PatternFault>
+        requires { (1 ≤ states) × (states ≤ most_states) }
+        ensures meant { IfOk result (λ m. IsMeant syntax fold text.now (matched_expression m)) }
+        ensures whole { IfOk result (λ m. wants_whole m ≡ whole) }
+        ensures small { IfOk result (λ m. IsSmallFor syntax fold (matched_expression m)) }
+        ensures kind { IfOk result (λ m. has_limit syntax fold ≡ false → is_fixed m ≡ true) }
+        ensures room { IfOk result (λ m. room_of m ≤ states) }
+        ensures empty { IfOk result (λ m. entries_of m ≡ []) }
+        ensures refused { IfErr result
+            (λ fault. IsOutOfMemory fault ⊎ IsRefusedFor syntax fold text.now fault) }
+        ensures unreadable { IfErr result
+            (λ fault. IsOutOfMemory fault ⊎ (IsReadable syntax fold text.now → ⊥)) }
+    {
+        if is_limited(syntax, fold) {
+            return small_matcher(alloc, text, syntax, fold, whole, states);
+        }
+        fixed_matcher(alloc, text, whole)
+    }
+
+    /// How many entries its cache has; 0 if it has no cache.
+    pub fn cached(&self) -> usize
+        ensures held { result ≡ length (entries_of self.now) }
+        ensures few { result ≤ room_of self.now }
+    {
+        match self {
+            Matcher::Cached(cached) => cached.cached(),
+            _ => 0,
+        }
+    }
+
+    /// A string of one byte or more that every matched stretch has, if one is known. Of several
+    /// strings that are looked for at once none is.
+    pub fn needed(&self) -> Option<&[u8]>
+        ensures { IfSome result (λ text. IsNeeded text.now (matched_expression self.now)) }
+    {
+        match self {
+            Matcher::Fixed(fixed) => fixed.needed(),
+            Matcher::FixedSet(_) => None,
+            Matcher::Simulated(simulated) => simulated.needed(),
+            Matcher::Cached(cached) => cached.needed(),
+        }
+    }
+
+    /// The first sets of a run that every matched stretch has; none if no run is known. The only
+    /// error is that an allocation failed.
+    pub fn needed_sets(&self, alloc: Global) -> Result<Vec<ByteSet>, AllocError>
+        ensures { IfOk result
+            (λ sets. RunIsNeeded (map members sets.items) (matched_expression self.now)) }
+    {
+        match self {
+            Matcher::Fixed(fixed) => fixed.needed_sets(alloc),
+            Matcher::FixedSet(_) => Ok(Vec::new(alloc)),
+            Matcher::Simulated(simulated) => simulated.needed_sets(alloc),
+            Matcher::Cached(cached) => cached.needed_sets(alloc),
+        }
+    }
+}
+
+impl LineMatch for Matcher {
+    ghost use Rattle.re_search.specs.Working.Matchers.{matched_expression, wants_whole, room_of};
+
+    ghost expression = { matched_expression };
+
+    ghost whole = { wants_whole };
+
+    ghost room = { room_of };
+
+    fn is_match(&mut self, line: &[u8], meter: &mut Meter) -> bool
+        ensures reported { IsTrue result ↔
+            Matches (matched_expression self.old) line.now (wants_whole self.old) }
+        ensures steps { AddsAtMost (length line.now + 1) meter.old meter.new }
+        ensures counted { CountsSteps line.now self.old meter.old self.new meter.new result }
+        ensures same { SameMatcher matched_expression wants_whole room_of self.old self.new }
+    {
+        match self {
+            Matcher::Fixed(fixed) => fixed.is_match(line, meter),
+            Matcher::FixedSet(set) => set.is_match(line, meter),
+            Matcher::Simulated(simulated) => simulated.is_match(line, meter),
+            Matcher::Cached(cached) => cached.is_match(line, meter),
+        }
+    }
+
+    fn is_match_by_steps(&mut self, line: &[u8], meter: &mut Meter) -> bool {
+        match self {
+            Matcher::Fixed(fixed) => fixed.is_match_by_steps(line, meter),
+            Matcher::FixedSet(set) => set.is_match_by_steps(line, meter),
+            Matcher::Simulated(simulated) => simulated.is_match_by_steps(line, meter),
+            Matcher::Cached(cached) => cached.is_match_by_steps(line, meter),
+        }
+    }
+
+    fn find(&mut self, line: &[u8], from: usize, meter: &mut Meter) -> Option<Span>
+        requires { from ≤ length line.now }
+        ensures reported { FindsPart (matched_expression self.old ∷ []) line.now (wants_whole self.old)
+            from result }
+        ensures steps { AddsAtMost (length line.now - from + 1) meter.old meter.new }
+        ensures same_entries { entries_of self.new ≡ entries_of self.old }
+        ensures same { SameMatcher matched_expression wants_whole room_of self.old self.new }
+    {
+        match self {
+            Matcher::Fixed(fixed) => fixed.find(line, from, meter),
+            Matcher::FixedSet(set) => set.find(line, from, meter),
+            Matcher::Simulated(simulated) => simulated.find(line, from, meter),
+            Matcher::Cached(cached) => cached.find(line, from, meter),
+        }
+    }
+
+    fn add_ends(&mut self, line: &[u8], ends: &mut [usize], spare: &mut [usize], meter: &mut Meter)
+        requires ends { length ends.old ≡ length line.now }
+        requires spare { length spare.old ≡ length line.now }
+        ensures added { AddsEnds
+            (FoundPast (matched_expression self.old ∷ []) line.now (wants_whole self.old)) line.now
+            ends.old ends.new }
+        ensures same_spare { length spare.new ≡ length spare.old }
+        ensures steps { AddsAtMost (length line.now + 1) meter.old meter.new }
+        ensures same_entries { entries_of self.new ≡ entries_of self.old }
+        ensures same { SameMatcher matched_expression wants_whole room_of self.old self.new }
+    {
+        match self {
+            Matcher::Fixed(fixed) => fixed.add_ends(line, ends, spare, meter),
+            Matcher::FixedSet(set) => set.add_ends(line, ends, spare, meter),
+            Matcher::Simulated(simulated) => simulated.add_ends(line, ends, spare, meter),
+            Matcher::Cached(cached) => cached.add_ends(line, ends, spare, meter),
+        }
+    }
+
+    fn next_matched(&mut self, block: &[u8], meter: &mut Meter) -> Option<Span> {
+        match self {
+            Matcher::Fixed(fixed) => fixed.next_matched(block, meter),
+            Matcher::FixedSet(set) => set.next_matched(block, meter),
+            Matcher::Simulated(simulated) => simulated.next_matched(block, meter),
+            Matcher::Cached(cached) => cached.next_matched(block, meter),
+        }
+    }
+
+    fn count_matched(&mut self, block: &[u8], meter: &mut Meter) -> u64 {
+        match self {
+            Matcher::Fixed(fixed) => fixed.count_lines(block, meter),
+            Matcher::FixedSet(set) => set.count_matched(block, meter),
+            Matcher::Simulated(simulated) => simulated.count_matched(block, meter),
+            Matcher::Cached(cached) => cached.count_matched(block, meter),
+        }
+    }
+}
+
+// Whether an expression of the syntax has to be small, since an automaton is made for it.
+fn is_limited(syntax: Syntax, fold: bool) -> bool
+    ensures { result ≡ has_limit syntax fold }
+{
+    match syntax {
+        Syntax::Basic => true,
+        Syntax::Extended => true,
+        Syntax::Fixed => fold,
+    }
+}
+
+// The matcher that looks for the text as it is. Its one fault is `Memory`.
+fn fixed_matcher(alloc: Global, text: &[u8], whole: bool) -> Result<Matcher, PatternFault>
+    ensures made { IfOk result
+        (λ m. m ≡ Matcher.Fixed (record { text = text.now; whole = whole })) }
+    ensures refused { IfErr result IsOutOfMemory }
+{
+    match Fixed::new(alloc, text, whole) {
+        Ok(fixed) => Ok(Matcher::Fixed(fixed)),
+        Err(_) => Err(fault_at_first(FaultKind::Memory)),
+    }
+}
+
+// The matcher for a text whose expression has to be small.
+fn small_matcher(
+    alloc: Global,
+    text: &[u8],
+    syntax: Syntax,
+    fold: bool,
+    whole: bool,
+    states: usize,
+) -> Result<Matcher, PatternFault>
+    requires limited { IsTrue (has_limit syntax fold) }
+    requires some { 1 ≤ states }
+    ensures meant { IfOk result (λ m. IsMeant syntax fold text.now (matched_expression m)) }
+    ensures whole { IfOk result (λ m. wants_whole m ≡ whole) }
+    ensures small { IfOk result (λ m. positions (matched_expression m) ≤ most_positions) }
+    ensures room { IfOk result (λ m. room_of m ≤ states) }
+    ensures empty { IfOk result (λ m. entries_of m ≡ []) }
+    ensures refused { IfErr result
+        (λ fault. IsOutOfMemory fault ⊎ IsRefusedFor syntax fold text.now fault) }
+{
+    let tree = match meant_tree(alloc, text, syntax, fold) {
+        Ok(tree) => tree,
+        Err(fault) => return Err(fault),
+    };
+    if let Some(string) = string_of(alloc, &tree) {
+        return fixed_matcher(alloc, &string, whole);
+    }
+    stepping_matcher(alloc, tree, whole, states)
+}
+
+// The matcher that steps the automaton of a tree that is not too large. Its one fault is `Memory`.
+fn stepping_matcher(
+    alloc: Global,
+    tree: Tree,
+    whole: bool,
+    states: usize,
+) -> Result<Matcher, PatternFault>
+    requires small { positions (expression_of tree) ≤ most_positions }
+    requires some { 1 ≤ states }
+    ensures tree { IfOk result (λ m. matched_expression m ≡ expression_of tree) }
+    ensures whole { IfOk result (λ m. wants_whole m ≡ whole) }
+    ensures room { IfOk result (λ m. room_of m ≤ states) }
+    ensures empty { IfOk result (λ m. entries_of m ≡ []) }
+    ensures refused { IfErr result IsOutOfMemory }
+{
+    let Ok(simulated) = Simulated::new(alloc, tree, whole) else {
+        return Err(fault_at_first(FaultKind::Memory));
+    };
+    match with_cache(alloc, simulated, states) {
+        Ok(matcher) => Ok(matcher),
+        Err(_) => Err(fault_at_first(FaultKind::Memory)),
+    }
+}
+
+// The matcher with a cache of `states` entries, or without one if memory for it is refused.
+fn with_cache(alloc: Global, simulated: Simulated, states: usize) -> Result<Matcher, AllocError>
+    requires { 1 ≤ states }
+    ensures made { IfOk result (λ m.
+        (matched_expression m ≡ expression_of simulated.tree) × (wants_whole m ≡ simulated.whole)) }
+    ensures room { IfOk result (λ m. room_of m ≤ states) }
+    ensures empty { IfOk result (λ m. entries_of m ≡ []) }
+{
+    let Some(most) = NonZeroUsize::new(states) else {
+        unreachable!();
+    };
+    match Cached::boxed(alloc, simulated, most) {
+        Ok(cached) => Ok(Matcher::Cached(cached)),
+        Err(simulated) => Ok(Matcher::Simulated(Box::new(alloc, simulated)?)),
+    }
+}
+
+// The tree of the text's meaning. If it has too many positions, no tree is built, since it could be
+// far larger than the text.
+fn meant_tree(alloc: Global, text: &[u8], syntax: Syntax, fold: bool) -> Result<Tree, PatternFault>
+    requires limited { IsTrue (has_limit syntax fold) }
+    ensures meant { IfOk result (λ tree. IsMeant syntax fold text.now (expression_of tree)) }
+    ensures small { IfOk result (λ tree. positions (expression_of tree) ≤ most_positions) }
+    ensures refused { IfErr result
+        (λ fault. IsOutOfMemory fault ⊎ IsRefusedFor syntax fold text.now fault) }
+{
+    let count = match spelled_positions(text, syntax) {
+        Ok(count) => count,
+        Err(fault) => return Err(fault),
+    };
+    if count > MOST_POSITIONS {
+        return Err(fault_at_first(FaultKind::TooLarge));
+    }
+    let tree = match spelled_tree(alloc, text, syntax) {
+        Ok(tree) => tree,
+        Err(fault) => return Err(fault),
+    };
+    if fold {
+        return Ok(re_syntax::fold(tree));
+    }
+    Ok(tree)
+}
+
+// How many positions the text has, as a pattern.
+fn spelled_positions(text: &[u8], syntax: Syntax) -> Result<usize, PatternFault>
+    ensures counted { IfOk result (HasPositions syntax text.now) }
+    ensures refused { IfErr result
+        (λ fault. IsOutOfMemory fault ⊎ IsNotSpelled syntax text.now fault) }
+{
+    match syntax {
+        Syntax::Basic => basic_positions(text),
+        Syntax::Extended => extended_positions(text),
+        Syntax::Fixed => Ok(text.len()),
+    }
+}
+
+/// The tree that the text spells.
+pub(crate) fn spelled_tree(alloc: Global, text: &[u8], syntax: Syntax) -> Result<Tree, PatternFault>
+    ensures read { IfOk result (λ tree. IsSpelled syntax text.now (expression_of tree)) }
+    ensures refused { IfErr result
+        (λ fault. IsOutOfMemory fault ⊎ IsNotSpelled syntax text.now fault) }
+{
+    match syntax {
+        Syntax::Basic => read_basic(alloc, text),
+        Syntax::Extended => read_extended(alloc, text),
+        Syntax::Fixed => read_fixed(alloc, text),
+    }
+}
+
+// A fault of the whole text, reported at its first place.
+fn fault_at_first(kind: FaultKind) -> PatternFault
+    ensures { result ≡ record { kind = kind; at = 0 } }
+{
+    PatternFault { kind, at: 0 }
+}

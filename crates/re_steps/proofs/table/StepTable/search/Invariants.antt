@@ -1,0 +1,15 @@
+use Rattle.std.proofs.Common.{length, ◌-◌, ◌*◌, ◌≤◌}
+use Rattle.re_steps.proofs.Words.{Stage, IsRightFor, IsRow, Lasts, IsAt}
+use Rattle.re_steps.proofs.table.StepTable.search.Given as goal
+
+abbrev pub invariant-places : goal.invariant-places
+invariant-places l = record {
+  within : l.spot.place ≤ length l.asked.line.now;
+  right : IsRightFor l.asked l.self;
+  row : IsRow l.self l.spot.row;
+  lasts : Lasts l.asked l.fn.self l.self;
+  comes : (first : Stage) → IsAt l.asked first l.fn.self l.fn.meter 0 (1 * l.fn.self.stride) → IsAt l.asked first l.self l.meter l.spot.place l.spot.row;
+}
+
+abbrev pub decreases-places : goal.decreases-places
+decreases-places l = length l.asked.line.now - l.spot.place

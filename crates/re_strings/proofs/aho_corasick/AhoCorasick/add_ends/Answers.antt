@@ -1,0 +1,49 @@
+use Rattle.std.proofs.Common.{◌≡◌, ℕ, ◌+◌, ◌<◌, length, slice_index, refl, sym, subst, ◌∙◌, arith}
+use Rattle.std.proofs.lemmas.List.{length-map}
+use Rattle.re_strings.proofs.Words.{Labels, IsTableOf, StandsAtNode, Steps, EndsWith, Occurs, key, keys}
+use Rattle.re_strings.proofs.lemmas.KeyLaws.{key_at, start_of_key}
+use Rattle.re_strings.proofs.lemmas.SetSearch.{byte_read, node_length, nothing_read}
+use Rattle.re_strings.proofs.lemmas.SetEnds.{OccursBy, adds_no_ends, adds_more_ends, same_ends_added, one_place_more}
+use Rattle.re_strings.proofs.aho_corasick.AhoCorasick.add_ends.Goals as goal
+
+pub places-init : goal.places-init
+places-init c = record {
+  in_trie = c.requires.table.trie.some;
+  stands = λ all t. nothing_read all 0 (keys c.args.self.now.fold c.args.line.now) t.trie.root (omega arith);
+  added = λ all t. adds_no_ends (OccursBy all (keys c.args.self.now.fold c.args.line.now) 0) c.args.line.now c.args.ends.now c.requires.fits (λ i m lt p. let end = p.2 in let o = p.3 in let on = o.1 in omega (arith, end, on));
+}
+
+pub places-preserved : goal.places-preserved
+places-preserved c =
+    let fold = c.args.self.now.fold in
+    let line = keys fold c.args.line.now in
+    let size : length line ≡ length c.args.line.now = length-map c.args.line.now (key fold) in
+    let place = c.places.place in
+    let inside : place < length c.args.line.now = omega (arith, c.places-test.true) in
+    let here : c.key_of-byte.result ≡ slice_index line place = c.key_of-byte.ensures ∙ sym (key_at fold c.args.line.now place inside) in
+    let node = c.step-node.result in
+    let stands : (all : Labels) → IsTableOf all c.args.self.now → StandsAtNode all 0 line (place + 1) node =
+    λ all t.
+    let steps = (rw (c.deref.ensures.value, c.deref-in-places.ensures.value) at c.step-node.ensures.step) all t.trie
+    (start_of_key fold all c.args.self.now.starts.items t.starts (slice_index c.args.line.now place) c.key_of-byte.result c.key_of-byte.ensures (omega arith)) t.fails in
+    byte_read all 0 line place c.places.node c.step-node.result (omega (arith, size, inside)) (c.places.invariant.stands all t) (subst (λ b. Steps all c.places.node b c.step-node.result) here steps) in
+    record {
+      in_trie = c.step-node.ensures.within;
+      stands = stands;
+      added = λ all t.
+          let had = c.places.invariant.added all t in
+          let size_read = node_length all 0 line (place + 1) node (omega (arith, size, inside)) (stands all t) in
+          adds_more_ends (OccursBy all line place) (λ i m. (n : ℕ) × (m < place + 1) × (i + n ≡ place + 1) × EndsWith all.strings (all.label node) n) (OccursBy all line (place + 1))
+          c.args.line.now c.places.ends c.args.ends.now c.places.ends c.put_outputs.new.ends had.0 had (c.put_outputs.ensures all t (omega (arith, size_read)))
+          (λ i m lt. one_place_more all line (place + 1) node (omega (arith, size, inside)) (stands all t) place refl i m);
+    }
+
+pub returns : goal.returns
+returns c = λ all t.
+    let line = keys c.args.self.now.fold c.args.line.now in
+    let size : length line ≡ length c.args.line.now = length-map c.args.line.now (key c.args.self.now.fold) in
+    same_ends_added (OccursBy all line c.places.place) (λ i m. (j : ℕ) × (m < j) × Occurs all.strings 0 line i j) c.args.line.now c.args.ends.now c.places.ends (c.places.invariant.added all t)
+    (λ i m lt. (
+      (λ p. (p.0, p.1, p.3)),
+      (λ p. let end = p.2.2 in (p.0, p.1, omega (arith, end, size, c.places-test.false), p.2)),
+    ))

@@ -1,0 +1,9 @@
+use Rattle.std.proofs.Common.{◌≡◌, ◌<◌, length, take}
+use Rattle.re_strings.proofs.Words.{Labels, IsTableOf, keys}
+use Rattle.re_strings.proofs.aho_corasick.AhoCorasick.is_line.Given as goal
+
+abbrev pub invariant-places : goal.invariant-places
+invariant-places l = record {
+  in_trie : l.node < length l.self.trie.bytes.items;
+  read : (all : Labels) → IsTableOf all l.self → all.label l.node ≡ take l.place (keys l.self.fold l.line);
+}

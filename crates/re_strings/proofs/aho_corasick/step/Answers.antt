@@ -1,0 +1,47 @@
+use Rattle.std.proofs.Common.{◌≡◌, slice_index, arith}
+use Rattle.re_strings.proofs.lemmas.SetSteps.{may_at_first, goes_on, falls_back}
+use Rattle.re_strings.proofs.lemmas.SetTries.{ascends}
+use Rattle.re_strings.proofs.aho_corasick.step.Goals as goal
+
+pub nodes-init : goal.nodes-init
+nodes-init c = record {
+  within = c.requires.within;
+  low = omega arith;
+  may = λ all t f w from s. may_at_first all.strings c.args.byte (all.label c.args.node) w from s;
+}
+
+pub returns-in-Some-clause-step : goal.returns-in-Some-clause-step
+returns-in-Some-clause-step c = λ all t s f w from stands.
+    rw (c.in-Some.ensures.reported all t) (goes_on all.strings c.args.byte (all.label c.nodes.at) w from (c.nodes.invariant.may all t f w from stands))
+
+pub nodes-preserved : goal.nodes-preserved
+nodes-preserved c = record {
+  within = let lt = c.requires.fails c.nodes.at (omega arith) c.nodes.invariant.within in omega (arith, lt, c.nodes.invariant.within);
+  low = let lt = c.requires.fails c.nodes.at (omega arith) c.nodes.invariant.within in let le = c.nodes.invariant.low in omega (arith, lt, le);
+  may = λ all t f w from stands.
+      falls_back all.strings c.args.byte (all.label c.nodes.at) (all.label (slice_index c.args.fails.now c.nodes.at)) w from
+      (c.nodes.invariant.may all t f w from stands) (c.in_default.ensures.reported all t) (f c.nodes.at (omega arith) c.nodes.invariant.within);
+}
+
+pub returns-clause-step : goal.returns-clause-step
+returns-clause-step c = λ all t s f w from stands.
+    let root : c.nodes.at ≡ 0 = omega arith in
+    s w from (rw root at (c.nodes.invariant.may all t f w from stands))
+
+pub returns-in-Some-clause-near : goal.returns-in-Some-clause-near
+returns-in-Some-clause-near c =
+    let near = c.in-Some.ensures.beyond.2 in
+    let up = ascends c.args.trie.now.first.items c.args.trie.now.bytes.items c.requires.trie c.nodes.at c.args.node c.nodes.invariant.low (let a = c.requires.within in let b = c.requires.few in omega (arith, a, b)) in
+    omega (arith, near, up)
+
+pub returns-clause-near : goal.returns-clause-near
+returns-clause-near c =
+    let near = c.requires.starts.nodes c.args.byte (omega arith) in
+    let up = ascends c.args.trie.now.first.items c.args.trie.now.bytes.items c.requires.trie 0 c.args.node (omega arith) (let a = c.requires.within in let b = c.requires.few in omega (arith, a, b)) in
+    omega (arith, near, up)
+
+pub returns-clause-within : goal.returns-clause-within
+returns-clause-within c =
+    let near = c.requires.starts.nodes c.args.byte (omega arith) in
+    let within = c.requires.trie.within 0 c.requires.trie.some in
+    omega (arith, near, within)

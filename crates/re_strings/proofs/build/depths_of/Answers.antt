@@ -1,0 +1,67 @@
+use Rattle.std.proofs.Common.{rules, ◌≡◌, ℕ, ◌+◌, ◌<◌, ◌≤◌, inl, inr, [], ◌∷◌, ◌++◌, length, slice_index, refl, sym, ap, ◌∙◌, arith, length-append}
+use Rattle.std.proofs.lemmas.Bool.{cases_lt}
+use Rattle.re_strings.proofs.lemmas.SetSearch.{row_read}
+use Rattle.re_strings.proofs.build.depths_of.Goals as goal
+
+pub nodes-preserved : goal.nodes-preserved
+nodes-preserved c =
+    let first = c.args.trie.now.first.items in
+    let bytes = c.args.trie.now.bytes.items in
+    let old = c.nodes.depths.items in
+    let new = c.add_depths.new.depths.items in
+    let node = c.nodes.node in
+    let in_trie : node < length bytes = search rules in
+    let rows = c.requires.trie.rows in
+    let beyond = c.requires.trie.beyond node in_trie in
+    let all = c.nodes.invariant.all in
+    let within : node < length old = omega (arith, beyond, all) in
+    let end : slice_index first (node + 1) ≡ c.index-in-nodes.result.now = row_read first (node + 1) c.index-in-nodes.result.now (omega (arith, rows, in_trie)) c.index-in-nodes.ensures in
+    let read : slice_index old node ≡ c.index.result.now = row_read old node c.index.result.now within c.index.ensures in
+    let size : length new ≡ slice_index first (node + 1) = c.in_ok-add_depths.ensures.all ∙ sym end in
+    let small = c.nodes.invariant.small node within in
+    let depth : (n : ℕ) → length old ≤ n → n < length new → slice_index new n ≡ slice_index old node + 1 = λ n late lt.
+    let added = c.in_ok-add_depths.ensures.added n late (omega (arith, lt, size, end)) in
+    omega (arith, added, read) in
+    record {
+      all = size;
+      small = λ n lt.
+          elim (cases_lt n (length old)) [
+            | inl early ↦
+                let same = c.in_ok-add_depths.ensures.same n early in
+                let kept = c.nodes.invariant.small n early in
+                omega (arith, same, kept)
+            | inr late ↦
+                let is = depth n late lt in
+                omega (arith, is, small, within, late)
+          ];
+      right = λ these t n lt.
+          elim (cases_lt n (length old)) [
+            | inl early ↦ c.in_ok-add_depths.ensures.same n early ∙ c.nodes.invariant.right these t n early
+            | inr late ↦
+                let is = depth n late lt in
+                let child : these.label n ≡ these.label node ++ slice_index bytes n ∷ [] = t.child node n in_trie (omega (arith, all, late), omega (arith, lt, size)) in
+                let longer = ap length child in
+                let one = length-append (these.label node) (slice_index bytes n ∷ []) in
+                let known = c.nodes.invariant.right these t node within in
+                omega (arith, is, longer, one, known)
+          ];
+    }
+
+pub nodes-init : goal.nodes-init
+nodes-init c =
+    let pushed : c.push.new.self.items ≡ 0 ∷ [] = c.in_ok-push.ensures.items ∙ ap (λ l. l ++ 0 ∷ []) c.in_ok-depths.ensures.items in
+    let one : length c.push.new.self.items ≡ 1 = ap length pushed in
+    record {
+      all = one ∙ sym c.requires.trie.start;
+      small = λ n below. let first : n ≡ 0 = omega (arith, below, one) in rw (first, pushed) (omega arith);
+      right = λ all t n below. let first : n ≡ 0 = omega (arith, below, one) in rw (first, pushed, t.root) refl;
+    }
+
+pub returns : goal.returns
+returns c =
+    let end : c.nodes.node ≡ length c.args.trie.now.bytes.items = omega (arith, c.nodes-test.false, c.nodes.auto.node-end, c.len-node-end.ensures) in
+    let same : length c.nodes.depths.items ≡ length c.args.trie.now.bytes.items = c.nodes.invariant.all ∙ ap (slice_index c.args.trie.now.first.items) end ∙ c.requires.trie.last in
+    record {
+      all = same;
+      right = λ all t n below. c.nodes.invariant.right all t n (omega (arith, below, same));
+    }

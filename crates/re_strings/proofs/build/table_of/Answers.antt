@@ -1,0 +1,41 @@
+use Rattle.std.proofs.Common.{map, arith}
+use Rattle.re_strings.specs.Working.FixedSets.{Labels}
+use Rattle.re_strings.proofs.lemmas.SetLeaps.{same_leaps}
+use Rattle.re_strings.proofs.build.table_of.Goals as goal
+
+pub returns-clause-right : goal.returns-clause-right
+returns-clause-right c = λ strings same.
+    let (label, trie, own) = c.in_ok-nodes.ensures.right strings same in
+    let all : Labels = record { strings = strings; label = label } in
+    let plain = c.in_ok-plain.ensures.right all trie in
+    let linked = (rw (c.deref.ensures.value, c.deref-2.ensures.value) at c.in_ok-links.ensures.right) all trie plain own in
+    let ended = c.in_ok-links.ensures.linked.all_outputs in (
+      label,
+      record {
+        trie = trie;
+        starts = c.in_ok-starts.ensures.right all trie plain;
+        fails = linked.fallbacks;
+        depths = c.in_ok-depths.ensures.right all trie;
+        outputs = λ n lt. linked.ended n (omega (arith, lt, ended));
+        leaps = same_leaps (map (λ s. s.now) c.args.strings.now) strings same c.in_ok-leaps.leaps c.in_ok-leaps.ensures.right;
+        fronts = same_leaps (map (λ s. s.now) c.args.strings.now) strings same c.in_ok-fronts.fronts c.in_ok-fronts.ensures.right;
+      },
+    )
+
+pub returns-clause-table : goal.returns-clause-table
+returns-clause-table c = record {
+  trie = c.in_ok-nodes.ensures.trie;
+  starts = c.in_ok-starts.ensures.starts;
+  fallbacks = c.in_ok-links.ensures.linked.fallbacks;
+  fails = c.in_ok-links.ensures.linked.all_fails;
+  depths = c.in_ok-depths.ensures.all;
+  below = c.in_ok-links.ensures.linked.below;
+  outputs = c.in_ok-links.ensures.linked.all_outputs;
+  leaps = c.in_ok-leaps.ensures.leaps;
+  fronts = c.in_ok-fronts.ensures.leaps;
+  pairs = λ le.
+      let window = c.in_ok-leaps.ensures.window in
+      let front = c.in_ok-fronts.ensures.window in
+      let least = c.min.ensures in
+      omega (arith, le, window, front, least);
+}

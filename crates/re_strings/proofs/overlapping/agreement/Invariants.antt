@@ -1,9 +1,0 @@
-use Rattle.std.proofs.Common.{◌-◌, length}
-use Rattle.re_strings.specs.Working.Overlaps.{AgreesUpTo}
-use Rattle.re_strings.proofs.overlapping.agreement.Given as goal
-
-abbrev pub invariant-bytes : goal.invariant-bytes
-invariant-bytes l = AgreesUpTo l.text l.line l.place l.end
-
-abbrev pub decreases-bytes : goal.decreases-bytes
-decreases-bytes l = length l.line - l.end
