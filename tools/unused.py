@@ -1,6 +1,6 @@
 #!/usr/bin/env python3
 """Lists what crates define and nothing uses: definitions of specs, lemmas and functions, and words that a crate's
-proofs/Words.antt passes on.
+proofs/Prelude.antt passes on.
 
     tools/unused.py [CHECKOUT]
 
@@ -99,16 +99,16 @@ def may_be_unused(item: Item) -> bool:
     return not STANDS_ALONE.search(name) and bool(re.search(r"/lemmas/|/specs/|\.rt$", name))
 
 
-WORDS = re.compile(r"^use Rattle\.\w+\.proofs\.Words\.\{([^}]*)\}", re.MULTILINE)
-"""An import of words that the crate's proofs/Words.antt passes on."""
+WORDS = re.compile(r"^use Rattle\.\w+\.proofs\.Prelude\.\{([^}]*)\}", re.MULTILINE)
+"""An import of words that the crate's proofs/Prelude.antt passes on."""
 
 
 def homes_of_words(file: Path) -> set[str]:
-    """The files of specs in which the words are that a file of proofs imports from its crate's Words.antt."""
+    """The files of specs in which the words are that a file of proofs imports from its crate's Prelude.antt."""
     imported = {name for names in WORDS.findall(file.read_text(encoding="utf-8")) for name in names.split(", ")}
     if not imported:
         return set()
-    words = file.parents[len(file.parts) - file.parts.index("proofs") - 2] / "Words.antt"
+    words = file.parents[len(file.parts) - file.parts.index("proofs") - 2] / "Prelude.antt"
     passed_on = re.findall(r"use ([\w.+-]+)\.\{(.*)\}", words.read_text(encoding="utf-8"))
     return {module.rpartition(".")[2] for module, names in passed_on if imported & set(names.split(", "))}
 
@@ -145,7 +145,7 @@ def unused(crates: Path) -> list[Item]:
 def unused_words(crates: Path) -> list[Item]:
     """The words that a crate passes on to its proofs, and none of them imports."""
     found = []
-    for file in sorted(crates.glob("*/proofs/Words.antt")):
+    for file in sorted(crates.glob("*/proofs/Prelude.antt")):
         others = [other.read_text(encoding="utf-8") for other in file.parent.rglob("*.antt")]
         imported = {name for text in others for names in WORDS.findall(text) for name in names.split(", ")}
         for number, line in enumerate(file.read_text(encoding="utf-8").splitlines()):

@@ -1,6 +1,6 @@
 //! Commands that show lines around selected ones.
 use crate::harness::{Row, assert_command, assert_search, file};
-use grep_cmd::MemoryFile;
+use memory_files::MemoryFile;
 use std::test::Fail;
 
 static ROWS: [Row<'static>; 11] = [

@@ -1,6 +1,6 @@
 //! Commands with pattern files, standard input and words that are refused.
 use crate::harness::{Row, UNLIMITED, assert_command, assert_written, commanded, file, folder};
-use grep_cmd::Content;
+use memory_files::Content;
 use std::test::Fail;
 
 const USAGE: &str =

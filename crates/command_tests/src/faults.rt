@@ -3,8 +3,8 @@ use crate::harness::{
     Limits, UNLIMITED, assert_command, assert_search, assert_written, commanded, file, folder,
     read_by, searched, status_of,
 };
-use grep_cmd::{Content, MemoryFile};
 use grep_core::RunFault;
+use memory_files::{Content, MemoryFile};
 use std::alloc::Global;
 use std::process::Abort;
 use std::test::Fail;

@@ -1,9 +1,8 @@
 //! Files, devices and runs for the tests of searches and commands.
 use crate::marks::{refuse, was_refused};
-use grep_cmd::{
-    Content, MemoryFile, MemoryFiles, PatternSource, Request, matchers_of, read_words, run_grep,
-};
+use grep_cmd::{PatternSource, Request, matchers_of, read_words, run_grep};
 use grep_core::{CountedWrite, Limited, RunFault, SearchRequest, Status, Tally, search_all};
+use memory_files::{Content, MemoryFile, MemoryFiles};
 use re_auto::fresh_meter;
 use re_search::Filter;
 use std::alloc::{AllocError, Global};

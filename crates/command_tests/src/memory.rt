@@ -6,8 +6,9 @@ use crate::harness::{
     Devices, Outcome, assert_written, broken_file, file, searched_without, words_of,
 };
 use crate::marks::{refuse, was_refused};
-use grep_cmd::{Content, MemoryFile, UsageFault, read_words};
+use grep_cmd::{UsageFault, read_words};
 use grep_core::{RunFault, Status};
+use memory_files::{Content, MemoryFile};
 use std::alloc::{AllocError, Global};
 use std::process::Abort;
 use std::test::Fail;

@@ -1,6 +1,6 @@
 //! Searches and commands with their output, messages and exit status.
 use crate::harness::{Row, assert_command, assert_search, folder, read_by};
-use grep_cmd::MemoryFile;
+use memory_files::MemoryFile;
 use std::alloc::Global;
 use std::process::Abort;
 use std::test::Fail;

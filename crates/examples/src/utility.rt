@@ -1,9 +1,10 @@
 //! The utility on files in memory.
 use std::test::Fail;
 
-// crates/grep_utility/README.md
+// crates/memory_files/README.md
 use grep_core::Tally;
-use grep_utility::{Content, MemoryFiles, run_grep};
+use grep_utility::run_grep;
+use memory_files::{Content, MemoryFiles};
 use re_auto::fresh_meter;
 use std::alloc::Global;
 

@@ -6,19 +6,19 @@ use std::alloc::Global;
 
 // crates/grep_live/README.md
 use grep_core::{CountedWrite, Status};
-use grep_live::Live;
-use grep_session::{Meter, NewLines};
+use grep_live::changes;
+use grep_session::{Meter, NewLines, Session};
 use std::test::Fail;
 
 /// Replaces line 1 of file 0, and writes what changed since the last call.
 fn replaced(
-    session: &mut Live,
+    session: &mut Session,
     lines: NewLines,
     meter: &mut Meter,
     out: &mut impl CountedWrite,
 ) -> Result<Status, Fail> {
     session.splice(0, 1, 1, lines, meter)?;
-    Ok(session.changes(b"", out)?)
+    Ok(changes(session, b"", out)?)
 }
 // end
 
@@ -32,8 +32,8 @@ fn lines(alloc: Global, text: &[u8]) -> Result<NewLines, Fail> {
 }
 
 /// A session of the lines `ab`, `c` and `ca` and the pattern `a`.
-fn watched(alloc: Global, meter: &mut Meter) -> Result<Live, Fail> {
-    let mut session = Live::new(alloc, 256);
+fn watched(alloc: Global, meter: &mut Meter) -> Result<Session, Fail> {
+    let mut session = Session::new(alloc, 256);
     session.add_file(Vec::new(alloc), lines(alloc, b"ab\nc\nca\n")?, meter)?;
     session.add_patterns(b"a", meter)?;
     Ok(session)
@@ -42,7 +42,7 @@ fn watched(alloc: Global, meter: &mut Meter) -> Result<Live, Fail> {
 /// Writes what changed of this session at first, and after its line 1 was replaced.
 fn both(alloc: Global, meter: &mut Meter, out: &mut impl CountedWrite) -> Result<Status, Fail> {
     let mut session = watched(alloc, meter)?;
-    session.changes(b"", out)?;
+    changes(&mut session, b"", out)?;
     replaced(&mut session, lines(alloc, b"d\naa\n")?, meter, out)
 }
 

@@ -1,6 +1,6 @@
 //! The two commands whose bytes are worked by hand.
 use grep_core::Tally;
-use grep_utility::{run_broken, run_row};
+use memory_files::{run_broken, run_row};
 use re_auto::fresh_meter;
 use std::alloc::{AllocError, Global};
 use std::test::Fail;

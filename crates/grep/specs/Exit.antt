@@ -44,12 +44,12 @@ module _ {W : Type 0} (contents : W → Option Text) (failures : W → ℕ) wher
   read_so_far = writer (all_contents contents) (λ out. failures out.inner)
 
   -- what the program does for its words: what the command does, and then how the program ends
-  pub record ProgramGives (folder : Folder) (given : List (Option Text) → Type 0)
+  pub record ProgramGives (folder : Folder) (returned_with : List (Option Text) → Type 0)
       (words : List Text) (old new : Streams W) (status : ℕ) : Type 0 where
     pub found : ℕ
     pub out : BufferedWriter W
     pub messages : Writer
-    pub command : CommandGives folder given
+    pub command : CommandGives folder returned_with
         (devices (read_so_far old.out) old.messages old.source_failures old.steps)
         (devices (read_so_far out) messages new.source_failures new.steps)
         found words

@@ -8,7 +8,7 @@ use Rattle.grep_core.specs.declared.status.Status.{Status}
 use Rattle.grep_core.specs.Choose.{IfHolds}
 use Rattle.grep_core.specs.Files.{File, AreMeant}
 use Rattle.grep_live.specs.Hits.{Hit, View, AreHits}
-use Rattle.grep_live.specs.Marks.{Watched, new_watched}
+use Rattle.grep_session.specs.Marks.{Watched, new_watched}
 use Rattle.grep_live.specs.Changes.{Change, all_after}
 use Rattle.grep_live.specs.Follows.{Follows, view_after}
 use Rattle.grep_live.specs.Rows.{changes_rows}

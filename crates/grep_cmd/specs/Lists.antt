@@ -10,11 +10,10 @@ use Rattle.grep_core.specs.Output.{written}
 use Rattle.grep_core.specs.Written.{Writes}
 use Rattle.grep_live.specs.Lists.{AllThree}
 use Rattle.grep_live.specs.Hits.{View, AreHits}
-use Rattle.grep_live.specs.Marks.{Watched}
+use Rattle.grep_session.specs.Marks.{Watched, all_known}
 use Rattle.grep_live.specs.Changes.{Change, IsChange, all_after}
 use Rattle.grep_live.specs.Follows.{Follows}
 use Rattle.grep_live.specs.Rows.{changes_rows, total_row, page_rows, all_hits}
-use Rattle.grep_live.specs.Reported.{all_known}
 use Rattle.grep_cmd.specs.Show.{status_line}
 
 -- the rows of what changed of each file, and the status; by them any view that followed becomes the

@@ -21,8 +21,7 @@ use Rattle.grep_cmd.specs.declared.script.ScriptEnd.{ScriptEnd}
 use Rattle.grep_cmd.specs.declared.script.ScriptEnd.TheVariants.{Clean, Refused}
 use Rattle.grep_cmd.specs.declared.script.ScriptFault.{ScriptFault}
 use Rattle.grep_cmd.specs.declared.script.ScriptFault.TheVariants.{Read, Write, Memory}
-use Rattle.grep_live.specs.Marks.{Watched, new_watched}
-use Rattle.grep_live.specs.Follows.{Carries}
+use Rattle.grep_session.specs.Marks.{Watched, new_watched, MarksGiven}
 use Rattle.grep_cmd.specs.Script.{Step, does, reports, reports_changes, reports_page, is_bad}
 use Rattle.grep_cmd.specs.Script.{is_truncated, Steps, IsUnfinished, IsBegun}
 use Rattle.grep_cmd.specs.Show.{AreShown}
@@ -66,7 +65,7 @@ is_refusal line = bytes_eq (take 8 line) (codes "refused ")
 pub record IsAnswered (edit : Edit) (before after : Watched)
     (answer : Result (Unit {0}) EditFault) : Type 0 where
   pub gives : EditGives edit before.inputs after.inputs answer
-  pub carries : Carries edit before after answer
+  pub marks : MarksGiven edit before after.marks answer
   pub named : NeedsNoMemory edit before.inputs → answer ≢ Err fault.Memory
 
 -- the reply to a step, and what it makes of the session

@@ -6,8 +6,8 @@ mod reports;
 mod script;
 
 pub use grep_utility::{
-    Content, FAILED, Files, MemoryFile, MemoryFiles, MemoryReader, OUT_OF_MEMORY, PatternSource,
-    Request, USAGE, UsageFault, WRITE_ERROR, matchers_of, read_words, run_grep, write_usage_fault,
+    FAILED, Files, OUT_OF_MEMORY, PatternSource, Request, USAGE, UsageFault, WRITE_ERROR,
+    matchers_of, read_words, run_grep, write_usage_fault,
 };
 pub use laws::editors_follow;
 pub use reports::show;

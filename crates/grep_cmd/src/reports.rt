@@ -6,7 +6,8 @@ ghost use Rattle.grep_cmd.specs.Show.{Shows, status_line};
 ghost use Rattle.grep_cmd.specs.Lists.{WritesReport, WritesHits};
 
 use grep_core::{CountedWrite, Status, WriteFault, write_line};
-use grep_live::Live;
+use grep_live::{changes, page};
+use grep_session::Session;
 
 /// Writes the line of the status.
 fn write_status<W: CountedWrite>(status: Status, out: &mut W) -> Result<(), WriteFault>
@@ -22,7 +23,7 @@ fn write_status<W: CountedWrite>(status: Status, out: &mut W) -> Result<(), Writ
 
 /// Writes the output lines of the session after `o `, then the message lines after `e `, then the
 /// status.
-pub fn show<W: CountedWrite>(session: &Live, out: &mut W) -> Result<(), WriteFault>
+pub fn show<W: CountedWrite>(session: &Session, out: &mut W) -> Result<(), WriteFault>
     ensures { Shows W.contents W.failures session.now.inputs out.old out.new result }
 {
     let status = session.report(b"o ", out)?;
@@ -31,16 +32,16 @@ pub fn show<W: CountedWrite>(session: &Live, out: &mut W) -> Result<(), WriteFau
 }
 
 /// Writes what changed of each file, then the status.
-pub fn show_changes<W: CountedWrite>(session: &mut Live, out: &mut W) -> Result<(), WriteFault>
+pub fn show_changes<W: CountedWrite>(session: &mut Session, out: &mut W) -> Result<(), WriteFault>
     ensures { WritesReport W.contents W.failures out.old out.new session.old session.new result }
 {
-    let status = session.changes(b"", out)?;
+    let status = changes(session, b"", out)?;
     write_status(status, out)
 }
 
 /// Writes the number of hits and at most `count` of them from number `first` on, then the status.
 pub fn show_page<W: CountedWrite>(
-    session: &Live,
+    session: &Session,
     first: usize,
     count: usize,
     out: &mut W,
@@ -48,6 +49,6 @@ pub fn show_page<W: CountedWrite>(
     ensures { WritesHits W.contents W.failures out.old out.new session.now.inputs first count
         result }
 {
-    let status = session.page(first, count, b"", out)?;
+    let status = page(session, first, count, b"", out)?;
     write_status(status, out)
 }

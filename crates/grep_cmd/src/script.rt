@@ -16,8 +16,7 @@ use crate::script::answer::answer_command;
 use crate::script::counted::next_line;
 use crate::script::reply::Answer;
 use grep_core::{CountedRead, CountedWrite, Lines, WriteFault};
-use grep_live::Live;
-use grep_session::Meter;
+use grep_session::{Meter, Session};
 use std::alloc::Global;
 
 /// How a script ended.
@@ -92,7 +91,7 @@ pub fn run_script<R: CountedRead, W: CountedWrite>(
         Ok(lines) => lines,
         Err(_reader) => return send_replies(Err(ScriptFault::Memory), writer),
     };
-    let mut session = Live::new(alloc, states);
+    let mut session = Session::new(alloc, states);
     let mut end = ScriptEnd::Clean;
     let ended = loop {
         match next_line(&mut lines, writer) {

@@ -132,9 +132,9 @@ pub record WritesPast (DueFirst Due : List Text → Type 0) (old new : Writer) :
 
 module _ (es : List Expression) (options : Options) (sources : List Source) where
   -- what the sources did, and what that was to a run that reached these of them: how often their
-  -- devices failed, and what was left of them, of which `given` holds; the work of the run is no
-  -- more than the search of all files costs
-  pub record Story (reached : List Source) (given : List (Option Text) → Type 0)
+  -- devices failed, and what they had left when they were returned (`returned_with` holds of it);
+  -- the work of the run is no more than the search of all files costs
+  pub record Story (reached : List Source) (returned_with : List (Option Text) → Type 0)
       (old new : Devices) : Type 0 where
     pub readings : List Reading
     pub are_readings : AreReadings sources readings
@@ -143,7 +143,7 @@ module _ (es : List Expression) (options : Options) (sources : List Source) wher
     pub counted : new.source_failures ≡ count_more old.source_failures failures
     pub left : List (Option Text)
     pub are_left : LeftMet es options reached readings left
-    pub gave_back : given left
+    pub gave_back : returned_with left
     pub steps : SearchesFiles es options (length es) (files_of sources readings) old.steps new.steps
 
   -- the output for some of the files for which the sources stand
@@ -151,11 +151,11 @@ module _ (es : List Expression) (options : Options) (sources : List Source) wher
   OutOf readings files output =
       OutAs es options (are_many (files_of sources readings)) (form options) files output
 
-  -- `given l` says that readers that had l left were returned in the run
-  module _ (given : List (Option Text) → Type 0) (old new : Devices) where
+  -- `returned_with l`: readers that had l left were returned in the run
+  module _ (returned_with : List (Option Text) → Type 0) (old new : Devices) where
     -- a whole run: output, messages and status are those of the files for which the sources stand
     pub record Finishes (status : Status) : Type 0 where
-      pub story : Story sources given old new
+      pub story : Story sources returned_with old new
       pub wrote : WritesAll (Out es options (files_of sources story.readings)) old.out new.out
       pub reported : WritesAll (Messages es options (files_of sources story.readings)) old.messages
           new.messages
@@ -166,7 +166,7 @@ module _ (es : List Expression) (options : Options) (sources : List Source) wher
     pub record BreaksOff : Type 0 where
       pub at : ℕ
       pub in_sources : at < length sources
-      pub story : Story (take (suc at) sources) given old new
+      pub story : Story (take (suc at) sources) returned_with old new
       pub wrote : WritesPast (OutOf story.readings (take at (files_of sources story.readings)))
           (Out es options (files_of sources story.readings)) old.out new.out
       pub reported : WritesPast (Messages es options (take at (files_of sources story.readings)))
@@ -178,7 +178,7 @@ module _ (es : List Expression) (options : Options) (sources : List Source) wher
     pub record StopsAfter (k n : ℕ) : Type 0 where
       pub in_sources : k < length sources
       pub rest : Option Text
-      pub story : Story (take k sources) (λ left. given (left ++ rest ∷ [])) old new
+      pub story : Story (take k sources) (λ left. returned_with (left ++ rest ∷ [])) old new
       pub in_file : n ≤ length (file_at (files_of sources story.readings) k).lines
       pub read : HasRead (source_at sources k) rest
           (take n (file_at (files_of sources story.readings) k).lines)

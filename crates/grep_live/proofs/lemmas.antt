@@ -2,7 +2,6 @@ pub mod ListLemmas
 pub mod HitLemmas
 pub mod MarkLemmas
 pub mod CarryLemmas
-pub mod LostLemmas
 pub mod Pushing
 pub mod ListingLemmas
 pub mod NumberLemmas

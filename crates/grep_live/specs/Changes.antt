@@ -5,7 +5,7 @@ use Rattle.std.specs.List.{filter}
 use Rattle.re_syntax.specs.Expression.{Expression}
 use Rattle.grep_core.specs.declared.options.Options.{Options}
 use Rattle.grep_core.specs.Files.{File}
-use Rattle.grep_live.specs.declared.mark.Mark.{Mark}
+use Rattle.grep_session.specs.declared.mark.Mark.{Mark}
 use Rattle.grep_live.specs.Hits.{Hit, View, HitsFrom}
 
 -- ---- what an editor does

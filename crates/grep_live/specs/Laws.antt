@@ -1,6 +1,6 @@
 -- Laws of the definitions.
 use Rattle.std.specs.Prelude.{◌≡◌, ◌≢◌, ℕ, ◌+◌, ◌-◌, ◌<◌, ◌≤◌, ◌⊎◌, ⊤, true, List, [], ◌∷◌, length, get_or}
-use Rattle.std.specs.Prelude.{Ok, IfOk}
+use Rattle.std.specs.Prelude.{Result, Ok, Err, IfOk}
 use Rattle.re_syntax.specs.Bytes.{Text}
 use Rattle.re_syntax.specs.Expression.{Expression}
 use Rattle.grep_core.specs.declared.options.Flag.{Flag}
@@ -12,11 +12,34 @@ use Rattle.grep_session.specs.Edits.{Edit, AddFile, AddMissing, DropFile, Splice
 use Rattle.grep_session.specs.Edits.{DropPattern, SetFlag, SetSyntax, SetContext, option_of}
 use Rattle.grep_session.specs.Edits.{Applies, EditGives}
 use Rattle.grep_session.specs.Headline.{Attempt}
+use Rattle.grep_session.specs.declared.fault.EditFault.{EditFault}
+use Rattle.grep_live.specs.Hits.{View}
+use Rattle.grep_live.specs.Follows.{Follows, view_after}
 use Rattle.grep_live.specs.Lists.{AllThree}
-use Rattle.grep_live.specs.Marks.{Watched, MarksAfter, MarksGiven}
+use Rattle.grep_session.specs.Marks.{Watched, all_known, AreFit, MarksAfter, MarksGiven}
 use Rattle.grep_live.specs.Changes.{Change, IsChange, AreWithin, is_idle}
 use Rattle.grep_live.specs.Rows.{change_rows, changes_rows}
-use Rattle.grep_live.specs.Reported.{all_known}
+
+-- ---- what an edit leaves
+
+abbrev pub view_given : {T : Type 0} → Edit → Result T EditFault → View → View
+view_given edit (Ok done) view = view_after edit view
+view_given edit (Err fault) view = view
+
+-- the marks fit, and a view that followed before follows then
+pub record Carries {T : Type 0} (edit : Edit) (old new : Watched)
+    (result : Result T EditFault) : Type 0 where
+  pub fit : AreFit new.inputs.files new.marks
+  pub follows : (view : View) → Follows old view → Follows new (view_given edit result view)
+
+-- where the marks fitted before, so they do after each edit, and a view follows as before
+abbrev pub EditsCarry : Type 0
+EditsCarry =
+    (edit : Edit) (answer : Result (Unit {0}) EditFault) (old new : Watched) →
+    AreFit old.inputs.files old.marks → EditGives edit old.inputs new.inputs answer →
+    MarksGiven edit old new.marks answer → Carries edit old new answer
+
+-- ---- what is reported
 
 -- of files whose changes were all reported no row is written
 abbrev pub NothingTwice : Type 0

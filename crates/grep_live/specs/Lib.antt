@@ -1,9 +1,9 @@
 -- definitions of the crates below that contracts of this one name
 pub use Rattle.grep_session.specs.Edits
--- the definitions of a watched session
+pub use Rattle.grep_session.specs.Marks
+-- what an editor lists of a session
 pub mod Lists
 pub mod Hits
-pub mod Marks
 pub mod Changes
 pub mod Follows
 pub mod Rows

@@ -1,5 +1,5 @@
 -- What `changes` and `page` write, and which lists an editor has after that.
-use Rattle.std.specs.Prelude.{◌≡◌, ℕ, ◌-◌, ◌^◌, min, List, ◌∷◌, map, length, Option, Result, IfOk, MatchResult}
+use Rattle.std.specs.Prelude.{◌≡◌, ℕ, ◌-◌, ◌^◌, min, List, ◌∷◌, length, Option, Result, IfOk, MatchResult}
 use Rattle.re_syntax.specs.Bytes.{Text}
 use Rattle.re_syntax.specs.Expression.{Expression}
 use Rattle.grep_core.specs.declared.status.Status.{Status}
@@ -9,15 +9,10 @@ use Rattle.grep_core.specs.Output.{written}
 use Rattle.grep_core.specs.Written.{Writes}
 use Rattle.grep_live.specs.Lists.{AllThree}
 use Rattle.grep_live.specs.Hits.{View, AreHits}
-use Rattle.grep_live.specs.Marks.{Watched, whole_mark}
+use Rattle.grep_session.specs.Marks.{Watched, all_known}
 use Rattle.grep_live.specs.Changes.{Change, IsChange, all_after}
 use Rattle.grep_live.specs.Follows.{Follows}
 use Rattle.grep_live.specs.Rows.{changes_rows, total_row, page_rows, all_hits}
-
--- all changes are reported
-abbrev pub all_known : Watched → Watched
-all_known old =
-    record old { marks = map (λ file. whole_mark (length file.lines)) old.inputs.files }
 
 module _ {W : Type 0} (contents : W → Option Text) (failures : W → ℕ) (margin : Text)
     (begun ended : W) where

@@ -1,4 +1,2 @@
-pub mod Fits
 pub mod LineHits
 pub mod PageRest
-pub mod Live

@@ -4,18 +4,17 @@ ghost use Rattle.re_syntax.specs.Expression.{Expression};
 ghost use Rattle.grep_core.specs.Output.{written};
 ghost use Rattle.grep_core.specs.Run.{file_at};
 ghost use Rattle.grep_core.specs.Written.{Writes};
+ghost use Rattle.grep_session.specs.Marks.{AreFit};
 ghost use Rattle.grep_live.specs.Lists.{AllThree};
 ghost use Rattle.grep_live.specs.Hits.{Hit};
 ghost use Rattle.grep_live.specs.Changes.{Change, IsChange};
 ghost use Rattle.grep_live.specs.Rows.{hit_row, change_row, change_rows, changes_rows};
-ghost use Rattle.grep_live.specs.Working.Fits.{AreFit};
 ghost use Rattle.grep_live.specs.Working.LineHits.{Mean, HitsBetween};
 
 use crate::hits::{LineRange, count_hits, first_hit};
-use crate::mark::Mark;
 use crate::rows::{write_hit_row, write_number_row};
 use grep_core::{CountedWrite, WriteFault};
-use grep_session::Session;
+use grep_session::{Mark, Session};
 
 /// Writes a row for each hit among some lines.
 fn write_hits<W: CountedWrite>(
@@ -25,9 +24,9 @@ fn write_hits<W: CountedWrite>(
     out: &mut W,
 ) -> Result<(), WriteFault>
     requires in_order { stretch.from ≤ stretch.to }
-    requires within { stretch.to ≤ length (file_at session.now.files stretch.k).lines }
-    ensures { (es : List Expression) → Mean session.now es → (hits : List Hit) →
-        HitsBetween es session.now stretch.k stretch.from stretch.to hits → Writes W.contents W.failures out.old out.new
+    requires within { stretch.to ≤ length (file_at session.now.inputs.files stretch.k).lines }
+    ensures { (es : List Expression) → Mean session.now.inputs es → (hits : List Hit) →
+        HitsBetween es session.now.inputs stretch.k stretch.from stretch.to hits → Writes W.contents W.failures out.old out.new
         (written margin.now (map hit_row hits)) result }
 {
     let mut from = stretch.from;
@@ -36,6 +35,22 @@ fn write_hits<W: CountedWrite>(
         from = found.place + 1;
     }
     Ok(())
+}
+
+/// The number of known lines that were removed, by the mark of their file.
+fn removed_lines(mark: &Mark) -> usize
+    ensures { result ≡ mark.now.known - mark.now.front - mark.now.back }
+{
+    mark.known
+        .saturating_sub(mark.front)
+        .saturating_sub(mark.back)
+}
+
+/// The number of lines that were added, of a file that has `lines` now.
+fn added_lines(mark: &Mark, lines: usize) -> usize
+    ensures { result ≡ lines - mark.now.front - mark.now.back }
+{
+    lines.saturating_sub(mark.front).saturating_sub(mark.back)
 }
 
 /// Whether no line was removed and none was added.
@@ -55,9 +70,9 @@ fn write_rows<W: CountedWrite>(
     out: &mut W,
 ) -> Result<(), WriteFault>
     requires in_order { stretch.from ≤ stretch.to }
-    requires within { stretch.to ≤ length (file_at session.now.files stretch.k).lines }
-    ensures { (es : List Expression) → Mean session.now es → (hits : List Hit) →
-        HitsBetween es session.now stretch.k stretch.from stretch.to hits → Writes W.contents W.failures out.old out.new
+    requires within { stretch.to ≤ length (file_at session.now.inputs.files stretch.k).lines }
+    ensures { (es : List Expression) → Mean session.now.inputs es → (hits : List Hit) →
+        HitsBetween es session.now.inputs stretch.k stretch.from stretch.to hits → Writes W.contents W.failures out.old out.new
         (written margin.now (change_row stretch.k (record {
           front = stretch.from;
           removed = removed;
@@ -80,14 +95,14 @@ fn write_change<W: CountedWrite>(
     margin: &[u8],
     out: &mut W,
 ) -> Result<(), WriteFault>
-    requires { mark.now.front ≤ length (file_at session.now.files k).lines }
-    ensures { (es : List Expression) → Mean session.now es → (change : Change) →
-        IsChange es session.now.options (file_at session.now.files k) mark.now change →
+    requires { mark.now.front ≤ length (file_at session.now.inputs.files k).lines }
+    ensures { (es : List Expression) → Mean session.now.inputs es → (change : Change) →
+        IsChange es session.now.inputs.options (file_at session.now.inputs.files k) mark.now change →
         Writes W.contents W.failures out.old out.new (written margin.now (change_rows k change))
         result }
 {
-    let removed = mark.removed();
-    let added = mark.added(session.line_count(k));
+    let removed = removed_lines(mark);
+    let added = added_lines(mark, session.line_count(k));
     if is_idle(removed, added) {
         return Ok(());
     }
@@ -104,9 +119,9 @@ pub fn write_changes<W: CountedWrite>(
     margin: &[u8],
     out: &mut W,
 ) -> Result<(), WriteFault>
-    requires { AreFit session.now.files marks.now }
-    ensures { (es : List Expression) → Mean session.now es → (changes : List Change) →
-        AllThree (IsChange es session.now.options) session.now.files marks.now changes →
+    requires { AreFit session.now.inputs.files marks.now }
+    ensures { (es : List Expression) → Mean session.now.inputs es → (changes : List Change) →
+        AllThree (IsChange es session.now.inputs.options) session.now.inputs.files marks.now changes →
         Writes W.contents W.failures out.old out.new (written margin.now (changes_rows 0 changes))
         result }
 {

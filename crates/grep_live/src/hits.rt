@@ -23,9 +23,9 @@ pub struct LineRange {
 /// The number of hits among some lines.
 pub fn count_hits(session: &Session, stretch: LineRange) -> usize
     requires in_order { stretch.from ≤ stretch.to }
-    requires within { stretch.to ≤ length (file_at session.now.files stretch.k).lines }
-    ensures { (es : List Expression) → Mean session.now es → (hits : List Hit) →
-        HitsBetween es session.now stretch.k stretch.from stretch.to hits →
+    requires within { stretch.to ≤ length (file_at session.now.inputs.files stretch.k).lines }
+    ensures { (es : List Expression) → Mean session.now.inputs es → (hits : List Hit) →
+        HitsBetween es session.now.inputs stretch.k stretch.from stretch.to hits →
         result ≡ length hits }
 {
     let before = session.hits_before(stretch.k, stretch.from);
@@ -36,8 +36,8 @@ pub fn count_hits(session: &Session, stretch: LineRange) -> usize
 
 /// The number of hits of file `k`.
 pub fn count_file(session: &Session, k: usize) -> usize
-    ensures { (es : List Expression) → Mean session.now es → (hits : List Hit) →
-        HitsBetween es session.now k 0 (length (file_at session.now.files k).lines) hits →
+    ensures { (es : List Expression) → Mean session.now.inputs es → (hits : List Hit) →
+        HitsBetween es session.now.inputs k 0 (length (file_at session.now.inputs.files k).lines) hits →
         result ≡ length hits }
 {
     session.hits_before(k, session.line_count(k))
@@ -46,13 +46,13 @@ pub fn count_file(session: &Session, k: usize) -> usize
 /// The first hit among some lines, and its place.
 pub fn first_hit(session: &Session, stretch: LineRange) -> Option<PlacedHit<'_>>
     requires in_order { stretch.from ≤ stretch.to }
-    requires within { stretch.to ≤ length (file_at session.now.files stretch.k).lines }
+    requires within { stretch.to ≤ length (file_at session.now.inputs.files stretch.k).lines }
     ensures within { IfSome result
         (λ found. (stretch.from ≤ found.place) × (found.place < stretch.to)) }
-    ensures first { (es : List Expression) → Mean session.now es → (hits : List Hit) →
-        HitsBetween es session.now stretch.k stretch.from stretch.to hits →
+    ensures first { (es : List Expression) → Mean session.now.inputs es → (hits : List Hit) →
+        HitsBetween es session.now.inputs stretch.k stretch.from stretch.to hits →
         MatchOption result (hits ≡ []) (λ found.
-        IsFirst es session.now stretch.k stretch.to found.place found.hit.text.now
+        IsFirst es session.now.inputs stretch.k stretch.to found.place found.hit.text.now
         (map span_places found.hit.parts.now) hits) }
 {
     let place = session.next_hit(stretch.k, stretch.from);
@@ -67,12 +67,12 @@ pub fn first_hit(session: &Session, stretch: LineRange) -> Option<PlacedHit<'_>>
 
 /// The least place of file `k` before which there are `number` hits.
 pub fn place_after(session: &Session, k: usize, number: usize) -> usize
-    requires { (es : List Expression) → Mean session.now es → (hits : List Hit) →
-        HitsBetween es session.now k 0 (length (file_at session.now.files k).lines) hits →
+    requires { (es : List Expression) → Mean session.now.inputs es → (hits : List Hit) →
+        HitsBetween es session.now.inputs k 0 (length (file_at session.now.inputs.files k).lines) hits →
         number ≤ length hits }
-    ensures within { result ≤ length (file_at session.now.files k).lines }
-    ensures place { (es : List Expression) → Mean session.now es →
-        IsPlaceAfter es session.now k number result }
+    ensures within { result ≤ length (file_at session.now.inputs.files k).lines }
+    ensures place { (es : List Expression) → Mean session.now.inputs es →
+        IsPlaceAfter es session.now.inputs k number result }
 {
     let mut low = 0;
     let mut high = session.line_count(k);

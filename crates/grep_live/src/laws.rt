@@ -1,5 +1,11 @@
 //! Laws of the definitions, as functions that do nothing.
-ghost use Rattle.grep_live.specs.Laws.{NothingTwice, OneSplice, OnlyTouched};
+ghost use Rattle.grep_live.specs.Laws.{EditsCarry, NothingTwice, OneSplice, OnlyTouched};
+
+/// A list of hits that is right but for touched lines is so after each edit, and the marks that the
+/// edit leaves fit the files.
+pub fn edits_carry()
+    ensures { EditsCarry }
+{}
 
 /// No row is written for files whose changes were all reported.
 #[tactic(auto, using(crate::proofs::lemmas::TwiceLemmas::nothing_twice))]

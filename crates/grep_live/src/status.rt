@@ -11,8 +11,8 @@ use grep_session::Session;
 
 /// Whether some file has a hit.
 fn any_hit(session: &Session) -> bool
-    ensures { (es : List Expression) → Mean session.now es →
-        Decides result (AnySelected es session.now.options session.now.files) }
+    ensures { (es : List Expression) → Mean session.now.inputs es →
+        Decides result (AnySelected es session.now.inputs.options session.now.inputs.files) }
 {
     for k in 0..session.file_count() {
         let lines = session.line_count(k);
@@ -26,7 +26,7 @@ fn any_hit(session: &Session) -> bool
 
 /// The exit status of grep (XCU grep, EXIT STATUS), by the first hit of each file.
 pub fn status(session: &Session) -> Status
-    ensures { IsStatusOfInputs session.now result }
+    ensures { IsStatusOfInputs session.now.inputs result }
 {
     session.status_given(any_hit(session))
 }

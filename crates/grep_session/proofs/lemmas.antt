@@ -30,3 +30,5 @@ pub mod AroundKept
 pub mod KeptOutput
 pub mod HeadlineLaws
 pub mod RoomLemmas
+pub mod LostLemmas
+pub mod FitLemmas

@@ -4,6 +4,8 @@ pub use Rattle.grep_core.specs.Files
 pub mod Edits
 pub mod Touched
 pub mod Headline
+-- which lines an editor has not to be told of
+pub mod Marks
 -- what an editor lists of a line
 pub mod Listed
 -- the public laws of the definitions

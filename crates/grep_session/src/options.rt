@@ -87,7 +87,9 @@ pub enum Effect {
     Verdicts,
     /// The parts of lines have to be searched.
     Parts,
-    /// All that is kept stays valid.
+    /// All that is kept stays valid, but other lines may be selected, or no parts listed.
+    Hits,
+    /// All that is kept stays valid, and the same is selected and listed.
     Output,
 }
 
@@ -104,7 +106,7 @@ pub fn effect_of(flag: Flag, on: bool) -> Effect
         Flag::LineNumber => Effect::Output,
         Flag::Quiet => Effect::Output,
         Flag::NoMessages => Effect::Output,
-        Flag::InvertMatch => Effect::Output,
+        Flag::InvertMatch => Effect::Hits,
     }
 }
 
@@ -115,5 +117,5 @@ fn effect_of_parts(on: bool) -> Effect
     if on {
         return Effect::Parts;
     }
-    Effect::Output
+    Effect::Hits
 }

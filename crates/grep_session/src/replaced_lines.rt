@@ -1,8 +1,9 @@
 //! Lines that are replaced by others.
-ghost use Rattle.std.specs.Prelude.{◌≡◌, ◌≢◌, ◌+◌, ◌≤◌, length, map, IfOk, IfErr, IfSome};
+ghost use Rattle.std.specs.Prelude.{◌≡◌, ◌≢◌, ◌+◌, ◌-◌, ◌≤◌, length, map, IfOk, IfErr, IfSome};
 ghost use Rattle.std.specs.Prelude.{OnErr, []};
 ghost use Rattle.std.specs.List.{splice};
 ghost use Rattle.std.specs.Option.{option_map};
+ghost use Rattle.grep_core.specs.Run.{file_at};
 ghost use Rattle.grep_session.specs.declared.fault.EditFault.TheVariants.{Memory};
 ghost use Rattle.grep_session.specs.Working.Kept.{kept_lines, kept_file};
 ghost use Rattle.grep_session.specs.Working.SplicePlaces.{PlaceGives};
@@ -13,9 +14,16 @@ use crate::kept::KeptFile;
 use line_chunks::KeptLines;
 use std::alloc::{AllocError, Global};
 
-/// Whether file `k` has `count` lines from `start` on.
-pub fn find_place(files: &[KeptFile], k: usize, start: usize, count: usize) -> Result<(), EditFault>
+/// Whether file `k` has `count` lines from `start` on, and how many lines come after these.
+pub fn find_place(
+    files: &[KeptFile],
+    k: usize,
+    start: usize,
+    count: usize,
+) -> Result<usize, EditFault>
     ensures place { PlaceGives (map kept_file files.now) k start count result }
+    ensures back { IfOk result (λ back.
+        back ≡ length (file_at (map kept_file files.now) k).lines - (start + count)) }
     ensures reported { IfErr result (λ fault. fault ≢ Memory) }
 {
     if k >= files.len() {
@@ -27,10 +35,11 @@ pub fn find_place(files: &[KeptFile], k: usize, start: usize, count: usize) -> R
     if start > lines.len() {
         return Err(EditFault::OutOfRange);
     }
-    if count > lines.len() - start {
+    let after = lines.len() - start;
+    if count > after {
         return Err(EditFault::OutOfRange);
     }
-    Ok(())
+    Ok(after - count)
 }
 
 /// Replaces lines of a file with others. Without new lines nothing is allocated.

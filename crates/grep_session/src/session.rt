@@ -1,15 +1,17 @@
 //! A session.
-ghost use Rattle.std.specs.Prelude.{◌≡◌, ◌≢◌, ◌≤◌, ◌<◌, Ok, false, length};
+ghost use Rattle.std.specs.Prelude.{◌≡◌, ◌≢◌, ◌≤◌, ◌<◌, Ok, false, length, map};
 ghost use Rattle.std.specs.Prelude.{IsTrue, IfErr};
 ghost use Rattle.grep_session.specs.declared.fault.EditFault.TheVariants.{Memory};
 ghost use Rattle.grep_session.specs.Edits.{Edit, AddFile, AddMissing, DropFile, Splice};
 ghost use Rattle.grep_session.specs.Edits.{AddPatterns, DropPattern, SetFlag, SetSyntax};
-ghost use Rattle.grep_session.specs.Edits.{SetContext, EditGives, Applies, no_inputs};
+ghost use Rattle.grep_session.specs.Edits.{SetContext, EditGives, Applies};
 ghost use Rattle.grep_session.specs.Edits.{with_patterns};
 ghost use Rattle.std.specs.List.{remove};
 ghost use Rattle.re_syntax.specs.Profile.{most_states};
 ghost use Rattle.grep_session.specs.Touched.{TakesSteps, NeedsNoMemory, Touches, searched_by};
 ghost use Rattle.grep_session.specs.Touched.{parts_alone, all_lines};
+ghost use Rattle.grep_session.specs.Marks.{new_watched, all_known, lost, MarksGiven};
+ghost use Rattle.grep_session.specs.Working.Sessions.{LosesMarks};
 ghost use Rattle.grep_session.specs.Working.Again.{ReadsAgain, AreReadable, read_as};
 
 mod outputs;
@@ -19,6 +21,8 @@ use crate::change::Change;
 use crate::columns::find_columns;
 use crate::fault::EditFault;
 use crate::kept::KeptFile;
+use crate::mark::Mark;
+use crate::marks::{know_all, lose_all, push_file, touch};
 use crate::new_lines::NewLines;
 use crate::options::{Effect, effect_of, is_same, option_of, with_option};
 use crate::pattern_matchers::read_matchers;
@@ -26,14 +30,13 @@ use crate::patterns::{add_matchers, add_texts, reserve_texts, texts_of, too_many
 use crate::removal::{drop_column, put_back};
 use crate::replaced_lines::{find_place, put_in};
 use crate::search::search_new;
-use crate::vec_push::push;
 use grep_core::{Context, Flag, Options};
 use re_search::{Matcher, Meter, Syntax};
 use std::alloc::Global;
 use std::marker::Model;
 
-/// Files and patterns, and what the patterns find in the lines of the files. A contract sees the
-/// inputs of grep: syntax, options, patterns and files.
+/// Files and patterns, what the patterns find in the lines of the files, and a mark for each file. A
+/// contract sees the inputs of grep, which are syntax, options, patterns and files, and the marks.
 #[derive(Drop)]
 pub struct Session {
     alloc: Global,
@@ -43,16 +46,17 @@ pub struct Session {
     texts: Vec<Vec<u8>>,
     matchers: Vec<Matcher>,
     files: Vec<KeptFile>,
+    marks: Vec<Mark>,
 }
 
 impl Model for Session {
-    ghost use Rattle.grep_core.specs.Files.{Inputs};
+    ghost use Rattle.grep_session.specs.Marks.{Watched};
 
-    ghost Value = { Inputs };
+    ghost Value = { Watched };
 
-    ghost use Rattle.grep_session.specs.Working.Sessions.{inputs_of, IsSession};
+    ghost use Rattle.grep_session.specs.Working.Sessions.{watched_of, IsSession};
 
-    ghost view = { inputs_of };
+    ghost view = { watched_of };
 
     ghost invariant = { IsSession };
 }
@@ -63,7 +67,7 @@ impl Session {
     pub fn new(alloc: Global, states: usize) -> Session
         requires some { 1 ≤ states }
         requires few { states ≤ most_states }
-        ensures { result ≡ no_inputs }
+        ensures { result ≡ new_watched }
     {
         Session {
             alloc,
@@ -73,6 +77,7 @@ impl Session {
             texts: Vec::new(alloc),
             matchers: Vec::new(alloc),
             files: Vec::new(alloc),
+            marks: Vec::new(alloc),
         }
     }
 
@@ -82,14 +87,16 @@ impl Session {
     ///
     /// `EditFault::NoSuchFile`.
     pub fn drop_file(&mut self, k: usize) -> Result<(), EditFault>
-        ensures gives { EditGives (DropFile k) self.old self.new result }
-        ensures memory { NeedsNoMemory (DropFile k) self.old →
+        ensures gives { EditGives (DropFile k) self.old.inputs self.new.inputs result }
+        ensures marks { MarksGiven (DropFile k) self.old self.new.marks result }
+        ensures memory { NeedsNoMemory (DropFile k) self.old.inputs →
             IfErr result (λ fault. fault ≢ Memory) }
     {
         if k >= self.files.len() {
             return Err(EditFault::NoSuchFile);
         }
         self.files.remove(k);
+        self.marks.remove(k);
         Ok(())
     }
 
@@ -99,12 +106,13 @@ impl Session {
     ///
     /// `EditFault::Memory`.
     pub fn add_missing(&mut self, name: Vec<u8>) -> Result<(), EditFault>
-        ensures gives { EditGives (AddMissing name.items) self.old self.new result }
-        ensures memory { NeedsNoMemory (AddMissing name.items) self.old →
+        ensures gives { EditGives (AddMissing name.items) self.old.inputs self.new.inputs result }
+        ensures marks { MarksGiven (AddMissing name.items) self.old self.new.marks result }
+        ensures memory { NeedsNoMemory (AddMissing name.items) self.old.inputs →
             IfErr result (λ fault. fault ≢ Memory) }
     {
         let file = KeptFile { name, lines: None };
-        match push(&mut self.files, file) {
+        match push_file(&mut self.files, &mut self.marks, file) {
             Ok(()) => {}
             Err(_) => return Err(EditFault::Memory),
         }
@@ -122,9 +130,10 @@ impl Session {
         lines: NewLines,
         meter: &mut Meter,
     ) -> Result<(), EditFault>
-        ensures gives { EditGives (AddFile name.items lines) self.old self.new result }
-        ensures steps { TakesSteps (AddFile name.items lines) self.old meter.old meter.new }
-        ensures memory { NeedsNoMemory (AddFile name.items lines) self.old →
+        ensures gives { EditGives (AddFile name.items lines) self.old.inputs self.new.inputs result }
+        ensures marks { MarksGiven (AddFile name.items lines) self.old self.new.marks result }
+        ensures steps { TakesSteps (AddFile name.items lines) self.old.inputs meter.old meter.new }
+        ensures memory { NeedsNoMemory (AddFile name.items lines) self.old.inputs →
             IfErr result (λ fault. fault ≢ Memory) }
     {
         let kept = match search_new(self.alloc, &mut self.matchers, &self.options, lines, meter) {
@@ -135,7 +144,7 @@ impl Session {
             name,
             lines: Some(kept),
         };
-        match push(&mut self.files, file) {
+        match push_file(&mut self.files, &mut self.marks, file) {
             Ok(()) => {}
             Err(_) => return Err(EditFault::Memory),
         }
@@ -157,15 +166,16 @@ impl Session {
         lines: NewLines,
         meter: &mut Meter,
     ) -> Result<(), EditFault>
-        ensures gives { EditGives (Splice k start count lines) self.old self.new result }
-        ensures steps { TakesSteps (Splice k start count lines) self.old meter.old meter.new }
-        ensures memory { NeedsNoMemory (Splice k start count lines) self.old →
+        ensures gives { EditGives (Splice k start count lines) self.old.inputs self.new.inputs result }
+        ensures marks { MarksGiven (Splice k start count lines) self.old self.new.marks result }
+        ensures steps { TakesSteps (Splice k start count lines) self.old.inputs meter.old meter.new }
+        ensures memory { NeedsNoMemory (Splice k start count lines) self.old.inputs →
             IfErr result (λ fault. fault ≢ Memory) }
     {
-        match find_place(&self.files, k, start, count) {
-            Ok(()) => {}
+        let back = match find_place(&self.files, k, start, count) {
+            Ok(back) => back,
             Err(fault) => return Err(fault),
-        }
+        };
         let kept = match search_new(self.alloc, &mut self.matchers, &self.options, lines, meter) {
             Ok(kept) => kept,
             Err(_) => return Err(EditFault::Memory),
@@ -174,6 +184,7 @@ impl Session {
             Ok(()) => {}
             Err(_) => return Err(EditFault::Memory),
         }
+        touch(&mut self.marks, k, start, back);
         Ok(())
     }
 
@@ -184,12 +195,13 @@ impl Session {
         options: Options,
         meter: &mut Meter,
     ) -> Result<(), EditFault>
-        ensures gives { ReadsAgain syntax options self.old self.new result }
+        ensures gives { ReadsAgain syntax options self.old.inputs self.new.inputs result }
+        ensures marks { LosesMarks self.old.marks self.new.marks result }
         ensures steps { (edit : Edit) →
-            (AreReadable syntax options self.old →
-            Applies edit self.old (Ok (read_as syntax options self.old)))
-            → Touches edit self.old (searched_by (length self.old.patterns) (all_lines self.old)) →
-            TakesSteps edit self.old meter.old meter.new }
+            (AreReadable syntax options self.old.inputs →
+            Applies edit self.old.inputs (Ok (read_as syntax options self.old.inputs)))
+            → Touches edit self.old.inputs (searched_by (length self.old.inputs.patterns) (all_lines self.old.inputs)) →
+            TakesSteps edit self.old.inputs meter.old meter.new }
     {
         let mut matchers = match read_matchers(
             self.alloc,
@@ -212,6 +224,7 @@ impl Session {
             Ok(()) => {}
             Err(_) => return Err(EditFault::Memory),
         }
+        lose_all(&mut self.marks);
         self.matchers = matchers;
         self.syntax = syntax;
         self.options = options;
@@ -225,9 +238,10 @@ impl Session {
     /// `EditFault::Pattern` with the number of the first pattern that is not valid in this syntax,
     /// or `EditFault::Memory`.
     pub fn set_syntax(&mut self, syntax: Syntax, meter: &mut Meter) -> Result<(), EditFault>
-        ensures gives { EditGives (SetSyntax syntax) self.old self.new result }
-        ensures steps { TakesSteps (SetSyntax syntax) self.old meter.old meter.new }
-        ensures memory { NeedsNoMemory (SetSyntax syntax) self.old →
+        ensures gives { EditGives (SetSyntax syntax) self.old.inputs self.new.inputs result }
+        ensures marks { MarksGiven (SetSyntax syntax) self.old self.new.marks result }
+        ensures steps { TakesSteps (SetSyntax syntax) self.old.inputs meter.old meter.new }
+        ensures memory { NeedsNoMemory (SetSyntax syntax) self.old.inputs →
             IfErr result (λ fault. fault ≢ Memory) }
     {
         if is_same(syntax, self.syntax) {
@@ -238,13 +252,15 @@ impl Session {
 
     /// Searches the parts of all lines, for other options under which the same lines are matched.
     fn part_again(&mut self, options: Options, meter: &mut Meter) -> Result<(), EditFault>
-        requires same_whole { options.line_regexp ≡ self.old.options.line_regexp }
-        requires same_case { options.ignore_case ≡ self.old.options.ignore_case }
-        ensures gives { ReadsAgain self.old.syntax options self.old self.new result }
+        requires same_whole { options.line_regexp ≡ self.old.inputs.options.line_regexp }
+        requires same_case { options.ignore_case ≡ self.old.inputs.options.ignore_case }
+        ensures gives { ReadsAgain self.old.inputs.syntax options self.old.inputs self.new.inputs
+            result }
+        ensures marks { LosesMarks self.old.marks self.new.marks result }
         ensures steps { (edit : Edit) →
-            Applies edit self.old (Ok (read_as self.old.syntax options self.old))
-            → Touches edit self.old (parts_alone (all_lines self.old)) →
-            TakesSteps edit self.old meter.old meter.new }
+            Applies edit self.old.inputs (Ok (read_as self.old.inputs.syntax options self.old.inputs))
+            → Touches edit self.old.inputs (parts_alone (all_lines self.old.inputs)) →
+            TakesSteps edit self.old.inputs meter.old meter.new }
     {
         match find_columns(
             self.alloc,
@@ -257,16 +273,18 @@ impl Session {
             Ok(()) => {}
             Err(_) => return Err(EditFault::Memory),
         }
+        lose_all(&mut self.marks);
         self.options = options;
         Ok(())
     }
 
     /// Sets other options under which the same is kept.
     fn put_options(&mut self, options: Options)
-        requires same_whole { options.line_regexp ≡ self.old.options.line_regexp }
-        requires same_case { options.ignore_case ≡ self.old.options.ignore_case }
-        requires no_parts { IsTrue options.only_matching → IsTrue self.old.options.only_matching }
-        ensures { self.new ≡ read_as self.old.syntax options self.old }
+        requires same_whole { options.line_regexp ≡ self.old.inputs.options.line_regexp }
+        requires same_case { options.ignore_case ≡ self.old.inputs.options.ignore_case }
+        requires no_parts { IsTrue options.only_matching → IsTrue self.old.inputs.options.only_matching }
+        ensures inputs { self.new.inputs ≡ read_as self.old.inputs.syntax options self.old.inputs }
+        ensures marks { self.new.marks ≡ self.old.marks }
     {
         self.options = options;
     }
@@ -278,9 +296,10 @@ impl Session {
     /// `EditFault::Pattern` with the number of the first pattern that is too large when both cases
     /// of its letters are alike, by `-i` alone; or `EditFault::Memory`.
     pub fn set_flag(&mut self, flag: Flag, on: bool, meter: &mut Meter) -> Result<(), EditFault>
-        ensures gives { EditGives (SetFlag flag on) self.old self.new result }
-        ensures steps { TakesSteps (SetFlag flag on) self.old meter.old meter.new }
-        ensures memory { NeedsNoMemory (SetFlag flag on) self.old →
+        ensures gives { EditGives (SetFlag flag on) self.old.inputs self.new.inputs result }
+        ensures marks { MarksGiven (SetFlag flag on) self.old self.new.marks result }
+        ensures steps { TakesSteps (SetFlag flag on) self.old.inputs meter.old meter.new }
+        ensures memory { NeedsNoMemory (SetFlag flag on) self.old.inputs →
             IfErr result (λ fault. fault ≢ Memory) }
     {
         if option_of(&self.options, flag) == on {
@@ -293,6 +312,11 @@ impl Session {
                 self.read_again(syntax, options, meter)
             }
             Effect::Parts => self.part_again(options, meter),
+            Effect::Hits => {
+                lose_all(&mut self.marks);
+                self.put_options(options);
+                Ok(())
+            }
             Effect::Output => {
                 self.put_options(options);
                 Ok(())
@@ -303,13 +327,23 @@ impl Session {
     /// Sets how many lines are shown around selected ones, or that none are. Nothing is searched or
     /// allocated.
     pub fn set_context(&mut self, context: Option<Context>)
-        ensures { EditGives {T = Unit {0}} (SetContext context) self.old self.new (Ok tt) }
+        ensures gives { EditGives {T = Unit {0}} (SetContext context) self.old.inputs
+            self.new.inputs (Ok tt) }
+        ensures marks { MarksGiven {T = Unit {0}} (SetContext context) self.old self.new.marks
+            (Ok tt) }
     {
         let options = Options {
             context,
             ..self.options
         };
         self.put_options(options);
+    }
+
+    /// All lines of all files are known to the editor from now on.
+    pub fn know_all(&mut self)
+        ensures { self.new ≡ all_known self.old }
+    {
+        know_all(&self.files, &mut self.marks);
     }
 
     /// Adds the patterns of a list after the others. Only the new patterns are searched for, and
@@ -320,9 +354,10 @@ impl Session {
     /// `EditFault::TooManyPatterns`, `EditFault::Pattern` with the place in the list of the first
     /// text that is not a valid pattern, or `EditFault::Memory`.
     pub fn add_patterns(&mut self, list: &[u8], meter: &mut Meter) -> Result<(), EditFault>
-        ensures gives { EditGives (AddPatterns list.now) self.old self.new result }
-        ensures steps { TakesSteps (AddPatterns list.now) self.old meter.old meter.new }
-        ensures memory { NeedsNoMemory (AddPatterns list.now) self.old →
+        ensures gives { EditGives (AddPatterns list.now) self.old.inputs self.new.inputs result }
+        ensures marks { MarksGiven (AddPatterns list.now) self.old self.new.marks result }
+        ensures steps { TakesSteps (AddPatterns list.now) self.old.inputs meter.old meter.new }
+        ensures memory { NeedsNoMemory (AddPatterns list.now) self.old.inputs →
             IfErr result (λ fault. fault ≢ Memory) }
     {
         if too_many(self.matchers.len(), list) {
@@ -367,6 +402,7 @@ impl Session {
             }
         }
         add_texts(&mut self.texts, texts);
+        lose_all(&mut self.marks);
         Ok(())
     }
 
@@ -377,9 +413,10 @@ impl Session {
     ///
     /// `EditFault::NoSuchPattern`, or `EditFault::Memory`.
     pub fn drop_pattern(&mut self, p: usize, meter: &mut Meter) -> Result<(), EditFault>
-        ensures gives { EditGives (DropPattern p) self.old self.new result }
-        ensures steps { TakesSteps (DropPattern p) self.old meter.old meter.new }
-        ensures memory { NeedsNoMemory (DropPattern p) self.old →
+        ensures gives { EditGives (DropPattern p) self.old.inputs self.new.inputs result }
+        ensures marks { MarksGiven (DropPattern p) self.old self.new.marks result }
+        ensures steps { TakesSteps (DropPattern p) self.old.inputs meter.old meter.new }
+        ensures memory { NeedsNoMemory (DropPattern p) self.old.inputs →
             IfErr result (λ fault. fault ≢ Memory) }
     {
         if p >= self.texts.len() {
@@ -394,9 +431,10 @@ impl Session {
 
     /// Removes pattern `p`, and searches the parts of the lines that it matched.
     fn drop_with_parts(&mut self, p: usize, meter: &mut Meter) -> Result<(), EditFault>
-        requires within { p < length self.old.patterns }
-        ensures gives { EditGives (DropPattern p) self.old self.new result }
-        ensures steps { TakesSteps (DropPattern p) self.old meter.old meter.new }
+        requires within { p < length self.old.inputs.patterns }
+        ensures gives { EditGives (DropPattern p) self.old.inputs self.new.inputs result }
+        ensures marks { MarksGiven (DropPattern p) self.old self.new.marks result }
+        ensures steps { TakesSteps (DropPattern p) self.old.inputs meter.old meter.new }
     {
         let gone = self.matchers.remove(p);
         let change = Change::Dropped(p);
@@ -415,17 +453,21 @@ impl Session {
             }
         }
         self.texts.remove(p);
+        lose_all(&mut self.marks);
         Ok(())
     }
 
     /// Removes pattern `p` where no parts are kept; later patterns move up. Nothing is allocated.
     fn drop_without_parts(&mut self, p: usize)
-        requires within { p < length self.old.patterns }
-        requires no_parts { self.old.options.only_matching ≡ false }
-        ensures { self.new ≡ with_patterns (remove self.old.patterns p) self.old }
+        requires within { p < length self.old.inputs.patterns }
+        requires no_parts { self.old.inputs.options.only_matching ≡ false }
+        ensures inputs { self.new.inputs ≡
+            with_patterns (remove self.old.inputs.patterns p) self.old.inputs }
+        ensures marks { self.new.marks ≡ map lost self.old.marks }
     {
         drop_column(&mut self.files, p);
         self.matchers.remove(p);
         self.texts.remove(p);
+        lose_all(&mut self.marks);
     }
 }

@@ -7,10 +7,8 @@ pub mod SourceLemmas
 pub mod OperandLemmas
 pub mod ReportingLemmas
 pub mod CommandLemmas
-pub mod CountLemmas
 pub mod ServingLemmas
 pub mod KnownLemmas
 pub mod FullLemmas
 pub mod WorkedLemmas
-pub mod MemoryLemmas
 pub mod BrokenLemmas

@@ -50,17 +50,17 @@ EndsAfter (Err Write) old new status = GivesUp old new (write_error ∷ []) 0 st
 EndsAfter (Err MessageWrite) old new status = (status ≡ 2) × (new ≡ old)
 EndsAfter (Err (Memory k lines)) old new status = GivesUp old new (out_of_memory ∷ []) 0 status
 
--- the files were searched for these expressions, and the command ended so; `given` holds of what
--- the returned readers had left
+-- the files were searched for these expressions, and the command ended so; `returned_with` holds of
+-- what the returned readers had left
 pub record SearchEnds (es : List Expression) (options : Options) (sources : List Source)
-    (given : List (Option Text) → Type 0) (old new : Devices) (status : ℕ) : Type 0 where
+    (returned_with : List (Option Text) → Type 0) (old new : Devices) (status : ℕ) : Type 0 where
   pub found : Result Status RunFault
   pub between : Devices
-  pub runs : RunGives es options sources given old between found
+  pub runs : RunGives es options sources returned_with old between found
   pub ends : EndsAfter found between new status
 
-module _ (asked : Asked) (folder : Folder) (texts : List Text) (given : List (Option Text) → Type 0)
-    (old new : Devices) (status : ℕ) where
+module _ (asked : Asked) (folder : Folder) (texts : List Text)
+    (returned_with : List (Option Text) → Type 0) (old new : Devices) (status : ℕ) where
   -- the first pattern that isn't readable is reported
   pub record RefusesPattern : Type 0 where
     pub place : ℕ
@@ -73,8 +73,8 @@ module _ (asked : Asked) (folder : Folder) (texts : List Text) (given : List (Op
     pub readable : All (IsReadable asked.syntax asked.options.ignore_case) texts
     pub es : List Expression
     pub are_meant : AreMeant asked.syntax asked.options texts es
-    pub ends : SearchEnds es asked.options (sources_named folder (searched asked.files)) given old
-        new status
+    pub ends : SearchEnds es asked.options (sources_named folder (searched asked.files))
+        returned_with old new status
 
   -- the patterns are counted, then each is read in order, and then the files are searched
   abbrev pub DoesForPatterns : Type 0
@@ -82,7 +82,7 @@ module _ (asked : Asked) (folder : Folder) (texts : List Text) (given : List (Op
       MatchBool (nat_lt most_patterns (length texts))
       (GivesUp old new (too_many_patterns ∷ []) 0 status) (RefusesPattern ⊎ SearchesNamed)
 
-module _ (folder : Folder) (given : List (Option Text) → Type 0) (old new : Devices)
+module _ (folder : Folder) (returned_with : List (Option Text) → Type 0) (old new : Devices)
     (status : ℕ) where
   -- the pattern files are read, up to the first that can't be; their readers are returned before
   -- those of the files
@@ -91,8 +91,8 @@ module _ (folder : Folder) (given : List (Option Text) → Type 0) (old new : De
       ((unread : Unread) × FirstUnread folder asked.sources unread ×
       GivesUp old new (unread.message ∷ []) unread.failures status)
       ⊎ ((texts : List Text) × (read : List (Option Text)) × GivePatterns folder asked.sources texts
-      × DoesForPatterns asked (folder_after_all folder asked.sources) texts (λ left. given (read ++ left))
-      old new status)
+      × DoesForPatterns asked (folder_after_all folder asked.sources) texts
+      (λ left. returned_with (read ++ left)) old new status)
 
   -- what the command does for its words, unless it is out of memory before the search
   abbrev pub DoesForWords : List Text → Type 0

@@ -1,6 +1,5 @@
 pub mod Tokens
 pub mod Numbers
-pub mod Memory
 pub mod CollectedTexts
 pub mod Operands
 pub mod ServingMatchers

@@ -64,12 +64,11 @@ fn search_request<F: Files, W: CountedWrite, N: CountedWrite>(
 /// nothing written to standard output, for the first of these reasons, which a message reports:
 ///
 /// 1. Words are refused, as [`read_words`] says: the fault and a line on how grep is used.
-/// 2. A pattern file can't be opened or read: `grep: NAME: cannot open` or `grep: NAME: read
-/// error`.
+/// 2. A pattern file can't be opened or read: `grep: NAME: cannot open`, `grep: NAME: read error`.
 ///    `-s` doesn't silence these. Pattern files are read in the order of their options.
 /// 3. There are more than 65,535 patterns: `grep: too many patterns`.
 /// 4. A pattern is refused: `grep: pattern N: KIND at AT`, with N the number of the first such
-/// pattern over all lists and pattern files, from 1, and AT a place in it, counted in bytes from 0.
+///    pattern over all lists and pattern files, from 1, and AT a place in it, in bytes from 0.
 ///
 /// Otherwise the files are searched in order, or standard input if none is named. A file that can't
 /// be opened or read is reported, but not under `-s`, and the search continues after it. The status

@@ -183,6 +183,7 @@ impl LineMatch for Cached {
         self.searched(line, meter)
     }
 
+    #[inline(always)]
     fn is_match_by_steps(&mut self, line: &[u8], meter: &mut Meter) -> bool
         ensures reported { IsTrue result ↔
             Matches (expression_of self.old.tree) line.now self.old.whole }

@@ -85,8 +85,7 @@ impl Fixed {
         ensures same { SameMatcher literal_expression (λ f. f.whole) (λ f. 0) self.old self.new }
         ensures steps { AddsAtMost (length block.now) meter.old meter.new }
         ensures counted { IsPartOfLines self.old → 1 ≤ length self.old.text →
-            (passed : Steps) × AddsUpTo 0 (length block.now) meter.old passed
-            × (meter.new ≡ many_built (length block.now) passed) }
+            meter.new ≡ many_built (length block.now) (many_passed (length block.now) meter.old) }
     {
         if !self.is_part() || self.is_empty() {
             return self.count_matched(block, meter);

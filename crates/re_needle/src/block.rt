@@ -201,18 +201,21 @@ pub fn bytes_to(block: &[u8], found: Option<Span>) -> u64
     }
 }
 
-/// The same for a string that is not empty and has no newline.
+/// How many lines of a block of whole lines have the string, which is not empty and has no newline.
+/// The block is passed once: up to each line's first occurrence by a look for the string, and from
+/// there to the line's end by one for its newline.
 pub fn count_by(finder: &Finder<'_>, block: &[u8], meter: &mut Meter) -> u64
     requires block { IsBlock block.now }
     requires some { 1 ≤ length finder.now }
     requires one_line { HasNoNewline finder.now }
     ensures counted { HoldsOfMany (StandsIn finder.now) (lines_of block.now) result }
-    ensures steps { AddsUpTo 0 (length block.now) meter.old meter.new }
+    ensures passed { meter.new ≡ many_passed (length block.now) meter.old }
 {
+    meter.add_passed(block.len());
     let mut count: u64 = 0;
     let mut rest = block;
     'lines: loop {
-        let Some(at) = find_text(finder, rest, meter) else {
+        let Some(at) = finder.find(rest) else {
             return count;
         };
         let Some(length) = first_newline(&rest[at..]) else {

@@ -2,7 +2,6 @@
 use super::harness::{DONE, STATES, observed};
 use super::watched::{assert_changes, searching};
 use grep_core::Status;
-use grep_live::Live;
 use grep_session::{NewLines, Session};
 use re_auto::fresh_meter;
 use re_syntax::split_file;
@@ -50,7 +49,7 @@ fn given_lines_are_searched(rt: HostRuntime) -> Result<(), Fail> {
 }
 
 /// Gives a watched session lines, and compares what is reported.
-fn assert_given(rt: &impl Abort, alloc: Global, live: &mut Live) -> Result<(), Fail> {
+fn assert_given(rt: &impl Abort, alloc: Global, live: &mut Session) -> Result<(), Fail> {
     let mut meter = fresh_meter();
     let lines = given(alloc, b"ab\nc\nca\n")?;
     assert_eq!(rt; live.add_file(Vec::new(alloc), lines, &mut meter), DONE);

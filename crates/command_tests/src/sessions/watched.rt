@@ -7,8 +7,8 @@ use super::edits::{Answer, Edit, Handed, handed_by};
 use super::harness::{DONE, NO_SUCH_FILE, STATES};
 use crate::marks::{refuse, was_refused};
 use grep_core::{Limited, Status, Tally, WriteFault};
-use grep_live::Live;
-use grep_session::{EditFault, NewLines};
+use grep_live::changes;
+use grep_session::{EditFault, NewLines, Session};
 use re_auto::fresh_meter;
 use std::alloc::Global;
 use std::process::Abort;
@@ -21,11 +21,11 @@ const MOST: usize = 2_000;
 /// fails; the answer, and what was written.
 fn changes_of(
     alloc: Global,
-    live: &mut Live,
+    live: &mut Session,
     room: usize,
 ) -> (Result<Status, WriteFault>, Vec<u8>) {
     let mut out = Tally::new(Limited::new(Vec::new(alloc), usize::MAX, room));
-    let answer = live.changes(b"", &mut out);
+    let answer = changes(live, b"", &mut out);
     (answer, out.into_inner().into_inner())
 }
 
@@ -33,7 +33,7 @@ fn changes_of(
 pub fn assert_changes(
     rt: &impl Abort,
     alloc: Global,
-    live: &mut Live,
+    live: &mut Session,
     wanted: &[u8],
     status: Status,
 ) {
@@ -45,7 +45,7 @@ pub fn assert_changes(
 }
 
 /// Makes an edit that adds a file or replaces lines.
-fn add_lines(alloc: Global, live: &mut Live, edit: Edit, handed: Handed) -> Answer {
+fn add_lines(alloc: Global, live: &mut Session, edit: Edit, handed: Handed) -> Answer {
     let Handed { name, lines } = handed;
     let lines = NewLines::from_lines(alloc, &lines)?;
     let mut meter = fresh_meter();
@@ -57,15 +57,20 @@ fn add_lines(alloc: Global, live: &mut Live, edit: Edit, handed: Handed) -> Answ
 }
 
 /// Makes an edit that is accepted.
-fn assert_added(rt: &impl Abort, alloc: Global, live: &mut Live, edit: Edit) -> Result<(), Fail> {
+fn assert_added(
+    rt: &impl Abort,
+    alloc: Global,
+    live: &mut Session,
+    edit: Edit,
+) -> Result<(), Fail> {
     let handed = handed_by(alloc, edit)?;
     assert_eq!(rt; add_lines(alloc, live, edit, handed), DONE, "{edit:?}");
     Ok(())
 }
 
 /// A session with a pattern, and no file.
-pub fn searching(rt: &impl Abort, alloc: Global) -> Live {
-    let mut live = Live::new(alloc, STATES);
+pub fn searching(rt: &impl Abort, alloc: Global) -> Session {
+    let mut live = Session::new(alloc, STATES);
     assert_eq!(rt; live.add_patterns(b"a", &mut fresh_meter()), DONE);
     live
 }
@@ -118,7 +123,7 @@ fn changes_that_were_not_written_are_reported_again(rt: HostRuntime) -> Result<(
 fn assert_file_refused(
     rt: &impl Abort,
     alloc: Global,
-    live: &mut Live,
+    live: &mut Session,
     k: usize,
     edit: Edit,
     n: usize,

@@ -1,7 +1,5 @@
 -- The steps of a script bring no more bytes than its lines have.
-use Rattle.std.proofs.Common.{◌≡◌, ℕ, ◌+◌, ◌≤◌, Bool, true, false, List, [], ◌∷◌, ◌++◌, length, codes, bytes_eq, nat_eq, Option, Some, None, refl, sym, ap, subst, inl, inr, arith, if◌then◌else◌}
-use Rattle.grep_cmd.proofs.Words.{option_map, sum_by, Text, joined, Flag, Ending, Edit, AddFile, AddMissing, DropFile, Splice, DropPattern, SetFlag, SetSyntax, SetContext, number_of, name_of, flag_of, switch_of, syntax_of, Command, edits, counts, shows, lists_changes, lists_page, file_from, file_command, missing_command, close_command, splice_from, splice_command, patterns_from, patterns_command, drop_command, flag_from, flag_command, syntax_command, context_from, context_command, show_command, changes_command, page_from, page_command, listing_command, unnamed_command, command_of, Step, does, reports, reports_changes, reports_page, is_bad, IsStep, IsUnfinished, Steps, words_of, bytes_of}
-use Rattle.std.proofs.lemmas.List.Sums.{sum_by-append, sum_by-cons}
+use Rattle.grep_cmd.proofs.Prelude.{◌≡◌, ℕ, ◌+◌, ◌≤◌, Bool, true, false, List, [], ◌∷◌, ◌++◌, length, codes, bytes_eq, nat_eq, Option, Some, None, refl, sym, ap, subst, inl, inr, arith, if◌then◌else◌, option_map, sum_by, Text, joined, Flag, Ending, Edit, AddFile, AddMissing, DropFile, Splice, DropPattern, SetFlag, SetSyntax, SetContext, number_of, name_of, flag_of, switch_of, syntax_of, Command, edits, counts, shows, lists_changes, lists_page, file_from, file_command, missing_command, close_command, splice_from, splice_command, patterns_from, patterns_command, drop_command, flag_from, flag_command, syntax_command, context_from, context_command, show_command, changes_command, page_from, page_command, listing_command, unnamed_command, command_of, Step, does, reports, reports_changes, reports_page, is_bad, IsStep, IsUnfinished, Steps, words_of, bytes_of, sum_by-append, sum_by-cons}
 use Rattle.grep_session.specs.Edits.{AddPatterns}
 
 -- one for a step, and the bytes of the lines that it puts into a file

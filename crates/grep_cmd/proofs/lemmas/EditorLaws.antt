@@ -1,10 +1,8 @@
 -- The lists that an editor makes by the replies alone follow, and are the present hits.
-use Rattle.std.proofs.Common.{◌≡◌, ℕ, ◌+◌, ◌<◌, ◌≤◌, ◌^◌, min, true, false, true≢false, List, [], ◌∷◌, ◌++◌, length, take, drop, get_or, codes, Result, Ok, Err, refl, sym, ap, subst, ◌∙◌, inl, inr, arith, append_assoc}
-use Rattle.grep_cmd.proofs.Words.{◌-◌, list_any, sum_by, Text, Status, IfHolds, File, Inputs, EditFault, Edit, Mark, View, AreHits, Watched, new_watched, IsChange, all_after, FollowsFile, Follows, view_after, changes_rows, total_row, page_row, page_rows, all_hits, all_known, Step, does, reports, reports_changes, reports_page, is_bad, is_truncated, AreShown, with_margin, status_line, ReportsChanges, RepliesTo, Replies, IsAnswered, AnswersScript, cause, reply_to, IsHeld, bytes_of, has_status, EndsWithStatus, IsOneReply, ReadsChanges, ListsAfter, ListsAfterAll, ArePresent, Took, EditorsFollow}
-use Rattle.std.proofs.lemmas.Bool.{or_parts}
-use Rattle.std.proofs.lemmas.List.Elements.{All-nil}
-use Rattle.std.proofs.lemmas.List.Sums.{sum_by-cons}
+use Rattle.grep_cmd.proofs.Prelude.{◌≡◌, ℕ, ◌+◌, ◌<◌, ◌≤◌, ◌^◌, min, true, false, true≢false, List, [], ◌∷◌, ◌++◌, length, take, drop, get_or, codes, Result, Ok, Err, refl, sym, ap, subst, ◌∙◌, inl, inr, arith, append_assoc, ◌-◌, list_any, sum_by, Text, Status, IfHolds, File, Inputs, EditFault, Edit, Mark, View, AreHits, Watched, new_watched, IsChange, all_after, FollowsFile, Follows, view_after, AreFit, changes_rows, total_row, page_row, page_rows, all_hits, all_known, Step, does, reports, reports_changes, reports_page, is_bad, is_truncated, AreShown, with_margin, status_line, ReportsChanges, RepliesTo, Replies, IsAnswered, AnswersScript, cause, reply_to, IsHeld, bytes_of, has_status, EndsWithStatus, IsOneReply, ReadsChanges, ListsAfter, ListsAfterAll, ArePresent, Took, EditorsFollow, or_parts, All-nil, sum_by-cons}
 use Rattle.grep_core.specs.declared.status.Status.TheVariants as status
+use Rattle.grep_session.proofs.lemmas.FitLemmas.{known_fit}
+use Rattle.grep_live.proofs.lemmas.CarryLemmas.{edits_carry}
 use Rattle.grep_live.proofs.lemmas.ListLemmas.{three-length}
 use Rattle.grep_cmd.proofs.lemmas.ReadingLaws.{first_same, rest_same, cut_same, one_reading}
 use Rattle.grep_cmd.proofs.lemmas.BroughtLaws.{brought, steps_bring}
@@ -81,12 +79,16 @@ refused_is_not_ok fault e =
     let byte : ◌≡◌ {A = ℕ} 114 111 = ap (λ (l : Text). get_or l 0 0) line in
     omega (arith, byte)
 
+-- the marks fit, and the lists follow
+abbrev Stands : Watched → View → Type 0
+Stands state view = AreFit state.inputs.files state.marks × Follows state view
+
 module _ (before after : Watched) (reply : List Text) (view new : View) where
-  edit_follows : (edit : Edit) (answer : Result (Unit {0}) EditFault) → IsAnswered edit before after answer → reply ≡ reply_to answer ∷ [] → Follows before view → IfHolds (reply ≡ codes "ok" ∷ []) (new ≡ view_after edit view) (new ≡ view) → Follows after new
-  edit_follows edit (Ok done) a e f (inl (ok, n)) = subst (Follows after) (sym n) (a.carries.follows view f)
+  edit_follows : (edit : Edit) (answer : Result (Unit {0}) EditFault) → IsAnswered edit before after answer → reply ≡ reply_to answer ∷ [] → Stands before view → IfHolds (reply ≡ codes "ok" ∷ []) (new ≡ view_after edit view) (new ≡ view) → Stands after new
+  edit_follows edit (Ok done) a e f (inl (ok, n)) = let c = edits_carry edit (Ok done) before after f.0 a.gives a.marks in (c.fit, subst (Follows after) (sym n) (c.follows view f.1))
   edit_follows edit (Ok done) a e f (inr (other, n)) = absurd (other e)
   edit_follows edit (Err fault) a e f (inl (ok, n)) = absurd (refused_is_not_ok fault (sym e ∙ ok))
-  edit_follows edit (Err fault) a e f (inr (other, n)) = subst (Follows after) (sym n) (a.carries.follows view f)
+  edit_follows edit (Err fault) a e f (inr (other, n)) = let c = edits_carry edit (Err fault) before after f.0 a.gives a.marks in (c.fit, subst (Follows after) (sym n) (c.follows view f.1))
 
   -- the lists are those that the reported changes make
   read_as : (r : ReportsChanges before after reply) → Follows before view → ListsAfter reports_changes reply view new → all_after r.changes view ≡ new
@@ -97,13 +99,14 @@ module _ (before after : Watched) (reply : List Text) (view new : View) where
       let held = subst (λ (n : ℕ). n < 2 ^ 64) (sym reads.one_each) reads.held.0 in
       sym (n ∙ one_reading changes r.changes reads.status r.status view long held reads.held.1 (sym reads.is ∙ r.is))
 
-  still : after ≡ before → new ≡ view → Follows before view → Follows after new
-  still same n f = subst (λ (w : Watched). Follows w new) (sym same) (subst (Follows before) (sym n) f)
+  still : after ≡ before → new ≡ view → Stands before view → Stands after new
+  still same n f = subst (λ (w : Watched). Stands w new) (sym same) (subst (Stands before) (sym n) f)
 
-  step_follows : (step : Step) → RepliesTo step before reply after → Follows before view → ListsAfter step reply view new → Follows after new
+  step_follows : (step : Step) → RepliesTo step before reply after → Stands before view → ListsAfter step reply view new → Stands after new
   step_follows (does edit) r f l = edit_follows edit r.0 r.1 r.2 f l
   step_follows reports r f l = still r.1 l f
-  step_follows reports_changes r f l = subst (Follows after) (read_as r f l) (r.follows view f)
+  step_follows reports_changes r f l =
+      (subst (λ (w : Watched). AreFit w.inputs.files w.marks) (sym r.leaves) (known_fit before.inputs.files), subst (Follows after) (read_as r f.1 l) (r.follows view f.1))
   step_follows (reports_page first count) r f l = still r.1 l f
   step_follows is_bad r f l = still r.1 l f
   step_follows is_truncated r f l = still r.1 l f
@@ -143,16 +146,16 @@ first_step step steps before end replies view new (reply, state, rest, r, more, 
       lists_all = subst (λ (lines : List Text). ListsAfterAll steps lines between new) same.1 lists;
     }
 
-follow_from : (steps : List Step) (before end : Watched) (replies : List Text) (view new : View) → Follows before view → Replies steps before replies end → ListsAfterAll steps replies view new → Follows end new
+follow_from : (steps : List Step) (before end : Watched) (replies : List Text) (view new : View) → Stands before view → Replies steps before replies end → ListsAfterAll steps replies view new → Stands end new
 follow_from [] before end replies view new f r l = still before end replies view new r.1 l.1 f
 follow_from (step ∷ steps) before end replies view new f r l =
     let a = first_step step steps before end replies view new r l in
     follow_from steps a.state end a.rest a.between new (step_follows before a.state a.reply view a.between step a.replies_to f a.lists) a.are_replies a.lists_all
 
-present_from : (steps : List Step) (before end : Watched) (replies : List Text) (view new : View) → Follows before view → Replies (steps ++ reports_changes ∷ []) before replies end → ListsAfterAll (steps ++ reports_changes ∷ []) replies view new → ArePresent end new
+present_from : (steps : List Step) (before end : Watched) (replies : List Text) (view new : View) → Stands before view → Replies (steps ++ reports_changes ∷ []) before replies end → ListsAfterAll (steps ++ reports_changes ∷ []) replies view new → ArePresent end new
 present_from [] before end replies view new f r l =
     let a = first_step reports_changes [] before end replies view new r l in
-    let here = step_present before a.state a.reply view a.between a.replies_to f a.lists in
+    let here = step_present before a.state a.reply view a.between a.replies_to f.1 a.lists in
     subst (λ (w : Watched). ArePresent w new) (sym a.are_replies.1) (subst (ArePresent a.state) (sym a.lists_all.1) here)
 present_from (step ∷ steps) before end replies view new f r l =
     let a = first_step step (steps ++ reports_changes ∷ []) before end replies view new r l in
@@ -200,7 +203,7 @@ all_one (step ∷ steps) replies view a b (reply, between, rest, e, is_one, p, m
 -- ---- an editor can take all replies
 
 within_step : (n : ℕ) (step : Step) (before after : Watched) (reply : List Text) → IsWithin n before → RepliesTo step before reply after → IsWithin (n + brought step) after
-within_step n (does edit) before after reply w r = within_after n edit before after r.0 w r.1.gives r.1.carries.marks
+within_step n (does edit) before after reply w r = within_after n edit before after r.0 w r.1.gives r.1.marks
 within_step n reports before after reply w r = subst (IsWithin (n + 1)) (sym r.1) (within_wider n (n + 1) (omega arith) before w)
 within_step n reports_changes before after reply w r = subst (IsWithin (n + 1)) (sym r.leaves) (within_wider n (n + 1) (omega arith) (all_known before) (within_known n before w))
 within_step n (reports_page first count) before after reply w r = subst (IsWithin (n + 1)) (sym r.1) (within_wider n (n + 1) (omega arith) before w)
@@ -232,11 +235,11 @@ module _ (n : ℕ) (held : IsHeld n) (before after : Watched) (reply : List Text
   can_step is_bad w f r = (view, refl)
   can_step is_truncated w f r = (view, refl)
 
-can_from : (steps : List Step) (n : ℕ) (before end : Watched) (replies : List Text) (view : View) → IsHeld (n + sum_by brought steps) → IsWithin n before → Follows before view → Replies steps before replies end → (new : View) × ListsAfterAll steps replies view new
+can_from : (steps : List Step) (n : ℕ) (before end : Watched) (replies : List Text) (view : View) → IsHeld (n + sum_by brought steps) → IsWithin n before → Stands before view → Replies steps before replies end → (new : View) × ListsAfterAll steps replies view new
 can_from [] n before end replies view held w f r = (view, (r.0, refl))
 can_from (step ∷ steps) n before end replies view held w f (reply, between, rest, r, more, e) =
     let total = sum_by-cons brought step steps in
-    let here = can_step n (omega (arith, held)) before between reply view step w f r in
+    let here = can_step n (omega (arith, held)) before between reply view step w f.1 r in
     let next = step_follows before between reply view here.0 step r f here.1 in
     let later = can_from steps (n + brought step) between end rest here.0 (omega (arith, held, total)) (within_step n step before between reply w r) next more in
     (later.0, (reply, here.0, rest, e, is_one_reply step before between reply r, here.1, later.1))
@@ -246,7 +249,7 @@ new_within = record { few = omega arith; files = All-nil (λ (file : File). byte
 
 can_take : (script : File) (replies rest : List Text) → bytes_of script.lines < 2 ^ 64 → (a : AnswersScript script replies rest) → (view : View) × Took a.steps replies a.after view
 can_take script replies rest few a =
-    let taken = can_from a.steps 0 new_watched a.after replies [] (omega (arith, few, steps_bring script.ending script.lines a.steps rest a.are_steps)) new_within tt a.are_replies in
+    let taken = can_from a.steps 0 new_watched a.after replies [] (omega (arith, few, steps_bring script.ending script.lines a.steps rest a.are_steps)) new_within (tt, tt) a.are_replies in
     (taken.0, record { are_replies = a.are_replies; lists = taken.1 })
 
 begin_of : (first later : List Step) (replies : List Text) (state : Watched) (view : View) → Took (first ++ later) replies state view → (front : List Text) × (rest : List Text) × (between : Watched) × (lists : View) × (replies ≡ front ++ rest) × Took first front between lists
@@ -259,6 +262,6 @@ editors_follow = record {
   can = can_take;
   one = all_one;
   begin = begin_of;
-  follow = (λ steps replies state view t. follow_from steps new_watched state replies [] view tt t.are_replies t.lists);
-  present = (λ steps replies state view t. present_from steps new_watched state replies [] view tt t.are_replies t.lists);
+  follow = (λ steps replies state view t. (follow_from steps new_watched state replies [] view (tt, tt) t.are_replies t.lists).1);
+  present = (λ steps replies state view t. present_from steps new_watched state replies [] view (tt, tt) t.are_replies t.lists);
 }

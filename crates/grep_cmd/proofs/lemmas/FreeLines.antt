@@ -1,7 +1,5 @@
 -- No line that was handed out has a newline.
-use Rattle.std.proofs.Common.{ℕ, List, [], ◌∷◌, ◌++◌, All, Option, subst}
-use Rattle.std.proofs.lemmas.List.Elements.{All-head, All-tail}
-use Rattle.grep_cmd.proofs.Words.{Text, HasNoNewline, Stage, Open, Ended, Failed, AreHanded, Numbered, HasHanded}
+use Rattle.grep_cmd.proofs.Prelude.{ℕ, List, [], ◌∷◌, ◌++◌, All, Option, subst, All-head, All-tail, Text, HasNoNewline, Stage, Open, Ended, Failed, AreHanded, Numbered, HasHanded}
 use Rattle.re_syntax.proofs.lemmas.LinesLaws.{AreLines-lines_of}
 
 free_lines : (stage : Stage) (given : Text) (handed : List Text) → AreHanded stage given handed → All HasNoNewline handed

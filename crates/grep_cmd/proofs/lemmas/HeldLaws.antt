@@ -1,10 +1,5 @@
 -- Where the steps of a script bring few bytes, the numbers of all changes can be held.
-use Rattle.std.proofs.Common.{◌≡◌, ℕ, zero, suc, ◌+◌, ◌-◌, ◌<◌, ◌≤◌, Bool, true, false, List, [], ◌∷◌, ◌++◌, length, map, take, drop, get_or, All, MatchBool, Result, Ok, Err, refl, sym, ap, subst, inl, inr, arith, length-append, length-set, length-drop, length-take}
-use Rattle.grep_cmd.proofs.Words.{slice_set, slice_range, remove, splice, sum_by, Text, Expression, ArePartsFrom, AreParts, Flag, Count, IgnoreCase, FilesWithMatches, LineNumber, OnlyMatching, Quiet, NoMessages, InvertMatch, LineRegexp, Options, File, Inputs, file_at, EditFault, Edit, AddFile, AddMissing, DropFile, Splice, DropPattern, SetFlag, SetSyntax, SetContext, Applies, EditGives, with_files, spliced, whole_file, missing_file, ListedParts, Mark, AllThree, Hit, HitOf, HitsFrom, Watched, whole_mark, new_mark, mark_at, touched, lost, marks_by_flag, MarksAfter, MarksGiven, Change, IsChange, all_known, does, IsHeld, IsHeldPart, IsHeldHit, IsHeldChange, bytes_of}
-use Rattle.std.proofs.lemmas.Bool.{cases_lt}
-use Rattle.std.proofs.lemmas.List.{take-take}
-use Rattle.std.proofs.lemmas.List.Elements.{All-nil, All-cons, All-head, All-tail, All-append, All-set, All-weaker, All-take, All-drop, All-map, All-get_or}
-use Rattle.std.proofs.lemmas.List.Sums.{sum_by-append, sum_by-cons, sum_by-take-drop, sum_by-take-le, get_or-le-sum_by}
+use Rattle.grep_cmd.proofs.Prelude.{◌≡◌, ℕ, zero, suc, ◌+◌, ◌-◌, ◌<◌, ◌≤◌, Bool, true, false, List, [], ◌∷◌, ◌++◌, length, map, take, drop, get_or, All, MatchBool, Result, Ok, Err, refl, sym, ap, subst, inl, inr, arith, length-append, length-set, length-drop, length-take, slice_set, slice_range, remove, splice, sum_by, Text, Expression, ArePartsFrom, AreParts, Flag, Count, IgnoreCase, FilesWithMatches, LineNumber, OnlyMatching, Quiet, NoMessages, InvertMatch, LineRegexp, Options, File, Inputs, file_at, EditFault, Edit, AddFile, AddMissing, DropFile, Splice, DropPattern, SetFlag, SetSyntax, SetContext, Applies, EditGives, with_files, spliced, whole_file, missing_file, ListedParts, Mark, AllThree, Hit, HitOf, HitsFrom, Watched, whole_mark, new_mark, mark_at, touched, lost, marks_by_flag, MarksAfter, MarksGiven, Change, IsChange, all_known, does, IsHeld, IsHeldPart, IsHeldHit, IsHeldChange, bytes_of, cases_lt, take-take, All-nil, All-cons, All-head, All-tail, All-append, All-set, All-weaker, All-take, All-drop, All-map, All-get_or, sum_by-append, sum_by-cons, sum_by-take-drop, sum_by-take-le, get_or-le-sum_by}
 use Rattle.grep_session.specs.Edits.{AddPatterns}
 use Rattle.grep_live.proofs.lemmas.CarryLemmas.{added_file, added_missing, added_patterns, context_set, dropped_pattern, file_dropped, option_set, refused_same, splice_accepted, syntax_set}
 use Rattle.grep_cmd.proofs.lemmas.BroughtLaws.{brought}

@@ -1,6 +1,5 @@
 -- The replies to `changes` and `page`, with the status after them.
-use Rattle.std.proofs.Common.{◌≡◌, ℕ, [], ◌∷◌, ◌++◌, length, min, Option, Result, Ok, Err, IfOk, refl, sym, subst, append-nil}
-use Rattle.grep_cmd.proofs.Words.{◌-◌, ◌^◌, IsErr, Text, Status, Inputs, written, output_line, Writes, Watched, all_after, changes_rows, total_row, page_rows, all_hits, WritesChanges, WritesPage, all_known, status_line, WritesReport, WritesHits}
+use Rattle.grep_cmd.proofs.Prelude.{◌≡◌, ℕ, [], ◌∷◌, ◌++◌, length, min, Option, Result, Ok, Err, IfOk, refl, sym, subst, append-nil, ◌-◌, ◌^◌, IsErr, Text, Status, Inputs, written, output_line, Writes, Watched, all_after, changes_rows, total_row, page_rows, all_hits, WritesChanges, WritesPage, all_known, status_line, WritesReport, WritesHits}
 use Rattle.grep_core.proofs.lemmas.Exist.{StatusOf-exist}
 use Rattle.grep_session.proofs.lemmas.Writing.{if_ok, writes_err, writes_after, stops_before}
 use Rattle.grep_live.proofs.lemmas.CatchLemmas.{all_follow}

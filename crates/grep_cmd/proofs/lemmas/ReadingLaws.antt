@@ -1,10 +1,6 @@
 -- The rows of changes are read in one way.
-use Rattle.std.proofs.Common.{◌≡◌, ℕ, zero, suc, ◌+◌, ◌/◌, ◌%◌, ◌^◌, ◌<◌, ◌≤◌, Bool, true, false, cond, eqb, List, [], ◌∷◌, ◌++◌, length, map, get_or, All, refl, sym, ap, subst, ◌∙◌, inl, inr, arith, append_assoc, length-append, pow-suc, lt-ltb, ne_eqb, if◌then◌else◌}
-use Rattle.grep_cmd.proofs.Words.{decimal, digits_onto, digit_glyph, digits_value, Text, Status, Hit, View, Change, is_idle, spliced_hits, all_after, spaced, part_text, more_parts, parts_text, hit_row, change_row, changes_rows, status_line, IsHeld, IsHeldPart, IsHeldHit, IsHeldChange}
+use Rattle.grep_cmd.proofs.Prelude.{◌≡◌, ℕ, zero, suc, ◌+◌, ◌/◌, ◌%◌, ◌^◌, ◌<◌, ◌≤◌, Bool, true, false, cond, eqb, List, [], ◌∷◌, ◌++◌, length, map, get_or, All, refl, sym, ap, subst, ◌∙◌, inl, inr, arith, append_assoc, length-append, pow-suc, lt-ltb, ne_eqb, if◌then◌else◌, decimal, digits_onto, digit_glyph, digits_value, Text, Status, Hit, View, Change, is_idle, spliced_hits, all_after, spaced, part_text, more_parts, parts_text, hit_row, change_row, changes_rows, status_line, IsHeld, IsHeldPart, IsHeldHit, IsHeldChange, cases_lt, decimal_is_IsNumeral_wide, length-decimal-le, All-head, All-tail}
 use Rattle.std.specs.Fmt.{digits}
-use Rattle.std.proofs.lemmas.Bool.{cases_lt}
-use Rattle.std.proofs.lemmas.Fmt.{decimal_is_IsNumeral_wide, length-decimal-le}
-use Rattle.std.proofs.lemmas.List.Elements.{All-head, All-tail}
 
 -- ---- lists
 

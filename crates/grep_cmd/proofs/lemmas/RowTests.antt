@@ -1,7 +1,5 @@
 -- Rows of a reply, none of which passes a test.
-use Rattle.std.proofs.Common.{◌≡◌, ℕ, ◌+◌, true, false, Bool, ◌||◌, List, [], ◌∷◌, ◌++◌, map, refl, ap, ◌∙◌, if◌then◌else◌}
-use Rattle.grep_cmd.proofs.Words.{list_any, Text, Hit, Change, is_idle, hit_row, change_row, change_rows, changes_rows}
-use Rattle.std.proofs.lemmas.List.Folds.{list_any-append}
+use Rattle.grep_cmd.proofs.Prelude.{◌≡◌, ℕ, ◌+◌, true, false, Bool, ◌||◌, List, [], ◌∷◌, ◌++◌, map, refl, ap, ◌∙◌, if◌then◌else◌, list_any, Text, Hit, Change, is_idle, hit_row, change_row, change_rows, changes_rows, list_any-append}
 
 module _ (test : Text → Bool) where
   -- no row that is made of a value

@@ -1,8 +1,5 @@
 -- What is taken and answered for one command of a script.
-use Rattle.std.proofs.Common.{◌≡◌, ◌≢◌, ℕ, ◌+◌, ◌<◌, false, List, [], ◌∷◌, ◌++◌, length, min, get_or, take, drop, ◌-◌, ◌^◌, IfOk, nat_eq, if◌then◌else◌, Option, Some, Result, Ok, Err, IfErr, inl, inr, refl, sym, ap, ◌∙◌, subst, append_assoc, append-nil, codes, arith}
-use Rattle.std.proofs.lemmas.Bool.{false_from_ne_true, eqb-true}
-use Rattle.std.proofs.lemmas.List.{take_more, length-take}
-use Rattle.grep_cmd.proofs.Words.{list_any, Text, newline, joined, Status, Inputs, Adds, written, GoesOut, Numbered, HasHanded, EditFault, Edit, ScriptFault, Read, Write, Memory, Answer, Accepted, Truncated, Watched, changes_rows, total_row, page_row, page_rows, all_hits, AreShown, with_margin, status_line, ReportsChanges, ReportsPage, Step, counts, IsStep, line_command, RepliesTo, SearchesAtMost, reply_to, truncated, is_refusal, ReadsNext, TakesLines, FlushesFor, Replied, DoesStep, WantsLines, AnswersLine, answer_for, was_refused}
+use Rattle.grep_cmd.proofs.Prelude.{◌≡◌, ◌≢◌, ℕ, ◌+◌, ◌<◌, false, List, [], ◌∷◌, ◌++◌, length, min, get_or, take, drop, ◌-◌, ◌^◌, IfOk, nat_eq, if◌then◌else◌, Option, Some, Result, Ok, Err, IfErr, inl, inr, refl, sym, ap, ◌∙◌, subst, append_assoc, append-nil, codes, arith, false_from_ne_true, eqb-true, take_more, length-take, list_any, Text, newline, joined, Status, Inputs, Adds, written, GoesOut, Numbered, HasHanded, EditFault, Edit, ScriptFault, Read, Write, Memory, Answer, Accepted, Truncated, Watched, changes_rows, total_row, page_row, page_rows, all_hits, AreShown, with_margin, status_line, ReportsChanges, ReportsPage, Step, counts, IsStep, line_command, RepliesTo, SearchesAtMost, reply_to, truncated, is_refusal, ReadsNext, TakesLines, FlushesFor, Replied, DoesStep, WantsLines, AnswersLine, answer_for, was_refused}
 use Rattle.grep_core.specs.declared.status.Status.TheVariants as status
 use Rattle.grep_core.specs.Meters.{Steps as StepCounts}
 use Rattle.grep_core.proofs.lemmas.RowLemmas.{goes_on, stops_later}

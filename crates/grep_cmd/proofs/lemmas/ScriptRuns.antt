@@ -1,7 +1,5 @@
 -- How a run of a script continues and ends.
-use Rattle.std.proofs.Common.{◌≡◌, ℕ, ◌<◌, ◌≤◌, true, false, List, [], ◌∷◌, ◌++◌, length, Option, Result, Ok, Err, arith, inl, inr, refl, sym, ap, ◌∙◌, subst, append_assoc, append-nil}
-use Rattle.std.proofs.lemmas.List.{length-append}
-use Rattle.grep_cmd.proofs.Words.{list_any, Text, HasNoNewline, lines_of, File, Ending, whole, broken, written, file_of, most_lines, GoesOut, StopsWithin, Numbered, HasHanded, StandsAs, AreHanded, IsOneLineAndFew, Stage, Open, Ended, Failed, Watched, new_watched, ScriptFault, Read, Write, Memory, ScriptEnd, Clean, is_truncated, IsBegun, truncated, is_refusal, end_for, AnswersScript, ReadsScript, BeginsScript, GaveLines, SearchesTouched, StopsWriting, ScriptGives, HasRead, ReadsNext, FlushesFor, FlushesAfter, DoesStep, WantsLines, LosesLines, AnswersLine, AnsweredSoFar}
+use Rattle.grep_cmd.proofs.Prelude.{◌≡◌, ℕ, ◌<◌, ◌≤◌, true, false, List, [], ◌∷◌, ◌++◌, length, Option, Result, Ok, Err, arith, inl, inr, refl, sym, ap, ◌∙◌, subst, append_assoc, append-nil, length-append, list_any, Text, HasNoNewline, lines_of, File, Ending, whole, broken, written, file_of, most_lines, GoesOut, StopsWithin, Numbered, HasHanded, StandsAs, AreHanded, IsOneLineAndFew, Stage, Open, Ended, Failed, Watched, new_watched, ScriptFault, Read, Write, Memory, ScriptEnd, Clean, is_truncated, IsBegun, truncated, is_refusal, end_for, AnswersScript, ReadsScript, BeginsScript, GaveLines, SearchesTouched, StopsWriting, ScriptGives, HasRead, ReadsNext, FlushesFor, FlushesAfter, DoesStep, WantsLines, LosesLines, AnswersLine, AnsweredSoFar}
 use Rattle.re_syntax.proofs.lemmas.LinesLaws.{lines_of-terminated}
 use Rattle.grep_core.specs.Meters.{Steps as StepCounts}
 use Rattle.re_meter.proofs.lemmas.Adding.{adds_none}

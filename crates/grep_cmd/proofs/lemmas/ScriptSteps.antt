@@ -1,8 +1,5 @@
 -- The steps of a script, the replies to them and what they search, one more at a time.
-use Rattle.std.proofs.Common.{◌≡◌, ℕ, ◌+◌, true, false, ◌||◌, if◌then◌else◌, List, [], ◌∷◌, ◌++◌, inl, refl, sym, ap, ◌∙◌, subst, append_assoc, append-nil, arith}
-use Rattle.std.proofs.lemmas.Bool.{or_right}
-use Rattle.std.proofs.lemmas.List.Folds.{list_any-append}
-use Rattle.grep_cmd.proofs.Words.{list_any, Text, Ending, Adds, Watched, new_watched, Clean, Step, IsStep, line_command, Steps, RepliesTo, Replies, SearchesAtMost, AllSearchAtMost, SearchesTouched, is_refusal, end_for, AreDone}
+use Rattle.grep_cmd.proofs.Prelude.{◌≡◌, ℕ, ◌+◌, true, false, ◌||◌, if◌then◌else◌, List, [], ◌∷◌, ◌++◌, inl, refl, sym, ap, ◌∙◌, subst, append_assoc, append-nil, arith, or_right, list_any-append, list_any, Text, Ending, Adds, Watched, new_watched, Clean, Step, IsStep, line_command, Steps, RepliesTo, Replies, SearchesAtMost, AllSearchAtMost, SearchesTouched, is_refusal, end_for, AreDone}
 use Rattle.re_meter.proofs.lemmas.Adding.{adds_none, all_both}
 use Rattle.grep_core.specs.Meters.{Steps as StepCounts}
 use Rattle.grep_cmd.specs.declared.script.ScriptEnd.TheVariants.{Refused}

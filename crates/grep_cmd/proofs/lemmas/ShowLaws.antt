@@ -1,6 +1,5 @@
 -- What is shown is the output, the messages and the status, one after another.
-use Rattle.std.proofs.Common.{◌≡◌, ℕ, List, [], ◌∷◌, ◌++◌, codes, Option, Result, refl, sym, ap, subst, ◌∙◌, append-nil}
-use Rattle.grep_cmd.proofs.Words.{IsErr, Text, Status, Inputs, written, output_line, GoesOut, StopsWithin, Writes, GrepGives, ReportsAllInputs, status_line, with_margin, Shows}
+use Rattle.grep_cmd.proofs.Prelude.{◌≡◌, ℕ, List, [], ◌∷◌, ◌++◌, codes, Option, Result, refl, sym, ap, subst, ◌∙◌, append-nil, IsErr, Text, Status, Inputs, written, output_line, GoesOut, StopsWithin, Writes, GrepGives, ReportsAllInputs, status_line, with_margin, Shows}
 use Rattle.grep_core.proofs.lemmas.RowLemmas.{stops_early, stops_later, writes_last}
 use Rattle.grep_core.proofs.lemmas.WriterLaws.{written-append}
 use Rattle.grep_session.proofs.lemmas.HeadlineLaws.{one_report}

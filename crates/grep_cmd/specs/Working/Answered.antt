@@ -18,7 +18,7 @@ use Rattle.grep_cmd.specs.declared.script.reply.Answer.TheVariants.{Accepted, Re
 use Rattle.grep_cmd.specs.Script.{Step, IsStep, WantsMore, AsksForMemory, line_command}
 use Rattle.grep_cmd.specs.Replies.{RepliesTo, Replies, SearchesAtMost, SearchesTouched, truncated}
 use Rattle.grep_cmd.specs.Replies.{is_refusal, end_for}
-use Rattle.grep_live.specs.Marks.{Watched, new_watched}
+use Rattle.grep_session.specs.Marks.{Watched, new_watched}
 
 -- how an edit was answered
 abbrev pub answer_for : {T : Type 0} → Result T EditFault → Answer

@@ -12,8 +12,7 @@ ghost use Rattle.grep_cmd.specs.declared.script.command.CountedEdit.{CountedEdit
 ghost use Rattle.grep_cmd.specs.declared.script.reply.Answer.{Answer};
 ghost use Rattle.grep_cmd.specs.Show.{AreShown};
 ghost use Rattle.grep_cmd.specs.Lists.{ReportsChanges, ReportsPage};
-ghost use Rattle.grep_live.specs.Marks.{Watched};
-ghost use Rattle.grep_live.specs.Follows.{Carries};
+ghost use Rattle.grep_session.specs.Marks.{MarksGiven, Watched};
 ghost use Rattle.grep_cmd.specs.Replies.{reply_to};
 ghost use Rattle.grep_cmd.specs.Working.Answered.{AnswersLine, Replied, answer_for};
 ghost use Rattle.grep_cmd.specs.Working.Commands.{line_meant, counted_meant};
@@ -27,14 +26,13 @@ use crate::script::counted::take_lines;
 use crate::script::pattern_lines::{join_lines, take_texts};
 use crate::script::reply::{Answer, write_reply};
 use grep_core::{CountedRead, CountedWrite, Lines, WriteFault, write_line};
-use grep_live::Live;
-use grep_session::{EditFault, Meter};
+use grep_session::{EditFault, Meter, Session};
 use std::alloc::{AllocError, Global};
 
 /// Makes an edit for which the command line is enough.
-fn make_edit(session: &mut Live, edit: LineEdit, meter: &mut Meter) -> Result<(), EditFault>
+fn make_edit(session: &mut Session, edit: LineEdit, meter: &mut Meter) -> Result<(), EditFault>
     ensures gives { EditGives (line_meant edit) session.old.inputs session.new.inputs result }
-    ensures carries { Carries (line_meant edit) session.old session.new result }
+    ensures marks { MarksGiven (line_meant edit) session.old session.new.marks result }
     ensures steps { TakesSteps (line_meant edit) session.old.inputs meter.old meter.new }
     ensures memory { NeedsNoMemory (line_meant edit) session.old.inputs →
         IfErr result (λ fault. fault ≢ Memory) }
@@ -55,7 +53,7 @@ fn make_edit(session: &mut Live, edit: LineEdit, meter: &mut Meter) -> Result<()
 /// Adds the patterns that the lines are. They are joined first; the allocation for that may fail.
 fn add_patterns(
     alloc: Global,
-    session: &mut Live,
+    session: &mut Session,
     lines: Vec<Vec<u8>>,
     meter: &mut Meter,
 ) -> Result<Result<(), EditFault>, AllocError>
@@ -63,10 +61,10 @@ fn add_patterns(
         (λ answer.
         EditGives (AddPatterns (joined (map (λ l. l.items) lines.items))) session.old.inputs
         session.new.inputs answer) }
-    ensures carries { IfOk result
+    ensures marks { IfOk result
         (λ answer.
-        Carries (AddPatterns (joined (map (λ l. l.items) lines.items))) session.old session.new
-        answer) }
+        MarksGiven (AddPatterns (joined (map (λ l. l.items) lines.items))) session.old
+        session.new.marks answer) }
     ensures steps { IfOk result
         (λ _. TakesSteps (AddPatterns (joined (map (λ l. l.items) lines.items))) session.old.inputs
         meter.old meter.new) }
@@ -108,7 +106,7 @@ fn reply_with<W: CountedWrite>(
 }
 
 /// Writes the report.
-fn reply_to_show<W: CountedWrite>(session: &Live, out: &mut W) -> Result<Answer, ScriptFault>
+fn reply_to_show<W: CountedWrite>(session: &Session, out: &mut W) -> Result<Answer, ScriptFault>
     ensures { (shown : List Text) × AreShown session.now.inputs shown ×
         Replied W.contents W.failures out.old out.new shown Answer.Accepted result }
 {
@@ -119,7 +117,10 @@ fn reply_to_show<W: CountedWrite>(session: &Live, out: &mut W) -> Result<Answer,
 }
 
 /// Writes what changed.
-fn reply_to_changes<W: CountedWrite>(session: &mut Live, out: &mut W) -> Result<Answer, ScriptFault>
+fn reply_to_changes<W: CountedWrite>(
+    session: &mut Session,
+    out: &mut W,
+) -> Result<Answer, ScriptFault>
     ensures { (rows : List Text) × (then : Watched) × ReportsChanges session.old then rows ×
         Replied W.contents W.failures out.old out.new rows Answer.Accepted result ×
         IfOk result (λ _. session.new ≡ then) }
@@ -132,7 +133,7 @@ fn reply_to_changes<W: CountedWrite>(session: &mut Live, out: &mut W) -> Result<
 
 /// Writes a page of the hits.
 fn reply_to_page<W: CountedWrite>(
-    session: &Live,
+    session: &Session,
     first: usize,
     count: usize,
     out: &mut W,
@@ -151,7 +152,7 @@ fn answer_patterns<R: CountedRead, W: CountedWrite>(
     alloc: Global,
     lines: &mut Lines<R>,
     count: usize,
-    session: &mut Live,
+    session: &mut Session,
     meter: &mut Meter,
     out: &mut W,
 ) -> Result<Answer, ScriptFault>
@@ -179,7 +180,7 @@ fn answer_counted<R: CountedRead, W: CountedWrite>(
     alloc: Global,
     lines: &mut Lines<R>,
     counted: CountedCommand,
-    session: &mut Live,
+    session: &mut Session,
     meter: &mut Meter,
     out: &mut W,
 ) -> Result<Answer, ScriptFault>
@@ -219,7 +220,7 @@ fn answer_counted<R: CountedRead, W: CountedWrite>(
 pub fn answer_command<R: CountedRead, W: CountedWrite>(
     alloc: Global,
     lines: &mut Lines<R>,
-    session: &mut Live,
+    session: &mut Session,
     meter: &mut Meter,
     out: &mut W,
 ) -> Result<Answer, ScriptFault>

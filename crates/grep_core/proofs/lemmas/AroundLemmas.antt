@@ -1,11 +1,6 @@
 -- A search that shows lines around selected ones: what is written of a file's first lines, one more
 -- line at a time.
-use Rattle.std.proofs.Common.{◌≡◌, ℕ, ◌+◌, ◌-◌, nat_lt, ◌<◌, ◌≤◌, ◌⊎◌, ◌↔◌, min, Bool, true, false, ◌&&◌, ◌||◌, IsTrue, Decides, List, [], ◌∷◌, ◌++◌, All, length, take, drop, inl, inr, refl, sym, ap, subst, ◌∙◌, append_assoc, arith, if◌then◌else◌}
-use Rattle.grep_core.proofs.Words.{enumerate_from, Text, Expression, Context, Options, Progress, EachGives, Selected, group_separator, IsShown, BeginsGroup, Groups, around, shown_number, name_shown, rows_after, progress_from, next_shown, with_waiting, after_line, last_of, rows_around, row_by, rows_at}
-use Rattle.std.proofs.Math.Nat.{min-eq_left, min-eq_right}
-use Rattle.std.proofs.lemmas.Bool.{cases_lt, false≢true, lt-ltb, le-ltb, or_right, false_from_ne_true}
-use Rattle.std.proofs.lemmas.List.{length-append, length-take-le, length-drop, append-nil, take-append-drop, drop_at}
-use Rattle.std.proofs.lemmas.List.Elements.{All-nil, All-cons, All-append, All-drop}
+use Rattle.grep_core.proofs.Prelude.{◌≡◌, ℕ, ◌+◌, ◌-◌, nat_lt, ◌<◌, ◌≤◌, ◌⊎◌, ◌↔◌, min, Bool, true, false, ◌&&◌, ◌||◌, IsTrue, Decides, List, [], ◌∷◌, ◌++◌, All, length, take, drop, inl, inr, refl, sym, ap, subst, ◌∙◌, append_assoc, arith, if◌then◌else◌, enumerate_from, Text, Expression, Context, Options, Progress, EachGives, Selected, group_separator, IsShown, BeginsGroup, Groups, around, shown_number, name_shown, rows_after, progress_from, next_shown, with_waiting, after_line, last_of, rows_around, row_by, rows_at, min-eq_left, min-eq_right, cases_lt, false≢true, lt-ltb, le-ltb, or_right, false_from_ne_true, length-append, length-take-le, length-drop, append-nil, take-append-drop, drop_at, All-nil, All-cons, All-append, All-drop}
 use Rattle.grep_core.proofs.lemmas.ChooseLaws.{EachGives-append}
 use Rattle.grep_core.proofs.lemmas.Decided.{dec_selected}
 use Rattle.grep_core.proofs.lemmas.Verdicts.{decided_yes, decided_no}

@@ -1,8 +1,6 @@
 -- A search of the lines of an open source, with lines around the selected ones, one more line at a
 -- time.
-use Rattle.std.proofs.Common.{◌≡◌, ℕ, ◌+◌, ◌-◌, ◌^◌, ◌<◌, ◌≤◌, Bool, true, false, IsTrue, Decides, List, [], ◌∷◌, ◌++◌, Option, Result, Ok, Err, length, refl, sym, ap, subst, ◌∙◌, append-nil, inl, inr, arith, if◌then◌else◌}
-use Rattle.std.proofs.lemmas.List.{length-append, length_push}
-use Rattle.grep_core.proofs.Words.{IsErrAnd, Text, Expression, Options, Context, Progress, Open, FileFound, SearchFault, one_more, EachGives, Selected, around, form, GroupsOf, SelectedLines, open_source, most_lines, OneLeft, IsOneLineAndFew, HasRead, Writer, TakesAll, TakesFront, SearchesLines, file_so_far, LastLines, Numbered, HasHanded, AreUnselected, Waits, progress_from, next_shown, after_line, last_of, rows_at, leaves_early, BreaksSource, StopsSource, SearchGives, ShowStops}
+use Rattle.grep_core.proofs.Prelude.{◌≡◌, ℕ, ◌+◌, ◌-◌, ◌^◌, ◌<◌, ◌≤◌, Bool, true, false, IsTrue, Decides, List, [], ◌∷◌, ◌++◌, Option, Result, Ok, Err, length, refl, sym, ap, subst, ◌∙◌, append-nil, inl, inr, arith, if◌then◌else◌, length-append, length_push, IsErrAnd, Text, Expression, Options, Context, Progress, Open, FileFound, SearchFault, one_more, EachGives, Selected, around, form, GroupsOf, SelectedLines, open_source, most_lines, OneLeft, IsOneLineAndFew, HasRead, Writer, TakesAll, TakesFront, SearchesLines, file_so_far, LastLines, Numbered, HasHanded, AreUnselected, Waits, progress_from, next_shown, after_line, last_of, rows_at, leaves_early, BreaksSource, StopsSource, SearchGives, ShowStops}
 use Rattle.re_search.specs.Meters.{Steps}
 use Rattle.grep_core.specs.declared.status.SearchFault.TheVariants.{Write, Memory}
 use Rattle.grep_core.proofs.lemmas.AroundLemmas.{Tracks, tracks_none, tracks_line, tracks_passed, tracked_groups, tracks_further}

@@ -1,11 +1,6 @@
 -- The last lines of a block: where they begin, and that no others need be held after lines that
 -- are.
-use Rattle.std.proofs.Common.{◌≡◌, ◌≢◌, ℕ, ◌+◌, ◌-◌, ◌<◌, ◌≤◌, min, inl, inr, List, [], ◌∷◌, ◌++◌, All, length, take, drop, get_or, refl, sym, ap, ◌∙◌, subst, arith, length-append, append_assoc, append-nil, take-append-drop}
-use Rattle.std.proofs.Math.Seq.{take-append_seam, drop-append_seam}
-use Rattle.std.proofs.lemmas.Bool.{cases_lt}
-use Rattle.std.proofs.lemmas.List.{length-take, length-drop, get_or-drop, get_or_append_left, get_or-append-add, drop-drop, drop-append-le, take_more, take_all}
-use Rattle.std.proofs.lemmas.List.Elements.{All-drop}
-use Rattle.grep_core.proofs.Words.{Text, newline, terminated, lines_of, HasNoNewline, IsBlock, LastLines, with_lines, last_of}
+use Rattle.grep_core.proofs.Prelude.{◌≡◌, ◌≢◌, ℕ, ◌+◌, ◌-◌, ◌<◌, ◌≤◌, min, inl, inr, List, [], ◌∷◌, ◌++◌, All, length, take, drop, get_or, refl, sym, ap, ◌∙◌, subst, arith, length-append, append_assoc, append-nil, take-append-drop, take-append_seam, drop-append_seam, cases_lt, length-take, length-drop, get_or-drop, get_or_append_left, get_or-append-add, drop-drop, drop-append-le, take_more, take_all, All-drop, Text, newline, terminated, lines_of, HasNoNewline, IsBlock, LastLines, with_lines, last_of}
 use Rattle.re_syntax.proofs.lemmas.LinesLaws.{lines_of-terminated, terminated-append}
 use Rattle.grep_io.proofs.lemmas.WindowBlocks.{ends_in_newline, drop_past}
 use Rattle.grep_core.proofs.lemmas.WaitingRows.{length-last_of}

@@ -1,8 +1,6 @@
 -- Lists made from the elements that have a property: there is one, and what more elements add to
 -- it.
-use Rattle.std.proofs.Common.{◌≡◌, List, [], ◌∷◌, ◌++◌, inl, inr, refl, sym, ap, subst, ◌∙◌, append_assoc}
-use Rattle.std.proofs.lemmas.List.{append-nil}
-use Rattle.grep_core.specs.Choose.{IfHolds, EachGives, Chosen}
+use Rattle.grep_core.proofs.Prelude.{◌≡◌, List, [], ◌∷◌, ◌++◌, inl, inr, refl, sym, ap, subst, ◌∙◌, append_assoc, append-nil, IfHolds, EachGives, Chosen}
 
 -- two values that are both a third
 pub same_value : {A : Type 0} {a b c : A} → a ≡ c → b ≡ c → a ≡ b

@@ -1,7 +1,5 @@
 -- A context has something to do with the output only where lines are written.
-use Rattle.std.proofs.Common.{◌≡◌, Bool, true, false, ◌&&◌, ◌||◌, IsTrue, List, Option, refl, sym, ap, subst, ◌∙◌, if◌then◌else◌}
-use Rattle.std.proofs.lemmas.Bool.{false≢true}
-use Rattle.grep_core.proofs.Words.{Text, Expression, Context, Options, File, Form, nothing, names, counts, parts, lines, around, lines_with, OutAs, Out, are_many, ContextIsForLines}
+use Rattle.grep_core.proofs.Prelude.{◌≡◌, Bool, true, false, ◌&&◌, ◌||◌, IsTrue, List, Option, refl, sym, ap, subst, ◌∙◌, if◌then◌else◌, false≢true, Text, Expression, Context, Options, File, Form, nothing, names, counts, parts, lines, around, lines_with, OutAs, Out, are_many, ContextIsForLines}
 
 -- what is asked for, where the lines that are asked for count only where nothing else is
 abbrev form_by : Bool → Bool → Bool → Bool → Bool → Form → Form

@@ -1,8 +1,5 @@
 -- Costs that are added up.
-use Rattle.std.proofs.Common.{◌≡◌, ℕ, zero, suc, ◌+◌, ◌*◌, ◌≤◌, List, [], ◌∷◌, ◌++◌, length, map, refl, sym, ap, subst, ◌∙◌, arith, length-append}
-use Rattle.std.proofs.Math.Nat.{mul-le-mul_right}
-use Rattle.std.proofs.lemmas.List.{length-map}
-use Rattle.grep_core.proofs.Words.{Adds, refused_more, Text, Expression, newline, terminated, searches_for, Options, File, Form, nothing, names, counts, parts, lines, around, form, search_cost, PartsAsked, AsksParts, SearchesLine, LinesCost, FilesCost, SearchesLines, SearchesFiles}
+use Rattle.grep_core.proofs.Prelude.{◌≡◌, ℕ, zero, suc, ◌+◌, ◌*◌, ◌≤◌, List, [], ◌∷◌, ◌++◌, length, map, refl, sym, ap, subst, ◌∙◌, arith, length-append, mul-le-mul_right, length-map, Adds, refused_more, Text, Expression, newline, terminated, searches_for, Options, File, Form, nothing, names, counts, parts, lines, around, form, search_cost, PartsAsked, AsksParts, SearchesLine, LinesCost, FilesCost, SearchesLines, SearchesFiles}
 use Rattle.re_meter.specs.Meters.{Steps, AddsAtMost}
 use Rattle.re_meter.proofs.lemmas.Adding.{counts_both, all_within, all_both, adds_none, adds_within, adds_both}
 use Rattle.re_syntax.proofs.lemmas.LinesLaws.{terminated-append}

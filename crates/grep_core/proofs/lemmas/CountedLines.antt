@@ -1,6 +1,5 @@
 -- How many of some lines have a property.
-use Rattle.std.proofs.Common.{ℕ, ◌-◌, ◌≤◌, inl, inr, List, [], ◌∷◌, length, arith}
-use Rattle.grep_core.proofs.Words.{Text, HoldsOfMany}
+use Rattle.grep_core.proofs.Prelude.{ℕ, ◌-◌, ◌≤◌, inl, inr, List, [], ◌∷◌, length, arith, Text, HoldsOfMany}
 
 -- no more lines have a property than there are
 pub many_within : (P : Text → Type 0) (lines : List Text) (n : ℕ) → HoldsOfMany P lines n → n ≤ length lines

@@ -1,8 +1,5 @@
 -- The output for one file, by the rows of its lines and how many are selected.
-use Rattle.std.proofs.Common.{◌≡◌, ℕ, ◌+◌, nat_lt, ◌<◌, ◌⊎◌, Bool, true, false, Decides, List, [], ◌∷◌, ◌++◌, length, Any, refl, sym, ap, subst, ◌∙◌, inl, inr, arith, append-nil, if◌then◌else◌}
-use Rattle.grep_core.proofs.Words.{enumerate_from, Text, Expression, Options, FileEnd, Missing, Whole, Broken, Left, IfHolds, Chosen, File, whole, Selected, HasSelected, Form, nothing, names, counts, parts, lines, around, OutAs, CountOf, RowsOf, PartRowsOf, GroupsOf, SelectedLines, begun, first_lines, file_so_far, GroupedAs, rows_after, IsPlain, LineRowsOf, RowsOfSelected, ending_of, count_line, summary_as}
-use Rattle.std.proofs.lemmas.Bool.{false≢true, lt-ltb, ltb-true}
-use Rattle.std.proofs.lemmas.List.{length_push}
+use Rattle.grep_core.proofs.Prelude.{◌≡◌, ℕ, ◌+◌, nat_lt, ◌<◌, ◌⊎◌, Bool, true, false, Decides, List, [], ◌∷◌, ◌++◌, length, Any, refl, sym, ap, subst, ◌∙◌, inl, inr, arith, append-nil, if◌then◌else◌, enumerate_from, Text, Expression, Options, FileEnd, Missing, Whole, Broken, Left, IfHolds, Chosen, File, whole, Selected, HasSelected, Form, nothing, names, counts, parts, lines, around, OutAs, CountOf, RowsOf, PartRowsOf, GroupsOf, SelectedLines, begun, first_lines, file_so_far, GroupedAs, rows_after, IsPlain, LineRowsOf, RowsOfSelected, ending_of, count_line, summary_as, false≢true, lt-ltb, ltb-true, length_push}
 use Rattle.re_syntax.proofs.lemmas.Decisions.{Any-none, Any-first, Any-later, Any-cases}
 use Rattle.grep_core.proofs.lemmas.ChooseLaws.{EachGives-one}
 use Rattle.grep_core.proofs.lemmas.Exist.{OutAs-exist}

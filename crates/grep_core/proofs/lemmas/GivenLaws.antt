@@ -1,6 +1,5 @@
 -- A run keeps what it gives where more is said of what readers had left.
-use Rattle.std.proofs.Common.{List, ◌∷◌, [], ◌++◌, Option, Result, Ok, Err}
-use Rattle.grep_core.proofs.Words.{Text, Expression, Options, Status, RunFault, MessageWrite, Source, Devices, Story, BreaksOff, RunGives}
+use Rattle.grep_core.proofs.Prelude.{List, ◌∷◌, [], ◌++◌, Option, Result, Ok, Err, Text, Expression, Options, Status, RunFault, MessageWrite, Source, Devices, Story, BreaksOff, RunGives}
 use Rattle.grep_core.specs.declared.status.RunFault.TheVariants.{Write, Memory}
 
 module _ (es : List Expression) (options : Options) (sources : List Source) where

@@ -1,10 +1,6 @@
 -- The groups of lines around selected ones, as a file has one more line, and what is written of
 -- them.
-use Rattle.std.proofs.Common.{◌≡◌, ℕ, ◌+◌, ◌<◌, ◌≤◌, ◌⊎◌, Bool, true, false, ◌&&◌, IsTrue, Decides, List, [], ◌∷◌, ◌++◌, All, length, inl, inr, refl, sym, ap, subst, ◌∙◌, append_assoc, arith, if◌then◌else◌}
-use Rattle.grep_core.proofs.Words.{enumerate_from, Text, Expression, Context, Options, hyphen, IfHolds, EachGives, Selected, group_separator, IsShown, BeginsGroup, IsRow, Shows, around, shown_number, name_shown, rows_after, row_with, rows_around}
-use Rattle.std.proofs.lemmas.Bool.{false≢true}
-use Rattle.std.proofs.lemmas.List.{length-append}
-use Rattle.std.proofs.lemmas.List.Elements.{All-head, All-tail}
+use Rattle.grep_core.proofs.Prelude.{◌≡◌, ℕ, ◌+◌, ◌<◌, ◌≤◌, ◌⊎◌, Bool, true, false, ◌&&◌, IsTrue, Decides, List, [], ◌∷◌, ◌++◌, All, length, inl, inr, refl, sym, ap, subst, ◌∙◌, append_assoc, arith, if◌then◌else◌, enumerate_from, Text, Expression, Context, Options, hyphen, IfHolds, EachGives, Selected, group_separator, IsShown, BeginsGroup, IsRow, Shows, around, shown_number, name_shown, rows_after, row_with, rows_around, false≢true, length-append, All-head, All-tail}
 use Rattle.grep_core.proofs.lemmas.ChooseLaws.{EachGives-one, EachGives-append}
 use Rattle.grep_core.proofs.lemmas.MoreLines.{enumerate_from-append}
 use Rattle.grep_core.proofs.lemmas.ShownLemmas.{EachGives-placed, shown_more, begins_at, begins_same, shows_same}

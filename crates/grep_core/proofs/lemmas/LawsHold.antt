@@ -1,7 +1,6 @@
 -- The laws of the definitions: one output, one list of messages, one status, one cost of the
 -- search, and one meaning of the patterns.
-use Rattle.std.proofs.Common.{◌≡◌, Bool, [], ◌∷◌, refl, sym, ap, ◌∙◌, if◌then◌else◌}
-use Rattle.grep_core.proofs.Words.{Syntax, Text, Expression, folded, IsMeant, Options, Out, Messages, StatusOf, FilesCost, IsOne, HasOneAnswer, MeansOne, MemorySavesSteps}
+use Rattle.grep_core.proofs.Prelude.{◌≡◌, Bool, [], ◌∷◌, refl, sym, ap, ◌∙◌, if◌then◌else◌, Syntax, Text, Expression, folded, IsMeant, Options, Out, Messages, StatusOf, FilesCost, IsOne, HasOneAnswer, MeansOne, MemorySavesSteps}
 use Rattle.re_syntax.proofs.lemmas.SpelledUnique.{spells_one}
 use Rattle.grep_core.proofs.lemmas.CostLaws.{files_cost, fewest_files, FilesCost-determined}
 use Rattle.grep_core.proofs.lemmas.Determined.{Out-determined, Messages-determined, StatusOf-determined}

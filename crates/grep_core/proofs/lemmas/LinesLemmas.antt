@@ -1,11 +1,6 @@
 -- A search of the lines of an open source, one more line at a time, and what it says of the
 -- source's file.
-use Rattle.std.proofs.Common.{◌≡◌, ℕ, ◌+◌, ◌-◌, ◌*◌, ◌^◌, nat_lt, ◌<◌, ◌≤◌, ◌⊎◌, Bool, true, false, ◌&&◌, IsTrue, Decides, List, [], ◌∷◌, ◌++◌, All, Option, length, min, take, refl, sym, ap, subst, ◌∙◌, append-nil, append_assoc, inl, inr, arith, Any, if◌then◌else◌}
-use Rattle.std.proofs.Math.Seq.{take-append_seam}
-use Rattle.std.proofs.lemmas.Bool.{false≢true, cases_Bool, cases_lt, lt-ltb, le-ltb, cond-true, cond-false}
-use Rattle.std.proofs.lemmas.List.{length_push, length-append}
-use Rattle.std.proofs.lemmas.List.Elements.{All-head, All-tail}
-use Rattle.grep_core.proofs.Words.{Text, lines_of, Expression, HoldsOfMany, Options, Open, Whole, Broken, Left, one_more, Numbered, AreAhead, HasHanded, PassesNext, File, whole, broken, Matched, Selected, HasSelected, Form, nothing, names, counts, form, SelectedLines, FaultMet, open_source, file_of, failures_of, most_lines, OneLeft, HasRead, Writer, TakesAll, TakesFront, first_lines, GroupedAs, rows_after, StandsFor, BeginsWith, file_so_far, SearchesLine, SearchesLines, IsPlain, LineRowsOf, TakesLine, BreaksLine, RowsOfLines, TakesLines, BreaksLines, leaves_early, summary_as, BreaksSource, StopsSource, SearchesSource}
+use Rattle.grep_core.proofs.Prelude.{◌≡◌, ℕ, ◌+◌, ◌-◌, ◌*◌, ◌^◌, nat_lt, ◌<◌, ◌≤◌, ◌⊎◌, Bool, true, false, ◌&&◌, IsTrue, Decides, List, [], ◌∷◌, ◌++◌, All, Option, length, min, take, refl, sym, ap, subst, ◌∙◌, append-nil, append_assoc, inl, inr, arith, Any, if◌then◌else◌, take-append_seam, false≢true, cases_Bool, cases_lt, lt-ltb, le-ltb, cond-true, cond-false, length_push, length-append, All-head, All-tail, Text, lines_of, Expression, HoldsOfMany, Options, Open, Whole, Broken, Left, one_more, Numbered, AreAhead, HasHanded, PassesNext, File, whole, broken, Matched, Selected, HasSelected, Form, nothing, names, counts, form, SelectedLines, FaultMet, open_source, file_of, failures_of, most_lines, OneLeft, HasRead, Writer, TakesAll, TakesFront, first_lines, GroupedAs, rows_after, StandsFor, BeginsWith, file_so_far, SearchesLine, SearchesLines, IsPlain, LineRowsOf, TakesLine, BreaksLine, RowsOfLines, TakesLines, BreaksLines, leaves_early, summary_as, BreaksSource, StopsSource, SearchesSource}
 use Rattle.re_search.specs.Meters.{Steps}
 use Rattle.re_search.specs.Searches.{AddsAtMost}
 use Rattle.re_syntax.proofs.lemmas.SomeOfJoined.{Any-left}

@@ -1,8 +1,5 @@
 -- The matchers of patterns, one more at a time.
-use Rattle.std.proofs.Common.{◌≡◌, ℕ, ◌+◌, ◌<◌, List, [], ◌∷◌, ◌++◌, All, ◌⊎◌, inl, inr, length, map, take, get_or, refl, sym, ap, ◌∙◌, subst, arith}
-use Rattle.std.proofs.lemmas.List.{length_push, map-append}
-use Rattle.std.proofs.lemmas.List.Elements.{All-push}
-use Rattle.grep_core.proofs.Words.{AllZip, PatternFault, Syntax, Text, IsMeant, Matcher, IsSmallFor, IsReadable, IsRefusedFor, IsOutOfMemory, matched_expression, wants_whole, Options, IsFirstRefused, AreMatchers}
+use Rattle.grep_core.proofs.Prelude.{◌≡◌, ℕ, ◌+◌, ◌<◌, List, [], ◌∷◌, ◌++◌, All, ◌⊎◌, inl, inr, length, map, take, get_or, refl, sym, ap, ◌∙◌, subst, arith, length_push, map-append, All-push, AllZip, PatternFault, Syntax, Text, IsMeant, Matcher, IsSmallFor, IsReadable, IsRefusedFor, IsOutOfMemory, matched_expression, wants_whole, Options, IsFirstRefused, AreMatchers}
 
 -- two lists, element by element, joined
 pub AllZip-append : {X Y : Type 0} (P : X → Y → Type 0) (xs vs : List X) (ys ws : List Y) → AllZip P xs ys → AllZip P vs ws → AllZip P (xs ++ vs) (ys ++ ws)

@@ -1,7 +1,5 @@
 -- The messages, file by file, up to the one at which `-q` stops.
-use Rattle.std.proofs.Common.{◌≡◌, Bool, true, false, List, [], ◌∷◌, ◌++◌, inl, inr, refl, subst, MatchBool, Any}
-use Rattle.std.proofs.lemmas.List.{append-nil}
-use Rattle.grep_core.proofs.Words.{Text, Expression, Options, EachGives, File, Stops, Reached, Message, Reported, Messages}
+use Rattle.grep_core.proofs.Prelude.{◌≡◌, Bool, true, false, List, [], ◌∷◌, ◌++◌, inl, inr, refl, subst, MatchBool, Any, append-nil, Text, Expression, Options, EachGives, File, Stops, Reached, Message, Reported, Messages}
 use Rattle.re_syntax.proofs.lemmas.Decisions.{Any-first, Any-later}
 use Rattle.grep_core.proofs.lemmas.ChooseLaws.{EachGives-append, EachGives-exist}
 use Rattle.grep_core.proofs.lemmas.Exist.{Reached-exist, Message-exist}

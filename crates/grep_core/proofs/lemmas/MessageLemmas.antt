@@ -1,6 +1,5 @@
 -- The bytes of a message, written as a row.
-use Rattle.std.proofs.Common.{◌≡◌, ℕ, [], ◌∷◌, ◌++◌, Option, None, Some, Result, codes, sym, ap, ◌∙◌, append_assoc, append-nil, subst}
-use Rattle.grep_core.proofs.Words.{Text, newline, colon, head, output_line, Writes, cannot_open, read_error}
+use Rattle.grep_core.proofs.Prelude.{◌≡◌, ℕ, [], ◌∷◌, ◌++◌, Option, None, Some, Result, codes, sym, ap, ◌∙◌, append_assoc, append-nil, subst, Text, newline, colon, head, output_line, Writes, cannot_open, read_error}
 
 -- a message of `grep: `, the file's name, a colon and some text
 abbrev message_row : Text → Text → Text

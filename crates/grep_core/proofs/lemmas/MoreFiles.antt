@@ -1,8 +1,6 @@
 -- The output for more files begins with that for fewer, where each group of lines is after a
 -- separator.
-use Rattle.std.proofs.Common.{Bool, false, List, ◌++◌, refl, sym, ◌∙◌}
-use Rattle.std.proofs.lemmas.List.{map-append}
-use Rattle.grep_core.proofs.Words.{Text, Expression, Options, File, Form, nothing, names, counts, parts, lines, around, OutAs, GroupedAs, rows_after}
+use Rattle.grep_core.proofs.Prelude.{Bool, false, List, ◌++◌, refl, sym, ◌∙◌, map-append, Text, Expression, Options, File, Form, nothing, names, counts, parts, lines, around, OutAs, GroupedAs, rows_after}
 use Rattle.grep_core.proofs.lemmas.ChooseLaws.{EachGives-append}
 use Rattle.grep_core.proofs.lemmas.Exist.{OutAs-exist, groups_exist}
 

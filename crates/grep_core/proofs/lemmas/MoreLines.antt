@@ -1,7 +1,5 @@
 -- What one more line of a file adds to its selected lines, its rows and the rows of its parts.
-use Rattle.std.proofs.Common.{◌≡◌, ℕ, ◌+◌, Bool, List, [], ◌∷◌, ◌++◌, sym, ap, subst, ◌∙◌, length, map, arith}
-use Rattle.grep_core.proofs.Words.{enumerate_from, Text, Expression, Options, Ending, Selected, Chosen, head_of, numbered, SelectedLines, RowsOf, PartsOfLine, PartRowsOf}
-use Rattle.std.proofs.lemmas.List.{map-append}
+use Rattle.grep_core.proofs.Prelude.{◌≡◌, ℕ, ◌+◌, Bool, List, [], ◌∷◌, ◌++◌, sym, ap, subst, ◌∙◌, length, map, arith, enumerate_from, Text, Expression, Options, Ending, Selected, Chosen, head_of, numbered, SelectedLines, RowsOf, PartsOfLine, PartRowsOf, map-append}
 use Rattle.grep_io.proofs.lemmas.FileLaws.{file_with}
 use Rattle.grep_core.proofs.lemmas.ChooseLaws.{EachGives-append, EachGives-end, EachGives-exist, Chosen-end, Chosen-passed, Chosen-exist}
 use Rattle.grep_core.proofs.lemmas.Decided.{dec_selected}

@@ -1,7 +1,5 @@
 -- What was written for one line.
-use Rattle.std.proofs.Common.{◌≡◌, ℕ, Bool, true, false, not, MatchBool, if◌then◌else◌, Decides, List, [], ◌∷◌, ◌++◌, Option, Result, Ok, Err, IfOk, OnErr, refl, sym, subst, inl, inr}
-use Rattle.std.proofs.lemmas.Bool.{false≢true}
-use Rattle.grep_core.proofs.Words.{Text, Expression, Options, output_line, Writes, Matched, Selected, lines, counts, form, head_of, Writer, writer, file_so_far, selects, RowsOfSelected, WritesSelected, BreaksSelected, TakesLine, BreaksLine}
+use Rattle.grep_core.proofs.Prelude.{◌≡◌, ℕ, Bool, true, false, not, MatchBool, if◌then◌else◌, Decides, List, [], ◌∷◌, ◌++◌, Option, Result, Ok, Err, IfOk, OnErr, refl, sym, subst, inl, inr, false≢true, Text, Expression, Options, output_line, Writes, Matched, Selected, lines, counts, form, head_of, Writer, writer, file_so_far, selects, RowsOfSelected, WritesSelected, BreaksSelected, TakesLine, BreaksLine}
 use Rattle.grep_core.proofs.lemmas.PassLemmas.{TakesAll-line, TakesFront-line}
 use Rattle.grep_core.proofs.lemmas.WriterLaws.{TakesAll-nothing}
 

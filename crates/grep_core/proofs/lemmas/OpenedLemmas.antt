@@ -1,8 +1,5 @@
 -- A search of a source that was opened, by the search of its reader.
-use Rattle.std.proofs.Common.{◌≡◌, ℕ, zero, suc, ◌≤◌, ◌⊎◌, Bool, true, false, List, [], ◌∷◌, length, take, Option, Result, Ok, Err, IfSome, refl, sym, ap, subst, ◌∙◌, inl, inr, arith}
-use Rattle.std.proofs.lemmas.Bool.{false≢true}
-use Rattle.std.proofs.KnownBytes.{Consumes-nil}
-use Rattle.grep_core.proofs.Words.{Consumes, Text, Expression, Options, FileEnd, Missing, FileFound, SearchFault, one_more, Groups, Chosen, LineReader, File, Selected, Form, nothing, names, counts, parts, lines, around, form, shown_name, shown_number, numbered, Source, Reading, not_opened, fails_after, ends_after, open_source, IsReadingOf, file_of, failures_of, AreLeft, OneLeft, HasRead, Writer, TakesAll, TakesFront, first_lines, count_more, SearchGives, rows_after, IsPlain, LineRowsOf, CountsSource, BreaksSource, StopsSource, SearchesSource}
+use Rattle.grep_core.proofs.Prelude.{◌≡◌, ℕ, zero, suc, ◌≤◌, ◌⊎◌, Bool, true, false, List, [], ◌∷◌, length, take, Option, Result, Ok, Err, IfSome, refl, sym, ap, subst, ◌∙◌, inl, inr, arith, false≢true, Consumes-nil, Consumes, Text, Expression, Options, FileEnd, Missing, FileFound, SearchFault, one_more, Groups, Chosen, LineReader, File, Selected, Form, nothing, names, counts, parts, lines, around, form, shown_name, shown_number, numbered, Source, Reading, not_opened, fails_after, ends_after, open_source, IsReadingOf, file_of, failures_of, AreLeft, OneLeft, HasRead, Writer, TakesAll, TakesFront, first_lines, count_more, SearchGives, rows_after, IsPlain, LineRowsOf, CountsSource, BreaksSource, StopsSource, SearchesSource}
 use Rattle.re_syntax.proofs.lemmas.Decisions.{Any-none}
 use Rattle.re_syntax.proofs.lemmas.LinesLaws.{all_none, lines_of-terminated}
 use Rattle.re_search.specs.Meters.{Steps}

@@ -1,7 +1,5 @@
 -- The parts of a line that were written, one more part at a time.
-use Rattle.std.proofs.Common.{◌≡◌, ℕ, ◌+◌, ◌≤◌, Bool, List, [], ◌∷◌, ◌++◌, length, map, slice_range, refl, sym, ap, subst, ◌∙◌, append_assoc, append-nil, arith}
-use Rattle.std.proofs.lemmas.List.{map-append, length_push, length-append}
-use Rattle.grep_core.proofs.Words.{Text, Expression, IsFound, IsPart, ArePartsFrom, AreParts, searches_for, Options, one_more, parts, form, head_of, Writer, TakesAll, TakesFront, file_so_far, RowsOfSelected, WritesSelected, BreaksSelected, search_cost, PartsAsked, AsksParts, Course, HasTaken, refusals}
+use Rattle.grep_core.proofs.Prelude.{◌≡◌, ℕ, ◌+◌, ◌≤◌, Bool, List, [], ◌∷◌, ◌++◌, length, map, slice_range, refl, sym, ap, subst, ◌∙◌, append_assoc, append-nil, arith, map-append, length_push, length-append, Text, Expression, IsFound, IsPart, ArePartsFrom, AreParts, searches_for, Options, one_more, parts, form, head_of, Writer, TakesAll, TakesFront, file_so_far, RowsOfSelected, WritesSelected, BreaksSelected, search_cost, PartsAsked, AsksParts, Course, HasTaken, refusals}
 use Rattle.re_syntax.proofs.lemmas.PartsLaws.{IsPart-unique}
 use Rattle.re_syntax.proofs.lemmas.PartsExist.{AreParts-exist}
 use Rattle.re_search.specs.Meters.{Steps}

@@ -1,6 +1,5 @@
 -- The rows that were written for the lines handed out, one more line at a time.
-use Rattle.std.proofs.Common.{ℕ, Bool, true, false, ◌||◌, Decides, [], ◌∷◌, Option, refl, sym, ◌∙◌, subst, append-nil}
-use Rattle.grep_core.proofs.Words.{Appends, Text, output_line, GoesOut, StopsWithin, writer, TakesAll, TakesFront}
+use Rattle.grep_core.proofs.Prelude.{ℕ, Bool, true, false, ◌||◌, Decides, [], ◌∷◌, Option, refl, sym, ◌∙◌, subst, append-nil, Appends, Text, output_line, GoesOut, StopsWithin, writer, TakesAll, TakesFront}
 
 -- ---- writers
 

@@ -1,7 +1,5 @@
 -- Lines that are passed at once.
-use Rattle.std.proofs.Common.{◌≡◌, ℕ, ◌+◌, ◌-◌, ◌*◌, ◌≤◌, Bool, true, false, List, [], ◌++◌, All, Option, length, take, refl, sym, ap, ◌∙◌, subst, arith, append_assoc, length-append, if◌then◌else◌}
-use Rattle.std.proofs.Math.Seq.{take-append_seam}
-use Rattle.grep_core.proofs.Words.{Text, terminated, lines_of, HasNoNewline, Expression, IsBlock, HoldsOfMany, Options, SearchesLines, Matched, Selected, most_lines, Numbered, AreAhead, HasHanded, PassesNext, IsNextOf}
+use Rattle.grep_core.proofs.Prelude.{◌≡◌, ℕ, ◌+◌, ◌-◌, ◌*◌, ◌≤◌, Bool, true, false, List, [], ◌++◌, All, Option, length, take, refl, sym, ap, ◌∙◌, subst, arith, append_assoc, length-append, if◌then◌else◌, take-append_seam, Text, terminated, lines_of, HasNoNewline, Expression, IsBlock, HoldsOfMany, Options, SearchesLines, Matched, Selected, most_lines, Numbered, AreAhead, HasHanded, PassesNext, IsNextOf}
 use Rattle.re_syntax.proofs.lemmas.LinesLaws.{lines_of-terminated, terminated-append}
 use Rattle.re_search.specs.Meters.{Steps}
 use Rattle.re_search.specs.Searches.{AddsAtMost}

@@ -1,6 +1,5 @@
 -- What a source did, from what its reads gave.
-use Rattle.std.proofs.Common.{Bool, true, false, List, [], ◌∷◌, Option, Some, None, refl}
-use Rattle.grep_core.proofs.Words.{Text, Source, Reading, not_opened, ends_after, IsReadingOf, AreReadings}
+use Rattle.grep_core.proofs.Prelude.{Bool, true, false, List, [], ◌∷◌, Option, Some, None, refl, Text, Source, Reading, not_opened, ends_after, IsReadingOf, AreReadings}
 
 -- a source that was not looked at has done something
 pub IsReadingOf-exists : (source : Source) → (r : Reading) × IsReadingOf source r

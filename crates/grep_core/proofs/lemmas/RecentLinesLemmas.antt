@@ -1,7 +1,5 @@
 -- The last lines that are held, in a queue of memory for lines.
-use Rattle.std.proofs.Common.{◌≡◌, ℕ, ◌+◌, ◌-◌, ◌<◌, ◌≤◌, min, List, [], ◌∷◌, ◌++◌, length, map, drop, refl, sym, ap, ◌∙◌, arith}
-use Rattle.std.proofs.lemmas.List.{length-drop, drop-drop, map-append, length-map}
-use Rattle.grep_core.proofs.Words.{Text, last_of}
+use Rattle.grep_core.proofs.Prelude.{◌≡◌, ℕ, ◌+◌, ◌-◌, ◌<◌, ◌≤◌, min, List, [], ◌∷◌, ◌++◌, length, map, drop, refl, sym, ap, ◌∙◌, arith, length-drop, drop-drop, map-append, length-map, Text, last_of}
 use Rattle.grep_core.proofs.lemmas.WaitingRows.{last_of-more, length-last_of}
 
 -- the first is none of the last ones

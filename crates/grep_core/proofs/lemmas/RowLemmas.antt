@@ -1,6 +1,5 @@
 -- An output line that is written part by part.
-use Rattle.std.proofs.Common.{◌≡◌, ℕ, [], ◌∷◌, ◌++◌, Option, Result, sym, ap, ◌∙◌, append_assoc, subst}
-use Rattle.grep_core.proofs.Words.{Text, newline, GoesOut, Writes, output_line}
+use Rattle.grep_core.proofs.Prelude.{◌≡◌, ℕ, [], ◌∷◌, ◌++◌, Option, Result, sym, ap, ◌∙◌, append_assoc, subst, Text, newline, GoesOut, Writes, output_line}
 pub use Rattle.grep_io.proofs.lemmas.WriteLemmas.{goes_nowhere, goes_on, stops_early, stops_later, writes_no_more, writes_last, writes_then_nothing}
 
 -- the parts of an output line, grouped to the right

@@ -1,9 +1,5 @@
 -- A run over sources, one more source at a time, and how it ends.
-use Rattle.std.proofs.Common.{◌≡◌, ℕ, zero, suc, ◌+◌, nat_lt, nat_le, ◌<◌, ◌≤◌, Bool, true, false, ◌||◌, ◌&&◌, IsTrue, Decides, List, [], ◌∷◌, ◌++◌, length, take, drop, get_or, Option, None, Ok, Err, Any, refl, sym, ap, subst, ◌∙◌, inl, inr, arith, append-nil, append_assoc}
-use Rattle.std.proofs.Math.Seq.{take-suc, take-append_seam, get_or-append_seam}
-use Rattle.std.proofs.lemmas.Bool.{false≢true, cond-true}
-use Rattle.std.proofs.lemmas.List.{length-append, length-take-le, take_all}
-use Rattle.grep_core.proofs.Words.{Text, Expression, Options, Status, RunFault, MessageWrite, FileEnd, one_more, IfHolds, File, missing, HasSelected, Form, nothing, names, counts, parts, lines, around, form, OutAs, Out, are_many, FaultMet, Stops, Reported, Messages, AnySelected, StatusOf, Source, Reading, IsReadingOf, file_of, failures_of, AreLeft, HasRead, Writer, Devices, TakesAll, TakesFront, TakesPast, files_of, AreReadings, FailuresMet, LeftMet, begun, file_at, count_more, Story, Finishes, BreaksOff, StopsAfter, RunGives, source_at, SearchesLines, SearchesFiles, GroupedAs, rows_after, is_fault, status_by, SourceGives, CountsSource, FinishesSource, BreaksSource, BreaksMessage, StopsSource}
+use Rattle.grep_core.proofs.Prelude.{◌≡◌, ℕ, zero, suc, ◌+◌, nat_lt, nat_le, ◌<◌, ◌≤◌, Bool, true, false, ◌||◌, ◌&&◌, IsTrue, Decides, List, [], ◌∷◌, ◌++◌, length, take, drop, get_or, Option, None, Ok, Err, Any, refl, sym, ap, subst, ◌∙◌, inl, inr, arith, append-nil, append_assoc, take-suc, take-append_seam, get_or-append_seam, false≢true, cond-true, length-append, length-take-le, take_all, Text, Expression, Options, Status, RunFault, MessageWrite, FileEnd, one_more, IfHolds, File, missing, HasSelected, Form, nothing, names, counts, parts, lines, around, form, OutAs, Out, are_many, FaultMet, Stops, Reported, Messages, AnySelected, StatusOf, Source, Reading, IsReadingOf, file_of, failures_of, AreLeft, HasRead, Writer, Devices, TakesAll, TakesFront, TakesPast, files_of, AreReadings, FailuresMet, LeftMet, begun, file_at, count_more, Story, Finishes, BreaksOff, StopsAfter, RunGives, source_at, SearchesLines, SearchesFiles, GroupedAs, rows_after, is_fault, status_by, SourceGives, CountsSource, FinishesSource, BreaksSource, BreaksMessage, StopsSource}
 use Rattle.re_syntax.proofs.lemmas.Decisions.{Any-none, Any-first, Any-later, Any-cases}
 use Rattle.grep_core.specs.declared.status.Status.TheVariants.{Selected as selected}
 use Rattle.grep_core.specs.declared.status.RunFault.TheVariants.{Write, Memory}

@@ -1,9 +1,5 @@
 -- Which lines are shown around selected ones as a file has more lines, and what is shown of them.
-use Rattle.std.proofs.Common.{◌≡◌, ℕ, zero, suc, ◌+◌, ◌-◌, ◌<◌, ◌≤◌, ◌⊎◌, List, [], ◌∷◌, ◌++◌, All, Option, length, inl, inr, refl, sym, subst, arith}
-use Rattle.grep_core.proofs.Words.{enumerate_from, Text, Expression, Context, Options, IfHolds, EachGives, Selected, IsShown, BeginsGroup, Shows}
-use Rattle.std.proofs.lemmas.Bool.{cases_lt}
-use Rattle.std.proofs.lemmas.List.{length-append, get_or_append_left, get_or-append_right, get_or_push}
-use Rattle.std.proofs.lemmas.List.Elements.{All-get_or}
+use Rattle.grep_core.proofs.Prelude.{◌≡◌, ℕ, zero, suc, ◌+◌, ◌-◌, ◌<◌, ◌≤◌, ◌⊎◌, List, [], ◌∷◌, ◌++◌, All, Option, length, inl, inr, refl, sym, subst, arith, enumerate_from, Text, Expression, Context, Options, IfHolds, EachGives, Selected, IsShown, BeginsGroup, Shows, cases_lt, length-append, get_or_append_left, get_or-append_right, get_or_push, All-get_or}
 
 -- ---- lists made from numbered elements
 

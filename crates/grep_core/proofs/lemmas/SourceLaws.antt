@@ -1,6 +1,5 @@
 -- The files of more sources, and how often the devices failed in them.
-use Rattle.std.proofs.Common.{◌≡◌, ℕ, zero, suc, ◌+◌, List, [], ◌∷◌, ◌++◌, inl, inr, Option, refl, sym, ap, subst, ◌∙◌, length, Any, arith, append-nil, append_assoc}
-use Rattle.grep_core.proofs.Words.{Expression, Options, one_more, IfHolds, FaultMet, Stops, Source, Reading, file_of, failures_of, AreLeft, files_of, AreReadings, FailuresMet, LeftMet, count_more, Returns, Text}
+use Rattle.grep_core.proofs.Prelude.{◌≡◌, ℕ, zero, suc, ◌+◌, List, [], ◌∷◌, ◌++◌, inl, inr, Option, refl, sym, ap, subst, ◌∙◌, length, Any, arith, append-nil, append_assoc, Expression, Options, one_more, IfHolds, FaultMet, Stops, Source, Reading, file_of, failures_of, AreLeft, files_of, AreReadings, FailuresMet, LeftMet, count_more, Returns, Text}
 use Rattle.re_syntax.proofs.lemmas.Decisions.{Any-first, Any-later}
 use Rattle.grep_core.proofs.lemmas.Decided.{dec_stops}
 

@@ -1,7 +1,5 @@
 -- One source is done: its summary and its message, after the rows of its lines.
-use Rattle.std.proofs.Common.{◌≡◌, ℕ, Bool, true, false, Decides, IsTrue, List, [], ◌∷◌, ◌++◌, MatchBool, nat_le, length, refl, sym, ap, subst, ◌∙◌, inl, inr, Option, Result, Ok, Err}
-use Rattle.std.proofs.lemmas.Bool.{false≢true, cases_Bool, cond-true, cond-false}
-use Rattle.grep_core.proofs.Words.{Text, lines_of, ended_lines_of, Expression, Options, FileEnd, Missing, Whole, Broken, Left, FileFound, RunFault, MessageWrite, SearchFault, one_more, EachGives, File, Ending, whole, broken, form, message, FaultMet, Message, Reported, Source, Reading, not_opened, fails_after, ends_after, most_lines, up_to_limit, file_of, Devices, Writer, TakesAll, TakesFront, rows_after, SearchGives, is_fault, ending_of, summary_as, reported_of, SearchesSource, StopsSource, FinishesSource, BreaksSource, BreaksMessage, EndsSource, SourceGives}
+use Rattle.grep_core.proofs.Prelude.{◌≡◌, ℕ, Bool, true, false, Decides, IsTrue, List, [], ◌∷◌, ◌++◌, MatchBool, nat_le, length, refl, sym, ap, subst, ◌∙◌, inl, inr, Option, Result, Ok, Err, false≢true, cases_Bool, cond-true, cond-false, Text, lines_of, ended_lines_of, Expression, Options, FileEnd, Missing, Whole, Broken, Left, FileFound, RunFault, MessageWrite, SearchFault, one_more, EachGives, File, Ending, whole, broken, form, message, FaultMet, Message, Reported, Source, Reading, not_opened, fails_after, ends_after, most_lines, up_to_limit, file_of, Devices, Writer, TakesAll, TakesFront, rows_after, SearchGives, is_fault, ending_of, summary_as, reported_of, SearchesSource, StopsSource, FinishesSource, BreaksSource, BreaksMessage, EndsSource, SourceGives}
 use Rattle.re_search.specs.Meters.{Steps}
 use Rattle.grep_core.specs.declared.status.RunFault.TheVariants.{Write, Memory}
 use Rattle.grep_core.specs.declared.status.SearchFault.TheVariants as search_fault

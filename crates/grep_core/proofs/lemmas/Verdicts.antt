@@ -1,7 +1,5 @@
 -- The chosen elements, from a list of verdicts.
-use Rattle.std.proofs.Common.{◌≡◌, Bool, true, false, List, [], ◌∷◌, inl, inr, refl, Decides, if◌then◌else◌}
-use Rattle.std.proofs.lemmas.Bool.{false≢true}
-use Rattle.grep_core.specs.Choose.{IfHolds}
+use Rattle.grep_core.proofs.Prelude.{◌≡◌, Bool, true, false, List, [], ◌∷◌, inl, inr, refl, Decides, if◌then◌else◌, false≢true, IfHolds}
 
 -- the verdict on what holds
 pub decided_yes : {P : Type 0} → P → Decides true P

@@ -1,9 +1,6 @@
 -- What is written at a line, where lines around selected ones are shown, and which lines wait after
 -- it.
-use Rattle.std.proofs.Common.{◌≡◌, ℕ, zero, suc, ◌+◌, ◌-◌, ◌<◌, ◌≤◌, nat_lt, min, Bool, true, false, not, List, [], ◌∷◌, ◌++◌, Option, Result, Ok, Err, IfOk, length, take, drop, get_or, refl, sym, ap, ◌∙◌, subst, append-nil, append_assoc, arith, take-append-drop, if◌then◌else◌}
-use Rattle.grep_core.proofs.Words.{IsErr, is_err, Text, Options, Progress, SearchFault, Writer, LastLines, BreaksShown, ShowGives, IsErrAnd, hyphen, output_line, written, GoesOut, StopsWithin, Writes, next_shown, after_line, with_waiting, last_of, row_with, rows_around}
-use Rattle.std.proofs.lemmas.Bool.{false≢true, ltb-true, ltb-false}
-use Rattle.std.proofs.lemmas.List.{length-drop, length_push, drop-drop, drop-append-le, drop_all, take_more, take_all}
+use Rattle.grep_core.proofs.Prelude.{◌≡◌, ℕ, zero, suc, ◌+◌, ◌-◌, ◌<◌, ◌≤◌, nat_lt, min, Bool, true, false, not, List, [], ◌∷◌, ◌++◌, Option, Result, Ok, Err, IfOk, length, take, drop, get_or, refl, sym, ap, ◌∙◌, subst, append-nil, append_assoc, arith, take-append-drop, if◌then◌else◌, IsErr, is_err, Text, Options, Progress, SearchFault, Writer, LastLines, BreaksShown, ShowGives, IsErrAnd, hyphen, output_line, written, GoesOut, StopsWithin, Writes, next_shown, after_line, with_waiting, last_of, row_with, rows_around, false≢true, ltb-true, ltb-false, length-drop, length_push, drop-drop, drop-append-le, drop_all, take_more, take_all}
 use Rattle.grep_core.specs.declared.status.SearchFault.TheVariants.{Write}
 use Rattle.grep_core.proofs.lemmas.RowLemmas.{goes_nowhere, goes_on, stops_early, stops_later, writes_last}
 use Rattle.grep_core.proofs.lemmas.WriterLaws.{written-append}

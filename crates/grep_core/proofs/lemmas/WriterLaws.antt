@@ -1,8 +1,5 @@
 -- What a writer was given, piece by piece.
-use Rattle.std.proofs.Common.{◌≡◌, List, [], ◌++◌, refl, sym, ap, ◌∙◌, append_assoc}
-use Rattle.std.proofs.lemmas.Grind.{flat_map-append}
-use Rattle.std.proofs.KnownBytes.{Appends-nil, Appends-trans}
-use Rattle.grep_core.proofs.Words.{Text, written, Writer, TakesAll, TakesFront, TakesPast}
+use Rattle.grep_core.proofs.Prelude.{◌≡◌, List, [], ◌++◌, refl, sym, ap, ◌∙◌, append_assoc, flat_map-append, Appends-nil, Appends-trans, Text, written, Writer, TakesAll, TakesFront, TakesPast}
 
 -- the bytes of some lines and of others after them
 pub written-append : (margin : Text) (xs ys : List Text) → written margin (xs ++ ys) ≡ written margin xs ++ written margin ys

@@ -1,6 +1,5 @@
 -- Bytes that were written, as output lines after a margin.
-use Rattle.std.proofs.Common.{ℕ, [], ◌∷◌, ◌++◌, List, Option, Result, sym, append_assoc, append-nil, subst}
-use Rattle.grep_core.proofs.Words.{Text, newline, output_line, written, writer, TakesAll, TakesFront, GoesOut, StopsWithin, Writes}
+use Rattle.grep_core.proofs.Prelude.{ℕ, [], ◌∷◌, ◌++◌, List, Option, Result, sym, append_assoc, append-nil, subst, Text, newline, output_line, written, writer, TakesAll, TakesFront, GoesOut, StopsWithin, Writes}
 use Rattle.grep_core.proofs.lemmas.RowLemmas.{goes_nowhere, stops_early, writes_last}
 
 module _ {W : Type 0} (contents : W → Option Text) (failures : W → ℕ) where

@@ -1,8 +1,5 @@
 -- Bytes that move from a buffer to a writer.
-use Rattle.std.proofs.Common.{◌≡◌, ℕ, ◌+◌, ◌-◌, ◌<◌, [], ◌++◌, Option, Result, Ok, Err, MatchResult, IfOk, inl, inr, ⊎_elim, length, take, refl, sym, ap, ◌∙◌, arith, append-nil, take-append-drop, length-drop, subst}
-use Rattle.std.proofs.KnownBytes.{append_known-moved, append_known-grown, append_known-passed, Appends-nil, Appends-kept}
-use Rattle.std.proofs.lemmas.List.{take_all, drop_all}
-use Rattle.grep_io.proofs.Words.{Keeps, Appends, append_known, Text, HasNoNewline, one_more, StopsWithin, Writes, BufferedWriter, Sends, SendsAll, SendsSome, all_contents, EndsRows, SendsFront, SendsWhole, SendsRows}
+use Rattle.grep_io.proofs.Prelude.{◌≡◌, ℕ, ◌+◌, ◌-◌, ◌<◌, [], ◌++◌, Option, Result, Ok, Err, MatchResult, IfOk, inl, inr, ⊎_elim, length, take, refl, sym, ap, ◌∙◌, arith, append-nil, take-append-drop, length-drop, subst, append_known-moved, append_known-grown, append_known-passed, Appends-nil, Appends-kept, take_all, drop_all, Keeps, Appends, append_known, Text, HasNoNewline, one_more, StopsWithin, Writes, BufferedWriter, Sends, SendsAll, SendsSome, all_contents, EndsRows, SendsFront, SendsWhole, SendsRows}
 
 module _ {W : Type 0} (contents : W → Option Text) (failures : W → ℕ) where
   -- the first n bytes were sent, and n bytes waited

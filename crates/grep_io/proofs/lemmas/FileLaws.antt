@@ -1,8 +1,5 @@
 -- The file for which a source stands, from the lines that were read of it.
-use Rattle.std.proofs.Common.{◌≡◌, ◌+◌, ◌-◌, ◌≤◌, ◌⊎◌, inl, inr, nat_le, List, [], ◌∷◌, ◌++◌, All, refl, sym, ap, ◌∙◌, length, length-append, take, append_assoc, arith}
-use Rattle.std.proofs.Math.Seq.{take-append-add, take-append_seam}
-use Rattle.std.proofs.lemmas.Bool.{cases_Bool, cond-true, cond-false, le-leb, lt-leb}
-use Rattle.grep_io.proofs.Words.{Text, newline, lines_of, HasNoNewline, terminated, File, Ending, broken, most_lines, up_to_limit}
+use Rattle.grep_io.proofs.Prelude.{◌≡◌, ◌+◌, ◌-◌, ◌≤◌, ◌⊎◌, inl, inr, nat_le, List, [], ◌∷◌, ◌++◌, All, refl, sym, ap, ◌∙◌, length, length-append, take, append_assoc, arith, take-append-add, take-append_seam, cases_Bool, cond-true, cond-false, le-leb, lt-leb, Text, newline, lines_of, HasNoNewline, terminated, File, Ending, broken, most_lines, up_to_limit}
 use Rattle.re_syntax.proofs.lemmas.LinesLaws.{lines_of-line, all_head, all_tail}
 
 -- a file of this name with these lines

@@ -1,6 +1,5 @@
 -- What a limited read does to the known bytes.
-use Rattle.std.proofs.Common.{◌≡◌, ℕ, zero, suc, ◌+◌, ◌-◌, ◌<◌, ◌≤◌, [], ◌∷◌, ◌++◌, Option, None, Some, length, take, refl, ap, ◌∙◌, arith}
-use Rattle.grep_io.proofs.Words.{Consumes, IsAtEnd, Text, limited}
+use Rattle.grep_io.proofs.Prelude.{◌≡◌, ℕ, zero, suc, ◌+◌, ◌-◌, ◌<◌, ◌≤◌, [], ◌∷◌, ◌++◌, Option, None, Some, length, take, refl, ap, ◌∙◌, arith, Consumes, IsAtEnd, Text, limited}
 
 -- the first of some bytes and of what follows them
 take_front : (bs ys : Text) (left m : ℕ) → length bs + m ≡ left → take left (bs ++ ys) ≡ bs ++ take m ys

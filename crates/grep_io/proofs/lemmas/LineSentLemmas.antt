@@ -1,10 +1,5 @@
 -- Lines that are sent whole after what waited.
-use Rattle.std.proofs.Common.{◌≡◌, ◌≢◌, ℕ, ◌+◌, ◌-◌, ◌<◌, ◌≤◌, [], ◌++◌, Option, Some, None, Result, Ok, Err, IfSome, MatchResult, length, take, drop, sym, ap, ◌∙◌, arith, append-nil, append_assoc, take-append-drop, length-append, length-take, subst}
-use Rattle.std.proofs.KnownBytes.{append_known-grown, Keeps-trans}
-use Rattle.std.proofs.Math.Seq.{take-append-add, drop-append_seam}
-use Rattle.std.proofs.lemmas.List.{take_all, take-take, take-append-le}
-use Rattle.std.proofs.lemmas.List.Elements.{All-append, All-drop, All-nil}
-use Rattle.grep_io.proofs.Words.{Keeps, Appends, append_known, Text, newline, HasNoNewline, one_more, Counts, PushAppends, BufferedWriter, SendsSome, all_contents, SendsFront, SendsLine}
+use Rattle.grep_io.proofs.Prelude.{◌≡◌, ◌≢◌, ℕ, ◌+◌, ◌-◌, ◌<◌, ◌≤◌, [], ◌++◌, Option, Some, None, Result, Ok, Err, IfSome, MatchResult, length, take, drop, sym, ap, ◌∙◌, arith, append-nil, append_assoc, take-append-drop, length-append, length-take, subst, append_known-grown, Keeps-trans, take-append-add, drop-append_seam, take_all, take-take, take-append-le, All-append, All-drop, All-nil, Keeps, Appends, append_known, Text, newline, HasNoNewline, one_more, Counts, PushAppends, BufferedWriter, SendsSome, all_contents, SendsFront, SendsLine}
 use Rattle.grep_io.proofs.lemmas.BufferLemmas.{kept_by_some}
 
 -- the first bytes of two texts, more than the first text has

@@ -1,8 +1,6 @@
 -- Newlines counted in vectors: a 1 for each, and the sum of those is how many there are.
-use Rattle.std.proofs.Common.{◌≡◌, ℕ, zero, suc, ◌+◌, ◌-◌, ◌≤◌, Bool, List, [], ◌∷◌, ◌++◌, map, length, length-append, take, drop, replicate, eqb, ◌==◌, if◌then◌else◌, slice_index, sym, ap, ◌∙◌, ⊎_elim, refl, arith, drop-cons, le_of_eq, le_trans, zero-le}
-use Rattle.std.proofs.lemmas.Bool.{cond-true, cond-false, cases_Bool}
-use Rattle.std.specs.Simd.Lanes.{Each1, zip2, sel_l, sum_l}
-use Rattle.memchr.specs.Find.{is_byte, places_from, places_between}
+use Rattle.grep_io.proofs.Prelude.{◌≡◌, ℕ, zero, suc, ◌+◌, ◌-◌, ◌≤◌, Bool, List, [], ◌∷◌, ◌++◌, map, length, length-append, take, drop, replicate, eqb, ◌==◌, if◌then◌else◌, slice_index, sym, ap, ◌∙◌, ⊎_elim, refl, arith, drop-cons, le_of_eq, le_trans, zero-le, cond-true, cond-false, cases_Bool, Each1, zip2, sel_l, sum_l, is_byte, places_between}
+use Rattle.memchr.specs.Find.{places_from}
 use Rattle.memchr.proofs.lemmas.PlaceLemmas.{places_from-append}
 
 -- what `select` makes of a comparison with one byte

@@ -1,7 +1,5 @@
 -- What a call for the next line hands out of a reader of numbered lines.
-use Rattle.std.proofs.Common.{◌≡◌, ◌≢◌, ℕ, ◌+◌, ◌<◌, List, [], ◌∷◌, ◌++◌, Option, ap, ◌∙◌, sym, arith}
-use Rattle.std.proofs.lemmas.List.{length_push}
-use Rattle.grep_io.proofs.Words.{Text, Open, Ended, whole, broken, most_lines, HandsOut, IsUsedUp, IsCutOff, RunsOutOfMemory, Numbered, HasHanded, StandsAs}
+use Rattle.grep_io.proofs.Prelude.{◌≡◌, ◌≢◌, ℕ, ◌+◌, ◌<◌, List, [], ◌∷◌, ◌++◌, Option, ap, ◌∙◌, sym, arith, length_push, Text, Open, Ended, whole, broken, most_lines, HandsOut, IsUsedUp, IsCutOff, RunsOutOfMemory, Numbered, HasHanded, StandsAs}
 use Rattle.grep_io.proofs.lemmas.HandedLemmas.{HandsLines-none, HandsLines-line, HandsLines-stays, stands_whole, stands_broken, stands_cut, still_open}
 
 module _ {R : Type 0} (remaining : R → Option Text) (failures : R → ℕ) where

@@ -1,8 +1,5 @@
 -- Where rows end, and bytes that are sent of a buffer.
-use Rattle.std.proofs.Common.{◌≡◌, ◌≢◌, ℕ, ◌+◌, ◌≤◌, [], ◌∷◌, ◌++◌, Option, length, take, drop, sym, ap, ◌∙◌, arith, eq-eqb, eqb-true, length-drop, take-append-drop, subst}
-use Rattle.std.proofs.lemmas.List.{take_more, take-take, get_or-drop}
-use Rattle.std.proofs.lemmas.List.Elements.{All-from_get_or}
-use Rattle.grep_io.proofs.Words.{Appends, Nowhere, NoneAfter, Passes, is_byte, Text, newline, HasNoNewline, one_more, SendsSome, EndsRows, SendsFront}
+use Rattle.grep_io.proofs.Prelude.{◌≡◌, ◌≢◌, ℕ, ◌+◌, ◌≤◌, [], ◌∷◌, ◌++◌, Option, length, take, drop, sym, ap, ◌∙◌, arith, eq-eqb, eqb-true, length-drop, take-append-drop, subst, take_more, take-take, get_or-drop, All-from_get_or, Appends, Nowhere, NoneAfter, Passes, is_byte, Text, newline, HasNoNewline, one_more, SendsSome, EndsRows, SendsFront}
 
 -- where no newline is found there is none
 pub no_row_ends : (bytes : Text) → Nowhere (Passes (is_byte newline) bytes) 0 (length bytes) → HasNoNewline bytes

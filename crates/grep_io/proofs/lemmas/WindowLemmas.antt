@@ -1,10 +1,5 @@
 -- The ranges of a buffer before and after a newline.
-use Rattle.std.proofs.Common.{◌≡◌, ◌≢◌, ℕ, ◌+◌, ◌-◌, ◌<◌, ◌≤◌, inl, inr, [], ◌∷◌, ◌++◌, Result, Ok, Err, OnErr, length, take, drop, slice_range, sym, ap, ◌∙◌, arith, append_assoc, subst}
-use Rattle.std.proofs.Math.Seq.{take-append-add}
-use Rattle.std.proofs.lemmas.Bool.{cases_lt}
-use Rattle.std.proofs.lemmas.List.{length-append, take-append-le, length-take, take-take, drop-take, drop-drop}
-use Rattle.std.proofs.lemmas.List.Elements.{All-append, All-take, All-tail}
-use Rattle.grep_io.proofs.Words.{Text, newline, HasNoNewline, IsOneLineAndFew}
+use Rattle.grep_io.proofs.Prelude.{◌≡◌, ◌≢◌, ℕ, ◌+◌, ◌-◌, ◌<◌, ◌≤◌, inl, inr, [], ◌∷◌, ◌++◌, Result, Ok, Err, OnErr, length, take, drop, slice_range, sym, ap, ◌∙◌, arith, append_assoc, subst, take-append-add, cases_lt, length-append, take-append-le, length-take, take-take, drop-take, drop-drop, All-append, All-take, All-tail, Text, newline, HasNoNewline, IsOneLineAndFew}
 
 -- the first k bytes of a range are a range
 front_of_range : (buffer : Text) (start end k : ℕ) → start + k ≤ end → take k (slice_range buffer start end) ≡ slice_range buffer start (start + k)

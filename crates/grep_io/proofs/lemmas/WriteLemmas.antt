@@ -1,9 +1,5 @@
 -- Writes one after another.
-use Rattle.std.proofs.Common.{◌≡◌, ℕ, ◌+◌, ◌≤◌, [], ◌++◌, Option, Result, Ok, Err, IsErr, length, take, drop, slice_range, refl, sym, ap, ◌∙◌, arith, append_assoc, append-nil, take-append-drop, subst}
-use Rattle.std.proofs.KnownBytes.{Appends-trans, Appends-nil}
-use Rattle.grep_io.proofs.Words.{Appends, Text, one_more, StopsWithin, GoesOut, Writes}
-use Rattle.std.proofs.lemmas.Bool.{false≢true}
-use Rattle.std.proofs.lemmas.List.{take-take, drop-take, take_rest, take_all}
+use Rattle.grep_io.proofs.Prelude.{◌≡◌, ℕ, ◌+◌, ◌≤◌, [], ◌++◌, Option, Result, Ok, Err, IsErr, length, take, drop, slice_range, refl, sym, ap, ◌∙◌, arith, append_assoc, append-nil, take-append-drop, subst, Appends-trans, Appends-nil, Appends, Text, one_more, StopsWithin, GoesOut, Writes, false≢true, take-take, drop-take, take_rest, take_all}
 
 -- the first `at` bytes and n more are the first `at + n`
 take_further : (at n : ℕ) (bs : Text) → at + n ≤ length bs → take at bs ++ take n (slice_range bs at (length bs)) ≡ take (at + n) bs

@@ -1,14 +1,10 @@
 -- What each edit leaves: marks that fit, and views that follow.
-use Rattle.std.proofs.Common.{◌≡◌, ℕ, ◌+◌, ◌-◌, ◌<◌, ◌≤◌, Bool, List, [], ◌∷◌, ◌++◌, length, map, take, drop, Result, Ok, Err, refl, sym, ap, subst, ◌∙◌, inl, inr, arith}
-use Rattle.std.proofs.Math.ListN.{set}
-use Rattle.std.proofs.lemmas.List.{drop_all, append-nil, length-append}
-use Rattle.std.proofs.lemmas.List.Edits.{remove-append_right}
-use Rattle.std.proofs.lemmas.Bool.{cases_lt}
-use Rattle.grep_live.proofs.Words.{Option, slice_set, remove, splice, IfOk, IfErr, Syntax, Text, list_of, Expression, Flag, Count, IgnoreCase, FilesWithMatches, LineNumber, OnlyMatching, Quiet, NoMessages, InvertMatch, LineRegexp, Context, Options, IfHolds, File, Inputs, AreMeant, Selected, file_at, EditFault, NoSuchFile, FileIsMissing, OutOfRange, LineHasNewline, NoSuchPattern, Pattern, TooManyPatterns, Memory, Edit, AddFile, AddMissing, DropFile, Splice, AddPatterns, DropPattern, SetFlag, SetSyntax, SetContext, Applies, EditGives, Reads, with_option, with_files, with_patterns, with_context, whole_file, missing_file, spliced, ListedParts, Mark, AllThree, Hit, View, HitsFrom, hits_before, hits_from, Watched, new_mark, mark_at, touched, lost, marks_by_flag, MarksAfter, MarksGiven, FollowsFile, Follows, view_after, Carries, Fits, AreFit}
+use Rattle.grep_live.proofs.Prelude.{◌≡◌, ℕ, ◌+◌, ◌-◌, ◌<◌, ◌≤◌, Bool, List, [], ◌∷◌, ◌++◌, length, map, take, drop, Result, Ok, Err, refl, sym, ap, subst, ◌∙◌, inl, inr, arith, drop_all, cases_lt, Option, slice_set, remove, splice, Syntax, Text, list_of, Expression, Flag, Count, IgnoreCase, FilesWithMatches, LineNumber, OnlyMatching, Quiet, NoMessages, InvertMatch, LineRegexp, Context, Options, IfHolds, File, Inputs, AreMeant, Selected, file_at, EditFault, NoSuchFile, FileIsMissing, OutOfRange, LineHasNewline, NoSuchPattern, Pattern, TooManyPatterns, Memory, Edit, AddFile, AddMissing, DropFile, Splice, AddPatterns, DropPattern, SetFlag, SetSyntax, SetContext, Applies, EditGives, Reads, with_option, with_files, with_patterns, with_context, whole_file, missing_file, spliced, ListedParts, Mark, AllThree, Hit, View, HitsFrom, hits_before, hits_from, Watched, new_mark, mark_at, touched, lost, marks_by_flag, MarksAfter, FollowsFile, Follows, view_after, EditsCarry, Fits, AreFit}
 use Rattle.grep_session.proofs.lemmas.AllPatternsRead.{with_same}
-use Rattle.grep_live.proofs.lemmas.ListLemmas.{zip-append, zip-remove, zip-set, zip-map, zip-at, zip-length, three-append, three-remove, three-set, three-map, three-weaker}
+use Rattle.grep_session.proofs.lemmas.FitLemmas.{fit_added, fit_at, fit_dropped, fit_lose, fit_spliced}
+use Rattle.grep_live.proofs.lemmas.ListLemmas.{three-append, three-remove, three-set, three-map, three-weaker}
 use Rattle.grep_live.proofs.lemmas.HitLemmas.{before_none, hits_from_none}
-use Rattle.grep_live.proofs.lemmas.MarkLemmas.{fits_touched, length-splice, spliced_front, spliced_back}
+use Rattle.grep_live.proofs.lemmas.MarkLemmas.{spliced_front, spliced_back}
 
 -- ---- outcomes
 
@@ -35,10 +31,7 @@ accepted_read syntax fold texts a b (inr (unreadable, (place, fault, first, e)))
 
 -- ---- the new inputs of an accepted edit
 
--- a file that is removed, or in which lines are replaced, is there
-pub dropped_inside : (k : ℕ) (old new : Inputs) → Applies (DropFile k) old (Ok new) → k < length old.files
-dropped_inside k old new a = (accepted_if new (with_files (remove old.files k) old) NoSuchFile a).0
-
+-- the files after one was removed
 pub file_dropped : (k : ℕ) (old new : Inputs) → Applies (DropFile k) old (Ok new) → new ≡ with_files (remove old.files k) old
 file_dropped k old new a = (accepted_if new (with_files (remove old.files k) old) NoSuchFile a).1
 
@@ -124,13 +117,7 @@ same_file i j back same file mark hits f = record {
   in_back = (λ es meant. let first = length file.lines - mark.back in same es first (drop first file.lines) (hits_from (mark.known - mark.back) first hits) (f.in_back es (back es meant)));
 }
 
-fits_lost : (file : File) (mark : Mark) → Fits (length file.lines) mark → Fits (length file.lines) (lost mark)
-fits_lost file mark fits = inr (omega arith, omega arith)
-
 -- ---- all files
-
-abbrev Fit : File → Mark → Type 0
-Fit file mark = Fits (length file.lines) mark
 
 -- what is left is right: marks that fit, and what an editor then has follows
 abbrev IsLeft : Watched → Watched → (View → View) → Type 0
@@ -146,14 +133,14 @@ module _ (old : Watched) (fit : AreFit old.inputs.files old.marks) where
   left_added : (file : File) → IsLeft old (record { inputs = with_files (old.inputs.files ++ file ∷ []) old.inputs; marks = old.marks ++ new_mark ∷ [] }) (λ view. view ++ [] ∷ [])
   left_added file =
       let inputs = with_files (old.inputs.files ++ file ∷ []) old.inputs in (
-        zip-append Fit old.inputs.files old.marks file new_mark fit (inr (omega arith, omega arith)),
+        fit_added old.inputs.files old.marks fit file,
         (λ view h. three-append (FollowsFile inputs) old.inputs.files old.marks view file new_mark [] (same_views inputs (λ es m. m) (λ es n l hits x. x) view h) (new_file inputs file)),
       )
 
   left_dropped : (k : ℕ) → IsLeft old (record { inputs = with_files (remove old.inputs.files k) old.inputs; marks = remove old.marks k }) (λ view. remove view k)
   left_dropped k =
       let inputs = with_files (remove old.inputs.files k) old.inputs in (
-        zip-remove Fit old.inputs.files old.marks k fit,
+        fit_dropped old.inputs.files old.marks fit k,
         (λ view h. three-remove (FollowsFile inputs) old.inputs.files old.marks view k (same_views inputs (λ es m. m) (λ es n l hits x. x) view h)),
       )
 
@@ -166,15 +153,14 @@ module _ (old : Watched) (fit : AreFit old.inputs.files old.marks) where
       let mark = mark_at old.marks k in
       let new_file = record file { lines = splice file.lines start (start + count) come } in
       let new_mark_there = touched start (length file.lines - (start + count)) mark in
-      let fits : Fits (length file.lines) mark = zip-at Fit old.inputs.files old.marks k none new_mark inside fit in
-      let longer : start + (length file.lines - (start + count)) ≤ length (splice file.lines start (start + count) come) = omega (arith, length-splice file.lines come start count within) in (
-        zip-set Fit old.inputs.files old.marks k new_file new_mark_there fit (fits_touched (length file.lines) (length (splice file.lines start (start + count) come)) start count mark fits within longer),
+      let fits : Fits (length file.lines) mark = fit_at old.inputs.files old.marks fit k inside in (
+        fit_spliced old.inputs.files old.marks fit k start count come inside within,
         (λ view h. three-set (FollowsFile inputs) old.inputs.files old.marks view k new_file none new_mark_there new_mark (λ hits f. spliced_file inputs file mark hits come start count within fits f) (same_views inputs (λ es m. m) (λ es n l hits x. x) view h)),
       )
 
   left_lost : (inputs : Inputs) → inputs.files ≡ old.inputs.files → IsLeft old (record { inputs = inputs; marks = map lost old.marks }) (λ view. view)
   left_lost inputs same = (
-    subst (λ files. AreFit files (map lost old.marks)) (sym same) (zip-map Fit lost fits_lost old.inputs.files old.marks fit),
+    fit_lose old.inputs.files inputs.files old.marks (map lost old.marks) same refl fit,
     (λ view h. subst (λ files. AllThree (FollowsFile inputs) files (map lost old.marks) view) (sym same) (three-map (FollowsFile old.inputs) (FollowsFile inputs) lost (lost_file old.inputs inputs) old.inputs.files old.marks view h)),
   )
 
@@ -251,38 +237,9 @@ refused_same T edit old new (Pattern place fault) g = g.1
 refused_same T edit old new TooManyPatterns g = g.1
 refused_same T edit old new Memory g = g
 
--- what an edit leaves where its inputs and marks are right
-pub carried : (T : Type 0) (edit : Edit) (old new : Watched) (result : Result T EditFault) → AreFit old.inputs.files old.marks → EditGives edit old.inputs new.inputs result → MarksGiven edit old new.marks result →
-    AreFit new.inputs.files new.marks × Carries edit old new result
-carried T edit old new (Ok done) fit g m =
-    let left = left_accepted old fit edit new g m in
-    (left.0, record { marks = m; follows = left.1 })
-carried T edit old new (Err fault) fit g m =
-    let left = as_these old fit new old (λ view. view) (refused_same T edit old.inputs new.inputs fault g) m (left_same old fit) in
-    (left.0, record { marks = m; follows = left.1 })
-
--- ---- what the code needs besides
-
--- the last file is removed again
-pub taken_back : (file : File) (old between after : Inputs) → between ≡ with_files (old.files ++ file ∷ []) old → after ≡ with_files (remove between.files (length between.files - 1)) between → after ≡ old
-taken_back file old between after b a =
-    let n = length old.files in
-    let last : length (old.files ++ file ∷ []) - 1 ≡ n = omega (arith, length-append old.files (file ∷ [])) in
-    let zeroed : n - n ≡ 0 = omega arith in
-    let gone : remove (old.files ++ file ∷ []) n ≡ old.files = remove-append_right old.files (file ∷ []) n n refl (omega arith) ∙ ap (λ i. old.files ++ remove (file ∷ []) i) zeroed ∙ append-nil old.files in
-    a ∙ (λ i. with_files (remove (b i).files (length (b i).files - 1)) (b i)) ∙ ap (λ i. with_files (remove (old.files ++ file ∷ []) i) old) last ∙ ap (λ files. with_files files old) gone
-
--- there is a mark for each file
-pub as_many : (files : List File) (marks : List Mark) → AreFit files marks → length marks ≡ length files
-as_many files marks fit = sym (zip-length Fit files marks fit)
-
--- a file was added with its mark, or it was removed again
-pub marked_last : (edit : Edit) (file : File) (old : Watched) (between after : Inputs) (now : List Mark) (result : Result (Unit {0}) EditFault) → AreFit old.inputs.files old.marks →
-    ((m : List Mark) → m ≡ old.marks ++ new_mark ∷ [] → MarksAfter edit old m) → Applies edit old.inputs (Ok between) → between ≡ with_files (old.inputs.files ++ file ∷ []) old.inputs → IfOk result (λ _. (after ≡ between) × (now ≡ old.marks ++ new_mark ∷ [])) →
-    IfErr result (λ fault. (fault ≡ Memory) × (after ≡ with_files (remove between.files (length between.files - 1)) between) × (now ≡ old.marks)) → AreFit after.files now × Carries edit old (record { inputs = after; marks = now }) result
-marked_last edit file old between after now (Ok done) fit marked applies is ok err =
-    carried (Unit {0}) edit old (record { inputs = after; marks = now }) (Ok done) fit (subst (λ (i : Inputs). Applies edit old.inputs (Ok i)) (sym ok.0) applies) (marked now ok.1)
-marked_last edit file old between after now (Err fault) fit marked applies is ok err =
-    let same : after ≡ old.inputs = taken_back file old.inputs between after is err.1 in
-    let gives : EditGives {T = Unit {0}} edit old.inputs after (Err fault) = subst (λ (f : EditFault). EditGives {T = Unit {0}} edit old.inputs after (Err f)) (sym err.0) same in
-    carried (Unit {0}) edit old (record { inputs = after; marks = now }) (Err fault) fit gives err.2
+-- what an edit leaves where the marks fit
+pub edits_carry : EditsCarry
+edits_carry edit (Ok done) old new fit g m = let left = left_accepted old fit edit new g m in record { fit = left.0; follows = left.1 }
+edits_carry edit (Err fault) old new fit g m =
+    let left = as_these old fit new old (λ view. view) (refused_same (Unit {0}) edit old.inputs new.inputs fault g) m (left_same old fit) in
+    record { fit = left.0; follows = left.1 }

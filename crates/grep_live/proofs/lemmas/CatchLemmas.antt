@@ -1,10 +1,7 @@
 -- What is reported makes each view that follows the present hits, and it follows then.
-use Rattle.std.proofs.Common.{◌≡◌, ℕ, ◌+◌, ◌-◌, ◌<◌, ◌≤◌, List, [], ◌∷◌, ◌++◌, length, map, take, drop, get_or, Option, Result, Ok, Err, refl, sym, ap, subst, ◌∙◌, inl, arith}
-use Rattle.std.proofs.Math.ListN.{set}
-use Rattle.grep_live.proofs.Words.{slice_range, MatchResult, Text, Expression, Status, File, Inputs, Selected, StatusOf, written, file_at, Writes, IsStatusOfInputs, ListedParts, Mark, AllThree, Hit, View, HitsFrom, Hits, AreHits, Watched, whole_mark, new_mark, mark_at, Change, IsChange, AreWithin, hits_before, hits_from, after, all_after, FollowsFile, Follows, changes_rows, all_known, WritesChanges, Fits, AreFit, Mean}
-use Rattle.std.proofs.lemmas.List.{drop_more, take_more, set_at, take_all, drop_all, length-take-le, get_or-map, append-nil, append_assoc}
+use Rattle.grep_live.proofs.Prelude.{◌≡◌, ℕ, ◌+◌, ◌-◌, ◌<◌, ◌≤◌, List, [], ◌∷◌, length, map, take, drop, Option, Result, Ok, Err, refl, sym, subst, arith, slice_range, MatchResult, Text, Expression, Status, File, Inputs, Selected, StatusOf, written, file_at, Writes, IsStatusOfInputs, ListedParts, Mark, AllThree, Hit, View, HitsFrom, Hits, AreHits, Watched, whole_mark, mark_at, Change, IsChange, AreWithin, hits_before, hits_from, after, all_after, FollowsFile, Follows, changes_rows, all_known, WritesChanges, Fits, AreFit, Mean}
 use Rattle.grep_core.proofs.lemmas.LawsHold.{means_one}
-use Rattle.grep_live.proofs.lemmas.ListLemmas.{zip-at, zip-length}
+use Rattle.grep_session.proofs.lemmas.FitLemmas.{as_many, fit_at}
 use Rattle.grep_live.proofs.lemmas.HitLemmas.{by_within, first_hits, last_hits}
 use Rattle.grep_live.proofs.lemmas.ListingLemmas.{HitsFrom-exist}
 use Rattle.grep_live.proofs.lemmas.MarkLemmas.{after_change, fits_front}
@@ -14,30 +11,8 @@ use Rattle.grep_live.proofs.lemmas.MarkLemmas.{after_change, fits_front}
 -- a mark's untouched front is of the file's lines
 pub marked_front : (files : List File) (marks : List Mark) (k : ℕ) → AreFit files marks → k < length marks → (mark_at marks k).front ≤ length (file_at files k).lines
 marked_front files marks k fit inside =
-    let as_many = zip-length (λ file mark. Fits (length file.lines) mark) files marks fit in
-    fits_front (length (file_at files k).lines) (mark_at marks k) (zip-at (λ (file : File) (mark : Mark). Fits (length file.lines) mark) files marks k (file_at [] k) new_mark (omega arith) fit)
-
--- the first marks are new ones, and the others as they were: one more
-pub marked_more : (news old marks : List Mark) (k : ℕ) (mark : Mark) → marks ≡ take k news ++ drop k old → k < length old → length old ≡ length news → mark ≡ get_or news k new_mark → set marks k mark ≡ take (k + 1) news ++ drop (k + 1) old
-marked_more news old marks k mark is inside same at =
-    let front = take k news in
-    let rest = drop (k + 1) old in
-    let there = get_or old k new_mark in
-    let cut : marks ≡ front ++ there ∷ rest = is ∙ ap (λ l. front ++ l) (drop_more old k new_mark inside) in
-    let long : length front ≡ k = length-take-le k news (omega arith) in
-    let more : take (k + 1) news ≡ front ++ mark ∷ [] = take_more news k new_mark (omega arith) ∙ ap (λ m. front ++ m ∷ []) (sym at) in
-    ap (λ l. set l k mark) cut ∙ set_at front there rest mark k long ∙ sym (append_assoc front (mark ∷ []) rest) ∙ ap (λ l. l ++ rest) (sym more)
-
-pub marked_all : (news old marks : List Mark) (k : ℕ) → marks ≡ take k news ++ drop k old → length old ≤ k → length old ≡ length news → marks ≡ news
-marked_all news old marks k is past same = is ∙ (λ i. take_all k news (omega arith) i ++ drop_all k old past i) ∙ append-nil news
-
--- the mark of one of them
-pub marked_at : (files : List File) (k lines : ℕ) (mark : Mark) → k < length files → mark ≡ whole_mark lines → lines ≡ length (file_at files k).lines → mark ≡ get_or (map (λ file. whole_mark (length file.lines)) files) k new_mark
-marked_at files k lines mark inside is long = is ∙ ap whole_mark long ∙ sym (get_or-map (λ (file : File). whole_mark (length file.lines)) files k (file_at [] k) new_mark inside)
-
-pub known_fit : (files : List File) → AreFit files (map (λ file. whole_mark (length file.lines)) files)
-known_fit [] = tt
-known_fit (file ∷ files) = (inl refl, known_fit files)
+    let many = as_many files marks fit in
+    fits_front (length (file_at files k).lines) (mark_at marks k) (fit_at files marks fit k (omega arith))
 
 -- ---- changes
 

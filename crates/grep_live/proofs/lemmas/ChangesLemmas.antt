@@ -1,7 +1,5 @@
 -- What is counted and written of the lines of a file, by the hits that are left.
-use Rattle.std.proofs.Common.{◌≡◌, ℕ, ◌+◌, ◌-◌, ◌<◌, ◌≤◌, true, false, if◌then◌else◌, List, [], ◌∷◌, ◌++◌, length, map, drop, get_or, Option, sym, ap, subst, ◌∙◌, arith}
-use Rattle.grep_live.proofs.Words.{nat_eq, ◌&&◌, slice_range, Text, Expression, Inputs, file_at, written, output_line, GoesOut, StopsWithin, Mark, AllThree, Hit, HitsFrom, Change, IsChange, hit_row, change_row, change_rows, changes_rows, Mean, HitsBetween, IsFirst}
-use Rattle.std.proofs.lemmas.List.{drop_all}
+use Rattle.grep_live.proofs.Prelude.{◌≡◌, ℕ, ◌+◌, ◌-◌, ◌<◌, ◌≤◌, true, false, if◌then◌else◌, List, [], ◌∷◌, ◌++◌, length, map, drop, get_or, Option, sym, ap, subst, ◌∙◌, arith, nat_eq, ◌&&◌, slice_range, Text, Expression, Inputs, file_at, written, output_line, GoesOut, StopsWithin, Mark, AllThree, Hit, HitsFrom, Change, IsChange, hit_row, change_row, change_rows, changes_rows, Mean, HitsBetween, IsFirst, drop_all}
 use Rattle.grep_session.proofs.lemmas.Writing.{drop-next, WrittenUpTo, none_written, written_on, all_written, broken_off, one_went, one_stopped}
 
 module _ (inputs : Inputs) (k from to : ℕ) {W : Type 0} (contents : W → Option Text) (failures : W → ℕ) (margin : Text) where

@@ -1,10 +1,5 @@
 -- Lists of hits that are cut at a place, moved and joined.
-use Rattle.std.proofs.Common.{◌≡◌, ℕ, zero, suc, ◌+◌, ◌-◌, ◌<◌, ◌≤◌, false, cond, List, [], ◌∷◌, ◌++◌, length, map, take, drop, ◌⊎◌, refl, sym, ap, subst, ◌∙◌, inl, inr, arith}
-use Rattle.std.proofs.lemmas.Bool.{cases_lt, lt-ltb, le-ltb, le-leb}
-use Rattle.std.proofs.lemmas.Bool.Decides.{nat_tests}
-use Rattle.std.proofs.lemmas.List.{map-append}
-use Rattle.std.proofs.lemmas.List.Elements.{filter-append}
-use Rattle.grep_live.proofs.Words.{nat_lt, nat_le, filter, enumerate_from, IfHolds, EachGives, Text, Hit, AreWithin, hits_before, moved, hits_from}
+use Rattle.grep_live.proofs.Prelude.{◌≡◌, ℕ, zero, suc, ◌+◌, ◌-◌, ◌<◌, ◌≤◌, false, cond, List, [], ◌∷◌, ◌++◌, length, map, take, drop, ◌⊎◌, refl, sym, ap, subst, ◌∙◌, inl, inr, arith, cases_lt, lt-ltb, le-ltb, le-leb, nat_tests, map-append, filter-append, nat_lt, nat_le, filter, enumerate_from, IfHolds, EachGives, Text, Hit, AreWithin, hits_before, moved, hits_from}
 use Rattle.grep_core.proofs.lemmas.ChooseLaws.{EachGives-append}
 use Rattle.grep_core.proofs.lemmas.MoreLines.{enumerate_from-append}
 

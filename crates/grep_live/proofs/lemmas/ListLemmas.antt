@@ -1,47 +1,5 @@
--- Lists for which a relation holds place by place.
-use Rattle.std.proofs.Common.{◌≡◌, ℕ, zero, suc, ◌<◌, List, [], ◌∷◌, ◌++◌, length, map, get_or, refl, ap, arith}
-use Rattle.std.proofs.Math.ListN.{set}
-use Rattle.grep_live.proofs.Words.{AllZip, remove, AllThree}
-
-module _ {A B : Type 0} (R : A → B → Type 0) where
-  pub zip-append : (xs : List A) (ys : List B) (x : A) (y : B) → AllZip R xs ys → R x y → AllZip R (xs ++ x ∷ []) (ys ++ y ∷ [])
-  zip-append [] [] x y h r = (r, tt)
-  zip-append [] (b ∷ ys) x y h r = absurd h
-  zip-append (a ∷ xs) [] x y h r = absurd h
-  zip-append (a ∷ xs) (b ∷ ys) x y h r = (h.0, zip-append xs ys x y h.1 r)
-
-  pub zip-remove : (xs : List A) (ys : List B) (k : ℕ) → AllZip R xs ys → AllZip R (remove xs k) (remove ys k)
-  zip-remove [] [] zero h = tt
-  zip-remove [] [] (suc k) h = tt
-  zip-remove [] (b ∷ ys) k h = absurd h
-  zip-remove (a ∷ xs) [] k h = absurd h
-  zip-remove (a ∷ xs) (b ∷ ys) zero h = h.1
-  zip-remove (a ∷ xs) (b ∷ ys) (suc k) h = (h.0, zip-remove xs ys k h.1)
-
-  pub zip-set : (xs : List A) (ys : List B) (k : ℕ) (x : A) (y : B) → AllZip R xs ys → R x y → AllZip R (set xs k x) (set ys k y)
-  zip-set [] [] k x y h r = tt
-  zip-set [] (b ∷ ys) k x y h r = absurd h
-  zip-set (a ∷ xs) [] k x y h r = absurd h
-  zip-set (a ∷ xs) (b ∷ ys) zero x y h r = (r, h.1)
-  zip-set (a ∷ xs) (b ∷ ys) (suc k) x y h r = (h.0, zip-set xs ys k x y h.1 r)
-
-  pub zip-map : (f : B → B) → ((x : A) (y : B) → R x y → R x (f y)) → (xs : List A) (ys : List B) → AllZip R xs ys → AllZip R xs (map f ys)
-  zip-map f step [] [] h = tt
-  zip-map f step [] (b ∷ ys) h = absurd h
-  zip-map f step (a ∷ xs) [] h = absurd h
-  zip-map f step (a ∷ xs) (b ∷ ys) h = (step a b h.0, zip-map f step xs ys h.1)
-
-  pub zip-at : (xs : List A) (ys : List B) (k : ℕ) (x : A) (y : B) → k < length xs → AllZip R xs ys → R (get_or xs k x) (get_or ys k y)
-  zip-at [] ys k x y l h = absurd (omega arith)
-  zip-at (a ∷ xs) [] k x y l h = absurd h
-  zip-at (a ∷ xs) (b ∷ ys) zero x y l h = h.0
-  zip-at (a ∷ xs) (b ∷ ys) (suc k) x y l h = zip-at xs ys k x y (omega arith) h.1
-
-  pub zip-length : (xs : List A) (ys : List B) → AllZip R xs ys → length xs ≡ length ys
-  zip-length [] [] h = refl
-  zip-length [] (b ∷ ys) h = absurd h
-  zip-length (a ∷ xs) [] h = absurd h
-  zip-length (a ∷ xs) (b ∷ ys) h = ap suc (zip-length xs ys h.1)
+-- Three lists of which a relation holds place by place.
+use Rattle.grep_live.proofs.Prelude.{◌≡◌, ℕ, zero, suc, ◌<◌, List, [], ◌∷◌, ◌++◌, length, map, get_or, refl, ap, arith, set, remove, AllThree}
 
 module _ {A B C : Type 0} (R : A → B → C → Type 0) where
   pub three-append : (xs : List A) (ys : List B) (zs : List C) (x : A) (y : B) (z : C) → AllThree R xs ys zs → R x y z → AllThree R (xs ++ x ∷ []) (ys ++ y ∷ []) (zs ++ z ∷ [])

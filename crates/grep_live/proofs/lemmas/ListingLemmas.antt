@@ -1,9 +1,5 @@
 -- The hits of lines, one line after the other: there are some, and no others.
-use Rattle.std.proofs.Common.{◌≡◌, ℕ, zero, suc, ◌+◌, ◌-◌, ◌<◌, ◌≤◌, Bool, true, false, List, [], ◌∷◌, ◌++◌, length, map, take, drop, get_or, Option, Some, MatchBool, MatchOption, refl, sym, ap, subst, ◌∙◌, ◌⊎◌, inl, inr, arith, append_assoc}
-use Rattle.grep_live.proofs.Words.{slice_range, enumerate_from, Text, Expression, AreParts, Span, Options, Inputs, Selected, file_at, ListedParts, span_places, Hit, HitOf, HitsFrom, HitsBetween, IsFirst}
-use Rattle.std.proofs.Math.Seq.{drop-cons, take-add}
-use Rattle.std.proofs.lemmas.Bool.{cases_lt}
-use Rattle.std.proofs.lemmas.List.{drop-drop, length-take-le, length-drop}
+use Rattle.grep_live.proofs.Prelude.{◌≡◌, ℕ, zero, suc, ◌+◌, ◌-◌, ◌<◌, ◌≤◌, Bool, true, false, List, [], ◌∷◌, ◌++◌, length, map, take, drop, get_or, Option, Some, MatchBool, MatchOption, refl, sym, ap, subst, ◌∙◌, ◌⊎◌, inl, inr, arith, append_assoc, slice_range, enumerate_from, Text, Expression, AreParts, Span, Options, Inputs, Selected, file_at, ListedParts, span_places, Hit, HitOf, HitsFrom, HitsBetween, IsFirst, drop-cons, take-add, cases_lt, drop-drop, length-take-le, length-drop}
 use Rattle.re_syntax.proofs.lemmas.PartsExist.{AreParts-exist}
 use Rattle.re_syntax.proofs.lemmas.PartsLaws.{ArePartsFrom-unique}
 use Rattle.grep_core.proofs.lemmas.ChooseLaws.{EachGives-exist}

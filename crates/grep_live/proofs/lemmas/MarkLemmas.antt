@@ -1,9 +1,6 @@
 -- What an edit leaves of what a view has right, and what a change makes of it.
-use Rattle.std.proofs.Common.{◌≡◌, ℕ, ◌+◌, ◌-◌, ◌≤◌, Bool, true, false, List, ◌++◌, length, take, drop, min, refl, sym, ap, subst, ◌∙◌, inl, inr, arith, append_assoc}
-use Rattle.std.proofs.lemmas.List.{take-take, drop-drop, take-append-le, length-take-le, take-append-drop, take_all, length-append, length-drop}
-use Rattle.std.proofs.Math.Seq.{drop-append-add}
-use Rattle.std.proofs.lemmas.Bool.Decides.{nat_tests}
-use Rattle.grep_live.proofs.Words.{nat_eq, ◌&&◌, if◌then◌else◌, splice, Text, Mark, Hit, AreWithin, hits_before, hits_from, spliced_hits, after, touched, Fits}
+use Rattle.grep_live.proofs.Prelude.{◌≡◌, ℕ, ◌+◌, ◌-◌, ◌≤◌, Bool, true, false, List, ◌++◌, length, take, drop, min, refl, sym, ap, subst, ◌∙◌, inl, inr, arith, append_assoc, take-take, drop-drop, take-append-le, length-take-le, take-append-drop, take_all, length-append, length-drop, drop-append-add, nat_tests, nat_eq, ◌&&◌, if◌then◌else◌, splice, Text, Mark, Hit, AreWithin, hits_before, hits_from, spliced_hits, after, Fits}
+use Rattle.grep_session.proofs.lemmas.FitLemmas.{length-splice}
 use Rattle.grep_live.proofs.lemmas.HitLemmas.{By, first_hits, last_hits, joined_hits, before_before, before_all, from_from, cut_and_joined}
 
 -- ---- lines that are replaced
@@ -13,10 +10,6 @@ splice_front : (lines come : List Text) (start count f : ℕ) → f ≤ start �
 splice_front lines come start count f l h =
     let long : f ≤ length (take start lines) = omega (arith, length-take-le start lines (omega arith)) in
     take-append-le f (take start lines) (come ++ drop (start + count) lines) long ∙ take-take f start lines l
-
-pub length-splice : (lines come : List Text) (start count : ℕ) → start + count ≤ length lines → length (splice lines start (start + count) come) ≡ start + (length come + (length lines - (start + count)))
-length-splice lines come start count h =
-    omega (arith, length-append (take start lines) (come ++ drop (start + count) lines), length-append come (drop (start + count) lines), length-take-le start lines (omega arith), length-drop (start + count) lines)
 
 -- the last lines of a splice
 splice_back : (lines come : List Text) (start count b : ℕ) → start + count + b ≤ length lines →
@@ -32,14 +25,6 @@ splice_back lines come start count b h =
     (λ i. drop (long i) (grouped i)) ∙ drop-append-add front last k ∙ drop-drop k (start + count) lines ∙ ap (λ n. drop n lines) far
 
 -- ---- marks
-
-pub fits_touched : (lines new : ℕ) (start count : ℕ) (mark : Mark) → Fits lines mark → start + count ≤ lines → start + (lines - (start + count)) ≤ new → Fits new (touched start (lines - (start + count)) mark)
-fits_touched lines new start count mark (inl e) h k =
-    let front : mark.front ≡ lines = ap (λ m. m.front) e in
-    let back : mark.back ≡ lines = ap (λ m. m.back) e in
-    let known : mark.known ≡ lines = ap (λ m. m.known) e in
-    inr (omega arith, omega arith)
-fits_touched lines new start count mark (inr (a, b)) h k = inr (omega arith, omega arith)
 
 fits_back : (lines : ℕ) (mark : Mark) → Fits lines mark → (mark.back ≤ mark.known) × (mark.back ≤ lines)
 fits_back lines mark (inl e) =

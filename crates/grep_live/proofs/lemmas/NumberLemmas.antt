@@ -1,8 +1,5 @@
 -- The number of selected lines, which is the number of hits.
-use Rattle.std.proofs.Common.{◌≡◌, ℕ, zero, suc, ◌+◌, ◌-◌, ◌<◌, ◌≤◌, List, [], ◌∷◌, ◌++◌, length, take, drop, refl, sym, ap, subst, ◌∙◌, ◌⊎◌, inl, inr, arith}
-use Rattle.grep_live.proofs.Words.{slice_range, Text, Expression, HoldsOfMany, Options, Inputs, Selected, file_at, Hit, HitOf, HitsFrom, Mean, HitsBetween, SelectedBefore, IsPlaceAfter}
-use Rattle.std.proofs.Math.Seq.{take-add}
-use Rattle.std.proofs.lemmas.List.{length-append}
+use Rattle.grep_live.proofs.Prelude.{◌≡◌, ℕ, zero, suc, ◌+◌, ◌-◌, ◌<◌, ◌≤◌, List, [], ◌∷◌, ◌++◌, length, take, drop, refl, sym, ap, subst, ◌∙◌, ◌⊎◌, inl, inr, arith, slice_range, Text, Expression, HoldsOfMany, Options, Inputs, Selected, file_at, Hit, HitOf, HitsFrom, Mean, HitsBetween, SelectedBefore, IsPlaceAfter, take-add, length-append}
 use Rattle.grep_core.proofs.lemmas.Decided.{dec_selected}
 use Rattle.grep_live.proofs.lemmas.ListingLemmas.{HitsFrom-exist}
 

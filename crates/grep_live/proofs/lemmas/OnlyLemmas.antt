@@ -1,12 +1,9 @@
 -- Only what changed is reported.
-use Rattle.std.proofs.Common.{◌≡◌, ℕ, zero, suc, ◌+◌, ◌-◌, ◌<◌, ◌≤◌, Bool, List, [], ◌∷◌, ◌++◌, length, map, take, drop, get_or, Result, Ok, Err, ◌⊎◌, refl, sym, ap, subst, ◌∙◌, inl, inr, arith}
-use Rattle.std.proofs.Math.ListN.{set}
-use Rattle.std.proofs.lemmas.Bool.{cases_eq}
-use Rattle.std.proofs.lemmas.List.{append-nil, length-append, length-map, length-set, length-take, get_or-map, get_or-take, get_or-set_same, get_or-set_other, get_or_append_left}
-use Rattle.grep_live.proofs.Words.{slice_range, slice_set, nat_eq, ◌&&◌, IfOk, remove, splice, Text, Expression, Flag, Count, IgnoreCase, FilesWithMatches, LineNumber, OnlyMatching, Quiet, NoMessages, InvertMatch, LineRegexp, Options, File, Inputs, Selected, file_at, EditFault, Edit, AddFile, AddMissing, DropFile, Splice, AddPatterns, DropPattern, SetFlag, SetSyntax, SetContext, Applies, EditGives, whole_file, missing_file, spliced, Attempt, ListedParts, Mark, AllThree, Hit, Watched, whole_mark, new_mark, mark_at, touched, marks_by_flag, MarksAfter, MarksGiven, Change, IsChange, AreWithin, change_rows, changes_rows, all_known, change_at, IsBetween, OneSplice, LeavesHits, LeavesEnds, EachLeavesEnds, OnlyTouched}
+use Rattle.grep_live.proofs.Prelude.{◌≡◌, ℕ, zero, suc, ◌+◌, ◌-◌, ◌<◌, ◌≤◌, Bool, List, [], ◌∷◌, ◌++◌, length, map, take, drop, get_or, Result, Ok, Err, ◌⊎◌, refl, sym, ap, subst, ◌∙◌, inl, inr, arith, set, cases_eq, append-nil, length-append, length-map, length-set, length-take, get_or-take, get_or-set_same, get_or-set_other, get_or_append_left, slice_range, slice_set, nat_eq, ◌&&◌, IfOk, remove, splice, Text, Expression, Flag, Count, IgnoreCase, FilesWithMatches, LineNumber, OnlyMatching, Quiet, NoMessages, InvertMatch, LineRegexp, Options, File, Inputs, Selected, file_at, EditFault, Edit, AddFile, AddMissing, DropFile, Splice, AddPatterns, DropPattern, SetFlag, SetSyntax, SetContext, Applies, EditGives, whole_file, missing_file, spliced, Attempt, ListedParts, Mark, AllThree, Hit, Watched, whole_mark, new_mark, mark_at, touched, marks_by_flag, MarksAfter, MarksGiven, Change, IsChange, AreWithin, change_rows, changes_rows, all_known, change_at, IsBetween, OneSplice, LeavesHits, LeavesEnds, EachLeavesEnds, OnlyTouched}
+use Rattle.std.proofs.lemmas.List.{get_or-map}
 use Rattle.grep_live.proofs.lemmas.ListLemmas.{three-at}
 use Rattle.grep_live.proofs.lemmas.HitLemmas.{within_wider, by_within}
-use Rattle.grep_live.proofs.lemmas.MarkLemmas.{length-splice}
+use Rattle.grep_session.proofs.lemmas.FitLemmas.{length-splice}
 use Rattle.grep_live.proofs.lemmas.CarryLemmas.{added_file, added_missing, context_set, file_dropped, option_set, refused_same, splice_accepted, syntax_set}
 use Rattle.grep_live.proofs.lemmas.TwiceLemmas.{one_silent, all_silent}
 

@@ -1,6 +1,5 @@
 -- Of files whose changes were all reported no row is written.
-use Rattle.std.proofs.Common.{◌≡◌, ℕ, ◌+◌, true, List, [], ◌∷◌, ◌++◌, length, map, refl, ap, arith, if◌then◌else◌}
-use Rattle.grep_live.proofs.Words.{nat_eq, ◌&&◌, Expression, Options, File, AllThree, whole_mark, Change, IsChange, is_idle, hit_row, change_row, change_rows, changes_rows, NothingTwice}
+use Rattle.grep_live.proofs.Prelude.{◌≡◌, ℕ, ◌+◌, true, List, [], ◌∷◌, ◌++◌, length, map, refl, ap, arith, if◌then◌else◌, nat_eq, ◌&&◌, Expression, Options, File, AllThree, whole_mark, Change, IsChange, is_idle, hit_row, change_row, change_rows, changes_rows, NothingTwice}
 
 module _ (es : List Expression) (options : Options) where
   pub one_silent : (k : ℕ) (file : File) (change : Change) → IsChange es options file (whole_mark (length file.lines)) change → change_rows k change ≡ []

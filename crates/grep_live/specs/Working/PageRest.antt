@@ -1,6 +1,6 @@
 -- What is left of a page.
 use Rattle.std.specs.Prelude.{◌≡◌, ℕ, ◌-◌}
-use Rattle.grep_live.specs.declared.page.Page.{Page}
+use Rattle.grep_live.specs.declared.page_rows.Page.{Page}
 
 -- what is left of a page after this number of hits
 abbrev pub IsRest : Page → ℕ → Page → Type 0

@@ -1,6 +1,5 @@
 -- The elements of a list, as they are lent and returned.
-use Rattle.std.proofs.Common.{◌≡◌, ℕ, List, ◌++◌, length, take, drop, sym, ap, ◌∙◌}
-use Rattle.std.proofs.Math.Seq.{take-append_seam}
+use Rattle.grep_session.proofs.Prelude.{◌≡◌, ℕ, List, ◌++◌, length, take, drop, sym, ap, ◌∙◌, take-append_seam}
 
 -- all elements were lent, and the same number was returned
 pub all_back : {X : Type 0} (many : ℕ) (old new : List X) → many ≡ length old → length new ≡ length old → take many (new ++ drop (length new) old) ≡ new

@@ -1,9 +1,6 @@
 -- All patterns were read again.
-use Rattle.std.proofs.Common.{◌≡◌, Bool, true, false, IsTrue, MatchBool, List, [], map, Option, None, Some, IfSome, Result, Ok, Err, All, inl, inr, refl, sym, ap, subst, ◌∙◌}
-use Rattle.grep_session.proofs.Words.{AllZip, Text, AreParts, IsMeant, Matcher, AllAnswer, KeptFile, KeptLine, PartsOnly, WasKept, WasFileKept, Syntax, Expression, IsReadable, matched_expression, wants_whole, Flag, Count, IgnoreCase, FilesWithMatches, LineNumber, OnlyMatching, Quiet, NoMessages, InvertMatch, LineRegexp, Options, Inputs, EditFault, NoSuchFile, FileIsMissing, OutOfRange, LineHasNewline, NoSuchPattern, Pattern, TooManyPatterns, Memory, ReadsAgain, read_as, SetFlag, SetSyntax, Applies, EditGives, option_of, with_option, AreMatching, IsKept, IsFileKept, kept_lines, span_places, AreMatchers, RefusesFirst}
+use Rattle.grep_session.proofs.Prelude.{◌≡◌, Bool, true, false, IsTrue, MatchBool, List, [], map, Option, None, Some, IfSome, Result, Ok, Err, All, inl, inr, refl, sym, ap, subst, ◌∙◌, AllZip, Text, AreParts, IsMeant, Matcher, AllAnswer, KeptFile, KeptLine, PartsOnly, WasKept, WasFileKept, Syntax, Expression, IsReadable, matched_expression, wants_whole, Flag, Count, IgnoreCase, FilesWithMatches, LineNumber, OnlyMatching, Quiet, NoMessages, InvertMatch, LineRegexp, Options, Inputs, EditFault, NoSuchFile, FileIsMissing, OutOfRange, LineHasNewline, NoSuchPattern, Pattern, TooManyPatterns, Memory, ReadsAgain, read_as, SetFlag, SetSyntax, Applies, EditGives, option_of, with_option, AreMatching, IsKept, IsFileKept, kept_lines, span_places, AreMatchers, RefusesFirst, false≢true, All-weaker}
 use Rattle.std.specs.Bool.{⊤}
-use Rattle.std.proofs.lemmas.Bool.{false≢true}
-use Rattle.std.proofs.lemmas.List.Elements.{All-weaker}
 
 -- some pattern was refused, or memory ran out
 pub refuses_again : (T : Type 0) (syntax : Syntax) (options : Options) (old : Inputs) (fault : EditFault) → RefusesFirst syntax options.ignore_case old.patterns fault → ReadsAgain {T = T} syntax options old old (Err fault)

@@ -1,8 +1,5 @@
 -- Where lines around selected ones are shown, what is written for kept lines is the file's groups.
-use Rattle.std.proofs.Common.{◌≡◌, ◌+◌, nat_lt, ◌<◌, Bool, true, false, ◌-◌, List, [], ◌∷◌, ◌++◌, length, map, All, refl, sym, ap, subst, ◌∙◌, append_assoc, append-nil, if◌then◌else◌}
-use Rattle.std.proofs.lemmas.Bool.{false≢true, lt-ltb, ltb-true}
-use Rattle.std.proofs.lemmas.List.Elements.{All-head, All-tail}
-use Rattle.grep_session.proofs.Words.{Text, Expression, Context, Options, Progress, Groups, around, shown_number, rows_after, progress_from, next_shown, with_waiting, after_line, last_of, rows_at, name_shown, KeptLine, line_text, IsKept, is_selected, shown_rows, around_rows}
+use Rattle.grep_session.proofs.Prelude.{◌≡◌, ◌+◌, nat_lt, ◌<◌, Bool, true, false, ◌-◌, List, [], ◌∷◌, ◌++◌, length, map, All, refl, sym, ap, subst, ◌∙◌, append_assoc, append-nil, if◌then◌else◌, false≢true, lt-ltb, ltb-true, All-head, All-tail, Text, Expression, Context, Options, Progress, Groups, around, shown_number, rows_after, progress_from, next_shown, with_waiting, after_line, last_of, rows_at, name_shown, KeptLine, line_text, IsKept, is_selected, shown_rows, around_rows}
 use Rattle.grep_core.proofs.lemmas.AroundLemmas.{Tracks, tracks_none, tracks_line, tracked_groups}
 use Rattle.grep_session.proofs.lemmas.KeptLaws.{selected_reported}
 

@@ -1,7 +1,5 @@
 -- The lines of a file that are shown around selected ones, written one after the other.
-use Rattle.std.proofs.Common.{◌≡◌, ℕ, ◌+◌, ◌-◌, nat_lt, ◌<◌, ◌≤◌, Bool, true, false, not, List, [], ◌∷◌, ◌++◌, length, map, take, drop, get_or, Option, Result, Err, refl, sym, ap, subst, ◌∙◌, arith, append-nil, if◌then◌else◌}
-use Rattle.grep_session.proofs.Words.{drop-map, Text, Options, Progress, Shown, group_separator, hyphen, output_line, written, next_shown, with_waiting, after_line, last_of, row_with, rows_around, row_by, GoesOut, StopsWithin, Writes, KeptLine, line_text, no_line, is_selected, shown_rows, around_rows}
-use Rattle.std.proofs.lemmas.List.{length-map, length-take-le, length-drop, get_or-take, map-append, take_more, drop_all}
+use Rattle.grep_session.proofs.Prelude.{◌≡◌, ℕ, ◌+◌, ◌-◌, nat_lt, ◌<◌, ◌≤◌, Bool, true, false, not, List, [], ◌∷◌, ◌++◌, length, map, take, drop, get_or, Option, Result, Err, refl, sym, ap, subst, ◌∙◌, arith, append-nil, if◌then◌else◌, drop-map, Text, Options, Progress, Shown, group_separator, hyphen, output_line, written, next_shown, with_waiting, after_line, last_of, row_with, rows_around, row_by, GoesOut, StopsWithin, Writes, KeptLine, line_text, no_line, is_selected, shown_rows, around_rows, length-map, length-take-le, length-drop, get_or-take, map-append, take_more, drop_all}
 use Rattle.grep_session.proofs.lemmas.Writing.{WrittenUpTo, drop-next, none_written, written_on, broken_off, all_written, writes_after, stops_before, one_went, one_stopped}
 
 -- a line that is not left out is shown

@@ -1,10 +1,6 @@
 -- What is found in a line after a change of the patterns.
-use Rattle.std.proofs.Common.{◌≡◌, ℕ, zero, suc, ◌+◌, ◌<◌, ◌≤◌, Bool, true, false, ◌||◌, List, [], ◌∷◌, ◌++◌, inl, inr, length, map, take, drop, length-take, nat_eq, nat_lt, get_or, MatchBool, Decides, Any, refl, sym, ap, subst, ◌∙◌, All, Option, None, Some, IfSome, arith}
-use Rattle.grep_session.proofs.Words.{remove, list_any, Text, Expression, Holds, Matches, IsFound, ArePartsFrom, AreParts, Options, Matched, Rebuild, PartsOnly, Added, Dropped, KeptFile, KeptLine, without, Change, Span, ArePartsAgain, first_sought, has_new_parts, left_numbers, HasChanged, HasNewParts, IsWithin, WasKept, WasFileKept, kept_lines, AreMatching, AddsMatching, ArePartsKept, IsKept, span_places}
+use Rattle.grep_session.proofs.Prelude.{◌≡◌, ℕ, zero, suc, ◌+◌, ◌<◌, ◌≤◌, Bool, true, false, ◌||◌, List, [], ◌∷◌, ◌++◌, inl, inr, length, map, take, drop, length-take, nat_eq, nat_lt, get_or, MatchBool, Decides, Any, refl, sym, ap, subst, ◌∙◌, All, Option, None, Some, IfSome, arith, remove, list_any, Text, Expression, Holds, Matches, IsFound, ArePartsFrom, AreParts, Options, Matched, Rebuild, PartsOnly, Added, Dropped, KeptFile, KeptLine, without, Change, Span, ArePartsAgain, first_sought, has_new_parts, left_numbers, HasChanged, HasNewParts, IsWithin, WasKept, WasFileKept, kept_lines, AreMatching, AddsMatching, ArePartsKept, IsKept, span_places, drop-length, append-nil, length-append, false≢true}
 use Rattle.std.specs.Bool.{⊤}
-use Rattle.std.proofs.Math.Seq.{drop-length}
-use Rattle.std.proofs.lemmas.List.{append-nil, length-append}
-use Rattle.std.proofs.lemmas.Bool.{false≢true}
 use Rattle.re_syntax.proofs.lemmas.Decisions.{Any-first, Any-later, Any-cases, Any-none}
 use Rattle.re_syntax.proofs.lemmas.SomeOfJoined.{Any-single}
 use Rattle.grep_core.proofs.lemmas.Verdicts.{decided_yes, decided_no}

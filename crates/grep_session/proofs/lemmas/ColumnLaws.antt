@@ -1,11 +1,6 @@
 -- What is found in the lines of a chunk after a change, from what is found in each line.
-use Rattle.std.proofs.Common.{◌≡◌, ℕ, ◌+◌, ◌-◌, ◌*◌, ◌<◌, ◌==◌, Bool, true, false, not, Decides, List, [], ◌∷◌, ◌++◌, All, length, map, drop, get_or, refl, sym, ap, subst, ◌∙◌, arith, length-append, append-nil}
+use Rattle.grep_session.proofs.Prelude.{◌≡◌, ℕ, ◌+◌, ◌-◌, ◌*◌, ◌<◌, ◌==◌, Bool, true, false, not, Decides, List, [], ◌∷◌, ◌++◌, All, length, map, drop, get_or, refl, sym, ap, subst, ◌∙◌, arith, length-append, append-nil, false≢true, nat_tests, length-map, length-drop, nil_from_length, get_or_default, All-append, Text, Expression, newline, terminated, Span, AddsAtMost, search_cost, Steps, Adds, Options, FoundIn, finds_at, is_paired, numbers_at, AreBelow, KeptLine, no_line, line_text, seen, Change, Rebuild, PartsOnly, Added, Dropped, ChangeCost, CostOfEach, HasChanged, HasNewParts, IsWithin, NewPartsCost, SearchesEach, WasKept, searched_for, AreAllParts, AreDecided, AreMatches, Grows, IsAdded, KeepsAll, first_sought, has_new_parts, left_numbers, AddsMatching, IsKept}
 use Rattle.std.proofs.Math.ListN.{get_or-map}
-use Rattle.std.proofs.lemmas.Bool.{false≢true}
-use Rattle.std.proofs.lemmas.Bool.Decides.{nat_tests}
-use Rattle.std.proofs.lemmas.List.{length-map, length-drop, nil_from_length, get_or_default}
-use Rattle.std.proofs.lemmas.List.Elements.{All-append}
-use Rattle.grep_session.proofs.Words.{Text, Expression, newline, terminated, Span, AddsAtMost, search_cost, Steps, Adds, Options, FoundIn, finds_at, is_paired, numbers_at, AreBelow, KeptLine, no_line, line_text, seen, Change, Rebuild, PartsOnly, Added, Dropped, ChangeCost, CostOfEach, HasChanged, HasNewParts, IsWithin, NewPartsCost, SearchesEach, WasKept, searched_for, AreAllParts, AreDecided, AreMatches, Grows, IsAdded, KeepsAll, first_sought, has_new_parts, left_numbers, AddsMatching, IsKept}
 use Rattle.re_meter.proofs.lemmas.Adding.{all_both}
 use Rattle.line_chunks.proofs.lemmas.PairLaws.{lt_no}
 use Rattle.line_chunks.proofs.lemmas.SeenLaws.{length-seen, line_seen}

@@ -1,9 +1,5 @@
 -- What is found in all lines, one line or one file more at a time.
-use Rattle.std.proofs.Common.{All, ◌≡◌, ℕ, suc, ◌+◌, ◌<◌, List, [], ◌∷◌, ◌++◌, length, map, take, drop, get_or, refl, sym, ap, subst, ◌∙◌, append_assoc, append-nil, zero, add-one, drop-cons}
-use Rattle.std.proofs.Math.Seq.{take-suc}
-use Rattle.std.proofs.lemmas.List.{map-append}
-use Rattle.std.proofs.lemmas.List.Concat.{flat_map-append}
-use Rattle.grep_session.proofs.Words.{File, lines_of_files}
+use Rattle.grep_session.proofs.Prelude.{All, ◌≡◌, ℕ, suc, ◌+◌, ◌<◌, List, [], ◌∷◌, ◌++◌, length, map, take, drop, get_or, refl, sym, ap, subst, ◌∙◌, append_assoc, append-nil, zero, add-one, drop-cons, take-suc, map-append, flat_map-append, File, lines_of_files}
 
 -- ---- lists by their first elements and the rest
 

@@ -1,8 +1,5 @@
 -- The lines of a chunk that an expression matches, noted one after the other.
-use Rattle.std.proofs.Common.{◌≡◌, ℕ, zero, suc, take, drop, length-take, length-drop, ◌+◌, ◌<◌, ◌≤◌, Bool, List, [], ◌∷◌, ◌++◌, inl, inr, length, get_or, refl, sym, ap, subst, ◌∙◌, arith, append-nil, append_assoc, if◌then◌else◌, Some}
-use Rattle.grep_session.proofs.Words.{◌⊎◌, Text, Expression, Matches, numbers_at, AreBelow, Change, Rebuild, PartsOnly, Added, Dropped, IsWithin, AddsColumn, IsNextLine, first_sought, AddsMatching}
-use Rattle.std.proofs.lemmas.Bool.{cases_lt}
-use Rattle.std.proofs.lemmas.List.Elements.{All-push, All-nil, All-append}
+use Rattle.grep_session.proofs.Prelude.{◌≡◌, ℕ, zero, suc, take, drop, length-take, length-drop, ◌+◌, ◌<◌, ◌≤◌, Bool, List, [], ◌∷◌, ◌++◌, inl, inr, length, get_or, refl, sym, ap, subst, ◌∙◌, arith, append-nil, append_assoc, if◌then◌else◌, Some, ◌⊎◌, Text, Expression, Matches, numbers_at, AreBelow, Change, Rebuild, PartsOnly, Added, Dropped, IsWithin, AddsColumn, IsNextLine, first_sought, AddsMatching, cases_lt, All-push, All-nil, All-append}
 use Rattle.line_chunks.proofs.lemmas.PairLaws.{eq_yes, eq_no, numbers_at-append}
 use Rattle.grep_session.proofs.lemmas.FindingLemmas.{adds_one_matching, passes_one_matching, adds_none_matching, adds_more_matching}
 

@@ -1,8 +1,5 @@
 -- Whether some line is selected is decided by how many lines are matched.
-use Rattle.std.proofs.Common.{◌≡◌, ℕ, ◌+◌, ◌-◌, ◌≤◌, nat_lt, Bool, true, false, not, List, [], ◌∷◌, length, refl, ◌∙◌, ap, sym, arith, if◌then◌else◌}
-use Rattle.std.proofs.lemmas.Bool.{false≢true}
-use Rattle.std.proofs.lemmas.Bool.Decides.{nat_tests}
-use Rattle.grep_session.proofs.Words.{Options, KeptLine, is_matched, matched_count, is_selected, some_selected, selected_count}
+use Rattle.grep_session.proofs.Prelude.{◌≡◌, ℕ, ◌+◌, ◌-◌, ◌≤◌, nat_lt, Bool, true, false, not, List, [], ◌∷◌, length, refl, ◌∙◌, ap, sym, arith, if◌then◌else◌, false≢true, nat_tests, Options, KeptLine, is_matched, matched_count, is_selected, some_selected, selected_count}
 use Rattle.grep_session.proofs.lemmas.FileSteps.{counted_some}
 
 module _ (options : Options) where

@@ -1,9 +1,6 @@
 -- Which kept lines grep selects, and how many, where what is kept of them is right.
-use Rattle.std.proofs.Common.{◌≡◌, ℕ, ◌+◌, ◌<◌, ◌≤◌, Bool, true, false, List, [], ◌∷◌, length, map, take, get_or, All, IfSome, Some, ◌⊎◌, inl, inr, refl, sym, ap, subst, ◌∙◌, arith, if◌then◌else◌}
-use Rattle.grep_session.proofs.Words.{Decides, Text, Expression, HoldsOfMany, Options, Selected, file_at, KeptFile, KeptLine, SelectedFrom, line_text, IsKept, IsFileKept, kept_lines, kept_file, file_with, is_selected, selected_count}
-use Rattle.std.proofs.lemmas.Bool.{false≢true}
-use Rattle.std.proofs.lemmas.List.{get_or-map, take-map, length-map}
-use Rattle.std.proofs.lemmas.List.Elements.{All-head, All-tail, All-take, All-get_or}
+use Rattle.grep_session.proofs.Prelude.{◌≡◌, ℕ, ◌+◌, ◌<◌, ◌≤◌, Bool, true, false, List, [], ◌∷◌, length, map, take, get_or, All, IfSome, Some, ◌⊎◌, inl, inr, refl, sym, ap, subst, ◌∙◌, arith, if◌then◌else◌, Decides, Text, Expression, HoldsOfMany, Options, Selected, file_at, KeptFile, KeptLine, SelectedFrom, line_text, IsKept, IsFileKept, kept_lines, kept_file, file_with, is_selected, selected_count, false≢true, length-map, All-head, All-tail, All-take, All-get_or}
+use Rattle.std.proofs.lemmas.List.{get_or-map, take-map}
 use Rattle.grep_session.proofs.lemmas.KeptLaws.{selected_reported}
 
 module _ (es : List Expression) (options : Options) where

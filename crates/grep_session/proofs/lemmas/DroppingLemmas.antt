@@ -1,12 +1,7 @@
 -- A pattern is removed, and the numbers of those that match a line stay right.
-use Rattle.std.proofs.Common.{Option, Some, IfSome, ◌≡◌, ℕ, zero, suc, ◌+◌, ◌-◌, ◌<◌, ◌≤◌, Bool, MatchBool, All, true, false, not, List, [], ◌∷◌, ◌++◌, inl, inr, length, map, take, drop, nat_eq, nat_lt, cond, if◌then◌else◌, refl, sym, ap, subst, ◌∙◌, arith}
-use Rattle.std.proofs.Math.ListN.{set}
-use Rattle.grep_session.proofs.Words.{option_map, AllWithin, AllZip, remove, filter, Syntax, IsMeant, Matcher, IsReadable, matched_expression, wants_whole, AllAnswer, AreMeant, whole, AreParts, Options, KeptLine, all_of, line_text, line_without, Text, Expression, Matches, IfHolds, lowered, without, AreMatching, IsKept, span_places, file_with, AreMatchers}
-use Rattle.std.proofs.lemmas.List.Elements.{All-append, All-take, All-drop, All-map, All-weaker}
+use Rattle.grep_session.proofs.Prelude.{Option, Some, IfSome, ◌≡◌, ℕ, zero, suc, ◌+◌, ◌-◌, ◌<◌, ◌≤◌, Bool, MatchBool, All, true, false, not, List, [], ◌∷◌, ◌++◌, inl, inr, length, map, take, drop, nat_eq, nat_lt, cond, if◌then◌else◌, refl, sym, ap, subst, ◌∙◌, arith, set, option_map, AllWithin, AllZip, remove, filter, Syntax, IsMeant, Matcher, IsReadable, matched_expression, wants_whole, AllAnswer, AreMeant, whole, AreParts, Options, KeptLine, all_of, line_text, line_without, Text, Expression, Matches, IfHolds, lowered, without, AreMatching, IsKept, span_places, file_with, AreMatchers, All-append, All-take, All-drop, All-map, All-weaker, get_or-set_other, map-append, nat_tests}
 use Rattle.grep_session.proofs.lemmas.SessionLemmas.{map-remove}
 use Rattle.std.specs.Bool.{⊤}
-use Rattle.std.proofs.lemmas.List.{get_or-set_other, map-append}
-use Rattle.std.proofs.lemmas.Bool.Decides.{nat_tests}
 
 pub eq_same : (n : ℕ) → nat_eq n n ≡ true
 eq_same n = grind (arith, nat_tests)

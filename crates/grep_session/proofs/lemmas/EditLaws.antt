@@ -1,11 +1,8 @@
 -- The laws of the definitions: an edit has one outcome for its inputs, and one cost if no
 -- allocation fails, which is the least.
-use Rattle.std.proofs.Common.{◌≡◌, ℕ, ◌+◌, ◌*◌, ◌<◌, ◌≤◌, Bool, true, false, List, [], ◌∷◌, length, Result, Ok, Err, MatchBool, take, get_or, length-take, refl, sym, ap, subst, ◌∙◌, arith}
-use Rattle.grep_session.proofs.Words.{PatternFault, Syntax, Text, Expression, Matches, list_of, AreParts, IsReadable, Options, Chosen, searches_for, search_cost, Inputs, Matched, EditFault, NoSuchFile, FileIsMissing, OutOfRange, LineHasNewline, NoSuchPattern, Pattern, TooManyPatterns, Memory, Edit, AddFile, AddMissing, DropFile, Splice, AddPatterns, DropPattern, SetFlag, SetSyntax, SetContext, Applies, Reads, IsFirstRefused, AreAlike, EditsAreDetermined, MemorySavesEditSteps, Touched, Touches, PartsCostOf, PartsCost, Costs, CostsAs, CostsAccepted, pairs_cost, parts_alone, all_lines}
-use Rattle.std.proofs.lemmas.List.{get_or-take}
+use Rattle.grep_session.proofs.Prelude.{◌≡◌, ℕ, ◌+◌, ◌*◌, ◌<◌, ◌≤◌, Bool, true, false, List, [], ◌∷◌, length, Result, Ok, Err, MatchBool, take, get_or, length-take, refl, sym, ap, subst, ◌∙◌, arith, PatternFault, Syntax, Text, Expression, Matches, list_of, AreParts, IsReadable, Options, Chosen, searches_for, search_cost, Inputs, Matched, EditFault, NoSuchFile, FileIsMissing, OutOfRange, LineHasNewline, NoSuchPattern, Pattern, TooManyPatterns, Memory, Edit, AddFile, AddMissing, DropFile, Splice, AddPatterns, DropPattern, SetFlag, SetSyntax, SetContext, Applies, Reads, IsFirstRefused, AreAlike, EditsAreDetermined, MemorySavesEditSteps, Touched, Touches, PartsCostOf, PartsCost, Costs, CostsAs, CostsAccepted, pairs_cost, parts_alone, all_lines, get_or-take, mul-le-mul_right}
 use Rattle.re_syntax.proofs.lemmas.PartsLaws.{ArePartsFrom-unique}
 use Rattle.grep_core.proofs.lemmas.CostLaws.{refused_searches}
-use Rattle.std.proofs.Math.Nat.{mul-le-mul_right}
 use Rattle.grep_core.proofs.lemmas.ChooseLaws.{same_value, IfHolds-both, Chosen-determined}
 use Rattle.grep_core.proofs.lemmas.LawsHold.{means_one, IsMeant-determined}
 

@@ -1,10 +1,6 @@
 -- How an edit changes a session's inputs, and what is kept.
-use Rattle.std.proofs.Common.{◌≡◌, ◌≢◌, ℕ, suc, ◌+◌, ◌<◌, ◌≤◌, List, [], ◌∷◌, ◌++◌, length, map, take, drop, Option, Some, None, Ok, IfSome, inl, inr, refl, sym, ap, subst, ◌∙◌, All, get_or, slice_set, arith}
-use Rattle.std.proofs.Math.ListN.{set}
-use Rattle.std.proofs.Math.Seq.{map-set_same}
-use Rattle.std.proofs.lemmas.List.{map-set, get_or-map, length-map}
-use Rattle.std.proofs.lemmas.List.Elements.{All-append, All-take, All-drop, All-set}
-use Rattle.grep_session.proofs.Words.{splice, option_map, Syntax, Text, Expression, HasNoNewline, Matcher, matched_expression, wants_whole, room_of, AllAnswer, Steps, Options, File, Inputs, AreMeant, whole, missing, file_at, most_patterns, KeptFile, Inside, SameMatchers, CostAnew, SearchesEach, IsSession, inputs_of, KeptLine, line_text, AddFile, Splice, Applies, spliced, whole_file, with_files, IsKept, IsFileKept, kept_file, kept_lines, file_with, AreMatchers, HasPlace, TakesSteps, NeedsNoMemory}
+use Rattle.grep_session.proofs.Prelude.{◌≡◌, ◌≢◌, ℕ, suc, ◌+◌, ◌<◌, ◌≤◌, List, [], ◌∷◌, ◌++◌, length, map, take, drop, Option, Some, None, Ok, IfSome, inl, inr, refl, sym, ap, subst, ◌∙◌, All, get_or, slice_set, arith, set, map-set_same, map-set, length-map, All-append, All-take, All-drop, All-set, splice, option_map, Syntax, Text, Expression, HasNoNewline, Matcher, matched_expression, wants_whole, room_of, AllAnswer, Steps, Options, File, Inputs, AreMeant, whole, missing, file_at, most_patterns, KeptFile, Inside, SameMatchers, CostAnew, SearchesEach, IsSession, inputs_of, AreFit, KeptLine, line_text, AddFile, Splice, Applies, spliced, whole_file, with_files, IsKept, IsFileKept, kept_file, kept_lines, file_with, AreMatchers, HasPlace, TakesSteps, NeedsNoMemory}
+use Rattle.std.proofs.lemmas.List.{get_or-map}
 use Rattle.grep_core.proofs.lemmas.CostLaws.{same_length}
 use Rattle.grep_session.proofs.lemmas.RoomLemmas.{keep_same}
 use Rattle.grep_session.proofs.lemmas.StepLemmas.{takes_lines}
@@ -22,16 +18,17 @@ AreMatchers-same syntax options texts old new s e w = record {
   counted = same_length matched_expression new old e ∙ s.counted;
 }
 
--- a session whose matchers were asked, and whose files are as right as before
-pub asked_session : (s t : Inside) → t ≡ record s { texts = t.texts; matchers = t.matchers; files = t.files } → t.texts.items ≡ s.texts.items → IsSession s → SameMatchers matched_expression wants_whole room_of s.matchers.items t.matchers.items
-    → All (IsFileKept (map matched_expression s.matchers.items) s.options) t.files.items → IsSession t
-asked_session s t is texts old same kept = subst IsSession (sym is) (record {
+-- a session whose matchers were asked, and whose files are as right as before, with marks that fit
+pub asked_session : (s t : Inside) → t ≡ record s { texts = t.texts; matchers = t.matchers; files = t.files; marks = t.marks } → t.texts.items ≡ s.texts.items → IsSession s → SameMatchers matched_expression wants_whole room_of s.matchers.items t.matchers.items
+    → All (IsFileKept (map matched_expression s.matchers.items) s.options) t.files.items → AreFit (map kept_file t.files.items) t.marks.items → IsSession t
+asked_session s t is texts old same kept fit = subst IsSession (sym is) (record {
   matchers = subst (λ ts. AreMatchers s.syntax s.options (map (λ text. text.items) ts) t.matchers.items) (sym texts) (AreMatchers-same s.syntax s.options _ s.matchers.items t.matchers.items old.matchers same.same_expressions same.same_wholes);
   few = subst (λ n. n ≤ most_patterns) (sym (same_length matched_expression _ _ same.same_expressions)) old.few;
   kept = subst (λ es. All (IsFileKept es s.options) t.files.items) (sym same.same_expressions) kept;
   rooms = keep_same s.states s.matchers.items t.matchers.items same.same_rooms old.rooms;
   some_states = old.some_states;
   few_states = old.few_states;
+  fit = fit;
 })
 
 -- ---- lines that are replaced

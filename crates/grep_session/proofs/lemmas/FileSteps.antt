@@ -1,7 +1,5 @@
 -- What is written for one file, and for files one after another.
-use Rattle.std.proofs.Common.{◌≡◌, ℕ, ◌+◌, nat_lt, ◌<◌, Bool, true, false, ◌&&◌, ◌||◌, List, [], ◌∷◌, ◌++◌, length, drop, get_or, Option, Some, Result, ap, sym, refl, subst, ◌∙◌, arith, if◌then◌else◌}
-use Rattle.std.proofs.lemmas.Bool.{lt-ltb}
-use Rattle.grep_session.proofs.Words.{Text, Options, Whole, form, written, summary_as, reported_of, GoesOut, StopsWithin, Writes, KeptLine, KeptFile, is_selected, some_selected, selected_count, text_rows, rows_with, file_rows, rows_after_laws, reported_from, end_of, has_selected}
+use Rattle.grep_session.proofs.Prelude.{◌≡◌, ℕ, ◌+◌, nat_lt, ◌<◌, Bool, true, false, ◌&&◌, ◌||◌, List, [], ◌∷◌, ◌++◌, length, drop, get_or, Option, Some, Result, ap, sym, refl, subst, ◌∙◌, arith, if◌then◌else◌, lt-ltb, Text, Options, Whole, form, written, summary_as, reported_of, GoesOut, StopsWithin, Writes, KeptLine, KeptFile, is_selected, some_selected, selected_count, text_rows, rows_with, file_rows, rows_after_laws, reported_from, end_of, has_selected}
 use Rattle.grep_session.proofs.lemmas.Writing.{WrittenUpTo, drop-item, writes_after, written_on, broken_off}
 
 -- the number of selected lines is above 0 if and only if some line is selected

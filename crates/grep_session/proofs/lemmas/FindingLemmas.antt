@@ -1,7 +1,5 @@
 -- What is found in a line, one matcher or one part more at a time.
-use Rattle.std.proofs.Common.{◌≡◌, ℕ, suc, ◌+◌, ◌*◌, ◌≤◌, Bool, true, false, List, [], ◌∷◌, ◌++◌, inl, inr, length, map, MatchBool, refl, sym, ap, subst, ◌∙◌, append_assoc, append-nil, arith}
-use Rattle.std.proofs.lemmas.List.{map-append, length_push, length-append, length-map}
-use Rattle.grep_session.proofs.Words.{Text, Expression, Matches, IsFound, IsPart, ArePartsFrom, AreParts, searches_for, Span, Steps, Adds, Options, IfHolds, Course, HasTaken, refusals, search_cost, AreMatching, AddsMatching, span_places, PartsCostOf, SearchesOne}
+use Rattle.grep_session.proofs.Prelude.{◌≡◌, ℕ, suc, ◌+◌, ◌*◌, ◌≤◌, Bool, true, false, List, [], ◌∷◌, ◌++◌, inl, inr, length, map, MatchBool, refl, sym, ap, subst, ◌∙◌, append_assoc, append-nil, arith, map-append, length_push, length-append, length-map, Text, Expression, Matches, IsFound, IsPart, ArePartsFrom, AreParts, searches_for, Span, Steps, Adds, Options, IfHolds, Course, HasTaken, refusals, search_cost, AreMatching, AddsMatching, span_places, PartsCostOf, SearchesOne}
 use Rattle.re_syntax.proofs.lemmas.PartsLaws.{IsPart-unique}
 use Rattle.re_syntax.proofs.lemmas.PartsExist.{AreParts-exist}
 use Rattle.re_search.proofs.lemmas.CourseLaws.{few_searches}

@@ -1,6 +1,5 @@
 -- A line that no expression matches has no parts.
-use Rattle.std.proofs.Common.{Bool, List, []}
-use Rattle.grep_session.proofs.Words.{Text, Expression, AreParts, AreMatching}
+use Rattle.grep_session.proofs.Prelude.{Bool, List, [], Text, Expression, AreParts, AreMatching}
 use Rattle.grep_session.proofs.lemmas.SurvivingLemmas.{none_match, some_match}
 
 -- if there is no number, there are no parts

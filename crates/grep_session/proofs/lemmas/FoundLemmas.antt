@@ -1,11 +1,5 @@
 -- What was found replaces what is kept, one chunk and one file at a time.
-use Rattle.std.proofs.Common.{◌≡◌, ℕ, zero, suc, ◌<◌, List, [], ◌∷◌, ◌++◌, length, map, take, drop, get_or, ◌+◌, add-one, Option, None, Some, IfSome, All, drop-cons, refl, sym, ap, subst, ◌∙◌, arith, append_assoc}
-use Rattle.grep_session.proofs.Words.{AllZip, option_map, unwrap_or, Text, Expression, Options, whole, KeptLine, all_of, line_text, FitColumns, FitsColumn, with_column, with_columns, FoundIn, Change, Rebuild, KeptFile, HasChanged, WasKept, WasFileKept, AddsColumns, IsColumn, chunks_of, chunks_of_files, IsKept, IsFileKept, kept_file, file_with}
-use Rattle.std.proofs.Math.ListN.{set}
-use Rattle.std.proofs.Math.Seq.{take-append_seam, drop-append_seam, take-suc}
-use Rattle.std.proofs.lemmas.List.{map-append, append-nil, get_or-drop, drop-set-lt}
-use Rattle.std.proofs.lemmas.List.Concat.{flat_map-append}
-use Rattle.std.proofs.lemmas.List.Elements.{All-nil, All-cons, All-append, All-take, All-drop, All-head, All-tail}
+use Rattle.grep_session.proofs.Prelude.{◌≡◌, ℕ, zero, suc, ◌<◌, List, [], ◌∷◌, ◌++◌, length, map, take, drop, get_or, ◌+◌, add-one, Option, None, Some, IfSome, All, drop-cons, refl, sym, ap, subst, ◌∙◌, arith, append_assoc, AllZip, option_map, unwrap_or, Text, Expression, Options, whole, KeptLine, all_of, line_text, FitColumns, FitsColumn, with_column, with_columns, FoundIn, Change, Rebuild, KeptFile, HasChanged, WasKept, WasFileKept, AddsColumns, IsColumn, chunks_of, chunks_of_files, IsKept, IsFileKept, kept_file, file_with, set, take-append_seam, drop-append_seam, take-suc, map-append, append-nil, get_or-drop, drop-set-lt, flat_map-append, All-nil, All-cons, All-append, All-take, All-drop, All-head, All-tail}
 use Rattle.grep_core.proofs.lemmas.MatcherLemmas.{AllZip-append}
 use Rattle.line_chunks.proofs.lemmas.Joins.{joined_parts, joined_push}
 use Rattle.line_chunks.proofs.lemmas.SeenLaws.{texts-seen}

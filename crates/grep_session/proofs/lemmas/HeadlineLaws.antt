@@ -1,6 +1,5 @@
 -- A session's report, messages and status, from scratch; the accepted edits decide them.
-use Rattle.std.proofs.Common.{◌≡◌, ℕ, Bool, List, [], ◌∷◌, ◌++◌, Option, Result, Ok, Err, refl, sym, subst, ◌∙◌}
-use Rattle.grep_session.proofs.Words.{Decides, Text, Expression, Status, Inputs, AreMeant, AnySelected, Messages, StatusOf, Out, EditFault, NoSuchFile, FileIsMissing, OutOfRange, LineHasNewline, NoSuchPattern, Pattern, TooManyPatterns, Memory, Edit, EditGives, no_inputs, GrepGives, ReportsInputs, ReportsAllInputs, IsStatusOfInputs, Attempt, ComesTo, with_accepted, accepted, Makes, AcceptedEditsDecide, Reports, ReportsMessages}
+use Rattle.grep_session.proofs.Prelude.{◌≡◌, ℕ, Bool, List, [], ◌∷◌, ◌++◌, Option, Result, Ok, Err, refl, sym, subst, ◌∙◌, Decides, Text, Expression, Status, Inputs, AreMeant, AnySelected, Messages, StatusOf, Out, EditFault, NoSuchFile, FileIsMissing, OutOfRange, LineHasNewline, NoSuchPattern, Pattern, TooManyPatterns, Memory, Edit, EditGives, no_inputs, GrepGives, ReportsInputs, ReportsAllInputs, IsStatusOfInputs, Attempt, ComesTo, with_accepted, accepted, Makes, AcceptedEditsDecide, Reports, ReportsMessages}
 use Rattle.grep_core.proofs.lemmas.Determined.{Out-determined, Messages-determined, StatusOf-determined}
 use Rattle.grep_core.proofs.lemmas.Exist.{Out-exist, Messages-exist, StatusOf-exist}
 use Rattle.grep_core.proofs.lemmas.LawsHold.{means_one}

@@ -1,9 +1,5 @@
 -- If what is kept is right, what is written for the kept files is what grep writes for them.
-use Rattle.std.proofs.Common.{◌≡◌, ℕ, ◌+◌, nat_le, Bool, true, false, ◌&&◌, ◌||◌, IsTrue, Decides, List, [], ◌∷◌, ◌++◌, length, map, drop, slice_range, All, Option, None, Some, IfSome, refl, sym, ap, subst, ◌∙◌, arith, append-nil, if◌then◌else◌}
-use Rattle.grep_session.proofs.Words.{enumerate_from, Text, Expression, Span, Context, Options, Missing, Whole, EachGives, Chosen, File, Selected, HasSelected, Form, nothing, names, counts, parts, lines, around, lines_with, form, shown_name, shown_number, PartsOfLine, GroupsOf, OutAs, Out, GroupedAs, rows_after, file_so_far, summary_as, KeptLine, line_text, KeptFile, span_places, kept_lines, file_with, kept_file, IsKept, IsFileKept, is_selected, has_selected, selected_count, row, selected_rows, rows_as, text_rows, rows_with, rows_after_laws, report_rows}
-use Rattle.std.proofs.lemmas.Bool.{false≢true}
-use Rattle.std.proofs.lemmas.List.{length-map}
-use Rattle.std.proofs.lemmas.List.Elements.{All-head, All-tail}
+use Rattle.grep_session.proofs.Prelude.{◌≡◌, ℕ, ◌+◌, nat_le, Bool, true, false, ◌&&◌, ◌||◌, IsTrue, Decides, List, [], ◌∷◌, ◌++◌, length, map, drop, slice_range, All, Option, None, Some, IfSome, refl, sym, ap, subst, ◌∙◌, arith, append-nil, if◌then◌else◌, enumerate_from, Text, Expression, Span, Context, Options, Missing, Whole, EachGives, Chosen, File, Selected, HasSelected, Form, nothing, names, counts, parts, lines, around, lines_with, form, shown_name, shown_number, PartsOfLine, GroupsOf, OutAs, Out, GroupedAs, rows_after, file_so_far, summary_as, KeptLine, line_text, KeptFile, span_places, kept_lines, file_with, kept_file, IsKept, IsFileKept, is_selected, has_selected, selected_count, row, selected_rows, rows_as, text_rows, rows_with, rows_after_laws, report_rows, false≢true, length-map, All-head, All-tail}
 use Rattle.grep_core.proofs.lemmas.AroundLaws.{groups_none, groups_some}
 use Rattle.grep_core.proofs.lemmas.ChooseLaws.{EachGives-one}
 use Rattle.grep_core.proofs.lemmas.FileOutput.{rows_none, output_all}

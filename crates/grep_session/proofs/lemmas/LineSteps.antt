@@ -1,6 +1,5 @@
 -- The rows of the lines of a file, one more line at a time.
-use Rattle.std.proofs.Common.{◌≡◌, ℕ, zero, suc, ◌+◌, ◌-◌, ◌<◌, ◌≤◌, Bool, true, false, List, [], ◌∷◌, ◌++◌, length, drop, get_or, Option, refl, sym, ap, subst, ◌∙◌, arith, if◌then◌else◌}
-use Rattle.grep_session.proofs.Words.{Text, Options, Form, form, written, GoesOut, StopsWithin, KeptLine, no_line, SelectedFrom, is_selected, selected_rows, rows_as, rows_from, text_rows}
+use Rattle.grep_session.proofs.Prelude.{◌≡◌, ℕ, zero, suc, ◌+◌, ◌-◌, ◌<◌, ◌≤◌, Bool, true, false, List, [], ◌∷◌, ◌++◌, length, drop, get_or, Option, refl, sym, ap, subst, ◌∙◌, arith, if◌then◌else◌, Text, Options, Form, form, written, GoesOut, StopsWithin, KeptLine, no_line, SelectedFrom, is_selected, selected_rows, rows_as, rows_from, text_rows}
 use Rattle.grep_core.proofs.lemmas.RowLemmas.{goes_nowhere}
 use Rattle.grep_session.proofs.lemmas.Writing.{WrittenUpTo, drop-next, written_on, broken_off}
 

@@ -1,10 +1,7 @@
 -- The hit of a line, where what is kept of it is right.
-use Rattle.std.proofs.Common.{◌≡◌, ℕ, ◌<◌, Bool, true, false, List, [], length, map, get_or, Option, None, Some, MatchBool, MatchOption, All, IfSome, ◌≤◌, ◌⊎◌, inl, inr, refl, sym, ap, subst, ◌∙◌, arith}
-use Rattle.grep_session.proofs.Words.{if◌then◌else◌, Text, Expression, AreParts, Span, Options, File, Selected, file_at, KeptLine, line_text, no_line, KeptFile, ListedParts, span_places, kept_lines, kept_file, file_with, IsKept, IsFileKept, listed_spans, is_selected}
+use Rattle.grep_session.proofs.Prelude.{◌≡◌, ℕ, ◌<◌, Bool, true, false, List, [], length, map, get_or, Option, None, Some, MatchBool, MatchOption, All, IfSome, ◌≤◌, ◌⊎◌, inl, inr, refl, sym, ap, subst, ◌∙◌, arith, if◌then◌else◌, Text, Expression, AreParts, Span, Options, File, Selected, file_at, KeptLine, line_text, no_line, KeptFile, ListedParts, span_places, kept_lines, kept_file, file_with, IsKept, IsFileKept, listed_spans, is_selected, false≢true, cases_lt, get_or_past, length-map, All-get_or}
 use Rattle.std.specs.Prelude.{⊤}
-use Rattle.std.proofs.lemmas.Bool.{false≢true, cases_lt}
-use Rattle.std.proofs.lemmas.List.{get_or-map, get_or_past, length-map}
-use Rattle.std.proofs.lemmas.List.Elements.{All-get_or}
+use Rattle.std.proofs.lemmas.List.{get_or-map}
 use Rattle.grep_session.proofs.lemmas.KeptLaws.{selected_reported}
 
 module _ (es : List Expression) (options : Options) where

@@ -1,8 +1,5 @@
 -- Patterns are added: the matchers after that, and the steps that it takes.
-use Rattle.std.proofs.Common.{◌≡◌, ℕ, ◌+◌, ◌<◌, ◌≤◌, List, [], ◌∷◌, ◌++◌, Err, All, inl, inr, length, map, take, drop, refl, sym, ap, subst, ◌∙◌, arith}
-use Rattle.std.proofs.lemmas.List.{map-append, length-append, length-map}
-use Rattle.std.proofs.lemmas.List.Elements.{All-append}
-use Rattle.grep_session.proofs.Words.{take-map, drop-map, Syntax, Text, Expression, list_of, IsMeant, Matcher, IsReadable, matched_expression, room_of, wants_whole, Steps, Options, Inputs, AreMeant, Added, EditFault, ChangeCost, HasChanged, SearchesEach, SameMatchers, IsSession, inputs_of, Inside, AddPatterns, EditGives, with_patterns, most_patterns, AreMatchers, RefusesFirst, TakesSteps, all_lines, pairs_cost}
+use Rattle.grep_session.proofs.Prelude.{◌≡◌, ℕ, ◌+◌, ◌<◌, ◌≤◌, List, [], ◌∷◌, ◌++◌, Err, All, inl, inr, length, map, take, drop, refl, sym, ap, subst, ◌∙◌, arith, map-append, length-append, length-map, All-append, take-map, drop-map, Syntax, Text, Expression, list_of, IsMeant, Matcher, IsReadable, matched_expression, room_of, wants_whole, Steps, Options, Inputs, AreMeant, Added, EditFault, ChangeCost, HasChanged, SearchesEach, SameMatchers, IsSession, inputs_of, Inside, AddPatterns, EditGives, with_patterns, most_patterns, AreMatchers, RefusesFirst, TakesSteps, all_lines, pairs_cost}
 use Rattle.grep_session.proofs.lemmas.StepLemmas.{CostOfEach-sum, takes_touched}
 use Rattle.grep_core.proofs.lemmas.MatcherLemmas.{AllZip-append}
 

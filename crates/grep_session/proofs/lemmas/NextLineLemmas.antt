@@ -1,8 +1,5 @@
 -- The next line of a chunk that an expression matches, by its number.
-use Rattle.std.proofs.Common.{◌≡◌, ℕ, Bool, Some, ◌+◌, ◌-◌, ◌^◌, ◌<◌, ◌≤◌, List, [], ◌∷◌, ◌++◌, All, length, take, drop, get_or, slice_range, sym, ap, subst, ◌∙◌, arith, length-append, length-drop, append_assoc}
-use Rattle.std.proofs.Math.Seq.{take-append_seam, get_or-append_seam}
-use Rattle.std.proofs.lemmas.List.{get_or-drop, get_or_append_left, take-append-drop, drop-take, take-take}
-use Rattle.grep_session.proofs.Words.{Text, terminated, Span, IsNext, Expression, Matches, IsNextLine, next_line_cost}
+use Rattle.grep_session.proofs.Prelude.{◌≡◌, ℕ, Bool, Some, ◌+◌, ◌-◌, ◌^◌, ◌<◌, ◌≤◌, List, [], ◌∷◌, ◌++◌, All, length, take, drop, get_or, slice_range, sym, ap, subst, ◌∙◌, arith, length-append, length-drop, append_assoc, take-append_seam, get_or-append_seam, get_or-drop, get_or_append_left, take-append-drop, drop-take, take-take, Text, terminated, Span, IsNext, Expression, Matches, IsNextLine, next_line_cost}
 use Rattle.re_syntax.proofs.lemmas.LinesLaws.{terminated-append}
 
 -- the first elements, and the next

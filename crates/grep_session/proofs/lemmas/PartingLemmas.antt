@@ -1,9 +1,5 @@
 -- The parts of the lines of a chunk, one line after the other.
-use Rattle.std.proofs.Common.{◌≡◌, ℕ, suc, ◌+◌, ◌<◌, ◌==◌, Bool, true, false, not, ◌&&◌, MatchBool, Decides, List, [], ◌∷◌, ◌++◌, inl, inr, length, drop, get_or, nat_lt, Result, Ok, Err, IfOk, refl, sym, ap, subst, ◌∙◌, arith, length-append, append-nil, take, add-one}
-use Rattle.std.proofs.Math.Seq.{drop-append_seam, drop-cons, take-suc}
-use Rattle.std.proofs.lemmas.Bool.{cases_lt}
-use Rattle.std.proofs.lemmas.Bool.Decides.{nat_tests}
-use Rattle.grep_session.proofs.Words.{Text, Expression, Span, Steps, Adds, Options, is_paired, numbers_at, KeptLine, no_line, Change, Added, PartsCostOf, HasNewParts, NewPartsCost, SearchesOne, TakesAtMost, Grows, has_new_parts, ArePartsAgain, CostsParts}
+use Rattle.grep_session.proofs.Prelude.{◌≡◌, ℕ, suc, ◌+◌, ◌<◌, ◌==◌, Bool, true, false, not, ◌&&◌, MatchBool, Decides, List, [], ◌∷◌, ◌++◌, inl, inr, length, drop, get_or, nat_lt, Result, Ok, Err, IfOk, refl, sym, ap, subst, ◌∙◌, arith, length-append, append-nil, take, add-one, drop-append_seam, drop-cons, take-suc, cases_lt, nat_tests, Text, Expression, Span, Steps, Adds, Options, is_paired, numbers_at, KeptLine, no_line, Change, Added, PartsCostOf, HasNewParts, NewPartsCost, SearchesOne, TakesAtMost, Grows, has_new_parts, ArePartsAgain, CostsParts}
 use Rattle.grep_core.proofs.lemmas.CostLaws.{cost_within}
 use Rattle.line_chunks.proofs.lemmas.PairLaws.{numbers_at-append}
 use Rattle.grep_session.proofs.lemmas.ColumnLemmas.{front_and_rest}

@@ -1,7 +1,6 @@
 -- A pattern is removed where parts are kept: the steps that this takes, and how it is put back.
-use Rattle.std.proofs.Common.{◌≡◌, ℕ, zero, suc, ◌+◌, ◌<◌, List, [], ◌∷◌, ◌++◌, inl, inr, length, map, take, drop, get_or, refl, sym, ap, subst, ◌∙◌, arith}
-use Rattle.std.proofs.lemmas.List.{map-append, length-map, get_or-map}
-use Rattle.grep_session.proofs.Words.{AllZip, remove, insert, take-map, drop-map, Expression, Matches, IsMeant, Steps, IfHolds, Chosen, Inputs, AreMeant, Matched, Matcher, matched_expression, room_of, wants_whole, Dropped, HasChanged, ChangeCost, SearchesEach, SameMatchers, DropPattern, with_patterns, TakesSteps, parts_alone, all_lines, Inside, IsSession, inputs_of}
+use Rattle.grep_session.proofs.Prelude.{◌≡◌, ℕ, zero, suc, ◌+◌, ◌<◌, List, [], ◌∷◌, ◌++◌, inl, inr, length, map, take, drop, get_or, refl, sym, ap, subst, ◌∙◌, arith, map-append, length-map, AllZip, remove, insert, take-map, drop-map, Expression, Matches, IsMeant, Steps, IfHolds, Chosen, Inputs, AreMeant, Matched, Matcher, matched_expression, room_of, wants_whole, Dropped, HasChanged, ChangeCost, SearchesEach, SameMatchers, DropPattern, with_patterns, TakesSteps, parts_alone, all_lines, Inside, IsSession, inputs_of}
+use Rattle.std.proofs.lemmas.List.{get_or-map}
 use Rattle.re_syntax.proofs.lemmas.Decisions.{Any-first}
 use Rattle.re_syntax.proofs.lemmas.SomeOfJoined.{Any-single}
 use Rattle.grep_session.proofs.lemmas.SessionLemmas.{map-remove}

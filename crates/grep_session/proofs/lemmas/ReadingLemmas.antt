@@ -1,6 +1,5 @@
 -- Why a pattern is not read.
-use Rattle.std.proofs.Common.{◌≡◌, ℕ, List, ◌⊎◌, inl, inr, refl, ap, ◌∙◌, Bool}
-use Rattle.grep_session.proofs.Words.{FaultKind, UnclosedBracket, BadClass, BadCollatingSymbol, BadRange, UnclosedGroup, UnopenedGroup, BadInterval, IntervalTooLarge, NothingToRepeat, TrailingBackslash, UndefinedEscape, BackReference, TooDeep, TooLarge, PatternFault, Syntax, Text, IsOutOfMemory, IsFirstRefused, EditFault, Pattern, Memory, RefusesFirst, reported_by, reported_at}
+use Rattle.grep_session.proofs.Prelude.{◌≡◌, ℕ, List, ◌⊎◌, inl, inr, refl, ap, ◌∙◌, Bool, FaultKind, UnclosedBracket, BadClass, BadCollatingSymbol, BadRange, UnclosedGroup, UnopenedGroup, BadInterval, IntervalTooLarge, NothingToRepeat, TrailingBackslash, UndefinedEscape, BackReference, TooDeep, TooLarge, PatternFault, Syntax, Text, IsOutOfMemory, IsFirstRefused, EditFault, Pattern, Memory, RefusesFirst, reported_by, reported_at}
 use Rattle.re_syntax.specs.declared.fault.FaultKind.TheVariants.{Memory as OutOfMemory}
 
 -- a kind of fault is out of memory, or one of the pattern

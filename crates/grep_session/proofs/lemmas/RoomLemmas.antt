@@ -1,8 +1,6 @@
 -- How much the matchers of a session may keep, as some come and go.
-use Rattle.std.proofs.Common.{◌≡◌, ℕ, ◌≤◌, ◌<◌, List, [], ◌∷◌, ◌++◌, length, map, get_or, sym, subst, ap, ◌∙◌, All, arith}
-use Rattle.std.proofs.lemmas.List.{map-append, length-map, get_or-map}
-use Rattle.std.proofs.lemmas.List.Elements.{All-append, All-nil, All-push}
-use Rattle.grep_session.proofs.Words.{remove, Matcher, room_of, KeepAtMost}
+use Rattle.grep_session.proofs.Prelude.{◌≡◌, ℕ, ◌≤◌, ◌<◌, List, [], ◌∷◌, ◌++◌, length, map, get_or, sym, subst, ap, ◌∙◌, All, arith, map-append, length-map, All-append, All-nil, All-push, remove, Matcher, room_of, KeepAtMost}
+use Rattle.std.proofs.lemmas.List.{get_or-map}
 use Rattle.grep_session.proofs.lemmas.SessionLemmas.{map-remove}
 use Rattle.grep_session.proofs.lemmas.DroppingLemmas.{All-remove}
 

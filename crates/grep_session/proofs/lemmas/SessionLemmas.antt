@@ -1,9 +1,11 @@
 -- How lists of a session's inputs change.
-use Rattle.std.proofs.Common.{◌≡◌, ℕ, suc, ◌+◌, ◌<◌, List, [], ◌∷◌, ◌++◌, length, map, take, drop, sym, ap, subst, ◌∙◌, All, get_or, add-one, arith}
-use Rattle.std.proofs.Math.Seq.{take-suc}
-use Rattle.std.proofs.lemmas.List.Elements.{All-push}
-use Rattle.std.proofs.lemmas.List.{map-append, get_or-map, length-map}
-use Rattle.std.specs.List.{remove, splice, take-map, drop-map}
+use Rattle.grep_session.proofs.Prelude.{◌≡◌, ℕ, suc, ◌+◌, ◌<◌, List, [], ◌∷◌, ◌++◌, length, map, take, drop, sym, ap, subst, ◌∙◌, All, get_or, add-one, arith, take-suc, Watched, All-push, map-append, length-map, remove, splice, drop-map}
+use Rattle.std.proofs.lemmas.List.{get_or-map}
+use Rattle.std.specs.List.{take-map}
+
+-- the inputs that contracts see
+pub inputs_are : {a b : Watched} → a ≡ b → a.inputs ≡ b.inputs
+inputs_are same = ap (λ w. w.inputs) same
 
 -- f of a list after an element was removed
 pub map-remove : {X Y : Type 0} (f : X → Y) (xs new : List X) (k : ℕ) → new ≡ remove xs k → map f new ≡ remove (map f xs) k

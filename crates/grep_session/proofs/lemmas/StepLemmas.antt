@@ -1,7 +1,5 @@
 -- The cost of lines, and the steps that a search of them takes.
-use Rattle.std.proofs.Common.{◌≡◌, ℕ, ◌+◌, List, [], ◌∷◌, ◌++◌, inl, inr, length, map, Ok, refl, sym, ap, subst, ◌∙◌, append_assoc, arith}
-use Rattle.std.proofs.lemmas.List.{length-map}
-use Rattle.grep_session.proofs.Words.{Text, Expression, Matcher, matched_expression, Steps, Adds, Options, Chosen, search_cost, Inputs, AreMeant, AreMatchers, Change, Rebuild, PartsOnly, Added, Dropped, Edit, Applies, PartsCost, TakesSteps, Touched, Touches, pairs_cost, parts_alone, searched_by, ChangeCost, CostAnew, CostOfEach, HasNewParts, NewPartsCost, SearchesEach, SearchesOne, searched_for}
+use Rattle.grep_session.proofs.Prelude.{◌≡◌, ℕ, ◌+◌, List, [], ◌∷◌, ◌++◌, inl, inr, length, map, Ok, refl, sym, ap, subst, ◌∙◌, append_assoc, arith, length-map, Text, Expression, Matcher, matched_expression, Steps, Adds, Options, Chosen, search_cost, Inputs, AreMeant, AreMatchers, Change, Rebuild, PartsOnly, Added, Dropped, Edit, Applies, PartsCost, TakesSteps, Touched, Touches, pairs_cost, parts_alone, searched_by, ChangeCost, CostAnew, CostOfEach, HasNewParts, NewPartsCost, SearchesEach, SearchesOne, searched_for}
 use Rattle.re_meter.proofs.lemmas.Adding.{adds_none, all_both}
 use Rattle.grep_core.proofs.lemmas.CostLaws.{cost_within}
 use Rattle.grep_core.proofs.lemmas.Decided.{dec_matched}

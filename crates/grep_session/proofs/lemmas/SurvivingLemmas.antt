@@ -1,6 +1,5 @@
 -- The parts of a line stay the same when patterns that do not match it are added or removed.
-use Rattle.std.proofs.Common.{◌≡◌, ℕ, suc, ◌<◌, ◌≤◌, Bool, true, false, List, [], ◌∷◌, ◌++◌, inl, inr, length, Any, sym, subst}
-use Rattle.grep_session.proofs.Words.{OnTrue, Text, Expression, Holds, Matches, IsFound, ArePartsFrom, AreMatching}
+use Rattle.grep_session.proofs.Prelude.{◌≡◌, ℕ, suc, ◌<◌, ◌≤◌, Bool, true, false, List, [], ◌∷◌, ◌++◌, inl, inr, length, Any, sym, subst, OnTrue, Text, Expression, Holds, Matches, IsFound, ArePartsFrom, AreMatching}
 use Rattle.re_syntax.proofs.lemmas.Decisions.{Any-cases, Any-none}
 use Rattle.re_syntax.proofs.lemmas.SomeOfJoined.{Any-left, Any-append-cases}
 

@@ -1,8 +1,5 @@
 -- Lines that are written one after another, by the lines that are left.
-use Rattle.std.proofs.Common.{◌≡◌, ℕ, ◌+◌, ◌<◌, List, [], ◌∷◌, ◌++◌, length, drop, get_or, map, Option, Result, Ok, Err, IfOk, refl, sym, ap, subst, ◌∙◌, add-one, append_assoc, append-nil}
-use Rattle.grep_session.proofs.Words.{IsErr, Text, output_line, written, GoesOut, StopsWithin, Writes}
-use Rattle.std.proofs.Math.Seq.{drop-cons}
-use Rattle.std.proofs.lemmas.Bool.{false≢true}
+use Rattle.grep_session.proofs.Prelude.{◌≡◌, ℕ, ◌+◌, ◌<◌, List, [], ◌∷◌, ◌++◌, length, drop, get_or, map, Option, Result, Ok, Err, IfOk, refl, sym, ap, subst, ◌∙◌, add-one, append_assoc, append-nil, IsErr, Text, output_line, written, GoesOut, StopsWithin, Writes, drop-cons, false≢true}
 use Rattle.grep_core.proofs.lemmas.RowLemmas.{goes_nowhere, goes_on, stops_early, stops_later, writes_last}
 use Rattle.grep_core.proofs.lemmas.WriterLaws.{written-append}
 

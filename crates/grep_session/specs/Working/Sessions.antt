@@ -1,9 +1,11 @@
--- A session as contracts see it: the inputs that its edits have left.
-use Rattle.std.specs.Prelude.{◌≤◌, map, length, All}
+-- A session as contracts see it: the inputs that its edits have left, and the marks.
+use Rattle.std.specs.Prelude.{◌≡◌, ◌≤◌, map, length, All, List, Result, MatchResult}
 use Rattle.re_search.specs.Working.Matchers.{matched_expression}
 use Rattle.grep_core.specs.Files.{Inputs}
 use Rattle.grep_session.specs.declared.session.Session.TheInside.{Inside}
 use Rattle.re_syntax.specs.Profile.{most_patterns, most_states}
+use Rattle.grep_session.specs.declared.mark.Mark.{Mark}
+use Rattle.grep_session.specs.Marks.{Watched, AreFit, lost}
 use Rattle.grep_session.specs.Working.Kept.{IsFileKept, kept_file}
 use Rattle.grep_core.specs.Working.MatcherLists.{AreMatchers}
 use Rattle.grep_session.specs.Working.Rooms.{KeepAtMost}
@@ -18,8 +20,11 @@ inputs_of s =
       files = map kept_file s.files.items;
     }
 
+abbrev pub watched_of : Inside → Watched
+watched_of s = record { inputs = inputs_of s; marks = s.marks.items }
+
 -- the matchers are those of the patterns, what is kept of each line is what they find in it, and
--- they keep no more states than were asked for
+-- they keep no more states than were asked for; the marks fit the files
 pub record IsSession (s : Inside) : Type 0 where
   pub matchers : AreMatchers s.syntax s.options (map (λ text. text.items) s.texts.items)
       s.matchers.items
@@ -28,3 +33,8 @@ pub record IsSession (s : Inside) : Type 0 where
   pub rooms : KeepAtMost s.states s.matchers.items
   pub some_states : 1 ≤ s.states
   pub few_states : s.states ≤ most_states
+  pub fit : AreFit (map kept_file s.files.items) s.marks.items
+
+-- no line of any file is left untouched, or nothing is touched
+abbrev pub LosesMarks : {T E : Type 0} → List Mark → List Mark → Result T E → Type 0
+LosesMarks old new result = MatchResult result (λ _. new ≡ map lost old) (λ _. new ≡ old)

@@ -21,7 +21,7 @@ impl Session {
     /// `WriteFault` if a write fails, which the writer counts. A beginning was written. The write
     /// is not tried again.
     pub fn report<W: CountedWrite>(&self, margin: &[u8], out: &mut W) -> Result<Status, WriteFault>
-        ensures { ReportsInputs W.contents W.failures self.now margin.now out.old out.new result }
+        ensures { ReportsInputs W.contents W.failures self.now.inputs margin.now out.old out.new result }
     {
         write_report(&self.files, &self.options, margin, out)
     }
@@ -34,14 +34,14 @@ impl Session {
     /// `WriteFault` if a write fails, which the writer counts. A beginning was written. The write
     /// is not tried again.
     pub fn messages<W: CountedWrite>(&self, margin: &[u8], out: &mut W) -> Result<(), WriteFault>
-        ensures { ReportsAllInputs W.contents W.failures self.now margin.now out.old out.new result }
+        ensures { ReportsAllInputs W.contents W.failures self.now.inputs margin.now out.old out.new result }
     {
         write_messages(&self.files, &self.options, margin, out)
     }
 
     /// The exit status of grep for the session (XCU grep, EXIT STATUS).
     pub fn status(&self) -> Status
-        ensures { IsStatusOfInputs self.now result }
+        ensures { IsStatusOfInputs self.now.inputs result }
     {
         status(&self.files, &self.options)
     }
@@ -50,9 +50,9 @@ impl Session {
     /// line is looked at.
     pub fn status_given(&self, some: bool) -> Status
         requires { (es : List Expression) →
-            AreMeant self.now.syntax self.now.options self.now.patterns es →
-            Decides some (AnySelected es self.now.options self.now.files) }
-        ensures { IsStatusOfInputs self.now result }
+            AreMeant self.now.inputs.syntax self.now.inputs.options self.now.inputs.patterns es →
+            Decides some (AnySelected es self.now.inputs.options self.now.inputs.files) }
+        ensures { IsStatusOfInputs self.now.inputs result }
     {
         status_given(&self.files, &self.options, some)
     }

@@ -1,34 +1,32 @@
 //! What a session holds: its files and their lines, which lines an editor lists, and how many
 //! states are kept. No line is searched and nothing is allocated.
 ghost use Rattle.std.specs.Prelude.{◌≡◌, ◌<◌, ◌≤◌, ◌*◌, ℕ, List, [], length, map, get_or, take};
-ghost use Rattle.std.specs.Prelude.{MatchBool, MatchOption};
+ghost use Rattle.std.specs.Prelude.{MatchOption};
 ghost use Rattle.re_syntax.specs.Expression.{Expression};
 ghost use Rattle.re_syntax.specs.Profile.{most_states};
 ghost use Rattle.re_search.specs.Working.Blocks.{HoldsOfMany};
 ghost use Rattle.grep_core.specs.Files.{AreMeant, Selected};
 ghost use Rattle.grep_core.specs.Run.{file_at};
-ghost use Rattle.grep_session.specs.Edits.{option_of};
+ghost use Rattle.grep_session.specs.Marks.{AreFit};
 ghost use Rattle.grep_session.specs.Working.Kept.{span_places};
 ghost use Rattle.grep_session.specs.Listed.{ListedParts};
 
 use crate::caches::{Caches, kept_by};
 use crate::hit::{Hit, hit_at};
-use crate::options::{is_same, option_of};
+use crate::mark::Mark;
 use crate::session::Session;
-use grep_core::Flag;
-use re_search::Syntax;
 
 impl Session {
     /// The number of files.
     pub fn file_count(&self) -> usize
-        ensures { result ≡ length self.now.files }
+        ensures { result ≡ length self.now.inputs.files }
     {
         self.files.len()
     }
 
     /// The number of lines of file `k`: none if it cannot be opened or is not there.
     pub fn line_count(&self, k: usize) -> usize
-        ensures { result ≡ length (file_at self.now.files k).lines }
+        ensures { result ≡ length (file_at self.now.inputs.files k).lines }
     {
         let Some(file) = self.files.get(k) else {
             return 0;
@@ -39,13 +37,13 @@ impl Session {
     /// Line `place` of file `k` as an editor lists it, where grep selects it; both are numbered
     /// from 0. Its parts are listed under `-o`.
     pub fn hit(&self, k: usize, place: usize) -> Option<Hit<'_>>
-        requires { place < length (file_at self.now.files k).lines }
+        requires { place < length (file_at self.now.inputs.files k).lines }
         ensures { (es : List Expression) →
-            AreMeant self.now.syntax self.now.options self.now.patterns es →
-            let line = get_or (file_at self.now.files k).lines place [] in
-            MatchOption result (Selected es self.now.options line → ⊥)
-            (λ hit. Selected es self.now.options line × (hit.text.now ≡ line) ×
-            ListedParts es self.now.options line (map span_places hit.parts.now)) }
+            AreMeant self.now.inputs.syntax self.now.inputs.options self.now.inputs.patterns es →
+            let line = get_or (file_at self.now.inputs.files k).lines place [] in
+            MatchOption result (Selected es self.now.inputs.options line → ⊥)
+            (λ hit. Selected es self.now.inputs.options line × (hit.text.now ≡ line) ×
+            ListedParts es self.now.inputs.options line (map span_places hit.parts.now)) }
     {
         let Some(lines) = &self.files[k].lines else {
             return None;
@@ -55,11 +53,11 @@ impl Session {
 
     /// The number of lines of file `k` before line `place` that grep selects.
     pub fn hits_before(&self, k: usize, place: usize) -> usize
-        requires { place ≤ length (file_at self.now.files k).lines }
+        requires { place ≤ length (file_at self.now.inputs.files k).lines }
         ensures { (es : List Expression) →
-            AreMeant self.now.syntax self.now.options self.now.patterns es →
-            HoldsOfMany (Selected es self.now.options)
-            (take place (file_at self.now.files k).lines) result }
+            AreMeant self.now.inputs.syntax self.now.inputs.options self.now.inputs.patterns es →
+            HoldsOfMany (Selected es self.now.inputs.options)
+            (take place (file_at self.now.inputs.files k).lines) result }
     {
         let Some(file) = self.files.get(k) else {
             return 0;
@@ -70,17 +68,17 @@ impl Session {
     /// The first line of file `k`, from line `place` on, that grep selects; the number of its lines
     /// if there is none.
     pub fn next_hit(&self, k: usize, place: usize) -> usize
-        requires { place ≤ length (file_at self.now.files k).lines }
+        requires { place ≤ length (file_at self.now.inputs.files k).lines }
         ensures after { place ≤ result }
-        ensures within { result ≤ length (file_at self.now.files k).lines }
+        ensures within { result ≤ length (file_at self.now.inputs.files k).lines }
         ensures passed { (es : List Expression) →
-            AreMeant self.now.syntax self.now.options self.now.patterns es →
+            AreMeant self.now.inputs.syntax self.now.inputs.options self.now.inputs.patterns es →
             (i : ℕ) → place ≤ i → i < result →
-            Selected es self.now.options (get_or (file_at self.now.files k).lines i []) → ⊥ }
+            Selected es self.now.inputs.options (get_or (file_at self.now.inputs.files k).lines i []) → ⊥ }
         ensures hit { (es : List Expression) →
-            AreMeant self.now.syntax self.now.options self.now.patterns es →
-            result < length (file_at self.now.files k).lines →
-            Selected es self.now.options (get_or (file_at self.now.files k).lines result []) }
+            AreMeant self.now.inputs.syntax self.now.inputs.options self.now.inputs.patterns es →
+            result < length (file_at self.now.inputs.files k).lines →
+            Selected es self.now.inputs.options (get_or (file_at self.now.inputs.files k).lines result []) }
     {
         let Some(file) = self.files.get(k) else {
             return 0;
@@ -88,25 +86,18 @@ impl Session {
         file.next_selected(&self.options, place)
     }
 
-    /// Whether an option has this value.
-    pub fn has_option(&self, flag: Flag, on: bool) -> bool
-        ensures { MatchBool result (option_of flag self.now.options ≡ on)
-            (option_of flag self.now.options ≡ on → ⊥) }
+    /// The marks of all files.
+    pub fn marks(&self) -> &[Mark]
+        ensures are { result.now ≡ self.now.marks }
+        ensures fit { AreFit self.now.inputs.files self.now.marks }
     {
-        option_of(&self.options, flag) == on
-    }
-
-    /// Whether the patterns are read in this syntax.
-    pub fn has_syntax(&self, syntax: Syntax) -> bool
-        ensures { MatchBool result (syntax ≡ self.now.syntax) (syntax ≡ self.now.syntax → ⊥) }
-    {
-        is_same(syntax, self.syntax)
+        &self.marks
     }
 
     /// How many states the matchers of the patterns keep together, and how many each may keep: the
     /// number that the session was made with.
     pub fn cached(&self) -> Caches
-        ensures within { result.kept ≤ length self.now.patterns * result.each }
+        ensures within { result.kept ≤ length self.now.inputs.patterns * result.each }
         ensures few { result.each ≤ most_states }
     {
         Caches {

@@ -1,29 +1,8 @@
 -- A command on a file with a failed read, worked by hand.
-use Rattle.std.proofs.Common.{◌≡◌, ℕ, true, false, List, [], ◌∷◌, ◌++◌, Option, None, Some, Ok, refl, sym, ap, ◌∙◌, subst, arith, ◌⊎◌, inl, inr, codes}
+use Rattle.grep_utility.proofs.Prelude.{◌≡◌, ℕ, true, false, List, [], ◌∷◌, ◌++◌, Option, None, Some, Ok, refl, sym, ap, ◌∙◌, subst, arith, ◌⊎◌, inl, inr, codes, false≢true, All-nil, All-cons, Basic, Text, byte, list_of, ended_lines_of, IsReadable, Options, Error, File, broken, HasSelected, FaultMet, Messages, StatusOf, Out, Source, Reading, fails_after, Steps, Writer, devices, Devices, files_of, Finishes, count_more, CommandGives, Folder, sources_named, FailuresAre, Wrote, ReportsMemory, HasReturned, list, read, word_of, meaning_of, broken_words, broken_text, broken_output, broken_messages, BrokenFollows}
 use Rattle.std.specs.Str.{chars}
 use Rattle.std.specs.Fmt.{digits}
-use Rattle.std.proofs.lemmas.Bool.{false≢true}
-use Rattle.std.proofs.lemmas.List.Elements.{All-nil, All-cons}
-use Rattle.re_syntax.specs.declared.syntax.Syntax.TheVariants.{Basic}
-use Rattle.re_syntax.specs.Bytes.{Text}
-use Rattle.re_syntax.specs.Expression.{byte}
-use Rattle.re_syntax.specs.Lines.{list_of, ended_lines_of}
 use Rattle.re_syntax.proofs.lemmas.Decisions.{Any-first}
-use Rattle.re_search.specs.Reading.{IsReadable}
-use Rattle.grep_core.specs.declared.options.Options.{Options}
-use Rattle.grep_core.specs.declared.status.Status.TheVariants.{Error}
-use Rattle.grep_core.specs.Files.{File, broken, HasSelected}
-use Rattle.grep_core.specs.Messages.{FaultMet, Messages, StatusOf}
-use Rattle.grep_core.specs.Output.{Out}
-use Rattle.grep_core.specs.Reading.{Source, Reading, fails_after}
-use Rattle.re_search.specs.Meters.{Steps}
-use Rattle.grep_core.specs.Run.{Writer, devices, Devices, files_of, Finishes, count_more}
-use Rattle.grep_utility.specs.Command.{CommandGives}
-use Rattle.grep_utility.specs.Folder.{Folder, sources_named}
-use Rattle.grep_utility.specs.Working.Known.{FailuresAre, Wrote, ReportsMemory}
-use Rattle.grep_utility.specs.Working.Returned.{HasReturned}
-use Rattle.grep_utility.specs.Words.{list, read, word_of, meaning_of}
-use Rattle.grep_utility.specs.Working.Worked.{broken_words, broken_text, broken_output, broken_messages, BrokenFollows}
 use Rattle.grep_utility.proofs.lemmas.FullLemmas.{few_counted, command_gives}
 use Rattle.grep_utility.proofs.lemmas.KnownLemmas.{one_broken}
 use Rattle.grep_utility.proofs.lemmas.WorkedLemmas.{es, a_meant, selected_a, not_selected, not_quiet}

@@ -1,18 +1,7 @@
 -- The buffered patterns, with one more line of a file at a time.
-use Rattle.std.proofs.Common.{◌≡◌, ℕ, ◌-◌, ◌<◌, true, false, List, [], ◌∷◌, ◌++◌, All, Option, Ok, Err, sym, ap, subst, ◌∙◌, append_assoc, append-nil, arith}
-use Rattle.std.proofs.lemmas.List.{length_push}
-use Rattle.std.proofs.lemmas.List.Elements.{All-append}
-use Rattle.re_syntax.specs.Bytes.{Text}
-use Rattle.re_syntax.specs.Lines.{newline, terminated, HasNoNewline}
+use Rattle.grep_utility.proofs.Prelude.{◌≡◌, ℕ, ◌-◌, ◌<◌, true, false, List, [], ◌∷◌, ◌++◌, All, Option, Ok, Err, sym, ap, subst, ◌∙◌, append_assoc, append-nil, arith, length_push, All-append, Text, newline, terminated, HasNoNewline, Device, Stage, Open, Ended, Failed, most_lines, AreHanded, Numbered, HasHanded, NextIs, Adds, AddsLines}
 use Rattle.re_syntax.proofs.lemmas.LinesLaws.{terminated-append, AreLines-lines_of}
-use Rattle.grep_io.specs.declared.input.lines.ReadFault.TheVariants.{Device}
-use Rattle.grep_io.specs.declared.input.lines.Stage.{Stage}
-use Rattle.grep_io.specs.declared.input.lines.Stage.TheVariants.{Open, Ended, Failed}
-use Rattle.grep_core.specs.Reading.{most_lines}
-use Rattle.grep_core.specs.Working.Handed.{AreHanded}
-use Rattle.grep_core.specs.Working.Numbered.{Numbered, HasHanded, NextIs}
 use Rattle.grep_core.proofs.lemmas.NumberedLemmas.{has_handed_none}
-use Rattle.grep_utility.specs.Working.CollectedTexts.{Adds, AddsLines}
 
 -- some patterns were added, and then others
 pub Adds-trans : (old mid new : Text) (ts us : List Text) → Adds old mid ts → Adds mid new us → Adds old new (ts ++ us)

@@ -1,37 +1,13 @@
 -- How the whole command ends, from what its steps did.
-use Rattle.std.proofs.Common.{◌≡◌, ℕ, nat_lt, ◌<◌, ◌≤◌, ◌-◌, ◌^◌, Bool, true, false, List, [], ◌∷◌, Ok, Err, MatchBool, MatchResult, ◌⊎◌, inl, inr, length, map, refl, sym, ap, ◌∙◌, subst, arith, ◌++◌, Option}
-use Rattle.std.proofs.lemmas.Bool.{ltb-false, false≢true}
+use Rattle.grep_utility.proofs.Prelude.{◌≡◌, ℕ, nat_lt, ◌<◌, ◌≤◌, ◌-◌, ◌^◌, Bool, true, false, List, [], ◌∷◌, Ok, Err, MatchBool, MatchResult, ◌⊎◌, inl, inr, length, map, refl, sym, ap, ◌∙◌, subst, arith, ◌++◌, Option, ltb-false, false≢true, the_type, FaultKind, Syntax, PatternFault, Text, Steps, Matcher, IsOutOfMemory, matched_expression, Expression, Options, IsSameChoice, Writer, Devices, count_more, UsageFault, ReportsLines, GivesUp, SearchEnds, RefusesPattern, SearchesNamed, DoesForRequest, CommandGives, Folder, sources_named, searched, IsPrepared, IsDue, HasNumber, due_text, CommandFault, TooMany, Refused, most_patterns, IsFirstRefused, folder_after_all, GivePatterns, too_many_patterns, fault_text, usage_texts, Asked, read, OrMemory}
 use denote.Enum.Bare.{sameb}
-use Rattle.re_syntax.specs.contracts.fault.FaultKind.{the_type}
-use Rattle.re_syntax.specs.declared.fault.FaultKind.{FaultKind}
 use Rattle.re_syntax.specs.declared.fault.FaultKind.TheVariants.{Memory}
-use Rattle.re_syntax.specs.declared.syntax.Syntax.{Syntax}
-use Rattle.re_syntax.specs.declared.fault.PatternFault.{PatternFault}
-use Rattle.re_syntax.specs.Bytes.{Text}
-use Rattle.re_search.specs.Meters.{Steps}
-use Rattle.re_search.specs.declared.matcher.Matcher.{Matcher}
-use Rattle.re_search.specs.Reading.{IsOutOfMemory}
-use Rattle.re_search.specs.Working.Matchers.{matched_expression}
-use Rattle.re_syntax.specs.Expression.{Expression}
-use Rattle.grep_core.specs.declared.options.Options.{Options}
 use Rattle.grep_core.specs.Reading.{Source as FileSource}
-use Rattle.grep_core.specs.Working.SameChoice.{IsSameChoice}
 use Rattle.grep_core.proofs.lemmas.SameChoice.{RunGives-same}
 use Rattle.grep_core.proofs.lemmas.GivenLaws.{RunGives-given}
-use Rattle.grep_core.specs.Run.{Writer, Devices, count_more}
 use Rattle.grep_utility.specs.declared.patterns.PatternsFault.TheVariants as unread
-use Rattle.grep_utility.specs.declared.words.UsageFault.{UsageFault}
 use Rattle.grep_utility.specs.declared.words.UsageFault.TheVariants as usage
-use Rattle.grep_utility.specs.Command.{ReportsLines, GivesUp, SearchEnds, RefusesPattern, SearchesNamed, DoesForRequest, CommandGives}
-use Rattle.grep_utility.specs.Folder.{Folder, sources_named, searched}
-use Rattle.grep_utility.specs.Working.Prepared.{IsPrepared, IsDue, HasNumber, due_text}
-use Rattle.grep_utility.specs.declared.prepare.CommandFault.{CommandFault}
-use Rattle.grep_utility.specs.declared.prepare.CommandFault.TheVariants.{Unread, TooMany, Refused}
-use Rattle.re_syntax.specs.Profile.{most_patterns}
-use Rattle.grep_core.specs.Matchers.{IsFirstRefused}
-use Rattle.grep_utility.specs.Patterns.{folder_after_all, GivePatterns}
-use Rattle.grep_utility.specs.Texts.{too_many_patterns, fault_text, usage_texts}
-use Rattle.grep_utility.specs.Words.{Asked, read, OrMemory}
+use Rattle.grep_utility.specs.declared.prepare.CommandFault.TheVariants.{Unread}
 
 -- a kind of fault that fails the test for out of memory is another kind
 pub kind_differs : (kind : FaultKind) (test : Bool) → test ≡ sameb the_type kind Memory → test ≡ false → kind ≡ Memory → ⊥

@@ -1,35 +1,10 @@
 -- A command that searches known sources, whose count of failures says that no read failed.
-use Rattle.std.proofs.Common.{◌≡◌, ℕ, zero, suc, ◌+◌, ◌^◌, ◌-◌, ◌<◌, min, nat_lt, false, List, [], ◌∷◌, ◌++◌, length, Option, Ok, Err, All, MatchBool, MatchResult, Result, refl, sym, ap, ◌∙◌, subst, arith, append-nil, ◌⊎◌, inl, inr}
-use Rattle.std.specs.Bool.{⊤}
-use Rattle.std.proofs.lemmas.List.Elements.{All-get_or}
-use Rattle.std.proofs.lemmas.Bool.{le-ltb}
-use Rattle.std.proofs.KnownBytes.{Appends-nil}
-use Rattle.re_syntax.specs.declared.syntax.Syntax.{Syntax}
-use Rattle.re_syntax.specs.Bytes.{Text}
-use Rattle.re_syntax.specs.Expression.{Expression}
-use Rattle.re_syntax.specs.Lines.{list_of}
-use Rattle.re_syntax.specs.Profile.{most_patterns}
-use Rattle.re_search.specs.Reading.{IsReadable}
-use Rattle.grep_core.specs.declared.options.Options.{Options}
-use Rattle.grep_core.specs.declared.status.Status.{Status}
-use Rattle.grep_core.specs.declared.status.RunFault.{RunFault}
-use Rattle.grep_core.specs.declared.status.RunFault.TheVariants.{Write, MessageWrite, Memory}
-use Rattle.grep_core.specs.Counted.{one_more}
-use Rattle.grep_core.specs.Files.{AreMeant}
-use Rattle.grep_core.specs.Matchers.{IsFirstRefused}
-use Rattle.grep_core.specs.Output.{Out}
-use Rattle.grep_core.specs.Messages.{Messages, StatusOf}
-use Rattle.grep_core.specs.Reading.{Source, Reading}
-use Rattle.grep_core.specs.Run.{Writer, Devices, TakesAll, files_of, count_more, RunGives, Finishes}
+use Rattle.grep_utility.proofs.Prelude.{◌≡◌, ℕ, zero, suc, ◌+◌, ◌^◌, ◌-◌, ◌<◌, min, nat_lt, false, List, [], ◌∷◌, ◌++◌, length, Option, Ok, Err, All, MatchBool, MatchResult, Result, refl, sym, ap, ◌∙◌, subst, arith, append-nil, ◌⊎◌, inl, inr, ⊤, All-get_or, le-ltb, Appends-nil, Syntax, Text, Expression, list_of, most_patterns, IsReadable, Options, Status, RunFault, Write, MessageWrite, one_more, AreMeant, IsFirstRefused, Out, Messages, StatusOf, Source, Reading, Writer, Devices, TakesAll, files_of, count_more, RunGives, Finishes, status_number, ReportsLines, GivesUp, EndsAfter, SearchEnds, SearchesNamed, RefusesPattern, DoesForPatterns, DoesForRequest, CommandGives, Folder, sources_named, searched, IsKnown, in_full, unopened, ReportsMemory, Wrote, Predicts, FailuresAre, WordsDecide, FirstUnread, out_of_memory, too_many_patterns, usage_texts, Asked, PatternsFrom, list, read}
+use Rattle.grep_core.specs.declared.status.RunFault.TheVariants.{Memory}
 use Rattle.grep_core.proofs.lemmas.WriterLaws.{TakesAll-more}
 use Rattle.grep_core.proofs.lemmas.LawsHold.{means_one}
 use Rattle.grep_core.proofs.lemmas.Determined.{Out-determined, Messages-determined, StatusOf-determined}
-use Rattle.grep_utility.specs.Command.{status_number, ReportsLines, GivesUp, EndsAfter, SearchEnds, SearchesNamed, RefusesPattern, DoesForPatterns, DoesForRequest, CommandGives}
-use Rattle.grep_utility.specs.Folder.{Folder, sources_named, searched}
-use Rattle.grep_utility.specs.Working.Known.{IsKnown, in_full, unopened, ReportsMemory, Wrote, Predicts, FailuresAre, WordsDecide}
-use Rattle.grep_utility.specs.Patterns.{Unread, FirstUnread}
-use Rattle.grep_utility.specs.Texts.{out_of_memory, too_many_patterns, usage_texts}
-use Rattle.grep_utility.specs.Words.{Asked, PatternsFrom, list, read}
+use Rattle.grep_utility.specs.Patterns.{Unread}
 use Rattle.grep_utility.proofs.lemmas.KnownLemmas.{all_in_full}
 
 -- a count that begins at 0 is the number of failures, where it is less than the greatest

@@ -1,20 +1,6 @@
 -- Known sources, whose number of failures says that no read failed.
-use Rattle.std.proofs.Common.{◌≡◌, ℕ, ◌+◌, ◌-◌, ◌^◌, ◌≤◌, min, Bool, true, false, ◌||◌, if◌then◌else◌, IsTrue, List, [], ◌∷◌, ◌++◌, length, Option, None, Some, IfSome, All, Any, append-nil, refl, sym, ap, ◌∙◌, subst, arith, inl, inr}
-use Rattle.std.proofs.lemmas.Bool.{false≢true}
-use Rattle.std.specs.Io.KnownBytes.{Consumes}
-use Rattle.std.proofs.lemmas.List.{length-append}
-use Rattle.std.proofs.lemmas.List.Elements.{All-head, All-tail}
-use Rattle.re_syntax.specs.Bytes.{Text}
-use Rattle.re_syntax.specs.Expression.{Expression}
+use Rattle.grep_utility.proofs.Prelude.{◌≡◌, ℕ, ◌+◌, ◌-◌, ◌^◌, ◌≤◌, min, Bool, true, false, ◌||◌, if◌then◌else◌, IsTrue, List, [], ◌∷◌, ◌++◌, length, Option, None, Some, IfSome, All, Any, append-nil, refl, sym, ap, ◌∙◌, subst, arith, inl, inr, false≢true, Consumes, length-append, All-head, All-tail, Text, Expression, Options, IfHolds, File, Ending, broken, HasSelected, FaultMet, FaultMetBy, Source, Reading, not_opened, fails_after, ends_after, IsReadingOf, file_of, failures_of, AreReadings, FailuresMet, LeftMet, HasReturned, AllIsKnown, IsKnown, full_reading, in_full, unopened_by, unopened, CountDecides}
 use Rattle.re_syntax.proofs.lemmas.SomeOfJoined.{Any-single}
-use Rattle.grep_core.specs.declared.options.Options.{Options}
-use Rattle.grep_core.specs.Choose.{IfHolds}
-use Rattle.grep_core.specs.Files.{File, Ending, broken, HasSelected}
-use Rattle.grep_core.specs.Messages.{FaultMet, FaultMetBy}
-use Rattle.grep_core.specs.Reading.{Source, Reading, not_opened, fails_after, ends_after, IsReadingOf, file_of, failures_of}
-use Rattle.grep_core.specs.Run.{AreReadings, FailuresMet, LeftMet}
-use Rattle.grep_utility.specs.Working.Returned.{HasReturned}
-use Rattle.grep_utility.specs.Working.Known.{AllIsKnown, IsKnown, full_reading, in_full, unopened_by, unopened, CountDecides}
 
 no_length : {A : Type 0} (xs : List A) → length xs ≡ 0 → xs ≡ []
 no_length [] h = refl

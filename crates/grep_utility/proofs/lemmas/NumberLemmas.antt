@@ -1,14 +1,8 @@
 -- The number that a word is, one digit after the other; and the number of lines, which is at most
 -- the greatest.
-use Rattle.std.proofs.Common.{◌≡◌, ℕ, zero, suc, ◌+◌, ◌-◌, ◌*◌, ◌^◌, ◌<◌, ◌≤◌, min, [], ◌∷◌, ◌++◌, length, take, drop, get_or, IsTrue, Some, None, refl, sym, ap, ◌∙◌, arith, take-append-drop, nat_lt, nat_le, ◌&&◌, Bool, true, false, subst}
-use Rattle.std.proofs.lemmas.Bool.{and_parts, and_from, cond-true, cond-false, false_from_ne_true, ltb-true, ltb-false, lt-ltb}
-use Rattle.std.specs.List.{list_all}
-use Rattle.re_syntax.specs.declared.class.Class.TheVariants.{Digit}
-use Rattle.re_syntax.specs.Bytes.{Text, in_class}
-use Rattle.re_syntax.specs.Intervals.{value_after, value}
+use Rattle.grep_utility.proofs.Prelude.{◌≡◌, ℕ, zero, suc, ◌+◌, ◌-◌, ◌*◌, ◌^◌, ◌<◌, ◌≤◌, min, [], ◌∷◌, ◌++◌, length, take, drop, get_or, IsTrue, Some, None, refl, sym, ap, ◌∙◌, arith, take-append-drop, nat_lt, nat_le, ◌&&◌, Bool, true, false, subst, and_parts, and_from, cond-true, cond-false, false_from_ne_true, ltb-true, ltb-false, lt-ltb, list_all, Digit, Text, in_class, value_after, value, most_around, number_of, digit_of}
 use Rattle.re_syntax.proofs.lemmas.DigitsLaws.{value_after-take}
-use Rattle.grep_utility.specs.Words.{lines_of, most_around, number_of}
-use Rattle.grep_utility.specs.Working.Numbers.{digit_of}
+use Rattle.grep_utility.specs.Words.{lines_of}
 
 value_grows : (n : ℕ) (t : Text) → n ≤ value_after n t
 value_grows n [] = omega arith

@@ -1,12 +1,5 @@
 -- The sources that words name, opened in order.
-use Rattle.std.proofs.Common.{◌≡◌, ℕ, zero, suc, ◌+◌, ◌<◌, List, [], ◌∷◌, length, drop, get_or, refl, sym, ap, ◌∙◌, subst, arith}
-use Rattle.std.proofs.Math.Numerals.{add-one}
-use Rattle.std.proofs.Math.Seq.{drop-cons}
-use Rattle.re_syntax.specs.Bytes.{Text}
-use Rattle.grep_core.specs.Reading.{Source}
-use Rattle.grep_core.specs.Sources.{source_at}
-use Rattle.grep_utility.specs.Folder.{Folder, display_name, source_named, after_use, sources_named}
-use Rattle.grep_utility.specs.Working.Operands.{StandsAt}
+use Rattle.grep_utility.proofs.Prelude.{◌≡◌, ℕ, zero, suc, ◌+◌, ◌<◌, List, [], ◌∷◌, length, drop, get_or, refl, sym, ap, ◌∙◌, subst, arith, add-one, drop-cons, Text, Source, source_at, Folder, display_name, source_named, after_use, sources_named, StandsAt}
 
 -- the number of sources is that of the words
 pub length-sources_named : (folder : Folder) (words : List Text) → length (sources_named folder words) ≡ length words

@@ -1,13 +1,6 @@
 -- What is reported, whether or not a write fails.
-use Rattle.std.proofs.Common.{◌≡◌, ℕ, List, [], ◌∷◌, ◌++◌, Option, Result, Ok, Err, inl, inr, refl, sym, ap, ◌∙◌, append_assoc}
-use Rattle.re_syntax.specs.Bytes.{Text}
-use Rattle.re_search.specs.Meters.{Steps}
-use Rattle.grep_core.specs.Output.{written}
-use Rattle.grep_core.specs.Row.{output_line}
-use Rattle.grep_core.specs.Run.{Writer, writer}
-use Rattle.grep_core.specs.Written.{Writes}
+use Rattle.grep_utility.proofs.Prelude.{◌≡◌, ℕ, List, [], ◌∷◌, ◌++◌, Option, Result, Ok, Err, inl, inr, refl, sym, ap, ◌∙◌, append_assoc, Text, Steps, written, output_line, Writer, writer, Writes, ReportsLines, GivesUp}
 use Rattle.grep_core.proofs.lemmas.PassLemmas.{TakesAll-line, TakesFront-line}
-use Rattle.grep_utility.specs.Command.{ReportsLines, GivesUp}
 
 module _ {W : Type 0} (contents : W → Option Text) (failures : W → ℕ) (old new : W) where
   -- one line

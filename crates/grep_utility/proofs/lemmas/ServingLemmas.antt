@@ -1,26 +1,8 @@
 -- One matcher for strings serves for the patterns that are read as them.
-use Rattle.std.proofs.Common.{◌≡◌, ℕ, suc, ◌≤◌, ◌⊎◌, inl, inr, ◌↔◌, Bool, true, false, IsTrue, Any, List, [], ◌∷◌, ◌++◌, length, length-append, map, refl, sym, ap, ◌∙◌, subst, if◌then◌else◌, arith}
-use Rattle.std.proofs.lemmas.List.{map-append, length-map}
-use Rattle.std.proofs.lemmas.List.Elements.{All-push}
-use Rattle.std.specs.List.{AllZip}
-use Rattle.re_syntax.specs.declared.syntax.Syntax.{Syntax}
-use Rattle.re_syntax.specs.Bytes.{Text}
-use Rattle.re_syntax.specs.Expression.{Expression, alt, alt_more, choice}
-use Rattle.re_syntax.specs.Holds.{Holds, folded, positions}
-use Rattle.re_syntax.specs.Lines.{newline, terminated}
-use Rattle.re_syntax.specs.Profile.{most_positions}
-use Rattle.re_syntax.specs.Spelled.{IsMeant, has_limit}
+use Rattle.grep_utility.proofs.Prelude.{◌≡◌, ℕ, suc, ◌≤◌, ◌⊎◌, inl, inr, ◌↔◌, Bool, true, false, IsTrue, Any, List, [], ◌∷◌, ◌++◌, length, length-append, map, refl, sym, ap, ◌∙◌, subst, if◌then◌else◌, arith, map-append, length-map, All-push, AllZip, Syntax, Text, Expression, alt, alt_more, choice, Holds, folded, positions, newline, terminated, most_positions, IsMeant, has_limit, Matcher, literal_meaning, AddsStrings, string_expression, IsReadable, matched_expression, wants_whole, Options, IsSameChoice, ServeFor, AreReadAs, IsJoined}
 use Rattle.re_syntax.proofs.lemmas.Decisions.{Any-first, Any-later, Any-cases, Any-none}
-use Rattle.re_search.specs.declared.matcher.Matcher.{Matcher}
-use Rattle.re_search.specs.Working.Literals.{literal_meaning}
-use Rattle.re_search.specs.Working.Strings.{AddsStrings, string_expression}
-use Rattle.re_search.specs.Reading.{IsReadable}
-use Rattle.re_search.specs.Working.Matchers.{matched_expression, wants_whole}
 use Rattle.re_search.proofs.lemmas.LiteralLaws.{literal_positions}
-use Rattle.grep_core.specs.declared.options.Options.{Options}
 use Rattle.grep_core.proofs.lemmas.SameChoice.{alt-holds, alt-is_same}
-use Rattle.grep_core.specs.Working.SameChoice.{IsSameChoice}
-use Rattle.grep_utility.specs.Working.ServingMatchers.{ServeFor, AreReadAs, IsJoined}
 
 -- ---- what one pattern means
 

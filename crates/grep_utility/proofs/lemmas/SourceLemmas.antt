@@ -1,25 +1,12 @@
 -- The sources of patterns, one more at a time.
-use Rattle.std.proofs.Common.{◌≡◌, ℕ, suc, ◌+◌, ◌<◌, true, false, List, [], ◌∷◌, ◌++◌, Option, Err, IfSome, inl, inr, length, map, drop, get_or, refl, sym, ap, ◌∙◌, subst, append_assoc, append-nil}
-use Rattle.std.proofs.Math.Numerals.{add-one}
-use Rattle.std.proofs.Math.Seq.{drop-cons}
-use Rattle.re_syntax.specs.Bytes.{Text}
-use Rattle.re_syntax.specs.Lines.{newline, lines_of, list_of, joined, terminated, AreListed}
+use Rattle.grep_utility.proofs.Prelude.{◌≡◌, ℕ, suc, ◌+◌, ◌<◌, true, false, List, [], ◌∷◌, ◌++◌, Option, Err, IfSome, inl, inr, length, map, drop, get_or, refl, sym, ap, ◌∙◌, subst, append_assoc, append-nil, add-one, drop-cons, Text, newline, list_of, joined, terminated, AreListed, File, whole, broken, StandsFor, IsReadingOf, file_of, failures_of, open_source, count_more, PatternSource, Whole, Broken, PatternsFault, Folder, patterns_by, GivesPatterns, folder_after, folder_after_all, GivePatterns, FirstUnread, Adds, AddsLines, ReadsFile, AddsSource, StopsFor, PatternsFrom, list, given_source}
+use Rattle.re_syntax.specs.Lines.{lines_of}
 use Rattle.re_syntax.proofs.lemmas.LinesLaws.{lines_of-terminated, AreListed-list_of}
-use Rattle.grep_core.specs.Files.{File, whole, broken}
-use Rattle.grep_core.specs.Working.Handed.{StandsFor}
 use Rattle.grep_core.specs.Reading as reading
-use Rattle.grep_core.specs.Reading.{IsReadingOf, file_of, failures_of, open_source}
-use Rattle.grep_core.specs.Run.{count_more}
 use Rattle.grep_core.proofs.lemmas.OneFile.{whole-failures}
 use Rattle.grep_core.proofs.lemmas.OpenedLemmas.{opened, count_on, few_failures}
-use Rattle.grep_utility.specs.declared.words.PatternSource.{PatternSource}
-use Rattle.grep_utility.specs.declared.patterns.FileRead.TheVariants.{Whole, Broken}
-use Rattle.grep_utility.specs.declared.patterns.PatternsFault.{PatternsFault}
 use Rattle.grep_utility.specs.declared.patterns.PatternsFault.TheVariants as fault
-use Rattle.grep_utility.specs.Folder.{Folder}
-use Rattle.grep_utility.specs.Patterns.{Unread, patterns_by, GivesPatterns, folder_after, folder_after_all, GivePatterns, FirstUnread}
-use Rattle.grep_utility.specs.Working.CollectedTexts.{Adds, AddsLines, ReadsFile, AddsSource, StopsFor}
-use Rattle.grep_utility.specs.Words.{PatternsFrom, list, given_source}
+use Rattle.grep_utility.specs.Patterns.{Unread}
 use Rattle.grep_utility.proofs.lemmas.CollectingLemmas.{Adds-trans}
 
 -- ---- a file

@@ -1,14 +1,6 @@
 -- The pieces of words, one after another.
-use Rattle.std.proofs.Common.{◌≡◌, ℕ, ◌≢◌, nat_eq, true, false, List, [], ◌∷◌, length, codes, Option, Some, None, refl, sym, ap, ◌∙◌, arith}
-use Rattle.std.specs.Borrow.{Bor}
-use Rattle.std.specs.Str.{chars, encode_utf8_all, bytes_eq, IsUtf8}
-use Rattle.std.proofs.lemmas.Str.{encodes-chars, chars-nil}
-use Rattle.re_syntax.specs.Bytes.{Text}
-use Rattle.grep_utility.specs.declared.words.UsageFault.TheVariants.{MissingArgument}
-use Rattle.grep_utility.specs.declared.words.tokens.Argument.{Argument}
-use Rattle.grep_utility.specs.declared.words.tokens.Meaning.TheVariants.{Takes}
-use Rattle.grep_utility.specs.Words.{Token, fault, with_argument, Wanting, meaning_of, group, pieces, an_operand, ends_options, by_characters, a_group, word_of}
-use Rattle.grep_utility.specs.Working.Tokens.{AreUsedUp, tokens_from}
+use Rattle.grep_utility.proofs.Prelude.{◌≡◌, ℕ, ◌≢◌, nat_eq, true, false, List, [], ◌∷◌, length, codes, Option, Some, None, refl, sym, ap, ◌∙◌, arith, Bor, encode_utf8_all, bytes_eq, IsUtf8, encodes-chars, chars-nil, Text, MissingArgument, Argument, Takes, Token, fault, with_argument, Wanting, meaning_of, group, pieces, an_operand, ends_options, by_characters, a_group, word_of, AreUsedUp, tokens_from}
+use Rattle.std.specs.Str.{chars}
 
 -- an empty text has no characters
 no_chars : (t : Text) → length t ≡ 0 → chars t ≡ []

@@ -1,8 +1,6 @@
 -- What is reported after a fault of words.
-use Rattle.std.proofs.Common.{◌≡◌, ◌≢◌, [], ◌∷◌, refl}
-use Rattle.grep_utility.specs.declared.words.UsageFault.{UsageFault}
-use Rattle.grep_utility.specs.declared.words.UsageFault.TheVariants.{UnknownOption, MissingArgument, BadNumber, TwoSyntaxes, NoPattern, Memory}
-use Rattle.grep_utility.specs.Texts.{usage, usage_after}
+use Rattle.grep_utility.proofs.Prelude.{◌≡◌, ◌≢◌, [], ◌∷◌, refl, UsageFault, UnknownOption, MissingArgument, BadNumber, TwoSyntaxes, NoPattern, usage, usage_after}
+use Rattle.grep_utility.specs.declared.words.UsageFault.TheVariants.{Memory}
 
 -- a fault other than out of memory is followed by how the command is used
 pub usage_after-other : (f : UsageFault) → f ≢ Memory → usage_after f ≡ usage ∷ []

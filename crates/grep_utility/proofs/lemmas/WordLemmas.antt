@@ -1,9 +1,5 @@
 -- What a request asks for as pieces are added to it.
-use Rattle.std.proofs.Common.{◌≡◌, List, ◌∷◌, Result, Ok, Err, MatchResult, refl, sym, ◌∙◌, ap, subst}
-use Rattle.re_syntax.specs.Bytes.{Text}
-use Rattle.grep_utility.specs.declared.words.Request.{Request}
-use Rattle.grep_utility.specs.declared.words.UsageFault.{UsageFault}
-use Rattle.grep_utility.specs.Words.{Asked, AreRead, Draft, OrMemory, Token, asked, reads_on, read, with_piece}
+use Rattle.grep_utility.proofs.Prelude.{◌≡◌, List, ◌∷◌, Result, Ok, Err, MatchResult, refl, sym, ◌∙◌, ap, subst, Text, Request, UsageFault, Asked, AreRead, Draft, OrMemory, Token, asked, reads_on, read, with_piece}
 
 -- one more was added
 pub piece_added : (d later : Draft) (p : Token) (ps all : List Token) → all ≡ p ∷ ps → with_piece d p ≡ Ok later → reads_on d all ≡ reads_on later ps

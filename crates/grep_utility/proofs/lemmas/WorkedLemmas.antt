@@ -1,33 +1,10 @@
 -- One command from its words to its bytes, worked by hand.
-use Rattle.std.proofs.Common.{◌≡◌, ℕ, zero, suc, ◌≤◌, nat_eq, true, false, List, [], ◌∷◌, Option, Some, Ok, All, refl, sym, ap, ◌∙◌, subst, arith, inl, inr, codes, ⊎_elim, ◌⊎◌}
-use Rattle.std.specs.Bool.{⊤}
+use Rattle.grep_utility.proofs.Prelude.{◌≡◌, ℕ, zero, suc, ◌≤◌, nat_eq, true, false, List, [], ◌∷◌, Option, Some, Ok, All, refl, sym, ap, ◌∙◌, subst, arith, inl, inr, codes, ⊎_elim, ◌⊎◌, ⊤, false≢true, All-nil, All-cons, Basic, Text, Expression, byte, Matches, list_of, IsMeant, as_basic, IsReadable, Options, Error, IsShown, Groups, File, whole, missing, Selected, HasSelected, FaultMet, Messages, StatusOf, Out, Source, Writer, devices, Steps, CommandGives, Folder, sources_named, IsKnown, full_files, unopened, Predicts, FailuresAre, Wrote, ReportsMemory, Asked, list, read, word_of, meaning_of, row_words, row_text, row_output, row_messages, RowFollows}
 use Rattle.std.specs.Str.{chars}
 use Rattle.std.specs.Fmt.{digits}
-use Rattle.std.proofs.lemmas.Bool.{false≢true}
-use Rattle.std.proofs.lemmas.List.Elements.{All-nil, All-cons}
-use Rattle.re_syntax.specs.declared.syntax.Syntax.TheVariants.{Basic}
-use Rattle.re_syntax.specs.Bytes.{Text}
-use Rattle.re_syntax.specs.Expression.{Expression, byte}
-use Rattle.re_syntax.specs.Holds.{Matches}
-use Rattle.re_syntax.specs.Lines.{lines_of, list_of}
-use Rattle.re_syntax.specs.Spelled.{IsMeant, as_basic}
+use Rattle.re_syntax.specs.Lines.{lines_of}
 use Rattle.re_syntax.specs.Basic as basic
 use Rattle.re_syntax.proofs.lemmas.Decisions.{Any-first, Any-later, Any-cases, Any-none}
-use Rattle.re_search.specs.Reading.{IsReadable}
-use Rattle.grep_core.specs.declared.options.Options.{Options}
-use Rattle.grep_core.specs.declared.status.Status.TheVariants.{Error}
-use Rattle.grep_core.specs.Around.{IsShown, Groups}
-use Rattle.grep_core.specs.Files.{File, whole, missing, Selected, HasSelected}
-use Rattle.grep_core.specs.Messages.{FaultMet, Messages, StatusOf}
-use Rattle.grep_core.specs.Output.{Out}
-use Rattle.grep_core.specs.Reading.{Source}
-use Rattle.grep_core.specs.Run.{Writer, devices}
-use Rattle.re_search.specs.Meters.{Steps}
-use Rattle.grep_utility.specs.Command.{CommandGives}
-use Rattle.grep_utility.specs.Folder.{Folder, sources_named}
-use Rattle.grep_utility.specs.Working.Known.{IsKnown, full_files, unopened, Predicts, FailuresAre, Wrote, ReportsMemory}
-use Rattle.grep_utility.specs.Words.{Asked, list, read, word_of, meaning_of}
-use Rattle.grep_utility.specs.Working.Worked.{row_words, row_text, row_output, row_messages, RowFollows}
 use Rattle.grep_utility.proofs.lemmas.FullLemmas.{predicted}
 
 -- ---- what the words ask for

@@ -1,7 +1,5 @@
 -- What is found in the lines of all chunks, put or changed chunk by chunk.
-use Rattle.std.proofs.Common.{◌≡◌, ℕ, suc, zero, ◌+◌, ◌<◌, ◌≤◌, List, [], ◌∷◌, ◌++◌, length, map, take, drop, set, get_or, refl, ap, sym, ◌∙◌, arith, add-one, subst, length-append}
-use Rattle.std.proofs.lemmas.List.{length-map, set-get_or}
-use Rattle.line_chunks.proofs.Words.{Option, Some, None, Text, FoundIn, KeptLine, line_text, all_of, seen_from, with_column, with_columns, FitColumns, next_column, FitsNext, chunks_of, Entry}
+use Rattle.line_chunks.proofs.Prelude.{◌≡◌, ℕ, suc, zero, ◌+◌, ◌<◌, ◌≤◌, List, [], ◌∷◌, ◌++◌, length, map, take, drop, set, get_or, refl, ap, sym, ◌∙◌, arith, add-one, subst, length-append, length-map, set-get_or, Option, Some, None, Text, FoundIn, KeptLine, line_text, all_of, seen_from, with_column, with_columns, FitColumns, next_column, FitsNext, chunks_of, Entry}
 use Rattle.line_chunks.proofs.lemmas.Sums.{chunks_of-set, chunk_at}
 
 -- nothing is put

@@ -1,8 +1,5 @@
 -- Entries that are changed, removed or put in the place of others.
-use Rattle.std.proofs.Common.{◌≡◌, ℕ, suc, ◌+◌, ◌-◌, ◌^◌, ◌<◌, ◌≤◌, List, [], ◌∷◌, ◌++◌, length, take, drop, set, get_or, ap, sym, ◌∙◌, arith, length-append, add-one, subst, inl, inr}
-use Rattle.std.proofs.lemmas.List.{take_all, length-take, length-drop, map-append, set-get_or, length-set, take-append-le, take-take, drop-map, drop_all}
-use Rattle.std.proofs.lemmas.Bool.{cases_lt}
-use Rattle.line_chunks.proofs.Words.{IfOk, OnErr, remove_range, Result, Ok, Err, Text, KeptLine, all_of, new_line, matched_count, IsPlace, chunks_of, AreSummed, IsSummedTo, Entry}
+use Rattle.line_chunks.proofs.Prelude.{◌≡◌, ℕ, suc, ◌+◌, ◌-◌, ◌^◌, ◌<◌, ◌≤◌, List, [], ◌∷◌, ◌++◌, length, take, drop, set, get_or, ap, sym, ◌∙◌, arith, length-append, add-one, subst, inl, inr, take_all, length-take, length-drop, map-append, set-get_or, length-set, take-append-le, take-take, drop-map, drop_all, cases_lt, IfOk, OnErr, remove_range, Result, Ok, Err, Text, KeptLine, all_of, new_line, matched_count, IsPlace, chunks_of, AreSummed, IsSummedTo, Entry}
 use Rattle.line_chunks.proofs.lemmas.Joins.{joined_more, size_suc, all_taken, seams_in_order, put_in}
 use Rattle.line_chunks.proofs.lemmas.Pieces.{lines_set_last, lines_push}
 use Rattle.line_chunks.proofs.lemmas.Sums.{chunks_of-set, chunks_of-take, length-chunks_of, chunk_at, summed_to, summed_all, summed_set, summed_take, end_suc, hits_suc, matched-append, summed_push}

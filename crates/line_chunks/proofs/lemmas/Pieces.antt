@@ -1,7 +1,5 @@
 -- Chunks that take more lines.
-use Rattle.std.proofs.Common.{◌≡◌, ℕ, ◌+◌, ◌-◌, ◌<◌, ◌≤◌, List, [], ◌∷◌, ◌++◌, length, take, drop, set, get_or, ap, sym, ◌∙◌, arith, append_assoc}
-use Rattle.std.proofs.lemmas.List.{append-nil, take_more, take_all, map-append}
-use Rattle.line_chunks.proofs.Words.{IfOk, Result, Ok, Err, KeptLine, all_of, chunks_of, Entry}
+use Rattle.line_chunks.proofs.Prelude.{◌≡◌, ℕ, ◌+◌, ◌-◌, ◌<◌, ◌≤◌, List, [], ◌∷◌, ◌++◌, length, take, drop, set, get_or, ap, sym, ◌∙◌, arith, append_assoc, append-nil, take_more, take_all, map-append, IfOk, Result, Ok, Err, KeptLine, all_of, chunks_of, Entry}
 use Rattle.line_chunks.proofs.lemmas.Joins.{joined_push, joined_set_last, range_joined}
 use Rattle.line_chunks.proofs.lemmas.Sums.{chunks_of-set, length-chunks_of, chunk_at}
 

@@ -1,7 +1,5 @@
 -- Lines with what is found in each, looked up by their numbers.
-use Rattle.std.proofs.Common.{◌≡◌, ℕ, suc, zero, ◌+◌, ◌-◌, ◌<◌, ◌≤◌, List, [], ◌∷◌, ◌++◌, length, map, take, drop, get_or, refl, ap, sym, ◌∙◌, arith, add-zero, length-append}
-use Rattle.std.proofs.lemmas.List.{take-append-le, drop_all, take_all, append-nil, length-take, length-drop}
-use Rattle.line_chunks.proofs.Words.{Text, no_finds, FoundIn, finds_at, numbers_at, without, paired_before, KeptLine, no_line, new_line, line_text, matched_count, seen_from, seen, line_without}
+use Rattle.line_chunks.proofs.Prelude.{◌≡◌, ℕ, suc, zero, ◌+◌, ◌-◌, ◌<◌, ◌≤◌, List, [], ◌∷◌, ◌++◌, length, map, take, drop, get_or, refl, ap, sym, ◌∙◌, arith, add-zero, length-append, take-append-le, drop_all, take_all, append-nil, length-take, length-drop, Text, no_finds, FoundIn, finds_at, numbers_at, without, paired_before, KeptLine, no_line, new_line, line_text, matched_count, seen_from, seen, line_without}
 
 pub length-seen : (k : ℕ) (texts : List Text) (found : FoundIn) → length (seen_from k texts found) ≡ length texts
 length-seen k [] found = refl

@@ -1,13 +1,5 @@
 -- What is found in lines: marks, their number, and parts.
-use Rattle.std.proofs.Common.{◌≡◌, ℕ, zero, suc, ◌+◌, ◌-◌, ◌<◌, ◌≤◌, ◌==◌, Bool, false, not, List, [], ◌∷◌, ◌++◌, inl, inr, length, take, drop, replicate, get_or, if◌then◌else◌, refl, sym, ap, ◌∙◌, arith}
-use Rattle.std.proofs.lemmas.Bool.{cases_lt}
-use Rattle.std.proofs.Math.ListN.{get_or-append}
-use Rattle.std.proofs.Math.Seq.{take-append_seam}
-use Rattle.std.proofs.lemmas.List.{length-append, length-replicate, length-take, length-drop, get_or-drop, get_or_past, get_or-append-add}
-use Rattle.std.proofs.lemmas.List.Elements.{All-weaker}
-use Rattle.re_syntax.specs.declared.span.Span.{Span}
-use Rattle.line_finds.specs.Working.Finds.{Finds, FoundIn, finds_at, no_finds, numbers_at, is_paired, AreBelow, paired_before}
-use Rattle.line_finds.specs.Working.Marked.{AreMarks, set_before}
+use Rattle.line_finds.proofs.Prelude.{◌≡◌, ℕ, zero, suc, ◌+◌, ◌-◌, ◌<◌, ◌≤◌, ◌==◌, Bool, false, not, List, [], ◌∷◌, ◌++◌, inl, inr, length, take, drop, replicate, get_or, if◌then◌else◌, refl, sym, ap, ◌∙◌, arith, cases_lt, get_or-append, take-append_seam, length-append, length-replicate, length-take, length-drop, get_or-drop, get_or_past, get_or-append-add, All-weaker, Span, Finds, FoundIn, finds_at, no_finds, numbers_at, is_paired, AreBelow, paired_before, AreMarks, set_before}
 use Rattle.line_finds.proofs.lemmas.PairLaws.{none_at}
 
 -- ---- the number of marks

@@ -1,7 +1,5 @@
 -- A loop that replaces each element of a list by f of it.
-use Rattle.std.proofs.Common.{◌≡◌, ℕ, ◌+◌, ◌<◌, ◌≤◌, List, [], ◌∷◌, ◌++◌, length, map, take, drop, get_or, sym, ap, ◌∙◌, arith, append_assoc, append-nil}
-use Rattle.std.proofs.Math.ListN.{set}
-use Rattle.std.proofs.lemmas.List.{drop_more, take_more, map-append, length-map, length-take-le, get_or_at, set_at, take_all, drop_all}
+use Rattle.line_finds.proofs.Prelude.{◌≡◌, ℕ, ◌+◌, ◌<◌, ◌≤◌, List, [], ◌∷◌, ◌++◌, length, map, take, drop, get_or, sym, ap, ◌∙◌, arith, append_assoc, append-nil, set, drop_more, take_more, map-append, length-map, length-take-le, get_or_at, set_at, take_all, drop_all}
 
 module _ {A : Type 0} (f : A → A) (xs : List A) where
   -- the first of them mapped, and the others as they are

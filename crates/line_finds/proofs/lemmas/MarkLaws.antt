@@ -1,16 +1,6 @@
 -- Marks of lines that are paired with some pattern, or with one.
-use Rattle.std.proofs.Common.{◌≡◌, ℕ, suc, ◌-◌, ◌<◌, ◌==◌, Bool, true, false, not, ◌||◌, List, [], ◌∷◌, inl, inr, length, take, drop, replicate, nat_eq, get_or, cond, sym, ap, subst, ◌∙◌, arith}
-use Rattle.std.specs.List.{list_any}
-use Rattle.std.proofs.lemmas.Bool.{cases_eq}
-use Rattle.std.proofs.lemmas.Bool.Decides.{nat_tests}
-use Rattle.std.proofs.Math.ListN.{set, get_or-map}
-use Rattle.std.proofs.Math.Bool.{or-true, or-false, or_assoc as or-assoc}
-use Rattle.std.proofs.lemmas.List.{length-map, length-set, get_or-set_other, take_rest, drop-map, length-replicate, get_or-replicate}
-use Rattle.std.proofs.lemmas.Grind.{get_or-set_at}
-use Rattle.std.proofs.lemmas.List.Elements.{All-head, All-tail, All-get_or, All-drop}
-use Rattle.line_finds.specs.declared.matches.Match.{Match}
-use Rattle.line_finds.specs.Working.Finds.{numbers_at, is_paired, AreBelow}
-use Rattle.line_finds.specs.Working.Pairs.{pair_of, pairs_of, marked, marked_of}
+use Rattle.line_finds.proofs.Prelude.{◌≡◌, ℕ, suc, ◌-◌, ◌<◌, ◌==◌, Bool, true, false, not, ◌||◌, List, [], ◌∷◌, inl, inr, length, take, drop, replicate, nat_eq, get_or, cond, sym, ap, subst, ◌∙◌, arith, list_any, cases_eq, nat_tests, set, get_or-map, or-true, or-false, length-map, length-set, get_or-set_other, take_rest, drop-map, length-replicate, get_or-replicate, get_or-set_at, All-head, All-tail, All-get_or, All-drop, Match, numbers_at, is_paired, AreBelow, pair_of, pairs_of, marked, marked_of}
+use Rattle.std.proofs.Math.Bool.{or_assoc as or-assoc}
 use Rattle.line_finds.proofs.lemmas.PairLaws.{eq_yes, eq_no}
 
 not_none : (n : ℕ) → (suc n == 0) ≡ false

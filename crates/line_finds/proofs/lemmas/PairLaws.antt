@@ -1,13 +1,5 @@
 -- Pairs of lines and patterns: what becomes of the numbers of each line.
-use Rattle.std.proofs.Common.{◌≡◌, ℕ, ◌+◌, ◌-◌, ◌<◌, ◌≤◌, true, false, ◌||◌, List, [], ◌∷◌, ◌++◌, inl, inr, length, map, take, nat_eq, nat_lt, nat_le, get_or, cond, refl, sym, ap, subst, ◌∙◌, arith, append_assoc, append-nil}
-use Rattle.std.specs.List.{filter}
-use Rattle.std.proofs.lemmas.Bool.{cases_Bool, cases_lt, cases_eq}
-use Rattle.std.proofs.lemmas.Bool.Decides.{nat_tests}
-use Rattle.std.proofs.lemmas.List.{take_more, map-append, take-map}
-use Rattle.std.proofs.lemmas.List.Elements.{All-nil, All-cons, All-head, All-tail, All-append, All-weaker}
-use Rattle.line_finds.specs.declared.matches.Match.{Match}
-use Rattle.line_finds.specs.Working.Finds.{numbers_at, AreBelow, lowered, without}
-use Rattle.line_finds.specs.Working.Pairs.{pair_of, pairs_of, is_other, lowered_pair, is_outside, moved_pair, moved_to}
+use Rattle.line_finds.proofs.Prelude.{◌≡◌, ℕ, ◌+◌, ◌-◌, ◌<◌, ◌≤◌, true, false, ◌||◌, List, [], ◌∷◌, ◌++◌, inl, inr, length, map, take, nat_eq, nat_lt, nat_le, get_or, cond, refl, sym, ap, subst, ◌∙◌, arith, append_assoc, append-nil, filter, cases_Bool, cases_lt, cases_eq, nat_tests, take_more, map-append, take-map, All-nil, All-cons, All-head, All-tail, All-append, All-weaker, Match, numbers_at, AreBelow, lowered, without, pair_of, pairs_of, is_other, lowered_pair, is_outside, moved_pair, moved_to}
 
 pub eq_yes : (n p : ℕ) → n ≡ p → nat_eq n p ≡ true
 eq_yes n p h = grind (arith, nat_tests, h)

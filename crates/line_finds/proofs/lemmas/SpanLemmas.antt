@@ -1,12 +1,5 @@
 -- Lists of spans as one list, and the places where they end.
-use Rattle.std.proofs.Common.{map, add-zero, ◌≡◌, ◌≢◌, ℕ, ◌+◌, ◌-◌, ◌<◌, ◌≤◌, List, [], ◌∷◌, ◌++◌, length, take, drop, refl, ap, sym, subst, ◌∙◌, arith, length-append, append_assoc, append-nil, get_or, suc, zero, inl, inr}
-use Rattle.std.proofs.lemmas.Bool.{cases_lt, cases_eq, cond-true, cond-false, eq-eqb, ne_eqb}
-use Rattle.std.proofs.lemmas.List.{take-take, take_more, drop_more, take_at, drop_at, take-append-drop, take_all, drop_all, get_or_at, get_or_append_left, get_or-append_right, get_or_past, get_or-replicate, length-replicate}
-use Rattle.std.specs.Prelude.{IfOk, OnErr, is_ok, min, replicate, nat_eq, if◌then◌else◌}
-use Rattle.std.specs.declared.result.Result.{Result}
-use Rattle.std.specs.declared.result.Result.TheVariants.{Ok, Err}
-use Rattle.re_syntax.specs.declared.span.Span.{Span}
-use Rattle.line_finds.specs.Working.Spans.{all_spans, ends_from, cut_lists, AreLists}
+use Rattle.line_finds.proofs.Prelude.{map, add-zero, ◌≡◌, ◌≢◌, ℕ, ◌+◌, ◌-◌, ◌<◌, ◌≤◌, List, [], ◌∷◌, ◌++◌, length, take, drop, refl, ap, sym, subst, ◌∙◌, arith, length-append, append_assoc, append-nil, get_or, suc, zero, inl, inr, cases_lt, cases_eq, cond-true, cond-false, eq-eqb, ne_eqb, take-take, take_more, drop_more, take_at, drop_at, take-append-drop, take_all, drop_all, get_or_at, get_or_append_left, get_or-append_right, get_or_past, get_or-replicate, length-replicate, IfOk, OnErr, is_ok, min, replicate, nat_eq, if◌then◌else◌, Result, Ok, Err, Span, all_spans, ends_from, cut_lists, AreLists}
 
 -- ---- lists one after the other
 

@@ -1,23 +1,9 @@
 -- What the words choose in the forms of the manual page.
-use Rattle.std.proofs.Common.{◌≡◌, ◌==◌, ◌∙◌, ap, ap₂, sym, cond, ℕ, true, false, List, [], ◌∷◌, Option, Some, None, Result, Ok, Err, IfOk, is_some, length, refl, subst, inl, inr, arith, codes}
-use Rattle.std.specs.Prelude.{IsSomeAnd, unwrap_or}
-use Rattle.std.specs.Str.Parse.{digits_value, without_leading_plus}
-use Rattle.std.specs.Option.{option_map_or}
-use Rattle.std.specs.Str.{bytes_eq}
-use Rattle.clap.specs.Faults.{bundle_fault, check_fault, defaults_fault, entered_fault, fault_of, flag_word_fault, other_fault, settle_fault, step_fault, turn_fault}
-use Rattle.clap.specs.Kinds.{IsAmong, Kinds, or_else, value_kinds}
-use Rattle.clap.specs.Lexer.{long_of, short_of}
-use Rattle.clap.specs.Simple.{Shape, built, entered, matches_of}
-use Rattle.clap.specs.Walk.{Held, Rule, Step, Text, Waiting, Walk, after_step, first_of, finished, idle, long_or_other, nothing_held, one_of, option, plain_word, positional, settled, short_or_plain, subcommand_or_other, walk_from, walked, word_met}
-use Rattle.clap.specs.Values.{IsUnsignedIn, kind_of}
-use Rattle.clap.specs.declared.error.kind.ErrorKind.{ErrorKind}
-use Rattle.clap.specs.declared.error.kind.ErrorKind.TheVariants.{DisplayHelp}
-use Rattle.clap.specs.declared.builder.value_parser.ValueParser.TheVariants.{Unsigned}
+use Rattle.occur.proofs.Prelude.{◌≡◌, ◌==◌, ◌∙◌, ap, ap₂, sym, cond, ℕ, true, false, List, [], ◌∷◌, Option, Some, None, Result, Ok, Err, IfOk, is_some, length, refl, subst, inl, inr, arith, codes, IsSomeAnd, unwrap_or, digits_value, without_leading_plus, option_map_or, bytes_eq, bundle_fault, check_fault, defaults_fault, entered_fault, flag_word_fault, other_fault, settle_fault, step_fault, turn_fault, IsAmong, Kinds, or_else, value_kinds, long_of, short_of, Shape, built, entered, matches_of, Held, Rule, Step, Waiting, Walk, after_step, first_of, finished, idle, long_or_other, nothing_held, one_of, option, plain_word, positional, settled, short_or_plain, subcommand_or_other, walk_from, word_met, IsUnsignedIn, kind_of, ErrorKind, DisplayHelp, Unsigned, AsksForHelp, IsChosenBy, Reads, ExplainsAmong, form_words, is_no_option, is_operand, occur_app, ScriptRequest, OccurFault}
+use Rattle.clap.specs.Faults.{fault_of}
+use Rattle.clap.specs.Walk.{Text, walked}
 use Rattle.clap.proofs.OnLiterals.{clap_on_literals}
 use Rattle.clap.proofs.ValueTestLemmas.{Accepts-accepts}
-use Rattle.occur.specs.Words.{AsksForHelp, IsChosenBy, Reads, ExplainsAmong, form_words, is_no_option, is_operand, occur_app}
-use Rattle.occur.specs.declared.words.ScriptRequest.{ScriptRequest}
-use Rattle.occur.specs.declared.words.OccurFault.{OccurFault}
 use Rattle.occur.specs.declared.words.OccurFault.TheVariants as fault
 use Rattle.occur.proofs.lemmas.StatesLemmas.{not_so}
 

@@ -1,34 +1,10 @@
 -- The number of states that a parse finds.
-use Rattle.std.proofs.Common.{◌≡◌, ◌∙◌, ◌<◌, ◌≤◌, ◌^◌, ap, ℕ, zero, suc, Bool, true, false, not, List, [], ◌∷◌, length, map, is_some, Option, Some, None, Ok, Err, Result, refl, sym, subst, inl, inr, arith, codes, true≢false}
-use Rattle.std.specs.List.{All, slice_index_or}
-use Rattle.std.specs.Str.{bytes_eq}
-use Rattle.std.specs.Str.Parse.{ParsesUnsigned, digits_value, without_leading_plus}
-use Rattle.std.specs.Borrow.{Bor}
-use Rattle.std.specs.Prelude.{find, option_map}
-use Rattle.std.proofs.lemmas.Bool.{ne_eqb}
-use Rattle.std.proofs.lemmas.List.{length-map}
-use Rattle.std.proofs.lemmas.List.Elements.{All-get_or}
-use Rattle.std.proofs.lemmas.Slice.Eq.{bytes_eq-Decides}
-use Rattle.clap.specs.Texts.{items_of}
-use Rattle.clap.specs.Facts.{Entry, EntryPasses, HasIn, IsParsed, PassesArg, WantsDefault, args_of, groups_of, least_values, parser_of, parser_of_value, unwrap_or_range}
-use Rattle.clap.specs.Built.{IsAuto, IsParsedFrom, SameRules}
-use Rattle.clap.specs.Matches.{ReadsOne, found_of, has_subcommand, matched_of, one_text}
-use Rattle.clap.specs.Simple.{app_of}
-use Rattle.clap.specs.Values.{Accepts, IsUnsignedIn, reading_of}
-use Rattle.clap.specs.Walk.{Rule, Text, is_empty, is_simple_arg, rule_of}
-use Rattle.clap.specs.declared.builder.action.ArgAction.TheVariants.{Count, Set}
-use Rattle.clap.specs.declared.builder.arg.Arg.{Arg}
-use Rattle.clap.specs.declared.builder.command.Command.{Command}
-use Rattle.clap.specs.declared.builder.command.Command.TheViews.{out-Command}
+use Rattle.occur.proofs.Prelude.{◌≡◌, ◌∙◌, ◌<◌, ◌≤◌, ◌^◌, ap, ℕ, zero, suc, Bool, true, false, not, List, [], ◌∷◌, length, map, is_some, Option, Some, None, Ok, Err, Result, refl, sym, subst, inl, inr, arith, codes, true≢false, All, slice_index_or, bytes_eq, ParsesUnsigned, digits_value, without_leading_plus, Bor, find, option_map, ne_eqb, length-map, All-get_or, bytes_eq-Decides, items_of, Entry, EntryPasses, HasIn, IsParsed, PassesArg, WantsDefault, args_of, groups_of, least_values, parser_of, parser_of_value, unwrap_or_range, IsAuto, IsParsedFrom, SameRules, ReadsOne, has_subcommand, matched_of, one_text, app_of, Accepts, IsUnsignedIn, reading_of, Rule, is_empty, is_simple_arg, rule_of, Count, Set, Arg, Command, out-Command, ValueParser, Unsigned, ArgMatches, Found, MatchedArg, HasStates, occur_app, script_rule, states_rule}
+use Rattle.clap.specs.Matches.{found_of}
+use Rattle.clap.specs.Walk.{Text}
 use Rattle.clap.specs.declared.builder.value_parser.Reading.TheVariants as reading
-use Rattle.clap.specs.declared.builder.value_parser.ValueParser.{ValueParser}
-use Rattle.clap.specs.declared.builder.value_parser.ValueParser.TheVariants.{Unsigned}
-use Rattle.clap.specs.declared.parser.matches.ArgMatches.{ArgMatches}
-use Rattle.clap.specs.declared.parser.matches.Found.{Found}
-use Rattle.clap.specs.declared.parser.matches.MatchedArg.{MatchedArg}
 use Rattle.clap.proofs.CallerLemmas.{default_present, entry_by_id, same_rules_by_id}
 use Rattle.clap.proofs.WalkLemmas.{both}
-use Rattle.occur.specs.Words.{HasStates, occur_app, script_rule, states_rule}
 
 -- a text within the bounds reads as its number
 pub unsigned_reads : (E : Type 0) (G : List ℕ → Result ℕ E → Type 0) (k low high : ℕ) (t : List ℕ) (r : Option ℕ) → ReadsOne G t r

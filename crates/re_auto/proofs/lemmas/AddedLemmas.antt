@@ -1,7 +1,6 @@
 -- What was added, part by part: sequences, choices and repeated parts, from the last part to the
 -- first.
-use Rattle.std.proofs.Common.{◌≡◌, ℕ, zero, suc, ◌+◌, ◌-◌, ◌<◌, ◌≤◌, Bool, IsTrue, List, [], ◌∷◌, map, drop, length, get_or, drop-cons, ◌↔◌, sym, ap, ◌∙◌, subst, arith}
-use Rattle.re_auto.proofs.Words.{Expression, cat, alt, expression_of, positions, Tree, Ends, Rows, Empty, Has, Part, in_turn, either, again, optional, part_of, Shows, Adds, HasRoom, HasWidth, HasRows, IsAdded, IsAddedOf, IsBlank, empty_at, shown}
+use Rattle.re_auto.proofs.Prelude.{◌≡◌, ℕ, zero, suc, ◌+◌, ◌-◌, ◌<◌, ◌≤◌, Bool, IsTrue, List, [], ◌∷◌, map, drop, length, get_or, drop-cons, ◌↔◌, sym, ap, ◌∙◌, subst, arith, Expression, cat, alt, expression_of, positions, Tree, Ends, Rows, Empty, Has, Part, in_turn, either, again, optional, part_of, Shows, Adds, HasRoom, HasWidth, HasRows, IsAdded, IsAddedOf, IsBlank, empty_at, shown}
 use Rattle.re_auto.proofs.lemmas.Numbered.{IsNumbered}
 use Rattle.re_auto.proofs.lemmas.WithoutPositions.{no_positions}
 use Rattle.re_auto.proofs.lemmas.CountLaws.{positions-alt}

@@ -1,6 +1,5 @@
 -- A part again and again, and a part that may be left out.
-use Rattle.std.proofs.Common.{◌≡◌, ℕ, zero, suc, ◌⊎◌, inl, inr, refl, subst, arith}
-use Rattle.re_auto.proofs.Words.{Text, Turns, Part, Reaches, PartHolds, again, optional}
+use Rattle.re_auto.proofs.Prelude.{◌≡◌, ℕ, zero, suc, ◌⊎◌, inl, inr, refl, subst, arith, Text, Turns, Part, Reaches, PartHolds, again, optional}
 use Rattle.re_auto.proofs.lemmas.Chains.{not_at_begin, not_at_end, reaches_bounds, graft, widen}
 
 -- one turn more after some turns

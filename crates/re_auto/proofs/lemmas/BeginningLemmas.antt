@@ -1,8 +1,5 @@
 -- The first marked byte of a line, found by a search for a few bytes.
-use Rattle.std.proofs.Common.{◌≡◌, ℕ, ◌+◌, ◌-◌, ◌≤◌, Bool, true, false, ◌||◌, ◌⊎◌, inl, inr, List, Option, None, Some, MatchOption, length, take, drop, slice_index, refl, sym, ◌∙◌, ap, subst, arith}
-use Rattle.re_auto.proofs.Words.{◌↔◌, IsFirstByte, is_byte, is_byte2, is_byte3, Text, IsMarked, IsFirstMarked}
-use Rattle.std.proofs.lemmas.Bool.{eqb-true, eq-eqb, false≢true}
-use Rattle.std.proofs.lemmas.List.{get_or-drop, length-drop, take_rest}
+use Rattle.re_auto.proofs.Prelude.{◌≡◌, ℕ, ◌+◌, ◌-◌, ◌≤◌, Bool, true, false, ◌||◌, ◌⊎◌, inl, inr, List, Option, None, Some, MatchOption, length, take, drop, slice_index, refl, sym, ◌∙◌, ap, subst, arith, ◌↔◌, IsFirstByte, is_byte, is_byte2, is_byte3, Text, IsMarked, IsFirstMarked, eqb-true, eq-eqb, false≢true, get_or-drop, length-drop, take_rest}
 
 one_of_two : (p q : Bool) → ((p ≡ true) ⊎ (q ≡ true)) ↔ ((p || q) ≡ true)
 one_of_two true q = (λ h. refl, λ h. inl refl)

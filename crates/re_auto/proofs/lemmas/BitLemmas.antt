@@ -1,12 +1,5 @@
 -- Words of bits as sets.
-use Rattle.std.proofs.Common.{Bool, true, false, true≢false, IsTrue, MatchBool, ◌≡◌, ℕ, ◌+◌, ◌-◌, ◌*◌, ◌/◌, ◌%◌, ◌^◌, suc, ◌<◌, ◌≤◌, max, min, nat_eq, eqb-true, eq-eqb, List, length, take, drop, mul-le-mul_right, get_or, set, ◌⊎◌, inl, inr, refl, sym, ap, ◌∙◌, subst, arith, w64}
-use Rattle.std.proofs.lemmas.Bool.{cases_eq, cases_lt}
-use Rattle.std.proofs.lemmas.List.{drop-take, get_or_past, length-replicate, get_or-replicate, get_or-set_same, get_or-set_other}
-use Rattle.std.proofs.Math.ListN.{replicate}
-use Rattle.std.proofs.lemmas.Nat.{and_le_l}
-use Rattle.std.proofs.lemmas.Nat.Bits.{shr_and_one, bit_at_or, bit_at_and, bit_at-lt, bit_at-zero, bit_at_set_same, bit_at_set_other, bit_at-trailing_zeros, bit_at_clear_same, bit_at_clear_other}
-use Rattle.re_auto.proofs.Words.{bit_and, bit_or, ◌↔◌, ◌≢◌, HoldsAt, AllWithin, bit_at, trailing_zeros, bit_not, Has, Are, row_of}
-use Rattle.std.proofs.lemmas.Slice.{between-put_mid, take-put_mid_below, drop-put_mid}
+use Rattle.re_auto.proofs.Prelude.{Bool, true, false, true≢false, IsTrue, MatchBool, ◌≡◌, ℕ, ◌+◌, ◌-◌, ◌*◌, ◌/◌, ◌%◌, ◌^◌, suc, ◌<◌, ◌≤◌, max, min, nat_eq, eqb-true, eq-eqb, List, length, take, drop, mul-le-mul_right, get_or, set, ◌⊎◌, inl, inr, refl, sym, ap, ◌∙◌, subst, arith, w64, cases_eq, cases_lt, drop-take, get_or_past, length-replicate, get_or-replicate, get_or-set_same, get_or-set_other, replicate, and_le_l, shr_and_one, bit_at_or, bit_at_and, bit_at-lt, bit_at-zero, bit_at_set_same, bit_at_set_other, bit_at-trailing_zeros, bit_at_clear_same, bit_at_clear_other, bit_and, bit_or, ◌↔◌, ◌≢◌, HoldsAt, AllWithin, bit_at, trailing_zeros, bit_not, Has, Are, row_of, between-put_mid, take-put_mid_below, drop-put_mid}
 use borrow.Rule.Slice.PartMut.{put_mid}
 
 pub one_of_max : (x y : ℕ) → x < 2 → y < 2 → max x y ≡ 1 → (x ≡ 1) ⊎ (y ≡ 1)

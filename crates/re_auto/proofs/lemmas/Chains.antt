@@ -1,7 +1,5 @@
 -- Where a part's chains of positions can run, and how one part's chains become another's.
-use Rattle.std.proofs.Common.{◌≡◌, ℕ, zero, suc, ◌<◌, ◌≤◌, Bool, false, inl, inr, ◌++◌, length, slice_index, refl, subst, arith, ne_eqb, length-append}
-use Rattle.std.proofs.lemmas.List.{get_or_append_left}
-use Rattle.re_auto.proofs.Words.{Text, Part, is_begin, is_end, ByteAt, Reaches}
+use Rattle.re_auto.proofs.Prelude.{◌≡◌, ℕ, zero, suc, ◌<◌, ◌≤◌, Bool, false, inl, inr, ◌++◌, length, slice_index, refl, subst, arith, ne_eqb, length-append, get_or_append_left, Text, Part, is_begin, is_end, ByteAt, Reaches}
 
 -- a place after the first is not the first
 pub not_at_begin : (k : ℕ) → 0 < k → is_begin k ≡ false

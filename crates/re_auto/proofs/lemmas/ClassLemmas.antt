@@ -1,9 +1,5 @@
 -- Classes of bytes: rows that are appended to a table, and the bytes that are marked one by one.
-use Rattle.std.proofs.Common.{◌≡◌, ℕ, suc, ◌+◌, ◌-◌, ◌*◌, ◌<◌, ◌≤◌, max, Bool, false, IsTrue, List, [], ◌∷◌, ◌++◌, length, length-append, take, drop, get_or, set, inl, inr, ◌↔◌, refl, sym, ap, ◌∙◌, subst, arith}
-use Rattle.std.proofs.Math.Seq.{drop-append_seam}
-use Rattle.std.proofs.lemmas.Bool.{cases_eq}
-use Rattle.std.proofs.lemmas.List.{take-append-le, drop-take, get_or_append_left, get_or-append_right, get_or-set_same, get_or-set_other}
-use Rattle.re_auto.proofs.Words.{row_of, IsClassed}
+use Rattle.re_auto.proofs.Prelude.{◌≡◌, ℕ, suc, ◌+◌, ◌-◌, ◌*◌, ◌<◌, ◌≤◌, max, Bool, false, IsTrue, List, [], ◌∷◌, ◌++◌, length, length-append, take, drop, get_or, set, inl, inr, ◌↔◌, refl, sym, ap, ◌∙◌, subst, arith, drop-append_seam, cases_eq, take-append-le, drop-take, get_or_append_left, get_or-append_right, get_or-set_same, get_or-set_other, row_of, IsClassed}
 use Rattle.re_auto.proofs.lemmas.RowLemmas.{row_within}
 
 -- a row within a table stays where more is appended

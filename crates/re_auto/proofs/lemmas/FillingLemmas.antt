@@ -1,7 +1,5 @@
 -- The tables of an expression, from blank rows to what they say.
-use Rattle.std.proofs.Common.{◌≡◌, ℕ, ◌+◌, ◌-◌, ◌*◌, ◌/◌, ◌%◌, ◌<◌, ◌≤◌, Bool, List, length-take, drop, get_or, inl, inr, ◌↔◌, sym, ap, ◌∙◌, subst, arith}
-use Rattle.std.proofs.lemmas.List.{get_or-take, get_or-drop}
-use Rattle.re_auto.proofs.Words.{Global, bit_at, Vec, Expression, positions, most_positions, Classes, Ends, Rows, WordRange, Has, row_of, Part, part_of, CoverRows, Marks, AreTablesOf, words_for, Shows, Adds, IsAddedOf, AreBlankRows, AreClasses}
+use Rattle.re_auto.proofs.Prelude.{◌≡◌, ℕ, ◌+◌, ◌-◌, ◌*◌, ◌/◌, ◌%◌, ◌<◌, ◌≤◌, Bool, List, length-take, drop, get_or, inl, inr, ◌↔◌, sym, ap, ◌∙◌, subst, arith, get_or-take, get_or-drop, Global, bit_at, Vec, Expression, positions, most_positions, Classes, Ends, Rows, WordRange, Has, row_of, Part, part_of, CoverRows, Marks, AreTablesOf, words_for, Shows, Adds, IsAddedOf, AreBlankRows, AreClasses}
 use Rattle.re_auto.proofs.lemmas.BitLemmas.{within}
 use Rattle.re_auto.proofs.lemmas.RowLemmas.{row_within}
 use Rattle.re_auto.proofs.lemmas.PartLemmas.{via}

@@ -1,6 +1,5 @@
 -- Two parts in turn, and one of two.
-use Rattle.std.proofs.Common.{ℕ, false, ◌⊎◌, inl, inr, refl, ◌∙◌, subst, arith}
-use Rattle.re_auto.proofs.Words.{⊤, Text, Part, is_begin, is_end, Reaches, PartHolds, in_turn, either}
+use Rattle.re_auto.proofs.Prelude.{ℕ, false, ◌⊎◌, inl, inr, refl, ◌∙◌, subst, arith, ⊤, Text, Part, is_begin, is_end, Reaches, PartHolds, in_turn, either}
 use Rattle.re_auto.proofs.lemmas.Numbered.{IsNumbered}
 use Rattle.re_auto.proofs.lemmas.Chains.{not_at_begin, not_at_end, reaches_bounds, graft, widen}
 use Rattle.re_auto.proofs.lemmas.JoinedChains.{Run, of_first, of_second, of_both, run}

@@ -1,7 +1,6 @@
 -- How a chain of two joined parts runs: in the one, in the other, or across from the first to the
 -- second.
-use Rattle.std.proofs.Common.{◌≡◌, ℕ, zero, suc, ◌<◌, ◌≤◌, Bool, false, inl, inr, length, slice_index, refl, arith}
-use Rattle.re_auto.proofs.Words.{Text, Part, is_begin, Reaches, joined}
+use Rattle.re_auto.proofs.Prelude.{◌≡◌, ℕ, zero, suc, ◌<◌, ◌≤◌, Bool, false, inl, inr, length, slice_index, refl, arith, Text, Part, is_begin, Reaches, joined}
 use Rattle.re_auto.proofs.lemmas.Numbered.{IsNumbered}
 use Rattle.re_auto.proofs.lemmas.Chains.{not_at_begin, reaches_bounds}
 

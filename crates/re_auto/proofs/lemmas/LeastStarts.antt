@@ -1,6 +1,5 @@
 -- Least starts are what the chains say, and are enough for the leftmost-longest stretch.
-use Rattle.std.proofs.Common.{◌≡◌, ℕ, zero, suc, ◌<◌, ◌≤◌, inl, inr, ◌++◌, length, slice_index, Option, Some, None, refl, sym, subst, arith}
-use Rattle.re_auto.proofs.Words.{Text, Mode, Part, is_begin, is_end, Reaches, PartHolds, part_of, MayBegin, Least, IsLeast, StartsAfter, Brought, IsNextStarts, Reported, IsMatched, PassBegins, StartsStay, StartsDecide, OnePassIsEnough, SpentIsOver}
+use Rattle.re_auto.proofs.Prelude.{◌≡◌, ℕ, zero, suc, ◌<◌, ◌≤◌, inl, inr, ◌++◌, length, slice_index, Option, Some, None, refl, sym, subst, arith, Text, Mode, Part, is_begin, is_end, Reaches, PartHolds, part_of, MayBegin, Least, IsLeast, StartsAfter, Brought, IsNextStarts, Reported, IsMatched, PassBegins, StartsStay, StartsDecide, OnePassIsEnough, SpentIsOver}
 use Rattle.re_auto.proofs.lemmas.Chains.{reaches_bounds, reaches_on, reaches_back}
 use Rattle.re_auto.proofs.lemmas.PositionsDecide.{positions_decide}
 use Rattle.re_syntax.proofs.lemmas.BestStretches.{next_or_before, best_so_far}

@@ -1,7 +1,6 @@
 -- The numbers of a part's positions: they fill a range whose length is the expression's number of
 -- positions.
-use Rattle.std.proofs.Common.{◌≡◌, ℕ, zero, suc, ◌+◌, ◌-◌, ◌*◌, ◌<◌, ◌≤◌, Bool, true, false, nat_le, inl, inr, Option, Some, None, max, refl, ap, ◌∙◌, arith, leb-true, add-mul}
-use Rattle.re_auto.proofs.Words.{Expression, empty, one_of, none_of, begin, end, cat_none, cat_more, alt_none, alt_more, repeat, positions, copies, Part, without_positions, one_position, joined, in_turn, either, again, optional, copies_before, up_to, only_if, repeated, part_of}
+use Rattle.re_auto.proofs.Prelude.{◌≡◌, ℕ, zero, suc, ◌+◌, ◌-◌, ◌*◌, ◌<◌, ◌≤◌, Bool, true, false, nat_le, inl, inr, Option, Some, None, max, refl, ap, ◌∙◌, arith, leb-true, add-mul, Expression, empty, one_of, none_of, begin, end, cat_none, cat_more, alt_none, alt_more, repeat, positions, copies, Part, without_positions, one_position, joined, in_turn, either, again, optional, copies_before, up_to, only_if, repeated, part_of}
 
 -- each position of the part has a number from `from` to before `to`
 pub record IsNumbered (part : Part) (from to : ℕ) : Type 0 where

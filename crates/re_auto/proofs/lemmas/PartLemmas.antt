@@ -1,6 +1,5 @@
 -- Parts joined to one another, by what their ends show and what was added to the rows.
-use Rattle.std.proofs.Common.{ℕ, suc, ◌+◌, ◌*◌, ◌<◌, ◌≤◌, Bool, true, false, IsTrue, List, length, ◌⊎◌, inl, inr, ◌↔◌, refl, ◌∙◌, arith, mul-le-mul_right}
-use Rattle.re_auto.proofs.Words.{⊤, Ends, Rows, Empty, Has, row_of, Are, Part, in_turn, either, again, optional, Shows, Adds, HasRoom, HasWidth, HasRows, empty_at, blank_part, shown}
+use Rattle.re_auto.proofs.Prelude.{ℕ, suc, ◌+◌, ◌*◌, ◌<◌, ◌≤◌, Bool, true, false, IsTrue, List, length, ◌⊎◌, inl, inr, ◌↔◌, refl, ◌∙◌, arith, mul-le-mul_right, ⊤, Ends, Rows, Empty, Has, row_of, Are, Part, in_turn, either, again, optional, Shows, Adds, HasRoom, HasWidth, HasRows, empty_at, blank_part, shown}
 use Rattle.re_auto.proofs.lemmas.Numbered.{IsNumbered}
 use Rattle.re_auto.proofs.lemmas.WithoutPositions.{HasNoPositions}
 

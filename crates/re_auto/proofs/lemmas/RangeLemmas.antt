@@ -1,9 +1,5 @@
 -- Ranges of words that contain the members of rows.
-use Rattle.std.proofs.Common.{◌≡◌, ℕ, ◌/◌, ◌%◌, ◌<◌, ◌≤◌, max, List, [], ◌∷◌, ◌++◌, zero, suc, length, get_or, ◌⊎◌, inl, inr, ◌↔◌, sym, ap, ◌∙◌, subst, arith}
-use Rattle.std.proofs.lemmas.Bool.{cases_lt}
-use Rattle.std.proofs.lemmas.Nat.Bits.{bit_at_or, bit_at-lt, bit_at-zero}
-use Rattle.std.proofs.lemmas.Option.{same_Some, none-some}
-use Rattle.re_auto.proofs.Words.{bit_or, Some, slice_get, bit_at, WordRange, Has, Covers}
+use Rattle.re_auto.proofs.Prelude.{◌≡◌, ℕ, ◌/◌, ◌%◌, ◌<◌, ◌≤◌, max, List, [], ◌∷◌, ◌++◌, zero, suc, length, get_or, ◌⊎◌, inl, inr, ◌↔◌, sym, ap, ◌∙◌, subst, arith, cases_lt, bit_at_or, bit_at-lt, bit_at-zero, same_Some, none-some, bit_or, Some, slice_get, bit_at, WordRange, Has, Covers}
 use Rattle.re_auto.proofs.lemmas.BitLemmas.{one_of_max}
 
 -- no number is in a word that is 0

@@ -1,6 +1,5 @@
 -- A part repeated by copies.
-use Rattle.std.proofs.Common.{◌≡◌, ℕ, zero, suc, ◌+◌, ◌-◌, ◌*◌, ◌≤◌, Bool, true, false, nat_le, inl, inr, ◌↔◌, Option, Some, None, refl, sym, subst, arith, leb-true, le-leb}
-use Rattle.re_auto.proofs.Words.{Text, Turns, IsWithin, Part, PartHolds, in_turn, again, copies_before, up_to, only_if, repeated}
+use Rattle.re_auto.proofs.Prelude.{◌≡◌, ℕ, zero, suc, ◌+◌, ◌-◌, ◌*◌, ◌≤◌, Bool, true, false, nat_le, inl, inr, ◌↔◌, Option, Some, None, refl, sym, subst, arith, leb-true, le-leb, Text, Turns, IsWithin, Part, PartHolds, in_turn, again, copies_before, up_to, only_if, repeated}
 use Rattle.re_auto.proofs.lemmas.Numbered.{IsNumbered, copies_before_numbered, up_to_numbered, again_copy_numbered}
 use Rattle.re_auto.proofs.lemmas.InTurnAndEither.{cut, joint}
 use Rattle.re_auto.proofs.lemmas.AgainAndOptional.{turns_of, of_turns, optional_of, of_optional}

@@ -1,7 +1,5 @@
 -- Repeated parts that are added: their copies, tails, and those without positions.
-use Rattle.std.proofs.Common.{◌≡◌, ℕ, zero, suc, ◌+◌, ◌-◌, ◌*◌, ◌<◌, ◌≤◌, min, max, Bool, true, false, IsTrue, le-leb, length, inl, inr, ◌↔◌, Option, Some, None, IfSome, sym, ap, ◌∙◌, subst, arith, mul-le-mul_right}
-use Rattle.std.proofs.lemmas.Bool.{lt-leb}
-use Rattle.re_auto.proofs.Words.{Expression, repeat, most_positions, positions, Ends, Rows, Empty, Part, in_turn, again, optional, copies_before, up_to, only_if, part_of, Shows, Adds, IsAdded, IsAddedOf, IsBlank, AreTurns, AreUpTo, IsTail, tail_of, tail_copies, empty_at, shown}
+use Rattle.re_auto.proofs.Prelude.{◌≡◌, ℕ, zero, suc, ◌+◌, ◌-◌, ◌*◌, ◌<◌, ◌≤◌, min, max, Bool, true, false, IsTrue, le-leb, length, inl, inr, ◌↔◌, Option, Some, None, IfSome, sym, ap, ◌∙◌, subst, arith, mul-le-mul_right, lt-leb, Expression, repeat, most_positions, positions, Ends, Rows, Empty, Part, in_turn, again, optional, copies_before, up_to, only_if, part_of, Shows, Adds, IsAdded, IsAddedOf, IsBlank, AreTurns, AreUpTo, IsTail, tail_of, tail_copies, empty_at, shown}
 use Rattle.re_auto.proofs.lemmas.WithoutPositions.{HasNoPositions, turns_empty, no_positions, repeat_empty, repeat_no_positions}
 use Rattle.re_auto.proofs.lemmas.PartLemmas.{named, via, shows_blank, adds_nothing}
 use Rattle.re_auto.proofs.lemmas.AddedLemmas.{turn_added, optional_added, again_added}

@@ -1,7 +1,6 @@
 -- Rows of tables while they are written.
 use mathlib.Core.Bool.{beq}
-use Rattle.std.proofs.Common.{◌≡◌, ℕ, suc, ◌+◌, ◌*◌, ◌<◌, ◌≤◌, Bool, true, false, ◌⊎◌, inl, inr, ◌↔◌, refl, sym, subst, arith, mul-le-mul_right}
-use Rattle.std.proofs.lemmas.Bool.{cases_eq}
+use Rattle.re_auto.proofs.Prelude.{◌≡◌, ℕ, suc, ◌+◌, ◌*◌, ◌<◌, ◌≤◌, Bool, true, false, ◌⊎◌, inl, inr, ◌↔◌, refl, sym, subst, arith, mul-le-mul_right, cases_eq}
 
 -- a row before the last has its words within the table
 pub row_within : (p rows width : ℕ) → p < rows → p * width + width ≤ rows * width

@@ -1,6 +1,5 @@
 -- Sets of positions are what the chains say, step by step.
-use Rattle.std.proofs.Common.{ℕ, suc, ◌<◌, inl, inr, ◌↔◌, ◌++◌, arith, length, slice_index, refl, subst}
-use Rattle.re_auto.proofs.Words.{Text, Expression, Holds, Mode, Part, is_begin, is_end, Reaches, PartHolds, part_of, MayBegin, IsAfter, IsNext, Accepts}
+use Rattle.re_auto.proofs.Prelude.{ℕ, suc, ◌<◌, inl, inr, ◌↔◌, ◌++◌, arith, length, slice_index, refl, subst, Text, Expression, Holds, Mode, Part, is_begin, is_end, Reaches, PartHolds, part_of, MayBegin, IsAfter, IsNext, Accepts}
 use Rattle.re_auto.proofs.lemmas.Chains.{reaches_on, reaches_back}
 use Rattle.re_auto.proofs.lemmas.PositionsDecide.{positions_decide}
 

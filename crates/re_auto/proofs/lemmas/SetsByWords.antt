@@ -1,7 +1,5 @@
 -- What sets of positions mean, by what their words are.
-use Rattle.std.proofs.Common.{◌≡◌, ℕ, suc, ◌<◌, Bool, true, false, IsTrue, List, length, ◌||◌, ◌&&◌, inl, inr, refl, sym, ◌∙◌, subst, arith, true≢false, Some, slice_get}
-use Rattle.re_auto.proofs.Words.{◌↔◌, slice_index, Text, Expression, Holds, positions, Mode, Search, StateSet, Has, Part, part_of, is_begin, is_end, MayBegin, IsNext, Accepts, IsNowhere, StandsAt, IsNextSet, IsAccepting, CanBegin}
-use Rattle.std.proofs.lemmas.Option.{slice_get_within, get_or_from_slice_get}
+use Rattle.re_auto.proofs.Prelude.{◌≡◌, ℕ, suc, ◌<◌, Bool, true, false, IsTrue, List, length, ◌||◌, ◌&&◌, inl, inr, refl, sym, ◌∙◌, subst, arith, true≢false, Some, slice_get, ◌↔◌, slice_index, Text, Expression, Holds, positions, Mode, Search, StateSet, Has, Part, part_of, is_begin, is_end, MayBegin, IsNext, Accepts, IsNowhere, StandsAt, IsNextSet, IsAccepting, CanBegin, slice_get_within, get_or_from_slice_get}
 use Rattle.re_auto.proofs.lemmas.Chains.{not_at_begin}
 use Rattle.re_auto.proofs.lemmas.Numbered.{part_numbered}
 use Rattle.re_auto.proofs.lemmas.SetsByChains.{none_is_right, step_is_right, accept_is_right}

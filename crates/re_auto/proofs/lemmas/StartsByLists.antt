@@ -1,8 +1,5 @@
 -- What least starts mean, by what their lists are.
-use Rattle.std.proofs.Common.{◌≡◌, ℕ, suc, ◌/◌, ◌%◌, if◌then◌else◌, ◌<◌, ◌≤◌, Bool, true, false, IsTrue, List, length, nat_eq, nat_lt, ltb-true, ltb-false, ◌⊎◌, inl, inr, refl, sym, ap, ◌∙◌, subst, arith, Option, Some, None, slice_get, eqb-true, eq-eqb, ne_eqb}
-use Rattle.re_auto.proofs.Words.{◌↔◌, slice_index, bit_at, Text, Expression, Mode, Starts, Has, part_of, is_begin, is_end, Least, Brought, IsNextStarts, Reported, IsMatched, IsSpent, least_of, Carries, Brings, AtMost, StartsAt, AreNext, MayBegin}
-use Rattle.std.proofs.lemmas.Bool.{cases_lt, true_from_ne_false}
-use Rattle.std.proofs.lemmas.Option.{slice_get_within, get_or_from_slice_get}
+use Rattle.re_auto.proofs.Prelude.{◌≡◌, ℕ, suc, ◌/◌, ◌%◌, if◌then◌else◌, ◌<◌, ◌≤◌, Bool, true, false, IsTrue, List, length, nat_eq, nat_lt, ltb-true, ltb-false, ◌⊎◌, inl, inr, refl, sym, ap, ◌∙◌, subst, arith, Option, Some, None, slice_get, eqb-true, eq-eqb, ne_eqb, ◌↔◌, slice_index, bit_at, Text, Expression, Mode, Starts, Has, part_of, is_begin, is_end, Least, Brought, IsNextStarts, Reported, IsMatched, IsSpent, least_of, Carries, Brings, AtMost, StartsAt, AreNext, MayBegin, cases_lt, true_from_ne_false, slice_get_within, get_or_from_slice_get}
 use Rattle.re_auto.proofs.lemmas.LeastStarts.{pass_begins, starts_stay, starts_decide, spent_is_over}
 
 -- what one position's row adds

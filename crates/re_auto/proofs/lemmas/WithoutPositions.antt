@@ -1,6 +1,5 @@
 -- Expressions without positions, and where a repeated expression holds on the empty stretch.
-use Rattle.std.proofs.Common.{◌≡◌, ℕ, zero, suc, ◌+◌, ◌-◌, ◌≤◌, Bool, true, false, nat_le, ◌⊎◌, inl, inr, ◌↔◌, Option, Some, None, IfSome, refl, sym, subst, arith, leb-true, le-leb}
-use Rattle.re_auto.proofs.Words.{Expression, empty, one_of, none_of, begin, end, cat_none, cat_more, alt_none, alt_more, repeat, positions, Part, again, copies_before, up_to, only_if, repeated, part_of}
+use Rattle.re_auto.proofs.Prelude.{◌≡◌, ℕ, zero, suc, ◌+◌, ◌-◌, ◌≤◌, Bool, true, false, nat_le, ◌⊎◌, inl, inr, ◌↔◌, Option, Some, None, IfSome, refl, sym, subst, arith, leb-true, le-leb, Expression, empty, one_of, none_of, begin, end, cat_none, cat_more, alt_none, alt_more, repeat, positions, Part, again, copies_before, up_to, only_if, repeated, part_of}
 use Rattle.re_auto.proofs.lemmas.Numbered.{part_numbered}
 
 -- the part has no position

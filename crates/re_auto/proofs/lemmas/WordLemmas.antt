@@ -1,9 +1,5 @@
 -- Sets of numbers that are one word of bits.
-use Rattle.std.proofs.Common.{Bool, ◌≡◌, ℕ, ◌/◌, ◌%◌, ◌^◌, ◌<◌, ◌≤◌, List, length, length-set, get_or, set, ◌⊎◌, inl, inr, sym, ◌∙◌, subst, arith}
-use Rattle.re_auto.proofs.Words.{bit_and, bit_or, ◌↔◌, bit_at, Mode, Has, InWord, Part, MayBegin, IsNext}
-use Rattle.std.proofs.lemmas.Bool.{cases_lt}
-use Rattle.std.proofs.lemmas.List.{get_or-set_same}
-use Rattle.std.proofs.lemmas.Nat.Bits.{bit_at_or, bit_at_and, bit_at-lt, bit_at_above}
+use Rattle.re_auto.proofs.Prelude.{Bool, ◌≡◌, ℕ, ◌/◌, ◌%◌, ◌^◌, ◌<◌, ◌≤◌, List, length, length-set, get_or, set, ◌⊎◌, inl, inr, sym, ◌∙◌, subst, arith, bit_and, bit_or, ◌↔◌, bit_at, Mode, Has, InWord, Part, MayBegin, IsNext, cases_lt, get_or-set_same, bit_at_or, bit_at_and, bit_at-lt, bit_at_above}
 use Rattle.re_auto.proofs.lemmas.BitLemmas.{one_of_max, within}
 
 -- a word has no number above its last bit

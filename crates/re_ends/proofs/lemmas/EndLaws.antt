@@ -1,14 +1,7 @@
 -- Greatest ends are what the chains say, and are right step by step.
-use Rattle.std.proofs.Common.{◌≡◌, ℕ, zero, suc, ◌+◌, ◌-◌, ◌<◌, ◌≤◌, inl, inr, ◌⊎◌, Bool, List, length, max, get_or, set, slice_index, refl, sym, subst, arith}
-use Rattle.std.proofs.lemmas.Bool.{cases_lt, cases_eq}
-use Rattle.std.proofs.lemmas.List.{get_or_past, get_or-set_same, get_or-set_other}
-use Rattle.std.specs.Prelude.{◌↔◌}
-use Rattle.re_syntax.specs.Bytes.{Text}
-use Rattle.re_syntax.specs.Expression.{Expression}
-use Rattle.re_auto.specs.Working.Positions.{Part, is_begin, is_end, Reaches, PartHolds, part_of}
+use Rattle.re_ends.proofs.Prelude.{◌≡◌, ℕ, zero, suc, ◌+◌, ◌-◌, ◌<◌, ◌≤◌, inl, inr, ◌⊎◌, Bool, List, length, max, get_or, set, slice_index, refl, sym, subst, arith, cases_lt, cases_eq, get_or_past, get_or-set_same, get_or-set_other, ◌↔◌, Text, Expression, Part, is_begin, is_end, Reaches, PartHolds, part_of, Leads, LeadsPast, AreEndsAt, IsStepBack, MatchesPast}
 use Rattle.re_auto.proofs.lemmas.Chains.{reaches_bounds}
 use Rattle.re_auto.proofs.lemmas.PositionsDecide.{positions_decide}
-use Rattle.re_ends.specs.Working.GreatestEnds.{Leads, LeadsPast, AreEndsAt, IsStepBack, MatchesPast}
 
 module _ (part : Part) (line : Text) where
   -- a chain that has come to a position, and one that goes on with it, are one from its beginning

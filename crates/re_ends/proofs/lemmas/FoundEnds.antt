@@ -1,13 +1,7 @@
 -- The greatest ends of the parts that begin at each place.
-use Rattle.std.proofs.Common.{◌≡◌, ℕ, ◌+◌, ◌<◌, inl, inr, ◌⊎◌, Bool, true, false, IsTrue, List, [], ◌∷◌, ◌++◌, length, refl, sym, subst, arith}
-use Rattle.std.specs.Prelude.{◌↔◌}
+use Rattle.re_ends.proofs.Prelude.{◌≡◌, ℕ, ◌+◌, ◌<◌, inl, inr, ◌⊎◌, Bool, true, false, IsTrue, List, [], ◌∷◌, ◌++◌, length, refl, sym, subst, arith, ◌↔◌, Text, Expression, Holds, Matches, IsFound, MatchesPast, FoundPast, AddsEnds}
 use Rattle.re_syntax.proofs.lemmas.Decisions.{Any-first}
-use Rattle.re_syntax.specs.Bytes.{Text}
-use Rattle.re_syntax.specs.Expression.{Expression}
-use Rattle.re_syntax.specs.Holds.{Holds, Matches}
-use Rattle.re_syntax.specs.Parts.{IsFound}
 use Rattle.re_syntax.proofs.lemmas.SomeOfJoined.{Any-single, Any-left, Any-right, Any-append-cases}
-use Rattle.re_ends.specs.Working.GreatestEnds.{MatchesPast, FoundPast, AddsEnds}
 
 -- what reaches past the same numbers adds the same ends
 pub adds_alike : (P Q : ℕ → ℕ → Type 0) (line : Text) (old new : List ℕ) → ((i m : ℕ) → i < length line → P i m ↔ Q i m) → AddsEnds P line old new → AddsEnds Q line old new

@@ -1,8 +1,5 @@
 -- Parts that begin at a known place or later.
-use Rattle.std.proofs.Common.{ℕ, ◌+◌, ◌-◌, ◌<◌, ◌≤◌, inl, inr, subst, false, IsTrue, [], ◌∷◌, length, drop, Option, Some, None, arith}
-use Rattle.std.proofs.lemmas.Bool.{cases_eq}
-use Rattle.std.proofs.Math.Decide.{dec_le}
-use Rattle.re_match.proofs.Words.{Text, Expression, Holds, IsFound, IsPart, Span, FindsPart, Needle, FindsRun, IsNeedleOf, run_of, IsLongest, HasNone, BeginsLater}
+use Rattle.re_match.proofs.Prelude.{ℕ, ◌+◌, ◌-◌, ◌<◌, ◌≤◌, inl, inr, subst, false, IsTrue, [], ◌∷◌, length, drop, Option, Some, None, arith, cases_eq, dec_le, Text, Expression, Holds, IsFound, IsPart, Span, FindsPart, Needle, FindsRun, IsNeedleOf, run_of, IsLongest, HasNone, BeginsLater}
 use Rattle.re_syntax.proofs.lemmas.Decisions.{Any-first}
 use Rattle.re_syntax.proofs.lemmas.SomeOfJoined.{Any-single}
 use Rattle.re_needle.proofs.lemmas.RunLaws.{run_rest, run_whole}

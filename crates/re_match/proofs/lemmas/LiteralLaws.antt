@@ -1,6 +1,5 @@
 -- What fixed strings mean, and how many positions they have.
-use Rattle.std.proofs.Common.{◌≡◌, Bool, true, false, [], ◌∷◌, length, map, refl, arith}
-use Rattle.re_match.proofs.Words.{Text, byte, cat, folded, positions, literal_meaning}
+use Rattle.re_match.proofs.Prelude.{◌≡◌, Bool, true, false, [], ◌∷◌, length, map, refl, arith, Text, byte, cat, folded, positions, literal_meaning}
 
 cat_positions : (t : Text) → positions (cat (map byte t)) ≡ length t
 cat_positions [] = refl

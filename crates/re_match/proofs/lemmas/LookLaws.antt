@@ -1,6 +1,5 @@
 -- The work of a look over a line, and of steps after it.
-use Rattle.std.proofs.Common.{◌+◌, min, inl, inr, length, sym, subst, arith}
-use Rattle.re_match.proofs.Words.{AddsUpTo, Text, Expression, LooksOver}
+use Rattle.re_match.proofs.Prelude.{◌+◌, min, inl, inr, length, sym, subst, arith, AddsUpTo, Text, Expression, LooksOver}
 use Rattle.re_meter.specs.Meters.{Steps, AddsAtMost}
 use Rattle.re_meter.proofs.lemmas.Adding.{adds_none, adds_within, adds_both, only_passed}
 use Rattle.re_needle.proofs.lemmas.Looks.{look_within}

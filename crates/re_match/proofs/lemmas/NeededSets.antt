@@ -1,6 +1,5 @@
 -- Runs that expressions need.
-use Rattle.std.proofs.Common.{◌≤◌, [], arith}
-use Rattle.re_match.proofs.Words.{Expression, RunIsNeeded}
+use Rattle.re_match.proofs.Prelude.{◌≤◌, [], arith, Expression, RunIsNeeded}
 use Rattle.re_syntax.proofs.lemmas.HoldsDecided.{Holds-le}
 
 -- the run of no set is everywhere

@@ -1,11 +1,5 @@
 -- What is matched of a line by one text, by where a search for the text finds it.
-use Rattle.std.proofs.Common.{◌≡◌, ℕ, ◌+◌, ◌-◌, ◌<◌, ◌≤◌, true, false, IsTrue, [], ◌∷◌, ◌++◌, length, map, drop, Option, None, Some, ◌↔◌, refl, sym, ap, subst, ◌∙◌, arith, zero-add, length-append, length-drop}
-use Rattle.re_match.proofs.Words.{Decides, is_some, bytes_eq, Text, byte, sequence, Holds, Matches, IsFound, IsPart, OccursAt, FindsNeedle, FoundPast}
-use Rattle.std.proofs.lemmas.Bool.{false≢true}
-use Rattle.std.proofs.lemmas.Slice.Eq.{bytes_eq-Decides}
-use Rattle.std.proofs.Math.Decide.{dec_le}
-use Rattle.std.proofs.Math.Seq.{drop-length}
-use Rattle.std.proofs.lemmas.List.{drop-drop, append-nil}
+use Rattle.re_match.proofs.Prelude.{◌≡◌, ℕ, ◌+◌, ◌-◌, ◌<◌, ◌≤◌, true, false, IsTrue, [], ◌∷◌, ◌++◌, length, map, drop, Option, None, Some, ◌↔◌, refl, sym, ap, subst, ◌∙◌, arith, zero-add, length-append, length-drop, Decides, is_some, bytes_eq, Text, byte, sequence, Holds, Matches, IsFound, IsPart, OccursAt, FindsNeedle, FoundPast, false≢true, bytes_eq-Decides, dec_le, drop-length, drop-drop, append-nil}
 use Rattle.re_syntax.proofs.lemmas.Decisions.{Any-first}
 use Rattle.re_syntax.proofs.lemmas.FixedStrings.{stands-holds, holds-stands, stands-matches, matches-stands}
 use Rattle.re_syntax.proofs.lemmas.SomeOfJoined.{Any-single}

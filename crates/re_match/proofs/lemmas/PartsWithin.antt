@@ -1,6 +1,5 @@
 -- Parts within their line.
-use Rattle.std.proofs.Common.{ℕ, ◌≤◌, Bool, List, Option, None, Some, IfSome, length, arith}
-use Rattle.re_match.proofs.Words.{Text, Expression, Span, FindsPart}
+use Rattle.re_match.proofs.Prelude.{ℕ, ◌≤◌, Bool, List, Option, None, Some, IfSome, length, arith, Text, Expression, Span, FindsPart}
 
 -- a part ends no earlier than its search begins, and within the line
 pub part_within : (es : List Expression) (line : Text) (whole : Bool) (from : ℕ) (found : Option Span) → FindsPart es line whole from found → IfSome found (λ part. (from ≤ part.end) × (part.end ≤ length line))

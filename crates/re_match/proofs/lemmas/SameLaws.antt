@@ -1,6 +1,5 @@
 -- Matchers that a search left as they were.
-use Rattle.std.proofs.Common.{ℕ, Bool, ◌∙◌}
-use Rattle.re_match.proofs.Words.{Expression, SameMatcher}
+use Rattle.re_match.proofs.Prelude.{ℕ, Bool, ◌∙◌, Expression, SameMatcher}
 
 module _ {M : Type 0} {expression : M → Expression} {whole : M → Bool} {room : M → ℕ} where
   -- so it is over two searches

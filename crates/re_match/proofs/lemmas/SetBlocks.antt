@@ -1,8 +1,5 @@
 -- Lines of a block that have none of many strings.
-use Rattle.std.proofs.Common.{ℕ, Bool, true, false, length, get_or, arith, ◌≡◌, suc, ◌+◌, ◌≤◌, List, [], ◌∷◌, ◌++◌, map, take, drop, Some, None, sym, ap, ◌∙◌, subst, length-append}
-use Rattle.re_match.proofs.Words.{Text, Expression, PassesUnmatched, IsBlock, PassesAll, ⊤, Matches, IsString, Occurs, EndsFirst, Literals, any_literal, key, keys}
-use Rattle.std.proofs.lemmas.Bool.{false≢true}
-use Rattle.std.proofs.lemmas.List.{length-map, map-append, take-append-le}
+use Rattle.re_match.proofs.Prelude.{ℕ, Bool, true, false, length, get_or, arith, ◌≡◌, suc, ◌+◌, ◌≤◌, List, [], ◌∷◌, ◌++◌, map, take, drop, Some, None, sym, ap, ◌∙◌, subst, length-append, Text, Expression, PassesUnmatched, IsBlock, PassesAll, ⊤, Matches, IsString, Occurs, EndsFirst, Literals, any_literal, key, keys, false≢true, length-map, map-append, take-append-le}
 use Rattle.re_needle.proofs.lemmas.BlockLemmas.{passes_free_block, passes_free_front}
 use Rattle.re_match.proofs.lemmas.SetMatches.{occurs_decides}
 

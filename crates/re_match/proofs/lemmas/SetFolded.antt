@@ -1,7 +1,5 @@
 -- Strings and lines as they are compared: what both cases of each letter have alike.
-use Rattle.std.proofs.Common.{◌≡◌, ◌↔◌, ℕ, zero, suc, inl, inr, Bool, true, false, IsTrue, List, [], ◌∷◌, map, slice_get, Some, refl, sym, ap, subst, ◌∙◌}
-use Rattle.re_match.proofs.Words.{option_map, Text, only, cat, alt, byte, sequence, Holds, folded, key, keys, literal_meaning}
-use Rattle.std.proofs.lemmas.Option.{slice_get-map}
+use Rattle.re_match.proofs.Prelude.{◌≡◌, ◌↔◌, ℕ, zero, suc, inl, inr, Bool, true, false, IsTrue, List, [], ◌∷◌, map, slice_get, Some, refl, sym, ap, subst, ◌∙◌, option_map, Text, only, cat, alt, byte, sequence, Holds, folded, key, keys, literal_meaning, slice_get-map}
 use Rattle.re_strings.proofs.lemmas.KeyLaws.{closed_byte, keys_plain}
 
 -- ---- where they hold

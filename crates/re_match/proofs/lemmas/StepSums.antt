@@ -1,6 +1,5 @@
 -- Steps after steps.
-use Rattle.std.proofs.Common.{◌≡◌, ℕ, ◌+◌, ◌-◌, ◌≤◌, Option, length, drop, length-drop, arith}
-use Rattle.re_match.proofs.Words.{Text, AddsUpTo, many_passed, look_cost}
+use Rattle.re_match.proofs.Prelude.{◌≡◌, ℕ, ◌+◌, ◌-◌, ◌≤◌, Option, length, drop, length-drop, arith, Text, AddsUpTo, many_passed, look_cost}
 use Rattle.re_needle.proofs.lemmas.Looks.{look_within}
 use Rattle.re_auto.specs.Meters.{Steps}
 use Rattle.re_auto.specs.Searches.{AddsAtMost}

@@ -1,8 +1,5 @@
 -- What a look over a block says of the line in which it stopped.
-use Rattle.std.proofs.Common.{◌≡◌, ◌∙◌, ℕ, ◌+◌, ◌-◌, ◌<◌, ◌≤◌, ◌++◌, ◌∷◌, inr, Bool, true, false, List, Some, length, take, drop, get_or, slice_range, slice_index, sym, ap, subst, refl, arith, length-take, length-drop}
-use Rattle.re_match.proofs.Words.{IsTrue, Bytes, Text, Expression, Matches, newline, HasNoNewline, AddsUpTo, IsLineFrom, StopsInLine, PassesUnmatched, IsJustRun, RunStandsAt, look_cost, set_at, Swept, Sweep, Stop, Unseen, Seen, Matched, StopsAt, left_for}
-use Rattle.std.proofs.Math.Decide.{dec_le}
-use Rattle.std.proofs.lemmas.List.{get_or-drop, get_or-take, get_or-append-add, drop-drop}
+use Rattle.re_match.proofs.Prelude.{◌≡◌, ◌∙◌, ℕ, ◌+◌, ◌-◌, ◌<◌, ◌≤◌, ◌++◌, ◌∷◌, inr, Bool, true, false, List, Some, length, take, drop, get_or, slice_range, slice_index, sym, ap, subst, refl, arith, length-take, length-drop, IsTrue, Bytes, Text, Expression, Matches, newline, HasNoNewline, AddsUpTo, IsLineFrom, StopsInLine, PassesUnmatched, IsJustRun, RunStandsAt, look_cost, set_at, Swept, Sweep, Stop, Unseen, Seen, Matched, StopsAt, left_for, dec_le, get_or-drop, get_or-take, get_or-append-add, drop-drop}
 use Rattle.re_meter.specs.Meters.{Steps, AddsAtMost}
 use Rattle.re_meter.proofs.lemmas.Adding.{adds_within, adds_both}
 use Rattle.re_needle.proofs.lemmas.BlockLemmas.{passed_within}

@@ -1,6 +1,5 @@
 -- Bounds on what is counted: none, more, and one after the other.
-use Rattle.std.proofs.Common.{◌≡◌, ◌∙◌, ℕ, zero, suc, ◌+◌, ◌≤◌, refl, sym, ap, arith, subst}
-use Rattle.re_meter.specs.Meters.{Steps, many_built, many_reused, many_passed, refused_more, CountsAtMost, Adds, AddsUpTo, counted}
+use Rattle.re_meter.proofs.Prelude.{◌≡◌, ◌∙◌, ℕ, zero, suc, ◌+◌, ◌≤◌, refl, sym, ap, arith, subst, Steps, many_built, many_reused, many_passed, refused_more, CountsAtMost, Adds, AddsUpTo, counted}
 
 -- nothing is counted
 pub counts_none : (steps bytes : ℕ) (s : Steps) → CountsAtMost steps bytes s s

@@ -1,10 +1,5 @@
 -- Lines of a block that do not begin with a run.
-use Rattle.std.proofs.Common.{◌≡◌, ℕ, suc, ◌+◌, ◌-◌, ◌<◌, ◌≤◌, ◌↔◌, inl, inr, true, IsTrue, List, [], ◌∷◌, ◌++◌, All, Some, None, length, take, drop, get_or, slice_index, nat_eq, eq-eqb, refl, sym, ap, ◌∙◌, subst, arith, append_assoc, length-append, length-take, length-drop, take-append-drop, drop-cons, get_or-drop, get_or-append-add, add-one}
-use Rattle.re_needle.proofs.Words.{⊤, Bytes, Text, Expression, Matches, newline, terminated, HasNoNewline, IsBlock, LineBegins, PassesAll, PassesUnmatched, RunBegins, RunStandsAt, FindsRun, BeginsWithout}
-use Rattle.std.proofs.Math.Decide.{dec_le}
-use Rattle.std.proofs.lemmas.Bool.{eqb-true}
-use Rattle.std.proofs.lemmas.List.{get_or_append_left, get_or-take}
-use Rattle.std.proofs.lemmas.List.Elements.{All-nil, All-cons}
+use Rattle.re_needle.proofs.Prelude.{◌≡◌, ℕ, suc, ◌+◌, ◌-◌, ◌<◌, ◌≤◌, ◌↔◌, inl, inr, true, IsTrue, List, [], ◌∷◌, ◌++◌, All, Some, None, length, take, drop, get_or, slice_index, nat_eq, eq-eqb, refl, sym, ap, ◌∙◌, subst, arith, append_assoc, length-append, length-take, length-drop, take-append-drop, drop-cons, get_or-drop, get_or-append-add, add-one, ⊤, Bytes, Text, Expression, Matches, newline, terminated, HasNoNewline, IsBlock, LineBegins, PassesAll, PassesUnmatched, RunBegins, RunStandsAt, FindsRun, BeginsWithout, dec_le, eqb-true, get_or_append_left, get_or-take, All-nil, All-cons}
 use Rattle.re_needle.proofs.lemmas.RunLaws.{run_before, run_after, run_rest, nowhere}
 use Rattle.re_needle.proofs.lemmas.BlockLemmas.{passes_none, passes_after, passes_block, passes_longer, passed_within}
 

@@ -1,8 +1,5 @@
 -- Lines of a block in which something does not begin, as a run of sets or a text.
-use Rattle.std.proofs.Common.{◌≡◌, ℕ, ◌+◌, ◌<◌, ◌≤◌, Bool, true, false, List, [], ◌∷◌, ◌++◌, All, Some, None, length, map, take, drop, get_or, refl, sym, ap, ◌∙◌, subst, arith, append_assoc, append-nil, length-append, length-take, take-append-drop}
-use Rattle.re_needle.proofs.Words.{⊤, Bytes, Text, only, Expression, Matches, newline, terminated, HasNoNewline, ended_lines_of, FindsNeedle, IsBlock, Lacks, PassesAll, PassesUnmatched, IsNeeded, RunIsNeeded, RunStandsAt, FindsRun, LacksRun}
-use Rattle.std.proofs.lemmas.List.{length_push}
-use Rattle.std.proofs.lemmas.List.Elements.{All-push, All-nil, All-cons}
+use Rattle.re_needle.proofs.Prelude.{◌≡◌, ℕ, ◌+◌, ◌<◌, ◌≤◌, Bool, true, false, List, [], ◌∷◌, ◌++◌, All, Some, None, length, map, take, drop, get_or, refl, sym, ap, ◌∙◌, subst, arith, append_assoc, append-nil, length-append, length-take, take-append-drop, ⊤, Bytes, Text, only, Expression, Matches, newline, terminated, HasNoNewline, ended_lines_of, FindsNeedle, IsBlock, Lacks, PassesAll, PassesUnmatched, IsNeeded, RunIsNeeded, RunStandsAt, FindsRun, LacksRun, length_push, All-push, All-nil, All-cons}
 use Rattle.re_syntax.proofs.lemmas.LinesLaws.{all_none, terminated-append}
 use Rattle.re_syntax.proofs.lemmas.EndedLinesLaws.{AreEndedLines-ended_lines_of}
 use Rattle.re_needle.proofs.lemmas.RunLaws.{run_before, run_after, text_run, finds_text}

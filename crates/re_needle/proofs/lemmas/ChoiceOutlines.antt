@@ -1,9 +1,5 @@
 -- Outlines of choices: the sets that all branches begin with, joined place by place.
-use Rattle.std.proofs.Common.{◌≡◌, ◌≢◌, ℕ, zero, suc, ◌+◌, ◌<◌, ◌≤◌, ◌⊎◌, inl, inr, IsTrue, List, [], ◌∷◌, ◌++◌, length, map, take, get_or, slice_get, Option, None, Some, refl, sym, ap, ◌∙◌, subst, arith, append_assoc}
-use Rattle.std.proofs.Math.ListN.{set}
-use Rattle.std.proofs.lemmas.Grind.{get_or-set_at}
-use Rattle.std.proofs.lemmas.List.{get_or-set_other, map-append, take_more}
-use Rattle.re_needle.proofs.Words.{Bytes, Text, nothing, Expression, alt, expression_of, Tree, OutlineItem, set_at, shown, Fits, IsOutline, AddsOutline, AddsSets, AreJoined, BeginsWith, Leads}
+use Rattle.re_needle.proofs.Prelude.{◌≡◌, ◌≢◌, ℕ, zero, suc, ◌+◌, ◌<◌, ◌≤◌, ◌⊎◌, inl, inr, IsTrue, List, [], ◌∷◌, ◌++◌, length, map, take, get_or, slice_get, Option, None, Some, refl, sym, ap, ◌∙◌, subst, arith, append_assoc, set, get_or-set_at, get_or-set_other, map-append, take_more, Bytes, Text, nothing, Expression, alt, expression_of, Tree, OutlineItem, set_at, shown, Fits, IsOutline, AddsOutline, AddsSets, AreJoined, BeginsWith, Leads}
 use Rattle.re_needle.specs.declared.outline_item.OutlineItem.TheVariants as m
 use Rattle.re_needle.proofs.lemmas.OutlineLaws.{fits_le, sets_cut}
 

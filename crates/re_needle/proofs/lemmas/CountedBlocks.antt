@@ -1,10 +1,5 @@
 -- How many lines of a block have a text.
-use Rattle.std.proofs.Common.{◌≡◌, ◌≢◌, ℕ, ◌+◌, ◌-◌, ◌<◌, ◌≤◌, false, inl, inr, List, [], ◌∷◌, ◌++◌, All, Some, None, length, map, drop, take, slice_range, get_or, refl, sym, ap, ◌∙◌, subst, arith, length-append, length-drop, length-take, take-append-drop, append_assoc}
-use Rattle.std.proofs.Math.Decide.{dec_le}
-use Rattle.std.proofs.Math.Seq.{drop-append-add}
-use Rattle.std.proofs.lemmas.List.{get_or_append_left, get_or-append-add, get_or-drop, get_or-take, drop-append-le}
-use Rattle.std.proofs.lemmas.List.Elements.{All-drop, All-head}
-use Rattle.re_needle.proofs.Words.{Text, byte, sequence, Matches, newline, terminated, lines_of, HasNoNewline, OccursAt, FindsNeedle, IsBlock, IsLineFrom, StandsIn, HoldsOfMany, CountsMatched}
+use Rattle.re_needle.proofs.Prelude.{◌≡◌, ◌≢◌, ℕ, ◌+◌, ◌-◌, ◌<◌, ◌≤◌, false, inl, inr, List, [], ◌∷◌, ◌++◌, All, Some, None, length, map, drop, take, slice_range, get_or, refl, sym, ap, ◌∙◌, subst, arith, length-append, length-drop, length-take, take-append-drop, append_assoc, dec_le, drop-append-add, get_or_append_left, get_or-append-add, get_or-drop, get_or-take, drop-append-le, All-drop, All-head, Text, byte, sequence, Matches, newline, terminated, lines_of, HasNoNewline, OccursAt, FindsNeedle, IsBlock, IsLineFrom, StandsIn, HoldsOfMany, CountsMatched}
 use Rattle.re_syntax.proofs.lemmas.LinesLaws.{lines_of-terminated, all_head, all_tail, rest_has_none}
 use Rattle.re_syntax.proofs.lemmas.FixedStrings.{stands-matches}
 use Rattle.re_needle.proofs.lemmas.NeededLaws.{sequence_needed}

@@ -1,8 +1,5 @@
 -- Where a look over a block stops, and what it passed.
-use Rattle.std.proofs.Common.{◌≡◌, ◌∙◌, ℕ, ◌+◌, ◌-◌, ◌<◌, ◌≤◌, ◌++◌, ◌∷◌, Option, None, Some, length, take, drop, get_or, slice_range, sym, ap, arith, length-take, length-drop}
-use Rattle.std.proofs.Math.Decide.{dec_le}
-use Rattle.std.proofs.lemmas.List.{get_or-drop, get_or-take, get_or-append-add}
-use Rattle.re_needle.proofs.Words.{Text, newline, HasNoNewline, IsLineFrom, look_cost}
+use Rattle.re_needle.proofs.Prelude.{◌≡◌, ◌∙◌, ℕ, ◌+◌, ◌-◌, ◌<◌, ◌≤◌, ◌++◌, ◌∷◌, Option, None, Some, length, take, drop, get_or, slice_range, sym, ap, arith, length-take, length-drop, dec_le, get_or-drop, get_or-take, get_or-append-add, Text, newline, HasNoNewline, IsLineFrom, look_cost}
 
 -- a place without a newline between it and the line's beginning is in the line, or at its newline
 pub place_in_line : (block : Text) (start at end : ℕ) → at ≤ length block → start ≤ at → HasNoNewline (drop start (take at block)) → IsLineFrom block start end → at ≤ end

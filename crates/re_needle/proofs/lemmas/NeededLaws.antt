@@ -1,7 +1,5 @@
 -- Strings that a sequence of bytes needs.
-use Rattle.std.proofs.Common.{◌≡◌, ℕ, ◌+◌, ◌≤◌, List, [], ◌∷◌, ◌++◌, length, map, drop, refl, sym, subst, arith}
-use Rattle.std.proofs.lemmas.List.{append-nil}
-use Rattle.re_needle.proofs.Words.{Text, Expression, byte, cat, sequence, Holds, StandsBetween, IsNeeded}
+use Rattle.re_needle.proofs.Prelude.{◌≡◌, ℕ, ◌+◌, ◌≤◌, List, [], ◌∷◌, ◌++◌, length, map, drop, refl, sym, subst, arith, append-nil, Text, Expression, byte, cat, sequence, Holds, StandsBetween, IsNeeded}
 use Rattle.re_syntax.proofs.lemmas.FixedStrings.{cat-sequence, sequence-cat, holds-stands}
 use Rattle.re_syntax.proofs.lemmas.HoldsDecided.{Holds-le}
 use Rattle.re_needle.proofs.lemmas.Occurrences.{stands-occurs}

@@ -1,9 +1,5 @@
 -- Needles, and what their places say of a line.
-use Rattle.std.proofs.Common.{◌≡◌, ℕ, ◌+◌, ◌-◌, ◌≤◌, ap, take, inl, Bool, false, IsTrue, List, [], ◌∷◌, ◌++◌, length, map, drop, Option, Some, None, refl, sym, subst, arith, true, inr, ◌∙◌, length-append}
-use Rattle.re_needle.proofs.Words.{is_some, Bytes, Text, only, Expression, Holds, Matches, IsFound, IsPart, Needle, RunFinder, most_sets, front_of, FindsRun, IsNeeded, RunIsNeeded, IsNeedleOf, run_of, IsSettled, LacksNeeded, IsOutline, ◌↔◌}
-use Rattle.std.proofs.lemmas.Bool.{false≢true}
-use Rattle.std.proofs.lemmas.List.{length-map, take-append-drop}
-use Rattle.std.proofs.Math.Decide.{dec_le}
+use Rattle.re_needle.proofs.Prelude.{◌≡◌, ℕ, ◌+◌, ◌-◌, ◌≤◌, ap, inl, Bool, false, IsTrue, List, [], ◌∷◌, ◌++◌, length, map, drop, Option, Some, None, refl, sym, subst, arith, true, inr, ◌∙◌, length-append, is_some, Bytes, Text, only, Expression, Holds, Matches, IsFound, IsPart, Needle, RunFinder, most_sets, front_of, FindsRun, IsNeeded, RunIsNeeded, IsNeedleOf, run_of, IsSettled, LacksNeeded, IsOutline, ◌↔◌, false≢true, length-map, take-append-drop, dec_le}
 use Rattle.re_syntax.proofs.lemmas.Decisions.{Any-first}
 use Rattle.re_syntax.proofs.lemmas.SomeOfJoined.{Any-single}
 use Rattle.re_needle.proofs.lemmas.OutlineLaws.{run_needed, run_begins, just_run}

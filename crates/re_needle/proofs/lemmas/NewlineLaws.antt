@@ -1,10 +1,5 @@
 -- The first newline, from how many bytes come before it.
-use Rattle.std.proofs.Common.{◌≡◌, ◌≢◌, ℕ, suc, ◌+◌, ◌<◌, ◌≤◌, false, not, ◌==◌, ◌++◌, ◌∷◌, length, take, drop, get_or, sym, ap, subst, ◌∙◌, arith, true≢false, take-append-drop, get_or-take, drop-cons, eqb-true, eq-eqb}
-use Rattle.re_needle.proofs.Words.{prefix_len, Text, newline, HasNoNewline}
-use Rattle.std.proofs.lemmas.List.{length-take-le}
-use Rattle.std.proofs.lemmas.List.Elements.{All-from_get_or}
-use Rattle.std.proofs.lemmas.List.Sums.{prefix_len-le-length, prefix_len_passes, prefix_len_stops}
-use Rattle.std.proofs.lemmas.Bool.{not-true, not-false}
+use Rattle.re_needle.proofs.Prelude.{◌≡◌, ◌≢◌, ℕ, suc, ◌+◌, ◌<◌, ◌≤◌, false, not, ◌==◌, ◌++◌, ◌∷◌, length, take, drop, get_or, sym, ap, subst, ◌∙◌, arith, true≢false, take-append-drop, get_or-take, drop-cons, eqb-true, eq-eqb, prefix_len, Text, newline, HasNoNewline, length-take-le, All-from_get_or, prefix_len-le-length, prefix_len_passes, prefix_len_stops, not-true, not-false}
 
 -- place bytes of the first n come before a newline
 module _ (bytes : Text) (n place : ℕ) (within : n ≤ length bytes) (is : place ≡ prefix_len (λ b. not (b == newline)) (take n bytes)) where

@@ -1,9 +1,6 @@
 -- The next line of a block that has a property, and how many lines have it.
-use Rattle.std.proofs.Common.{◌≡◌, List, [], ◌∷◌, ◌++◌, All, refl, ap, ◌∙◌, append_assoc, ℕ, ◌+◌, ◌-◌, ◌<◌, ◌≤◌, inl, inr, Option, Some, false, None, length, map, drop, slice_range, sym, subst, arith, append-nil, length-append, length-drop, length-take}
-use Rattle.re_needle.proofs.Words.{Text, newline, terminated, HasNoNewline, lines_of, byte, sequence, Matches, Span, IsBlock, PassesAll, Lacks, StandsIn, HoldsOfMany, FindsMatched, IsLineFrom, IsNext, FindsNext}
+use Rattle.re_needle.proofs.Prelude.{◌≡◌, List, [], ◌∷◌, ◌++◌, All, refl, ap, ◌∙◌, append_assoc, ℕ, ◌+◌, ◌-◌, ◌<◌, ◌≤◌, inl, inr, Option, Some, false, None, length, map, drop, slice_range, sym, subst, arith, append-nil, length-append, length-drop, length-take, Text, newline, terminated, HasNoNewline, lines_of, byte, sequence, Matches, Span, IsBlock, PassesAll, Lacks, StandsIn, HoldsOfMany, FindsMatched, IsLineFrom, IsNext, FindsNext, drop-append_seam, drop-length, All-append, All-cons, All-drop, All-head, All-nil, All-tail}
 use Rattle.re_syntax.proofs.lemmas.LinesLaws.{terminated-append, lines_of-line, all_head, all_tail, lines_of-terminated, all_cons, all_none, none_in_empty}
-use Rattle.std.proofs.Math.Seq.{drop-append_seam, drop-length}
-use Rattle.std.proofs.lemmas.List.Elements.{All-append, All-cons, All-drop, All-head, All-nil, All-tail}
 use Rattle.re_needle.proofs.lemmas.CountedBlocks.{has_one, stands_literal, literal_stands}
 
 -- the lines of a text that begins with some, each ended by a newline, begin with these

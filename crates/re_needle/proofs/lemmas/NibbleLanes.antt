@@ -1,8 +1,5 @@
 -- What operations on vectors of 32 bytes hold at each lane, beside those of memchr.
-use Rattle.std.proofs.Common.{◌≡◌, ◌≢◌, ◌↔◌, ℕ, ◌+◌, ◌*◌, ◌/◌, ◌%◌, ◌^◌, ◌<◌, List, Bool, true, false, not, cond, eqb, ltb, min, bit_and, length, get_or, slice_index, map, replicate, refl, sym, ap, subst, ◌∙◌, eq-eqb, arith, w8}
-use Rattle.re_needle.proofs.Words.{bit_at, zip2, sel_l, mask_l, top, HasLanes, Text, Alike, Probe, HasBits, PassesAt, mark_of}
-use Rattle.std.proofs.lemmas.Bool.{ltb-true, ltb-false, eqb-true, eqb-false}
-use Rattle.std.proofs.lemmas.Simd.{get_or-zip2, get_or-replicate, length-zip2, length-swz_l, get_or-swz_l_below, swz_l, SwzOk, SwzOk-from_below, Each1-from_get_or, length-sel_l, get_or-sel_l, tops_compared, bitmask_splat, bit_mask_l}
+use Rattle.re_needle.proofs.Prelude.{◌≡◌, ◌≢◌, ◌↔◌, ℕ, ◌+◌, ◌*◌, ◌/◌, ◌%◌, ◌^◌, ◌<◌, List, Bool, true, false, not, cond, eqb, ltb, min, bit_and, length, get_or, slice_index, map, replicate, refl, sym, ap, subst, ◌∙◌, eq-eqb, arith, w8, bit_at, zip2, sel_l, mask_l, top, HasLanes, Text, Alike, Probe, HasBits, PassesAt, mark_of, ltb-true, ltb-false, eqb-true, eqb-false, get_or-zip2, get_or-replicate, length-zip2, length-swz_l, get_or-swz_l_below, swz_l, SwzOk, SwzOk-from_below, Each1-from_get_or, length-sel_l, get_or-sel_l, tops_compared, bitmask_splat, bit_mask_l}
 use Rattle.std.proofs.Math.ListN.{get_or-map}
 use Rattle.memchr.proofs.lemmas.LaneLemmas.{HasLanes-zip2, HasLanes-select}
 

@@ -1,7 +1,5 @@
 -- Where a text is in a line, by a search for it.
-use Rattle.std.proofs.Common.{◌≡◌, ℕ, suc, ◌+◌, ◌<◌, ◌≤◌, [], ◌∷◌, ◌++◌, length, drop, get_or, refl, sym, ap, ◌∙◌, arith, length-append, length-drop}
-use Rattle.std.proofs.lemmas.List.{get_or-drop, get_or_append_left}
-use Rattle.re_needle.proofs.Words.{Text, OccursAt}
+use Rattle.re_needle.proofs.Prelude.{◌≡◌, ℕ, suc, ◌+◌, ◌<◌, ◌≤◌, [], ◌∷◌, ◌++◌, length, drop, get_or, refl, sym, ap, ◌∙◌, arith, length-append, length-drop, get_or-drop, get_or_append_left, Text, OccursAt}
 
 -- the text begins the line where its bytes do
 begins : (line text : Text) → length text ≤ length line → ((j : ℕ) → j < length text → get_or line j 0 ≡ get_or text j 0) → line ≡ text ++ drop (length text) line

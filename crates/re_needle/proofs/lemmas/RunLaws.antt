@@ -1,11 +1,6 @@
 -- Where a run of sets is in a line, and what the tests of its probes say.
-use Rattle.std.proofs.Common.{◌≡◌, ℕ, ◌+◌, ◌-◌, ◌<◌, ◌≤◌, ◌↔◌, ◌⊎◌, inl, inr, Bool, IsTrue, List, ◌++◌, length, map, drop, get_or, slice_index, Option, None, Some, sym, ap, ◌∙◌, subst, arith, nat_eq, eq-eqb, length-append, length-drop}
-use Rattle.re_needle.proofs.Words.{bit_at, starts_with, Bytes, Text, nothing, only, members, ByteSet, OccursAt, FindsNeedle, Nowhere, NoneBefore, Marks, Probe, Probes, RunStandsAt, FindsRun, set_at, PassesAt, AllPass, IsProbeOf, AreProbesOf}
-use Rattle.std.proofs.lemmas.Nat.Bits.{bit_at-zero}
-use Rattle.std.proofs.lemmas.Bool.{eqb-true}
-use Rattle.std.proofs.lemmas.Bool.Decides.{Decides-eqb}
-use Rattle.std.proofs.lemmas.Slice.Eq.{starts_is}
-use Rattle.std.proofs.lemmas.List.{get_or-drop, get_or-map, get_or_append_left, get_or-append-add, length-map}
+use Rattle.re_needle.proofs.Prelude.{◌≡◌, ℕ, ◌+◌, ◌-◌, ◌<◌, ◌≤◌, ◌↔◌, ◌⊎◌, inl, inr, Bool, IsTrue, List, ◌++◌, length, map, drop, get_or, slice_index, Option, None, Some, sym, ap, ◌∙◌, subst, arith, nat_eq, eq-eqb, length-append, length-drop, bit_at, starts_with, Bytes, Text, nothing, only, members, ByteSet, OccursAt, FindsNeedle, Nowhere, NoneBefore, Marks, Probe, Probes, RunStandsAt, FindsRun, set_at, PassesAt, AllPass, IsProbeOf, AreProbesOf, bit_at-zero, eqb-true, Decides-eqb, starts_is, get_or-drop, get_or_append_left, get_or-append-add, length-map}
+use Rattle.std.proofs.lemmas.List.{get_or-map}
 use Rattle.re_needle.proofs.lemmas.Occurrences.{occurs-stands, stands-occurs}
 
 -- ---- in a longer line, and in the rest of one

@@ -1,10 +1,5 @@
 -- The search for the parts of one line: the ends of its parts, and the steps.
-use Rattle.std.proofs.Common.{◌≡◌, ℕ, ◌+◌, ◌-◌, ◌*◌, ◌<◌, ◌≤◌, min, inl, inr, Bool, List, [], ◌∷◌, ◌++◌, length, take, get_or, refl, sym, ap, ◌∙◌, subst, arith}
-use Rattle.re_search.proofs.Words.{◌↔◌, slice_index, Text, Expression, IsFound, IsPart, CountsAtMost, Adds, refused_more, with_refusal, counted, AllAnswer, searches_for, FoundPast, AddsEnds, Course, Known, Nothing, Ends, Refused, Sought, AreEnds, AreLimits, HasTaken, IsReady, passes, passes_before, refusals}
-use Rattle.std.proofs.lemmas.Bool.{cases_lt}
-use Rattle.std.proofs.Math.Nat.{mul-le-mul_left, mul-le-mul_right}
-use Rattle.std.proofs.Math.ListN.{replicate}
-use Rattle.std.proofs.lemmas.List.{get_or-replicate, get_or_past, length-replicate}
+use Rattle.re_search.proofs.Prelude.{◌≡◌, ℕ, ◌+◌, ◌-◌, ◌*◌, ◌<◌, ◌≤◌, min, inl, inr, Bool, List, [], ◌∷◌, ◌++◌, length, take, get_or, refl, sym, ap, ◌∙◌, subst, arith, ◌↔◌, slice_index, Text, Expression, IsFound, IsPart, CountsAtMost, Adds, refused_more, with_refusal, counted, AllAnswer, searches_for, FoundPast, AddsEnds, Course, Known, Nothing, Ends, Refused, Sought, AreEnds, AreLimits, HasTaken, IsReady, passes, passes_before, refusals, cases_lt, mul-le-mul_left, mul-le-mul_right, replicate, get_or-replicate, get_or_past, length-replicate}
 use Rattle.re_meter.specs.Meters.{Steps, AddsAtMost}
 use Rattle.re_meter.proofs.lemmas.Adding.{counts_none, counts_within, counts_both}
 use Rattle.re_ends.proofs.lemmas.FoundEnds.{adds_both_ends, both_past}

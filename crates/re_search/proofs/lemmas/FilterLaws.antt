@@ -1,9 +1,6 @@
 -- Strings that several expressions need.
-use Rattle.std.proofs.Common.{◌≡◌, ℕ, ◌+◌, ◌<◌, ◌≤◌, inl, inr, Bool, true, false, List, [], ◌∷◌, ◌++◌, Any, All, length, take, drop, get_or, refl, sym, ap, subst, ◌∙◌, arith}
-use Rattle.re_search.proofs.Words.{ForSome, Option, Some, None, PassesUnsought, Text, Expression, Holds, Matches, Matcher, AreNeeded, NeedsOneOf, PassesByFilter, any_literal, Needed, IsNeeded, StandsBetween, matched_expression, SomeMatches}
-use Rattle.std.proofs.lemmas.Bool.{cases_lt}
+use Rattle.re_search.proofs.Prelude.{◌≡◌, ℕ, ◌+◌, ◌<◌, ◌≤◌, inl, inr, Bool, true, false, List, [], ◌∷◌, ◌++◌, Any, All, length, take, drop, get_or, refl, sym, ap, subst, ◌∙◌, arith, ForSome, Option, Some, None, PassesUnsought, Text, Expression, Holds, Matches, Matcher, AreNeeded, NeedsOneOf, PassesByFilter, any_literal, Needed, IsNeeded, StandsBetween, matched_expression, SomeMatches, cases_lt, get_or_default, drop-drop}
 use Rattle.re_needle.proofs.lemmas.BlockLemmas.{passes_none}
-use Rattle.std.proofs.lemmas.List.{get_or_default, drop-drop}
 use Rattle.re_syntax.proofs.lemmas.Decisions.{Any-first}
 use Rattle.re_search.specs.declared.filter.Needed.TheVariants as n
 use Rattle.re_syntax.proofs.lemmas.SomeOfJoined.{Any-left, Any-right}

@@ -1,7 +1,5 @@
 -- What a matcher answered before, and what it answers from a later place on.
-use Rattle.std.proofs.Common.{◌≡◌, ◌≢◌, ℕ, ◌≤◌, ◌<◌, Bool, List, [], ◌∷◌, length, get_or, inl, inr, sym, ap, ◌∙◌, subst, arith}
-use Rattle.std.proofs.lemmas.Bool.{cases_lt}
-use Rattle.re_search.proofs.Words.{Text, Expression, IsFound, FindsPart, PartAnswer, AreAnswers, IsAnswer, KeepsOthers, Sought}
+use Rattle.re_search.proofs.Prelude.{◌≡◌, ◌≢◌, ℕ, ◌≤◌, ◌<◌, Bool, List, [], ◌∷◌, length, get_or, inl, inr, sym, ap, ◌∙◌, subst, arith, cases_lt, Text, Expression, IsFound, FindsPart, PartAnswer, AreAnswers, IsAnswer, KeepsOthers, Sought}
 
 module _ (es : List Expression) (line : Text) (whole : Bool) (asked from : ℕ) (later : asked ≤ from) where
   -- a stretch from the later place on is one from the earlier place on

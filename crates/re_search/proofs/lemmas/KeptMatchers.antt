@@ -1,7 +1,5 @@
 -- Matchers that are the same as before: where none was asked, over two calls, and where one of them was asked.
-use Rattle.std.proofs.Common.{◌≡◌, ℕ, Bool, List, get_or, refl, ◌∙◌}
-use Rattle.std.proofs.Math.ListN.{set}
-use Rattle.re_search.proofs.Words.{Expression, Searchers, SameMatchers, SameMatcher, SameSearchers, sought_by}
+use Rattle.re_search.proofs.Prelude.{◌≡◌, ℕ, Bool, List, get_or, refl, ◌∙◌, set, Expression, Searchers, SameMatchers, SameMatcher, SameSearchers, sought_by}
 use Rattle.re_search.proofs.lemmas.OneMatcherMore.{same_after}
 
 module _ {M : Type 0} {expression : M → Expression} {whole : M → Bool} {room : M → ℕ} where

@@ -1,7 +1,5 @@
 -- What a list of one matcher says of the lines of a block.
-use Rattle.std.proofs.Common.{◌≡◌, List, [], ◌∷◌, length, map, get_or, ap, arith, ℕ, Bool, sym, subst, Option}
-use Rattle.std.proofs.lemmas.List.Elements.{All-head}
-use Rattle.re_search.proofs.Words.{Text, Expression, Matches, AllAnswer, SomeMatches, CountsMatched, FindsMatched, CountsMatchedByAll, Span, IsSought, FindsSought}
+use Rattle.re_search.proofs.Prelude.{◌≡◌, List, [], ◌∷◌, length, map, get_or, ap, arith, ℕ, Bool, sym, subst, Option, All-head, Text, Expression, Matches, AllAnswer, SomeMatches, CountsMatched, FindsMatched, CountsMatchedByAll, Span, IsSought, FindsSought}
 use Rattle.re_syntax.proofs.lemmas.Decisions.{Any-first}
 use Rattle.re_syntax.proofs.lemmas.SomeOfJoined.{Any-single}
 use Rattle.re_needle.proofs.lemmas.CountedBlocks.{counts_same}

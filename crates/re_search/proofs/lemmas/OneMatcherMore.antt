@@ -1,12 +1,6 @@
 -- One matcher more of a list: what is known of those that were asked, before it was and afterwards.
-use Rattle.std.proofs.Common.{◌≡◌, ℕ, ◌+◌, ◌-◌, ◌*◌, ◌<◌, ◌≤◌, if◌then◌else◌, nat_lt, subst, Bool, true, false, inl, inr, List, [], ◌∷◌, ◌++◌, length, map, take, get_or, Option, refl, sym, ap, ◌∙◌, arith, add-one}
-use Rattle.std.proofs.Math.ListN.{set}
-use Rattle.std.proofs.Math.Seq.{take-suc, map-set_same}
-use Rattle.std.proofs.lemmas.Bool.{false≢true, cases_lt, lt-ltb}
-use Rattle.std.proofs.lemmas.List.{get_or-map, length-map}
-use Rattle.re_search.proofs.Words.{Text, Expression, Matches, AddsUpTo, FindsPart, FindsPartOfAll, SomeMatches, DecidesMatchOfAll, AllAnswer, Span}
+use Rattle.re_search.proofs.Prelude.{◌≡◌, ℕ, ◌+◌, ◌-◌, ◌*◌, ◌<◌, ◌≤◌, if◌then◌else◌, nat_lt, subst, Bool, true, false, inl, inr, List, [], ◌∷◌, ◌++◌, length, map, take, get_or, Option, refl, sym, ap, ◌∙◌, arith, add-one, set, take-suc, map-set_same, false≢true, cases_lt, lt-ltb, get_or-map, length-map, Text, Expression, Matches, AddsUpTo, FindsPart, FindsPartOfAll, SomeMatches, DecidesMatchOfAll, AllAnswer, Span, mul-le-mul_right}
 use Rattle.re_auto.specs.Meters.{Steps}
-use Rattle.std.proofs.Math.Nat.{mul-le-mul_right}
 use Rattle.re_meter.proofs.lemmas.Adding.{adds_both as bounds_both, adds_within as bounds_within}
 use Rattle.re_match.proofs.lemmas.StepSums.{adds_up}
 use Rattle.re_auto.specs.Searches.{AddsAtMost}

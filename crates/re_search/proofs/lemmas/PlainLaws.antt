@@ -1,9 +1,5 @@
 -- Strings that are added one after another, byte by byte.
-use Rattle.std.proofs.Common.{Option, Some, None, is_some, false, eq-eqb, ◌≡◌, ◌≢◌, ℕ, ◌+◌, ◌<◌, ◌≤◌, List, [], ◌∷◌, ◌++◌, length, map, take, get_or, refl, sym, ap, ◌∙◌, subst, append_assoc, append-nil, arith}
-use Rattle.std.proofs.lemmas.List.{map-append}
-use Rattle.std.proofs.lemmas.List.Elements.{All-append, All-from_get_or}
-use Rattle.std.proofs.lemmas.Bool.{false≢true}
-use Rattle.re_search.proofs.Words.{IsFirstByte, is_byte, Syntax, Fixed, Text, Expression, alt, choice, newline, HasNoNewline, terminated, IsSpelled, as_fixed, AddsEach, AddsStrings, string_expression}
+use Rattle.re_search.proofs.Prelude.{Option, Some, None, is_some, false, eq-eqb, ◌≡◌, ◌≢◌, ℕ, ◌+◌, ◌<◌, ◌≤◌, List, [], ◌∷◌, ◌++◌, length, map, take, get_or, refl, sym, ap, ◌∙◌, subst, append_assoc, append-nil, arith, map-append, All-append, All-from_get_or, false≢true, IsFirstByte, is_byte, Syntax, Fixed, Text, Expression, alt, choice, newline, HasNoNewline, terminated, IsSpelled, as_fixed, AddsEach, AddsStrings, string_expression}
 use Rattle.re_syntax.proofs.lemmas.LinesLaws.{all_none, all_cons, terminated-append}
 use Rattle.re_search.proofs.lemmas.PlainStrings.{one_more}
 

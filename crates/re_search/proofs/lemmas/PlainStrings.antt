@@ -1,7 +1,5 @@
 -- Trees that are one string.
-use Rattle.std.proofs.Common.{◌≡◌, ℕ, ◌+◌, ◌<◌, List, [], ◌∷◌, ◌++◌, length, map, take, get_or, sym, ap, ◌∙◌, take-suc, add-one}
-use Rattle.std.proofs.lemmas.List.{map-append}
-use Rattle.re_search.proofs.Words.{Text, Expression, byte}
+use Rattle.re_search.proofs.Prelude.{◌≡◌, ℕ, ◌+◌, ◌<◌, List, [], ◌∷◌, ◌++◌, length, map, take, get_or, sym, ap, ◌∙◌, take-suc, add-one, map-append, Text, Expression, byte}
 
 -- what the first elements are, and the next one
 pub one_more : {T : Type 0} (f : T → Expression) (ts : List T) (i : ℕ) (d : T) → i < length ts → map f (take (i + 1) ts) ≡ map f (take i ts) ++ f (get_or ts i d) ∷ []

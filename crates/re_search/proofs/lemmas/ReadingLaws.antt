@@ -1,6 +1,5 @@
 -- What the text of a pattern means, and why it is refused.
-use Rattle.std.proofs.Common.{◌≡◌, ℕ, ◌*◌, ◌<◌, ◌^◌, [], ◌∷◌, length, IsTrue, Bool, true, false, true≢false, inl, inr, map, refl, sym, ap, ◌∙◌, ◌≤◌, arith, if◌then◌else◌}
-use Rattle.re_search.proofs.Words.{PatternFault, Syntax, Basic, Extended, Fixed, Text, HasPositions, TooLarge, Expression, empty, one_of, none_of, begin, end, cat_none, cat_more, alt_none, alt_more, repeat, byte, cat, sequence, folded, copies, positions, most_positions, IsMeant, as_fixed, has_limit, IsReadable, IsNotSpelled, IsRefusedFor}
+use Rattle.re_search.proofs.Prelude.{◌≡◌, ℕ, ◌*◌, ◌<◌, ◌^◌, [], ◌∷◌, length, IsTrue, Bool, true, false, true≢false, inl, inr, map, refl, sym, ap, ◌∙◌, ◌≤◌, arith, if◌then◌else◌, PatternFault, Syntax, Basic, Extended, Fixed, Text, HasPositions, TooLarge, Expression, empty, one_of, none_of, begin, end, cat_none, cat_more, alt_none, alt_more, repeat, byte, cat, sequence, folded, copies, positions, most_positions, IsMeant, as_fixed, has_limit, IsReadable, IsNotSpelled, IsRefusedFor}
 use Rattle.re_syntax.proofs.lemmas.SpelledUnique.{spells_one}
 
 -- a string that is not folded means the sequence of its bytes

@@ -1,9 +1,5 @@
 -- Runs of sets that several expressions need.
-use Rattle.std.proofs.Common.{◌≡◌, ℕ, ◌+◌, ◌<◌, ◌≤◌, inl, inr, Bool, true, false, IsTrue, List, [], ◌∷◌, ◌++◌, All, length, map, get_or, slice_index, sym, ap, subst, ◌∙◌, ◌||◌, arith, length-append}
-use Rattle.std.proofs.lemmas.Bool.{cases_lt, or_left, or_right}
-use Rattle.std.proofs.lemmas.List.{get_or-map, get_or_append_left, get_or_default, length-map}
-use Rattle.std.proofs.Math.Seq.{get_or-append_seam}
-use Rattle.re_search.proofs.Words.{Bytes, nothing, union, Expression, Holds, members, ByteSet, SomeMatches, RunIsNeeded, set_at, Matcher, matched_expression, AreNeeded, IsCoveredBy}
+use Rattle.re_search.proofs.Prelude.{◌≡◌, ℕ, ◌+◌, ◌<◌, ◌≤◌, inl, inr, Bool, true, false, IsTrue, List, [], ◌∷◌, ◌++◌, All, length, map, get_or, slice_index, sym, ap, subst, ◌∙◌, ◌||◌, arith, length-append, cases_lt, or_left, or_right, get_or-map, get_or_append_left, get_or_default, length-map, get_or-append_seam, Bytes, nothing, union, Expression, Holds, members, ByteSet, SomeMatches, RunIsNeeded, set_at, Matcher, matched_expression, AreNeeded, IsCoveredBy}
 use Rattle.re_search.specs.declared.filter.Needed.TheVariants as n
 
 -- where a run is needed, so is one that covers it

@@ -1,12 +1,7 @@
 -- Matchers that are asked in two parts: what is known of all of them, from what is known of each
 -- part.
-use Rattle.std.proofs.Common.{◌≡◌, ℕ, ◌+◌, ◌-◌, ◌*◌, ◌≤◌, Bool, true, false, inl, inr, List, [], ◌∷◌, ◌++◌, map, refl, sym, ap, ◌∙◌, subst, arith}
-use Rattle.std.proofs.lemmas.Bool.{false≢true}
-use Rattle.std.proofs.lemmas.List.{map-append}
-use Rattle.std.proofs.lemmas.List.Elements.{All-nil, All-cons, All-head, All-tail}
-use Rattle.re_search.proofs.Words.{Text, Expression, Matches, AddsUpTo, AllAnswer, SameMatchers, SomeMatches, DecidesMatchOfAll}
+use Rattle.re_search.proofs.Prelude.{◌≡◌, ℕ, ◌+◌, ◌-◌, ◌*◌, ◌≤◌, Bool, true, false, inl, inr, List, [], ◌∷◌, ◌++◌, map, refl, sym, ap, ◌∙◌, subst, arith, false≢true, map-append, All-nil, All-cons, All-head, All-tail, Text, Expression, Matches, AddsUpTo, AllAnswer, SameMatchers, SomeMatches, DecidesMatchOfAll, mul-le-mul_right}
 use Rattle.re_auto.specs.Meters.{Steps}
-use Rattle.std.proofs.Math.Nat.{mul-le-mul_right}
 use Rattle.re_meter.proofs.lemmas.Adding.{adds_within, adds_both}
 use Rattle.re_syntax.proofs.lemmas.SomeOfJoined.{Any-left, Any-right, Any-append-cases}
 

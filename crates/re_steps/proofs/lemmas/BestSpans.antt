@@ -1,8 +1,5 @@
 -- The best of the matched stretches on the way over a line, and the part that it is in the end.
-use Rattle.std.proofs.Common.{◌≡◌, ℕ, zero, suc, ◌+◌, ◌-◌, ap, add-one, nat_eq, slice_get, true≢false, ◌<◌, ◌≤◌, false, inl, inr, [], ◌∷◌, length, slice_index, Option, Some, None, refl, sym, subst, arith}
-use Rattle.re_steps.proofs.Words.{is_some, Text, Expression, Holds, IsFound, Mode, Search, Starts, Part, PartHolds, Reaches, part_of, is_begin, is_end, Least, IsBest, better, places, IsMatched, StartsAt, CanBegin, Span, FindsPart, IsBestSpan, Carries}
-use Rattle.std.proofs.lemmas.Option.{slice_get-get_or}
-use Rattle.std.proofs.lemmas.Bool.{cases_lt}
+use Rattle.re_steps.proofs.Prelude.{◌≡◌, ℕ, zero, suc, ◌+◌, ◌-◌, ap, add-one, nat_eq, slice_get, true≢false, ◌<◌, ◌≤◌, false, inl, inr, [], ◌∷◌, length, slice_index, Option, Some, None, refl, sym, subst, arith, is_some, Text, Expression, Holds, IsFound, Mode, Search, Starts, Part, PartHolds, Reaches, part_of, is_begin, is_end, Least, IsBest, better, places, IsMatched, StartsAt, CanBegin, Span, FindsPart, IsBestSpan, Carries, slice_get-get_or, cases_lt}
 use Rattle.re_syntax.proofs.lemmas.Decisions.{Any-first}
 use Rattle.re_auto.proofs.lemmas.Chains.{not_at_begin, reaches_bounds}
 use Rattle.re_auto.proofs.lemmas.LeastStarts.{one_pass_is_enough}

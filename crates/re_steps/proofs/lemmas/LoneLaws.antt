@@ -1,9 +1,5 @@
 -- Stretches that begin at one place, followed over a line by words of positions.
-use Rattle.std.proofs.Common.{◌≡◌, ℕ, zero, suc, ◌+◌, ◌^◌, ◌<◌, ◌≤◌, ◌⊎◌, inl, inr, ◌↔◌, length, slice_index, refl, sym, ap, subst, arith}
-use Rattle.re_steps.proofs.Words.{bit_and, bit_at, Text, Expression, Holds, positions, InWord, PartHolds, Reaches, part_of, is_begin, is_end, AreReached, GoesOnAt, IsLongest, HasNone, IsLastEnd}
-use Rattle.std.proofs.lemmas.Bool.{cases_lt}
-use Rattle.std.proofs.lemmas.Nat.{and_le_l}
-use Rattle.std.proofs.lemmas.Nat.Bits.{bit_at-zero}
+use Rattle.re_steps.proofs.Prelude.{◌≡◌, ℕ, zero, suc, ◌+◌, ◌^◌, ◌<◌, ◌≤◌, ◌⊎◌, inl, inr, ◌↔◌, length, slice_index, refl, sym, ap, subst, arith, bit_and, bit_at, Text, Expression, Holds, positions, InWord, PartHolds, Reaches, part_of, is_begin, is_end, AreReached, GoesOnAt, IsLongest, HasNone, IsLastEnd, cases_lt, and_le_l, bit_at-zero}
 use Rattle.re_auto.proofs.lemmas.BitLemmas.{lowest}
 use Rattle.re_auto.proofs.lemmas.WordLemmas.{in_both}
 use Rattle.re_auto.proofs.lemmas.Chains.{reaches_bounds}

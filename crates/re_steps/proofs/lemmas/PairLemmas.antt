@@ -1,13 +1,6 @@
 -- A bounded cache, and the cells that show what it holds.
-use Rattle.std.proofs.Common.{◌≡◌, ℕ, zero, suc, ◌-◌, ◌<◌, ◌≤◌, Bool, false, cond, List, [], ◌∷◌, ◌++◌, take, length, length-append, ◌⊎◌, inl, inr, Option, Some, None, slice_get, slice_index, get_or, set, replicate, nat_eq, refl, sym, ap, ◌∙◌, subst, arith}
-use Rattle.std.proofs.Math.Seq.{get_or-append_right}
-use Rattle.re_steps.proofs.Words.{AllByRecursion, lookup, lookup_entry, keys_of, LruCache, IsValid, put_entries, displaced, unknown, shown, Mirrors}
+use Rattle.re_steps.proofs.Prelude.{◌≡◌, ℕ, zero, suc, ◌-◌, ◌<◌, ◌≤◌, Bool, false, cond, List, [], ◌∷◌, ◌++◌, take, length, length-append, ◌⊎◌, inl, inr, Option, Some, None, slice_get, slice_index, get_or, set, replicate, nat_eq, refl, sym, ap, ◌∙◌, subst, arith, get_or-append_right, AllByRecursion, lookup, lookup_entry, keys_of, LruCache, IsValid, put_entries, displaced, unknown, shown, Mirrors, cases_eq, ne_eqb, nat_eq_equiv, take_all, get_or-set_same, get_or-set_other, get_or_append_left, get_or-replicate, length-set, length-replicate, lookup_from_place, slice_get_cases}
 use Rattle.std.specs.List.{IsDistinct}
-use Rattle.std.proofs.lemmas.Bool.{cases_eq, ne_eqb}
-use Rattle.std.proofs.lemmas.Cmp.{nat_eq_equiv}
-use Rattle.std.proofs.lemmas.List.{take_all, get_or-set_same, get_or-set_other, get_or_append_left, get_or-replicate, length-set, length-replicate}
-use Rattle.std.proofs.lemmas.Map.Entries.{lookup_from_place}
-use Rattle.std.proofs.lemmas.Option.{slice_get_cases}
 use Rattle.lru.proofs.Pairs.{lookup-lookup_entry}
 
 -- what is said of all keys, at one place

@@ -1,7 +1,5 @@
 -- Places of a line at which no matched stretch ends, and the steps up to them.
-use Rattle.std.proofs.Common.{◌≡◌, ℕ, zero, suc, ◌+◌, ◌<◌, ◌≤◌, Bool, true, false, IsTrue, ◌⊎◌, inl, inr, length, refl, sym, ◌∙◌, subst, arith}
-use Rattle.re_steps.proofs.Words.{◌↔◌, Text, Expression, Holds, Matches, Search, Whole, StateSet, PartHolds, part_of, is_begin, IsNowhere, StandsAt, EndsAt, NoneEndsBefore}
-use Rattle.std.proofs.lemmas.Bool.{false≢true}
+use Rattle.re_steps.proofs.Prelude.{◌≡◌, ℕ, zero, suc, ◌+◌, ◌<◌, ◌≤◌, Bool, true, false, IsTrue, ◌⊎◌, inl, inr, length, refl, sym, ◌∙◌, subst, arith, ◌↔◌, Text, Expression, Holds, Matches, Search, Whole, StateSet, PartHolds, part_of, is_begin, IsNowhere, StandsAt, EndsAt, NoneEndsBefore, false≢true}
 use Rattle.re_auto.proofs.lemmas.Chains.{not_at_begin}
 use Rattle.re_auto.proofs.lemmas.LeastStarts.{passes}
 use Rattle.re_auto.proofs.lemmas.PositionsDecide.{positions_decide}

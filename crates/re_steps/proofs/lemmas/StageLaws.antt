@@ -1,8 +1,5 @@
 -- What a search that went over a line stage by stage says, and how many steps it counted.
-use Rattle.std.proofs.Common.{◌≡◌, ℕ, zero, suc, ◌+◌, ◌-◌, ◌*◌, ◌<◌, ◌≤◌, Bool, true, false, IsTrue, ◌⊎◌, inl, inr, [], length, nat_eq, slice_index, refl, sym, ap, ◌∙◌, subst, arith, eq-eqb}
-use Rattle.re_steps.proofs.Words.{◌↔◌, IsSome, lookup, Text, Expression, Matches, Mode, Search, Whole, StateSet, Has, Steps, many_built, part_of, is_end, IsSame, IsNowhere, IsNextSet, IsAccepting, StandsAt, IsAfter, IsNext, CanBegin, AddsUpTo, EndsAt, NoneEndsBefore, Cache, Stage, AreAlike, IsHeld, HoldsNoOther, IsPlain, GoesOver, Goes, Finishes, Searches, IsReadied, mode_for}
-use Rattle.std.proofs.lemmas.Bool.{false≢true}
-use Rattle.std.proofs.lemmas.Option.{slice_get-get_or}
+use Rattle.re_steps.proofs.Prelude.{◌≡◌, ℕ, zero, suc, ◌+◌, ◌-◌, ◌*◌, ◌<◌, ◌≤◌, Bool, true, false, IsTrue, ◌⊎◌, inl, inr, [], length, nat_eq, slice_index, refl, sym, ap, ◌∙◌, subst, arith, eq-eqb, ◌↔◌, IsSome, lookup, Text, Expression, Matches, Mode, Search, Whole, StateSet, Has, Steps, many_built, part_of, is_end, IsSame, IsNowhere, IsNextSet, IsAccepting, StandsAt, IsAfter, IsNext, CanBegin, AddsUpTo, EndsAt, NoneEndsBefore, Cache, Stage, AreAlike, IsHeld, HoldsNoOther, IsPlain, GoesOver, Goes, Finishes, Searches, IsReadied, mode_for, false≢true, slice_get-get_or}
 use Rattle.re_meter.proofs.lemmas.Adding.{adds_none, adds_within, adds_both, reused_adds, built_adds}
 use Rattle.re_auto.proofs.lemmas.Chains.{not_at_end}
 use Rattle.re_auto.proofs.lemmas.SetsByWords.{stands_next, matched_by, nowhere_stays}

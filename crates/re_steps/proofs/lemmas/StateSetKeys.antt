@@ -1,13 +1,6 @@
 -- Sets of positions among those that have a number.
-use Rattle.std.proofs.Common.{◌≡◌, ℕ, suc, ◌+◌, Bool, true, false, ◌&&◌, inl, inr, List, [], ◌∷◌, ◌++◌, Some, length, nat_eq, get_or, slice_get, position, refl, sym, ap, ◌∙◌, subst, arith}
-use Rattle.re_steps.proofs.Words.{if◌then◌else◌, list_any, position_or_len, same_text, StateSet, eq-value, IsSame}
-use Rattle.std.proofs.lemmas.Cmp.{nat_list_eq_equiv}
-use Rattle.std.proofs.lemmas.List.Quantifiers.{position-Some}
-use Rattle.std.proofs.lemmas.List.Sums.{fails_before_first}
-use Rattle.std.proofs.lemmas.Option.{slice_get-get_or, slice_get_within, get_or_from_slice_get}
-use Rattle.std.proofs.Math.Bool.{beq}
+use Rattle.re_steps.proofs.Prelude.{◌≡◌, ℕ, suc, ◌+◌, Bool, true, false, ◌&&◌, inl, inr, List, [], ◌∷◌, ◌++◌, Some, length, nat_eq, get_or, slice_get, position, refl, sym, ap, ◌∙◌, subst, arith, if◌then◌else◌, list_any, position_or_len, same_text, StateSet, eq-value, IsSame, nat_list_eq_equiv, position-Some, fails_before_first, slice_get-get_or, slice_get_within, get_or_from_slice_get, beq, false≢true, lt-ltb, cases_lt}
 use lib.Pointwise.{pointwise}
-use Rattle.std.proofs.lemmas.Bool.{false≢true, lt-ltb, cases_lt}
 
 -- two sets are equal
 abbrev pub equal : StateSet → StateSet → Bool

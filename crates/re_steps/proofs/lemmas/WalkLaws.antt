@@ -1,8 +1,5 @@
 -- Searches that go on by what is held, and where they get.
-use Rattle.std.proofs.Common.{◌≡◌, ℕ, zero, suc, ◌+◌, ◌-◌, ◌*◌, ◌<◌, ◌≤◌, Bool, true, false, ◌⊎◌, inl, inr, List, Option, Some, None, length, nat_eq, nat_lt, get_or, slice_get, slice_index, refl, sym, ap, ◌∙◌, subst, arith}
-use Rattle.re_steps.proofs.Words.{IsSome, lookup, Text, Expression, Mode, the_type, Search, Whole, StateSet, Steps, many_built, many_reused, IsSame, IsNextSet, Acceptance, unknown, shown, Mirrors, IsKeptOrLost, Cache, Stage, IsHeld, HoldsNoOther, IsPlain, GoesOver, Goes, LineSearch, StepTable, Spot, Went, Rows, limit, expression_in, AreSound, IsRightFor, IsRowOf, SaysNext, ComesTo, Lands, LandsAlone, cell_at, cache_of, row_under, walked, IsAt, HasLanded, LeadsOn, Arrives}
-use Rattle.std.proofs.lemmas.Bool.{false≢true, lt-ltb, ltb-true, cases_eq}
-use Rattle.std.proofs.lemmas.Option.{slice_get_within, slice_get-get_or, get_or_from_slice_get}
+use Rattle.re_steps.proofs.Prelude.{◌≡◌, ℕ, zero, suc, ◌+◌, ◌-◌, ◌*◌, ◌<◌, ◌≤◌, Bool, true, false, ◌⊎◌, inl, inr, List, Option, Some, None, length, nat_eq, nat_lt, get_or, slice_get, slice_index, refl, sym, ap, ◌∙◌, subst, arith, IsSome, lookup, Text, Expression, Mode, the_type, Search, Whole, StateSet, Steps, many_built, many_reused, IsSame, IsNextSet, Acceptance, unknown, shown, Mirrors, IsKeptOrLost, Cache, Stage, IsHeld, HoldsNoOther, IsPlain, GoesOver, Goes, LineSearch, StepTable, Spot, Went, Rows, limit, expression_in, AreSound, IsRightFor, IsRowOf, SaysNext, ComesTo, Lands, LandsAlone, cell_at, cache_of, row_under, walked, IsAt, HasLanded, LeadsOn, Arrives, false≢true, lt-ltb, ltb-true, cases_eq, slice_get_within, slice_get-get_or, get_or_from_slice_get}
 use denote.Enum.Bare.{sameb}
 use Rattle.re_steps.specs.declared.walk.Went.TheVariants as w
 use Rattle.re_steps.proofs.lemmas.StageLaws.{nothing_held, goes_nowhere, goes_on, same_sym}

@@ -1,8 +1,5 @@
 -- Bytes, strings and lines as they are compared.
-use Rattle.std.proofs.Common.{◌≡◌, ◌↔◌, ℕ, ◌+◌, ◌-◌, ◌<◌, ◌≤◌, ◌⊎◌, inl, inr, Bool, true, false, IsTrue, ◌||◌, List, [], ◌∷◌, length, map, slice_index, nat_eq, refl, sym, ap, subst, ◌∙◌, arith}
-use Rattle.re_strings.proofs.Words.{to_ascii_lowercase, Text, only, range, closed, other_case, lines_of, newline, put_before, key, keys, Labels, StepsOn, AreStartsOf}
-use Rattle.std.proofs.lemmas.Bool.{cases_lt, and_from, and_right, and_left, or_cases, le-leb, lt-leb, lt-ltb, le-ltb, cond-true, cond-false, eqb-true, eq-eqb, ne_eqb, cases_eq}
-use Rattle.std.proofs.lemmas.List.{get_or-map}
+use Rattle.re_strings.proofs.Prelude.{◌≡◌, ◌↔◌, ℕ, ◌+◌, ◌-◌, ◌<◌, ◌≤◌, ◌⊎◌, inl, inr, Bool, true, false, IsTrue, ◌||◌, List, [], ◌∷◌, length, map, slice_index, nat_eq, refl, sym, ap, subst, ◌∙◌, arith, to_ascii_lowercase, Text, only, range, closed, other_case, lines_of, newline, put_before, key, keys, Labels, StepsOn, AreStartsOf, cases_lt, and_from, and_right, and_left, or_cases, le-leb, lt-leb, lt-ltb, le-ltb, cond-true, cond-false, eqb-true, eq-eqb, ne_eqb, cases_eq, get_or-map}
 
 -- a byte between two is in their range
 inside : (low high b : ℕ) → low ≤ b → b ≤ high → range low high b ≡ true

@@ -1,7 +1,5 @@
 -- How far a text and a line begin with the same bytes: what a window that was found before says.
-use Rattle.std.proofs.Common.{◌≡◌, ◌↔◌, ℕ, ◌+◌, ◌-◌, ◌<◌, ◌⊎◌, inl, inr, length, sym, subst, arith}
-use Rattle.std.proofs.lemmas.Bool.{cases_lt}
-use Rattle.re_strings.proofs.Words.{OccursAt, Text, AgreesUpTo, CommonLength}
+use Rattle.re_strings.proofs.Prelude.{◌≡◌, ◌↔◌, ℕ, ◌+◌, ◌-◌, ◌<◌, ◌⊎◌, inl, inr, length, sym, subst, arith, cases_lt, OccursAt, Text, AgreesUpTo, CommonLength}
 
 module _ (text line : Text) where
   -- the text stands where the length is its own

@@ -1,9 +1,5 @@
 -- Beginnings of strings in order: those of one byte more.
-use Rattle.std.proofs.Common.{◌≡◌, ℕ, ◌+◌, ◌<◌, ◌≤◌, ◌⊎◌, inl, inr, List, [], ◌∷◌, ◌++◌, length, take, slice_get, slice_index, All, Option, Some, None, refl, sym, ap, subst, ◌∙◌, arith, length-append, append_assoc}
-use Rattle.std.proofs.lemmas.List.{get_or_append_left, get_or_push, get_or_default}
-use Rattle.std.proofs.lemmas.List.Elements.{All-push}
-use Rattle.std.proofs.lemmas.Bool.{cases_lt}
-use Rattle.re_strings.proofs.Words.{Text, Begins, Branch, text_at, rank, AreAscending, branch_text, IsBranch, branch_at, no_branch, IsRow, AreRows}
+use Rattle.re_strings.proofs.Prelude.{◌≡◌, ℕ, ◌+◌, ◌<◌, ◌≤◌, ◌⊎◌, inl, inr, List, [], ◌∷◌, ◌++◌, length, take, slice_get, slice_index, All, Option, Some, None, refl, sym, ap, subst, ◌∙◌, arith, length-append, append_assoc, get_or_append_left, get_or_push, get_or_default, All-push, cases_lt, Text, Begins, Branch, text_at, rank, AreAscending, branch_text, IsBranch, branch_at, no_branch, IsRow, AreRows}
 
 -- ---- texts
 

@@ -1,8 +1,5 @@
 -- Ends that are put where strings begin.
-use Rattle.std.proofs.Common.{◌≡◌, ◌↔◌, ℕ, ◌+◌, ◌-◌, ◌<◌, ◌≤◌, ◌⊎◌, inl, inr, List, length, take, drop, sym, ap, subst, ◌∙◌, arith, length-drop}
-use Rattle.std.proofs.lemmas.Bool.{cases_lt}
-use Rattle.std.proofs.lemmas.List.{drop-drop}
-use Rattle.re_strings.proofs.Words.{Text, AddsEnds, IsString, StandsFor, IsOutput, EndsWith, Labels, Occurs, StandsAtNode}
+use Rattle.re_strings.proofs.Prelude.{◌≡◌, ◌↔◌, ℕ, ◌+◌, ◌-◌, ◌<◌, ◌≤◌, ◌⊎◌, inl, inr, List, length, take, drop, sym, ap, subst, ◌∙◌, arith, length-drop, cases_lt, drop-drop, Text, AddsEnds, IsString, StandsFor, IsOutput, EndsWith, Labels, Occurs, StandsAtNode}
 use Rattle.re_strings.proofs.lemmas.SetSteps.{string_front}
 use Rattle.re_strings.proofs.lemmas.SetSearch.{read_length, node_length, same_end, begins_with_node}
 

@@ -1,8 +1,5 @@
 -- Leaps of a search for many strings: where none of them begins.
-use Rattle.std.proofs.Common.{◌≡◌, ℕ, ◌+◌, ◌-◌, ◌<◌, ◌≤◌, inl, inr, List, [], ◌++◌, length, take, drop, slice_index, refl, sym, ap, subst, ◌∙◌, arith, length-drop}
-use Rattle.std.proofs.lemmas.List.{drop-append-le, length-take-le, get_or-drop, get_or-take, get_or_default, get_or_append_left}
-use Rattle.std.proofs.lemmas.Bool.{cases_lt}
-use Rattle.re_strings.proofs.Words.{Text, Leaps, text_at, HaveSame, IsFront, IsString, Labels, StepsOn, Occurs, NoneBetween, NoneBegins, StandsAtNode, StandsSince, AreLeapsOf, pair_row}
+use Rattle.re_strings.proofs.Prelude.{◌≡◌, ℕ, ◌+◌, ◌-◌, ◌<◌, ◌≤◌, inl, inr, List, [], ◌++◌, length, take, drop, slice_index, refl, sym, ap, subst, ◌∙◌, arith, length-drop, drop-append-le, length-take-le, get_or-drop, get_or-take, get_or_default, get_or_append_left, cases_lt, Text, Leaps, text_at, HaveSame, IsFront, IsString, Labels, StepsOn, Occurs, NoneBetween, NoneBegins, StandsAtNode, StandsSince, AreLeapsOf, pair_row}
 use Rattle.re_strings.proofs.lemmas.SetSteps.{front_shorter, string_front, empty_end}
 use Rattle.re_strings.proofs.lemmas.SetSearch.{read_length, read_on, begins_with_node, nothing_read, none_at_root, root_stays, from_since}
 

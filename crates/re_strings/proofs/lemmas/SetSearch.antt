@@ -1,10 +1,5 @@
 -- Searches for many fixed strings: which of them end at a place, and which is the best.
-use Rattle.std.proofs.Common.{◌≡◌, ◌↔◌, ℕ, zero, suc, add-one, ◌+◌, ◌-◌, ◌<◌, ◌≤◌, inl, inr, Bool, true, false, IsTrue, List, [], ◌∷◌, ◌++◌, length, take, drop, slice_index, nat_eq, Option, Some, None, refl, sym, ap, subst, ◌∙◌, arith, length-drop, if◌then◌else◌, get_or, eq-eqb, eq-or-lt_of_le}
-use Rattle.std.proofs.lemmas.Bool.{eqb-true, eqb-false, cases_lt}
-use Rattle.std.proofs.lemmas.Grind.{get_or_default_zero}
-use Rattle.std.proofs.Math.Seq.{drop-length, take-suc}
-use Rattle.std.proofs.lemmas.List.{drop-append-le, drop-drop, length-take-le, take-append-drop}
-use Rattle.re_strings.proofs.Words.{Text, IsBest, Least, better, places, better_span, Span, IsFront, IsString, StandsFor, EndsIn, Labels, Steps, StepsOn, Occurs, NoneBetween, StandsAtNode, StandsSince, IsBestOccurrence, better_ending}
+use Rattle.re_strings.proofs.Prelude.{◌≡◌, ◌↔◌, ℕ, zero, suc, add-one, ◌+◌, ◌-◌, ◌<◌, ◌≤◌, inl, inr, Bool, true, false, IsTrue, List, [], ◌∷◌, ◌++◌, length, take, drop, slice_index, nat_eq, Option, Some, None, refl, sym, ap, subst, ◌∙◌, arith, length-drop, if◌then◌else◌, get_or, eq-eqb, eq-or-lt_of_le, eqb-true, eqb-false, cases_lt, get_or_default_zero, drop-length, take-suc, drop-append-le, drop-drop, length-take-le, take-append-drop, Text, IsBest, Least, better, places, better_span, Span, IsFront, IsString, StandsFor, EndsIn, Labels, Steps, StepsOn, Occurs, NoneBetween, StandsAtNode, StandsSince, IsBestOccurrence, better_ending}
 use Rattle.re_syntax.proofs.lemmas.BestStretches.{better_places, best_so_far}
 use Rattle.re_strings.proofs.lemmas.SetSteps.{front_shorter, string_front, empty_end, may_at_first}
 

@@ -1,9 +1,5 @@
 -- Strings in order.
-use Rattle.std.proofs.Common.{◌≡◌, ℕ, zero, suc, ◌+◌, ◌-◌, ◌<◌, ◌≤◌, ◌⊎◌, inl, inr, false, List, [], ◌∷◌, ◌++◌, length, map, get_or, slice_get, refl, sym, ap, subst, ◌∙◌, arith}
-use Rattle.re_strings.proofs.Words.{Contains, IsPermutation, ranks, slice_cmp, nat_cmp, is_lt, ordering_then, MatchOrdering, Less, Equal, Greater, Text, Begins, IsString, text_at, rank, AreAscending, HaveSame}
-use Rattle.std.proofs.lemmas.Bool.{false≢true}
-use Rattle.std.proofs.lemmas.List.{get_or-map, get_or_default, length-map}
-use Rattle.std.proofs.lemmas.List.Sorted.{IsPermutation-map, IsPermutation-sym, Contains-permutation}
+use Rattle.re_strings.proofs.Prelude.{◌≡◌, ℕ, zero, suc, ◌+◌, ◌-◌, ◌<◌, ◌≤◌, ◌⊎◌, inl, inr, false, List, [], ◌∷◌, ◌++◌, length, map, get_or, slice_get, refl, sym, ap, subst, ◌∙◌, arith, Contains, IsPermutation, ranks, slice_cmp, nat_cmp, is_lt, ordering_then, MatchOrdering, Less, Equal, Greater, Text, Begins, IsString, text_at, rank, AreAscending, HaveSame, false≢true, get_or-map, get_or_default, length-map, IsPermutation-map, IsPermutation-sym, Contains-permutation}
 
 -- the first text comes no later than the second
 abbrev Comes : Text → Text → Type 0

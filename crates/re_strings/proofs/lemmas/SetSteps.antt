@@ -1,8 +1,5 @@
 -- Steps of many fixed strings: what a byte more does to the longest end that a string begins with.
-use Rattle.std.proofs.Common.{◌≡◌, ℕ, ◌+◌, ◌-◌, ◌<◌, ◌≤◌, ◌⊎◌, inl, inr, List, [], ◌∷◌, ◌++◌, length, drop, Any, sym, ap, subst, ◌∙◌, arith, length-append, length-drop, append_assoc}
-use Rattle.std.proofs.lemmas.List.{drop-append-le, drop-drop, append-nil}
-use Rattle.std.proofs.Math.ListN.{drop_of_length-le}
-use Rattle.re_strings.proofs.Words.{Text, Begins, IsFront, IsString, StandsFor, MayStandFor}
+use Rattle.re_strings.proofs.Prelude.{◌≡◌, ℕ, ◌+◌, ◌-◌, ◌<◌, ◌≤◌, ◌⊎◌, inl, inr, List, [], ◌∷◌, ◌++◌, length, drop, Any, sym, ap, subst, ◌∙◌, arith, length-append, length-drop, append_assoc, drop-append-le, drop-drop, append-nil, drop_of_length-le, Text, Begins, IsFront, IsString, StandsFor, MayStandFor}
 
 -- what holds of some element
 pub any_map : {A : Type 0} (P Q : A → Type 0) → ((x : A) → P x → Q x) → (xs : List A) → Any P xs → Any Q xs

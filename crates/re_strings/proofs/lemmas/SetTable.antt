@@ -1,10 +1,5 @@
 -- The tables of strings in order, as those of any list with the same strings.
-use Rattle.std.proofs.Common.{◌≡◌, ℕ, ◌+◌, ◌<◌, ◌≤◌, inl, inr, Bool, true, false, List, [], ◌∷◌, ◌++◌, length, take, get_or, slice_get, slice_index, nat_eq, None, refl, sym, ap, subst, ◌∙◌, arith, if◌then◌else◌}
-use Rattle.std.proofs.lemmas.Bool.{eqb-true, eqb-false, cases_lt}
-use Rattle.std.proofs.lemmas.List.{append-nil, get_or_default, length-take}
-use Rattle.std.proofs.Math.ListN.{get_or-eq_default}
-use Rattle.std.proofs.lemmas.Option.{slice_get_past, slice_get-get_or}
-use Rattle.re_strings.proofs.Words.{Text, Begins, Branch, IsFront, IsString, Labels, IsTrieOf, AreOwn, text_at, rank, AreAscending, branch_text, IsBranch, branch_at, no_branch, AreRows, own_length, HaveSame}
+use Rattle.re_strings.proofs.Prelude.{◌≡◌, ℕ, ◌+◌, ◌<◌, ◌≤◌, inl, inr, Bool, true, false, List, [], ◌∷◌, ◌++◌, length, take, get_or, slice_get, slice_index, nat_eq, None, refl, sym, ap, subst, ◌∙◌, arith, if◌then◌else◌, eqb-true, eqb-false, cases_lt, append-nil, get_or_default, length-take, get_or-eq_default, slice_get_past, slice_get-get_or, Text, Begins, Branch, IsFront, IsString, Labels, IsTrieOf, AreOwn, text_at, rank, AreAscending, branch_text, IsBranch, branch_at, no_branch, AreRows, own_length, HaveSame}
 use Rattle.re_strings.proofs.lemmas.SetSearch.{all_read}
 
 -- a string that begins with a text is in both lists

@@ -1,8 +1,5 @@
 -- Children of a node, by a search for their byte.
-use Rattle.std.proofs.Common.{◌≡◌, ℕ, zero, suc, subst, ◌+◌, ◌-◌, ◌<◌, ◌≤◌, List, length, take, drop, slice_index, sym, ap, ◌∙◌, arith, eq-eqb, length-drop}
-use Rattle.std.proofs.lemmas.Bool.{eqb-true}
-use Rattle.std.proofs.lemmas.List.{get_or-drop, get_or-take, length-take-le}
-use Rattle.re_strings.proofs.Words.{IsTrie, Nowhere, Passes, is_byte}
+use Rattle.re_strings.proofs.Prelude.{◌≡◌, ℕ, zero, suc, subst, ◌+◌, ◌-◌, ◌<◌, ◌≤◌, List, length, take, drop, slice_index, sym, ap, ◌∙◌, arith, eq-eqb, length-drop, eqb-true, get_or-drop, get_or-take, length-take-le, IsTrie, Nowhere, Passes, is_byte}
 
 -- a byte that a search of a part doesn't find is at no place of it
 pub not_between : (bytes : List ℕ) (i j b : ℕ) → i ≤ j → j ≤ length bytes → Nowhere (Passes (is_byte b) (take (j - i) (drop i bytes))) 0 (length (take (j - i) (drop i bytes)))

@@ -1,6 +1,5 @@
 -- Worked examples of basic expressions: texts and what they spell.
-use Rattle.std.proofs.Common.{◌≡◌, ℕ, zero, suc, ◌<◌, ◌≤◌, max, false, nat_eq, List, [], ◌∷◌, ◌++◌, Some, None, IsTrue, codes, refl, subst, arith}
-use Rattle.re_syntax.proofs.Words.{Basic, Text, Expression, empty, begin, end, repeat, cat, alt, byte, IsNumber, IsAllowed, exactly, at_least, up_to, ItemPlace, IsAtEnd, of_text, of_group, of_branch, leading, IsSpelled, as_basic}
+use Rattle.re_syntax.proofs.Prelude.{◌≡◌, ℕ, zero, suc, ◌<◌, ◌≤◌, max, false, nat_eq, List, [], ◌∷◌, ◌++◌, Some, None, IsTrue, codes, refl, subst, arith, Basic, Text, Expression, empty, begin, end, repeat, cat, alt, byte, IsNumber, IsAllowed, exactly, at_least, up_to, ItemPlace, IsAtEnd, of_text, of_group, of_branch, leading, IsSpelled, as_basic}
 use Rattle.re_syntax.specs.Basic.{First, star, plus, question, interval, is_ordinary, last, more, Items, none, trailing, item, Item, atom, repeated, escaped, ordinary, group}
 use Rattle.re_syntax.proofs.lemmas.BracketsUnique.{apart}
 use Rattle.re_syntax.proofs.lemmas.BasicUnique.{whole-branches}

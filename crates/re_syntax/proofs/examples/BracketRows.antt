@@ -1,6 +1,5 @@
 -- Worked examples of bracket expressions: texts, what they mean, and what follows them.
-use Rattle.std.proofs.Common.{◌≡◌, ℕ, ◌≤◌, ◌⊎◌, inl, inr, false, nat_eq, [], ◌∷◌, codes, refl, arith}
-use Rattle.re_syntax.proofs.Words.{ListPlace, AfterPoint, AfterRange, Digit, Text, Begins, nothing, only, range, union, one_of, none_of, Point, bare, symbol, Element, class, equivalence, alone, span, Rest, closing, IsBracket, matching, non_matching}
+use Rattle.re_syntax.proofs.Prelude.{◌≡◌, ℕ, ◌≤◌, ◌⊎◌, inl, inr, false, nat_eq, [], ◌∷◌, codes, refl, arith, ListPlace, AfterPoint, AfterRange, Digit, Text, Begins, nothing, only, range, union, one_of, none_of, Point, bare, symbol, Element, class, equivalence, alone, span, Rest, closing, IsBracket, matching, non_matching}
 use Rattle.re_syntax.specs.declared.bracket.ListPlace.TheVariants.{First}
 use Rattle.re_syntax.specs.Brackets.{more}
 use Rattle.re_syntax.proofs.lemmas.BracketsUnique.{heads, apart}

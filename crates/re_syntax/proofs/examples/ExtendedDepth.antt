@@ -1,7 +1,6 @@
 -- How deep groups and duplications of an extended expression may be nested: worked examples up to
 -- the limit and beyond it.
-use Rattle.std.proofs.Common.{◌≡◌, ◌≢◌, ℕ, zero, suc, ◌<◌, ◌≤◌, max, Bool, true, false, List, [], ◌∷◌, ◌++◌, None, codes, refl, sym, ◌∙◌, arith}
-use Rattle.re_syntax.proofs.Words.{Extended, Text, Expression, empty, repeat, byte, anchor, IsSpelled, as_extended, stops, ends}
+use Rattle.re_syntax.proofs.Prelude.{◌≡◌, ◌≢◌, ℕ, zero, suc, ◌<◌, ◌≤◌, max, Bool, true, false, List, [], ◌∷◌, ◌++◌, None, codes, refl, sym, ◌∙◌, arith, Extended, Text, Expression, empty, repeat, byte, anchor, IsSpelled, as_extended, stops, ends}
 use Rattle.re_syntax.specs.Extended.{star, Branches, last, more, Items, none, item, Item, atom, repeated, ordinary, group}
 use Rattle.re_syntax.proofs.lemmas.BracketsUnique.{heads}
 use Rattle.re_syntax.proofs.lemmas.ExtendedDuplications.{opens_none}

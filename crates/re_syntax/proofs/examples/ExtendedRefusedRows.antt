@@ -1,6 +1,5 @@
 -- Worked examples of extended texts that spell no expression: a duplication has nothing to repeat, or the numbers of an interval are too large or descend.
-use Rattle.std.proofs.Common.{◌≡◌, ℕ, Bool, true, List, [], ◌∷◌, ◌++◌, Some, codes, refl, sym, ◌∙◌, false, Option, arith}
-use Rattle.re_syntax.proofs.Words.{Extended, Text, Expression, byte, IsNumber, exactly, Interval, IsAllowed, between, anchor, IsSpelled, as_extended, stops, ends}
+use Rattle.re_syntax.proofs.Prelude.{◌≡◌, ℕ, Bool, true, List, [], ◌∷◌, ◌++◌, Some, codes, refl, sym, ◌∙◌, false, Option, arith, Extended, Text, Expression, byte, IsNumber, exactly, Interval, IsAllowed, between, anchor, IsSpelled, as_extended, stops, ends}
 use Rattle.re_syntax.specs.Extended.{Branches, last, more, Items, none, item, Item, atom, ordinary}
 use Rattle.re_syntax.proofs.lemmas.BracketsUnique.{heads, tails}
 use Rattle.re_syntax.proofs.lemmas.ExtendedDuplications.{IsOpening, by_star, by_plus, by_brace}

@@ -1,6 +1,5 @@
 -- Worked examples of extended expressions: texts and what they spell.
-use Rattle.std.proofs.Common.{◌≡◌, ℕ, Bool, false, nat_eq, [], ◌∷◌, Some, None, IsTrue, codes, refl, arith}
-use Rattle.re_syntax.proofs.Words.{Extended, Text, any_but_nul, empty, one_of, begin, end, repeat, cat, alt, byte, IsNumber, IsAllowed, exactly, at_least, between, up_to, HasNoInterval, anchor, dollar, IsSpelled, as_extended}
+use Rattle.re_syntax.proofs.Prelude.{◌≡◌, ℕ, Bool, false, nat_eq, [], ◌∷◌, Some, None, IsTrue, codes, refl, arith, Extended, Text, any_but_nul, empty, one_of, begin, end, repeat, cat, alt, byte, IsNumber, IsAllowed, exactly, at_least, between, up_to, HasNoInterval, anchor, dollar, IsSpelled, as_extended}
 use Rattle.re_syntax.specs.Extended.{star, plus, question, interval, is_ordinary, last, more, Items, none, item, Item, atom, repeated, period, escaped, ordinary, group}
 use Rattle.re_syntax.proofs.lemmas.BracketsUnique.{apart}
 use Rattle.re_syntax.proofs.lemmas.ExtendedBraces.{not_number_first, no_number_after, no_closing}

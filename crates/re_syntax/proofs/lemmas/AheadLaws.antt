@@ -1,6 +1,5 @@
 -- Bytes at a place of a text.
-use Rattle.std.proofs.Common.{◌≡◌, ℕ, ◌+◌, ◌≤◌, ◌++◌, length, drop, refl, ap, arith, length-append, length-drop}
-use Rattle.re_syntax.proofs.Words.{Text, IsAfter}
+use Rattle.re_syntax.proofs.Prelude.{◌≡◌, ℕ, ◌+◌, ◌≤◌, ◌++◌, length, drop, refl, ap, arith, length-append, length-drop, Text, IsAfter}
 
 -- bytes that come next at a place are within the text
 pub is_after : (text bytes : Text) (at : ℕ) → at ≤ length text → drop at text ≡ bytes ++ drop (at + length bytes) text → IsAfter bytes text at (at + length bytes)

@@ -1,8 +1,6 @@
 -- What an atom of a basic expression begins with: a byte that has no other meaning there, and that
 -- determines the kind of atom.
-use Rattle.std.proofs.Common.{◌≡◌, ◌≢◌, ℕ, Bool, true, false, nat_eq, [], ◌∷◌, IsTrue, codes, if◌then◌else◌, refl, sym, ap, ◌∙◌, arith}
-use Rattle.std.proofs.lemmas.Bool.{ne_eqb, cond-false}
-use Rattle.re_syntax.proofs.Words.{Text, Expression, is_in, is_undefined, ItemPlace, AfterAnchor, Later, IsAtEnd}
+use Rattle.re_syntax.proofs.Prelude.{◌≡◌, ◌≢◌, ℕ, Bool, true, false, nat_eq, [], ◌∷◌, IsTrue, codes, if◌then◌else◌, refl, sym, ap, ◌∙◌, arith, ne_eqb, cond-false, Text, Expression, is_in, is_undefined, ItemPlace, AfterAnchor, Later, IsAtEnd}
 use Rattle.re_syntax.specs.Basic.{First, is_ordinary, Atom, bracket, period, escaped, ordinary, group}
 use Rattle.re_syntax.proofs.lemmas.BracketsUnique.{heads, bracket_front}
 use Rattle.re_syntax.proofs.lemmas.Duplications.{is_sign}

@@ -1,7 +1,5 @@
 -- Single atoms of basic expressions, by the bytes at their place.
-use Rattle.std.proofs.Common.{◌≡◌, ◌≢◌, ℕ, ◌+◌, ◌<◌, ◌⊎◌, inl, inr, true, nat_eq, ◌∷◌, ◌++◌, length, take, drop, Some, IsTrue, slice_get, codes, refl, sym, ap, ◌∙◌, subst, arith, length-drop, Option, Global}
-use Rattle.std.proofs.lemmas.Bool.{or_cases, or_left, or_right, eqb-true, ne_eqb, cases_eq}
-use Rattle.re_syntax.proofs.Words.{Piece, Alnum, FaultKind, UnclosedBracket, PatternFault, Text, Begins, in_class, is_in, is_undefined, Expression, one_of, byte, IsBracket, ShowsBracketFault, IsNoBracket, ItemPlace, AfterAnchor, Later, IsAtEnd, of_group, of_branch, NeedsItem, needs_interval, needs_plus, needs_question, ShowsBasicFault, basic_refused, IsRefusedEscape, undefined, reference, BeginsRefusedEscape, HasItem, meant_bytes, IsReported, IsBracketPiece, EscapeStands, HasNoEscape, refused}
+use Rattle.re_syntax.proofs.Prelude.{◌≡◌, ◌≢◌, ℕ, ◌+◌, ◌<◌, ◌⊎◌, inl, inr, true, nat_eq, ◌∷◌, ◌++◌, length, take, drop, Some, IsTrue, slice_get, codes, refl, sym, ap, ◌∙◌, subst, arith, length-drop, Option, Global, or_cases, or_left, or_right, eqb-true, ne_eqb, cases_eq, Piece, Alnum, FaultKind, UnclosedBracket, PatternFault, Text, Begins, in_class, is_in, is_undefined, Expression, one_of, byte, IsBracket, ShowsBracketFault, IsNoBracket, ItemPlace, AfterAnchor, Later, IsAtEnd, of_group, of_branch, NeedsItem, needs_interval, needs_plus, needs_question, ShowsBasicFault, basic_refused, IsRefusedEscape, undefined, reference, BeginsRefusedEscape, HasItem, meant_bytes, IsReported, IsBracketPiece, EscapeStands, HasNoEscape, refused}
 use Rattle.re_syntax.specs.Basic.{First, is_ordinary, Atom, bracket, period, escaped, ordinary, group}
 use Rattle.re_syntax.specs.BasicFaults.{IsShownIn}
 use Rattle.re_syntax.specs.Working.BasicSteps.{MayBegin, AtomStands, HasNoAtom}

@@ -1,6 +1,5 @@
 -- Branches of basic expressions, by the items at their places.
-use Rattle.std.proofs.Common.{◌≡◌, ℕ, ◌≤◌, inr, max, List, [], ◌∷◌, ◌++◌, length, take, drop, codes, refl, sym, ap, ◌∙◌, subst, arith, append_assoc, Option, Global}
-use Rattle.re_syntax.proofs.Words.{Piece, Pieces, Text, Begins, IsAfter, Expression, sequence, IsAtEnd, of_text, of_group, of_branch, IsAtLast, text_ends, group_ends, AreReported, IsJoined}
+use Rattle.re_syntax.proofs.Prelude.{◌≡◌, ℕ, ◌≤◌, inr, max, List, [], ◌∷◌, ◌++◌, length, take, drop, codes, refl, sym, ap, ◌∙◌, subst, arith, append_assoc, Option, Global, Piece, Pieces, Text, Begins, IsAfter, Expression, sequence, IsAtEnd, of_text, of_group, of_branch, IsAtLast, text_ends, group_ends, AreReported, IsJoined}
 use Rattle.re_syntax.specs.Basic.{First, Branches, last, more, Items}
 use Rattle.re_syntax.specs.BasicFaults.{IsStart}
 use Rattle.re_syntax.specs.Working.BasicSteps.{HasNoItems, BranchStands, HasNoBranches, BranchesStand}

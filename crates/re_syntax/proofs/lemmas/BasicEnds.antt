@@ -1,8 +1,5 @@
 -- Where a branch of a basic expression ends, and the anchors at its two ends.
-use Rattle.std.proofs.Common.{◌≡◌, ℕ, ◌<◌, ◌≤◌, ◌⊎◌, inl, inr, [], ◌∷◌, ◌++◌, length, drop, codes, refl, sym, ap, ◌∙◌, subst, arith, length-drop, append-nil, Option, Global}
-use Rattle.std.proofs.Math.Seq.{drop-length}
-use Rattle.std.proofs.lemmas.Bool.{cases_lt}
-use Rattle.re_syntax.proofs.Words.{Pieces, Piece, Text, Begins, IsAfter, end, IsAtEnd, of_text, of_group, of_branch, HasItem, HasNoItem, at_end, at_tail, HasNoTail, ComesAfterTail, IsEnded, IsReported, IsJoined}
+use Rattle.re_syntax.proofs.Prelude.{◌≡◌, ℕ, ◌<◌, ◌≤◌, ◌⊎◌, inl, inr, [], ◌∷◌, ◌++◌, length, drop, codes, refl, sym, ap, ◌∙◌, subst, arith, length-drop, append-nil, Option, Global, drop-length, cases_lt, Pieces, Piece, Text, Begins, IsAfter, end, IsAtEnd, of_text, of_group, of_branch, HasItem, HasNoItem, at_end, at_tail, HasNoTail, ComesAfterTail, IsEnded, IsReported, IsJoined}
 use Rattle.re_syntax.specs.Basic.{Items, none, trailing}
 
 -- the end of the text is an end

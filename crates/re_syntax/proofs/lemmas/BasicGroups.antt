@@ -1,7 +1,5 @@
 -- Groups of basic expressions, and a whole expression, by the branches at their places.
-use Rattle.std.proofs.Common.{◌≡◌, ◌≢◌, ℕ, suc, ◌+◌, ◌-◌, ◌<◌, ◌≤◌, ◌⊎◌, inl, inr, List, [], ◌∷◌, ◌++◌, length, take, drop, codes, refl, sym, ap, ◌∙◌, subst, arith, length-drop, Option, Global}
-use Rattle.std.proofs.lemmas.List.{nil_from_length, take-append-drop}
-use Rattle.re_syntax.proofs.Words.{Piece, Pieces, UnopenedGroup, Memory, PatternFault, Basic, Text, Begins, IsAfter, Expression, choice, ItemPlace, IsNoBasic, IsAtLast, text_ends, group_ends, IsRefused, memory, reported, IsReported, AreReported, most_levels, IsSpelled, as_basic}
+use Rattle.re_syntax.proofs.Prelude.{◌≡◌, ◌≢◌, ℕ, suc, ◌+◌, ◌-◌, ◌<◌, ◌≤◌, ◌⊎◌, inl, inr, List, [], ◌∷◌, ◌++◌, length, take, drop, codes, refl, sym, ap, ◌∙◌, subst, arith, length-drop, Option, Global, nil_from_length, take-append-drop, Piece, Pieces, UnopenedGroup, Memory, PatternFault, Basic, Text, Begins, IsAfter, Expression, choice, ItemPlace, IsNoBasic, IsAtLast, text_ends, group_ends, IsRefused, memory, reported, IsReported, AreReported, most_levels, IsSpelled, as_basic}
 use Rattle.re_syntax.specs.Basic.{Branches, Atom, bracket, period, escaped, ordinary, group}
 use Rattle.re_syntax.specs.BasicFaults.{IsStart, OpensUnclosed, IsShownIn}
 use Rattle.re_syntax.specs.Working.BasicSteps.{AtomStands, HasNoAtom, HasNoBranches, BranchesStand}

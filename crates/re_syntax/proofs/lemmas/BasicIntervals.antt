@@ -1,6 +1,5 @@
 -- Duplications at a place of the text: what a reader knows when it stops.
-use Rattle.std.proofs.Common.{◌≡◌, ℕ, inl, inr, ◌∷◌, ◌++◌, take, drop, Option, Some, None, IsTrue, codes, refl, sym, ap, ◌∙◌, subst, append_assoc}
-use Rattle.re_syntax.proofs.Words.{Digit, FaultKind, BadInterval, Counts, Text, Begins, in_class, IsAfter, IsAllowed, IsNoPart, HasNoInterval, IntervalStands, NeedsItem, needs_interval, needs_plus, needs_question, ShowsBasicFault, IsDisallowed, least_too_large, most_too_large, descending, OpensDisallowed, HasNoSign, OpensNoDuplication}
+use Rattle.re_syntax.proofs.Prelude.{◌≡◌, ℕ, inl, inr, ◌∷◌, ◌++◌, take, drop, Option, Some, None, IsTrue, codes, refl, sym, ap, ◌∙◌, subst, append_assoc, Digit, FaultKind, BadInterval, Counts, Text, Begins, in_class, IsAfter, IsAllowed, IsNoPart, HasNoInterval, IntervalStands, NeedsItem, needs_interval, needs_plus, needs_question, ShowsBasicFault, IsDisallowed, least_too_large, most_too_large, descending, OpensDisallowed, HasNoSign, OpensNoDuplication}
 use Rattle.re_syntax.specs.Basic.{Duplication, star, plus, question, interval}
 use Rattle.re_syntax.proofs.lemmas.CountsLaws.{are_counts, disallowed_too, not_allowed}
 use Rattle.re_syntax.specs.Working.BasicSteps.{NoDuplication, DuplicationStands, HasBadInterval}

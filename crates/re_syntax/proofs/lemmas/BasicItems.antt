@@ -1,6 +1,5 @@
 -- Items of basic expressions, by their atoms and what follows them.
-use Rattle.std.proofs.Common.{◌≡◌, ◌≢◌, ℕ, suc, ◌<◌, ◌≤◌, inr, max, List, ◌∷◌, ◌++◌, length, drop, Option, IsTrue, true, false, refl, sym, ap, ◌∙◌, subst, arith, append_assoc, length-append, length-drop, Global, []}
-use Rattle.re_syntax.proofs.Words.{Piece, Pieces, Counts, TooDeep, PatternFault, Text, Expression, sequence, repeat, ItemPlace, AfterAnchor, Later, IsAtEnd, leading, OpensNoDuplication, HasItem, SoFar, IsEnded, IsReported, AreReported, IsRepeated, IsJoined}
+use Rattle.re_syntax.proofs.Prelude.{◌≡◌, ◌≢◌, ℕ, suc, ◌<◌, ◌≤◌, inr, max, List, ◌∷◌, ◌++◌, length, drop, Option, IsTrue, true, false, refl, sym, ap, ◌∙◌, subst, arith, append_assoc, length-append, length-drop, Global, [], Piece, Pieces, Counts, TooDeep, PatternFault, Text, Expression, sequence, repeat, ItemPlace, AfterAnchor, Later, IsAtEnd, leading, OpensNoDuplication, HasItem, SoFar, IsEnded, IsReported, AreReported, IsRepeated, IsJoined}
 use Rattle.re_syntax.specs.Basic.{Duplication, star, plus, question, interval, Items, none, trailing, item, Item, atom, repeated, Atom}
 use Rattle.re_syntax.specs.BasicFaults.{IsShownIn}
 use Rattle.re_syntax.specs.Working.BasicSteps.{DuplicationStands, HasBadInterval, MayBegin, AtomStands, HasNoAtom, ItemStands, HasNoItems, BranchStands}

@@ -1,6 +1,5 @@
 -- The anchor that begins a branch of a basic expression, and what it says of the items after it.
-use Rattle.std.proofs.Common.{◌≡◌, ℕ, ◌+◌, ◌≤◌, inl, inr, List, [], ◌∷◌, ◌++◌, length, take, drop, codes, refl, sym, ap, ◌∙◌, subst, arith, Option, Global}
-use Rattle.re_syntax.proofs.Words.{Pieces, Piece, Text, Begins, IsAfter, Expression, begin, ItemPlace, AfterAnchor, IsAtEnd, leading, SoFar, IsReported, AreReported, IsJoined}
+use Rattle.re_syntax.proofs.Prelude.{◌≡◌, ℕ, ◌+◌, ◌≤◌, inl, inr, List, [], ◌∷◌, ◌++◌, length, take, drop, codes, refl, sym, ap, ◌∙◌, subst, arith, Option, Global, Pieces, Piece, Text, Begins, IsAfter, Expression, begin, ItemPlace, AfterAnchor, IsAtEnd, leading, SoFar, IsReported, AreReported, IsJoined}
 use Rattle.re_syntax.specs.Basic.{First, Items, none, trailing, item}
 use Rattle.re_syntax.specs.BasicFaults.{IsStart}
 use Rattle.re_syntax.proofs.lemmas.BracketsUnique.{heads, tails, apart}

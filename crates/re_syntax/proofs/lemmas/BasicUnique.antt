@@ -1,6 +1,5 @@
 -- A basic expression is read in one way.
-use Rattle.std.proofs.Common.{◌≡◌, ◌≢◌, ℕ, suc, ◌+◌, ◌<◌, ◌≤◌, max, ◌⊎◌, inl, inr, true, false, nat_eq, IsTrue, List, [], ◌∷◌, ◌++◌, refl, sym, ap, ◌∙◌, subst, arith}
-use Rattle.re_syntax.proofs.Words.{Text, Expression, begin, byte, sequence, choice, ItemPlace, Later, IsAtEnd, of_text, of_group, of_branch, leading, IsAtLast, text_ends, group_ends}
+use Rattle.re_syntax.proofs.Prelude.{◌≡◌, ◌≢◌, ℕ, suc, ◌+◌, ◌<◌, ◌≤◌, max, ◌⊎◌, inl, inr, true, false, nat_eq, IsTrue, List, [], ◌∷◌, ◌++◌, refl, sym, ap, ◌∙◌, subst, arith, Text, Expression, begin, byte, sequence, choice, ItemPlace, Later, IsAtEnd, of_text, of_group, of_branch, leading, IsAtLast, text_ends, group_ends}
 use Rattle.re_syntax.specs.Basic.{Duplication, Branches, last, more, Items, none, trailing, item, Item, atom, repeated, Atom, bracket, period, escaped, ordinary, group}
 use Rattle.re_syntax.specs.Working.BasicSteps.{NoDuplication}
 use Rattle.re_syntax.proofs.lemmas.BracketsUnique.{heads, tails, apart, IsBracket-unique}

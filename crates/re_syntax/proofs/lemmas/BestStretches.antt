@@ -1,6 +1,5 @@
 -- The best stretch up to a place, and up to the next one.
-use Rattle.std.proofs.Common.{◌≡◌, ℕ, suc, ◌≤◌, Bool, true, false, ◌⊎◌, inl, inr, Option, Some, None, refl, subst, arith, nat_le, if◌then◌else◌, leb-true, leb-false, eq-or-lt_of_le, nat_lt, ltb-true, ltb-false}
-use Rattle.re_syntax.proofs.Words.{Least, IsBest, better, places, better_span, Span}
+use Rattle.re_syntax.proofs.Prelude.{◌≡◌, ℕ, suc, ◌≤◌, Bool, true, false, ◌⊎◌, inl, inr, Option, Some, None, refl, subst, arith, nat_le, if◌then◌else◌, leb-true, leb-false, eq-or-lt_of_le, nat_lt, ltb-true, ltb-false, Least, IsBest, better, places, better_span, Span}
 
 -- a place up to the next one is the next one, or it is up to this one
 pub next_or_before : (l to : ℕ) → l ≤ suc to → (l ≡ suc to) ⊎ (l ≤ to)

@@ -1,6 +1,5 @@
 -- Which element is where a point is, and where there is none.
-use Rattle.std.proofs.Common.{◌≡◌, ◌≢◌, ℕ, ◌≤◌, ◌⊎◌, inl, inr, ◌∷◌, ◌++◌, codes, drop, refl, sym, ap, ◌∙◌, subst}
-use Rattle.re_syntax.proofs.Words.{ListPlace, AfterPoint, AfterRange, Cursor, PatternFault, Text, Begins, Bytes, only, range, Point, bare, MayBeAlone, Element, class, equivalence, alone, span, OpensNoClass, MayGoOn, IsShown, ShowsBracketFault}
+use Rattle.re_syntax.proofs.Prelude.{◌≡◌, ◌≢◌, ℕ, ◌≤◌, ◌⊎◌, inl, inr, ◌∷◌, ◌++◌, codes, drop, refl, sym, ap, ◌∙◌, subst, ListPlace, AfterPoint, AfterRange, Cursor, PatternFault, Text, Begins, Bytes, only, range, Point, bare, MayBeAlone, Element, class, equivalence, alone, span, OpensNoClass, MayGoOn, IsShown, ShowsBracketFault}
 use Rattle.re_syntax.specs.declared.bracket.ListPlace.TheVariants.{First}
 use Rattle.re_syntax.proofs.lemmas.BracketsUnique.{tails, apart, point-unique, class_point, equivalence_point}
 use Rattle.re_syntax.proofs.lemmas.BracketPoints.{point_along}

@@ -1,5 +1,5 @@
 -- The kinds of fault that a bracket expression can have.
-use Rattle.re_syntax.proofs.Words.{FaultKind, UnclosedBracket, BadClass, BadCollatingSymbol, BadRange, UnclosedGroup, UnopenedGroup, BadInterval, IntervalTooLarge, NothingToRepeat, TrailingBackslash, UndefinedEscape, BackReference, TooDeep, TooLarge, Memory, Text, ShowsBracketFault}
+use Rattle.re_syntax.proofs.Prelude.{FaultKind, UnclosedBracket, BadClass, BadCollatingSymbol, BadRange, UnclosedGroup, UnopenedGroup, BadInterval, IntervalTooLarge, NothingToRepeat, TrailingBackslash, UndefinedEscape, BackReference, TooDeep, TooLarge, Memory, Text, ShowsBracketFault}
 
 -- the four kinds
 pub data IsBracketKind : FaultKind → Type 0 where

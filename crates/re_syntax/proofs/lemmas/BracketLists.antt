@@ -1,7 +1,6 @@
 -- Reading a list of elements one by one: what was read and what is left are together the whole
 -- list.
-use Rattle.std.proofs.Common.{◌≡◌, ◌≢◌, ℕ, ◌<◌, ◌⊎◌, inl, inr, ◌++◌, codes, length, length-append, refl, sym, subst, arith}
-use Rattle.re_syntax.proofs.Words.{ListPlace, AfterPoint, Text, Begins, Bytes, nothing, union, class_name, Expression, Point, bare, symbol, Element, class, equivalence, alone, span, Rest, closing, IsBracket, matching, non_matching, MayGoOn}
+use Rattle.re_syntax.proofs.Prelude.{◌≡◌, ◌≢◌, ℕ, ◌<◌, ◌⊎◌, inl, inr, ◌++◌, codes, length, length-append, refl, sym, subst, arith, ListPlace, AfterPoint, Text, Begins, Bytes, nothing, union, class_name, Expression, Point, bare, symbol, Element, class, equivalence, alone, span, Rest, closing, IsBracket, matching, non_matching, MayGoOn}
 use Rattle.re_syntax.specs.declared.bracket.ListPlace.TheVariants.{First}
 use Rattle.re_syntax.specs.Brackets.{more}
 use Rattle.re_syntax.proofs.lemmas.BracketsUnique.{element-unique}

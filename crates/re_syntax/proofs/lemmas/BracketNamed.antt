@@ -1,6 +1,5 @@
 -- Classes and equivalence classes of bracket expressions, by what a cursor passes or finds.
-use Rattle.std.proofs.Common.{◌≡◌, ℕ, ◌∷◌, ◌++◌, codes, drop, refl, sym, ap, ◌∙◌, subst}
-use Rattle.re_syntax.proofs.Words.{ListPlace, AfterRange, Class, Cursor, Text, Begins, Bytes, only, class_name, in_class, Element, class, equivalence, alone, span, left, Passes}
+use Rattle.re_syntax.proofs.Prelude.{◌≡◌, ℕ, ◌∷◌, ◌++◌, codes, drop, refl, sym, ap, ◌∙◌, subst, ListPlace, AfterRange, Class, Cursor, Text, Begins, Bytes, only, class_name, in_class, Element, class, equivalence, alone, span, left, Passes}
 use Rattle.re_syntax.proofs.lemmas.BracketsUnique.{heads, tails, apart, class_point, equivalence_point}
 
 -- an element of a text is one of an equal text

@@ -1,6 +1,5 @@
 -- The points of bracket expressions, by what a cursor passes or finds.
-use Rattle.std.proofs.Common.{◌≡◌, ℕ, ◌<◌, ◌≤◌, arith, inl, inr, [], ◌∷◌, ◌++◌, codes, drop, sym, ap, ◌∙◌, subst}
-use Rattle.re_syntax.proofs.Words.{Cursor, Text, Begins, OpensNamed, Point, bare, symbol, OpensNoClass, left, Passes}
+use Rattle.re_syntax.proofs.Prelude.{◌≡◌, ℕ, ◌<◌, ◌≤◌, arith, inl, inr, [], ◌∷◌, ◌++◌, codes, drop, sym, ap, ◌∙◌, subst, Cursor, Text, Begins, OpensNamed, Point, bare, symbol, OpensNoClass, left, Passes}
 use Rattle.re_syntax.proofs.lemmas.BracketsUnique.{heads, tails, point-unique}
 
 -- what does not begin a text does not begin an equal one

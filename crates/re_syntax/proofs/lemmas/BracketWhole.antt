@@ -1,8 +1,5 @@
 -- A whole bracket expression, from its bracket and the list of elements after it.
-use Rattle.std.proofs.Common.{◌≡◌, ℕ, ◌+◌, Bool, true, false, ◌∷◌, ◌++◌, Some, slice_get, MatchBool, codes, drop, refl, sym, ap, ◌∙◌, subst}
-use Rattle.std.proofs.lemmas.List.{drop_more}
-use Rattle.std.proofs.lemmas.Option.{slice_get_within, get_or_from_slice_get}
-use Rattle.re_syntax.proofs.Words.{Cursor, PatternFault, Text, Begins, Bytes, Expression, one_of, none_of, Rest, IsBracket, matching, non_matching, IsBracketUpTo, IsOnlyBracket, Stands, left, Passes, IsAt, ShowsBracketFault}
+use Rattle.re_syntax.proofs.Prelude.{◌≡◌, ℕ, ◌+◌, Bool, true, false, ◌∷◌, ◌++◌, Some, slice_get, MatchBool, codes, drop, refl, sym, ap, ◌∙◌, subst, drop_more, slice_get_within, get_or_from_slice_get, Cursor, PatternFault, Text, Begins, Bytes, Expression, one_of, none_of, Rest, IsBracket, matching, non_matching, IsBracketUpTo, IsOnlyBracket, Stands, left, Passes, IsAt, ShowsBracketFault}
 use Rattle.re_syntax.specs.declared.bracket.ListPlace.TheVariants.{First}
 use Rattle.re_syntax.proofs.lemmas.BracketsUnique.{tails, IsBracket-unique}
 

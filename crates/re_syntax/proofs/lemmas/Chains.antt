@@ -1,7 +1,6 @@
 -- Duplications after one another, in basic and in extended expressions. A parameter says which
 -- texts are duplications.
-use Rattle.std.proofs.Common.{◌≡◌, ℕ, suc, ◌+◌, ◌<◌, max, List, ◌∷◌, ◌++◌, drop, Option, refl, sym, ap, ◌∙◌, subst, arith}
-use Rattle.re_syntax.proofs.Words.{Counts, Text, HasNone, HasOne, Expression, repeat, sequence}
+use Rattle.re_syntax.proofs.Prelude.{◌≡◌, ℕ, suc, ◌+◌, ◌<◌, max, List, ◌∷◌, ◌++◌, drop, Option, refl, sym, ap, ◌∙◌, subst, arith, Counts, Text, HasNone, HasOne, Expression, repeat, sequence}
 
 -- the same numbers, and the same text after the duplication
 pub record SameDuplication (a b : ℕ) (x y : Option ℕ) (u v : Text) : Type 0 where

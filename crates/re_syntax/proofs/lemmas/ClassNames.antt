@@ -1,6 +1,5 @@
 -- A class is determined by its name.
-use Rattle.std.proofs.Common.{◌≡◌, ℕ, ◌<◌, get_or, arith, nat_eq, List, [], ◌∷◌, ◌++◌, Option, Some, None, codes, if◌then◌else◌, refl, ap}
-use Rattle.re_syntax.proofs.Words.{Class, Upper, Lower, Digit, Alpha, Alnum, Blank, Space, Cntrl, Punct, Graph, Print, Xdigit, Text, class_name}
+use Rattle.re_syntax.proofs.Prelude.{◌≡◌, ℕ, ◌<◌, get_or, arith, nat_eq, List, [], ◌∷◌, ◌++◌, Option, Some, None, codes, if◌then◌else◌, refl, ap, Class, Upper, Lower, Digit, Alpha, Alnum, Blank, Space, Cntrl, Punct, Graph, Print, Xdigit, Text, class_name}
 
 -- what follows the first text in the second
 abbrev strip : Text → Text → Option Text

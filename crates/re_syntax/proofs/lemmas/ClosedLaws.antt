@@ -1,8 +1,5 @@
 -- The closure of a set under case, grown one byte at a time.
-use Rattle.std.proofs.Common.{◌≡◌, ℕ, ◌+◌, ◌≤◌, ◌⊎◌, inl, inr, Bool, true, false, MatchBool, ◌&&◌, ◌||◌, nat_eq, nat_le, refl, sym, ap, ◌∙◌, arith}
-use Rattle.std.proofs.Math.Path.{fun_ext}
-use Rattle.std.proofs.lemmas.Bool.{eqb-true, and_parts, and_from, leb-true, le-leb, cond-false, false_from_ne_true}
-use Rattle.re_syntax.specs.Bytes.{Bytes, only, range, union, other_case, closed}
+use Rattle.re_syntax.proofs.Prelude.{◌≡◌, ℕ, ◌+◌, ◌≤◌, ◌⊎◌, inl, inr, Bool, true, false, MatchBool, ◌&&◌, ◌||◌, nat_eq, nat_le, refl, sym, ap, ◌∙◌, arith, fun_ext, eqb-true, and_parts, and_from, leb-true, le-leb, cond-false, false_from_ne_true, Bytes, only, range, union, other_case, closed}
 use Rattle.re_syntax.proofs.lemmas.UnionsLaws.{from_below, from_below-none, from_below-more, range-from_below}
 
 -- the set, and each byte from 65 up to the bound, without it, whose other case is in the set

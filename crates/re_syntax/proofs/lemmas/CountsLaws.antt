@@ -1,7 +1,6 @@
 -- The counts of an interval as a reader keeps them: capped, and so allowed or refused like the
 -- numbers themselves.
-use Rattle.std.proofs.Common.{◌≡◌, ℕ, Option, Some, None, refl, ap, arith}
-use Rattle.re_syntax.proofs.Words.{option_map, FaultKind, IsAllowed, capped, IsDisallowed, least_too_large, most_too_large, descending}
+use Rattle.re_syntax.proofs.Prelude.{◌≡◌, ℕ, Option, Some, None, refl, ap, arith, option_map, FaultKind, IsAllowed, capped, IsDisallowed, least_too_large, most_too_large, descending}
 
 -- counts that are allowed though capped are the numbers themselves
 pub record AreCounts (a l : ℕ) (x m : Option ℕ) : Type 0 where

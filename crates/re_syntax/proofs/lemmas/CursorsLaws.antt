@@ -1,10 +1,5 @@
 -- What a test of the bytes that come next says of the text.
-use Rattle.std.proofs.Common.{◌≡◌, ℕ, ◌+◌, ◌-◌, Bool, true, false, nat_eq, ◌++◌, length, take, drop, ap, ◌∙◌}
-use Rattle.std.proofs.lemmas.Bool.{both_ways}
-use Rattle.std.proofs.lemmas.Bool.Decides.{Decides-eqb}
-use Rattle.std.proofs.lemmas.List.{take_rest, drop-drop}
-use Rattle.std.proofs.lemmas.Slice.Eq.{starts_is}
-use Rattle.re_syntax.proofs.Words.{starts_with, Text, Begins}
+use Rattle.re_syntax.proofs.Prelude.{◌≡◌, ℕ, ◌+◌, ◌-◌, Bool, true, false, nat_eq, ◌++◌, length, take, drop, ap, ◌∙◌, both_ways, Decides-eqb, take_rest, drop-drop, starts_is, starts_with, Text, Begins}
 
 -- bytes that come next, and what is left after them
 pub begins-drop : (text bytes : Text) (at : ℕ) (r : Bool) → r ≡ starts_with nat_eq (take (length text - at) (drop at text)) bytes → r ≡ true →

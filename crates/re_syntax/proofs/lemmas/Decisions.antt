@@ -1,9 +1,6 @@
 -- Whether a fact holds is decided, where it is made from decided facts: by connectives, over a
 -- list, or over the numbers below a bound.
-use Rattle.std.proofs.Common.{◌≡◌, ℕ, zero, suc, ◌<◌, ◌≤◌, ◌⊎◌, inl, inr, Bool, true, false, IsTrue, List, [], ◌∷◌, length, slice_index_or, Any, MatchBool, Option, Some, None, IfSome, refl, sym, subst, arith}
-use Rattle.std.proofs.Math.Decide.{dec_le, ℕ_discrete, map_dec}
-use Rattle.std.proofs.lemmas.Bool.{false≢true}
-use Rattle.std.proofs.lemmas.Option.{none-some, same_Some}
+use Rattle.re_syntax.proofs.Prelude.{◌≡◌, ℕ, zero, suc, ◌<◌, ◌≤◌, ◌⊎◌, inl, inr, Bool, true, false, IsTrue, List, [], ◌∷◌, length, slice_index_or, Any, MatchBool, Option, Some, None, IfSome, refl, sym, subst, arith, dec_le, ℕ_discrete, map_dec, false≢true, none-some, same_Some}
 
 -- whether a decided fact fails to hold is decided
 pub dec_not : {A : Type 0} → Dec A → Dec (A → ⊥)

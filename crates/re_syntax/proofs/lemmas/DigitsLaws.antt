@@ -1,8 +1,5 @@
 -- Decimal digits: how many come first, and their value.
-use Rattle.std.proofs.Common.{◌≡◌, ℕ, zero, suc, ◌+◌, ◌-◌, ◌*◌, ◌<◌, ◌≤◌, min, true, false, ◌||◌, ◌⊎◌, inl, inr, nat_le, nat_lt, [], ◌∷◌, ◌++◌, length, take, get_or, IsTrue, refl, ap, ◌∙◌, arith}
-use Rattle.std.proofs.lemmas.Bool.{and_parts, and_from, or_cases, or_parts, leb-true, le-leb, ltb-true, ltb-false}
-use Rattle.std.proofs.lemmas.List.{take_more}
-use Rattle.re_syntax.proofs.Words.{Digit, Text, in_class, value_after, capped, HasNoDigit, IsDigitCount}
+use Rattle.re_syntax.proofs.Prelude.{◌≡◌, ℕ, zero, suc, ◌+◌, ◌-◌, ◌*◌, ◌<◌, ◌≤◌, min, true, false, ◌||◌, ◌⊎◌, inl, inr, nat_le, nat_lt, [], ◌∷◌, ◌++◌, length, take, get_or, IsTrue, refl, ap, ◌∙◌, arith, and_parts, and_from, or_cases, or_parts, leb-true, le-leb, ltb-true, ltb-false, take_more, Digit, Text, in_class, value_after, capped, HasNoDigit, IsDigitCount}
 
 -- a digit is not below `0`
 pub digit_low : (b : ℕ) → IsTrue (in_class Digit b) → 48 ≤ b

@@ -1,6 +1,5 @@
 -- Duplications of basic expressions: at most one begins a text.
-use Rattle.std.proofs.Common.{◌≡◌, ℕ, ◌⊎◌, inl, inr, Bool, nat_eq, if◌then◌else◌, [], ◌∷◌, ◌++◌, Option, IsTrue, codes, refl, sym, ap, ◌∙◌, append_assoc}
-use Rattle.re_syntax.proofs.Words.{Text, is_in}
+use Rattle.re_syntax.proofs.Prelude.{◌≡◌, ℕ, ◌⊎◌, inl, inr, Bool, nat_eq, if◌then◌else◌, [], ◌∷◌, ◌++◌, Option, IsTrue, codes, refl, sym, ap, ◌∙◌, append_assoc, Text, is_in}
 use Rattle.re_syntax.specs.Basic.{Duplication, star, plus, question, interval}
 use Rattle.re_syntax.proofs.lemmas.BracketsUnique.{tails, apart}
 use Rattle.re_syntax.proofs.lemmas.Chains.{SameDuplication, AreUnique}

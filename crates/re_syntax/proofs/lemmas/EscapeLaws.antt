@@ -1,9 +1,5 @@
 -- Escapes, by what follows the backslash.
-use Rattle.std.proofs.Common.{◌≡◌, ℕ, ◌+◌, ◌≤◌, nat_le, [], ◌∷◌, ◌++◌, length, drop, Some, IsTrue, slice_get, codes, refl, sym, ap, ◌∙◌, subst, arith, length-drop}
-use Rattle.std.proofs.lemmas.Bool.{and_parts, and_from, leb-true, le-leb, or_left, or_right}
-use Rattle.std.proofs.lemmas.List.{nil_from_length}
-use Rattle.std.proofs.lemmas.Option.{slice_get_within}
-use Rattle.re_syntax.proofs.Words.{FaultKind, TrailingBackslash, PatternFault, Text, Begins, range, union, is_undefined, IsRefusedEscape, undefined, reference, one_to_nine, EscapeStands, HasNoEscape, refused}
+use Rattle.re_syntax.proofs.Prelude.{◌≡◌, ℕ, ◌+◌, ◌≤◌, nat_le, [], ◌∷◌, ◌++◌, length, drop, Some, IsTrue, slice_get, codes, refl, sym, ap, ◌∙◌, subst, arith, length-drop, and_parts, and_from, leb-true, le-leb, or_left, or_right, nil_from_length, slice_get_within, FaultKind, TrailingBackslash, PatternFault, Text, Begins, range, union, is_undefined, IsRefusedEscape, undefined, reference, one_to_nine, EscapeStands, HasNoEscape, refused}
 use Rattle.re_syntax.specs.Working.EscapeSteps.{trailing}
 use Rattle.re_syntax.proofs.lemmas.BracketsUnique.{heads, tails}
 use Rattle.re_syntax.proofs.lemmas.Places.{byte_at, beyond_first}

@@ -1,6 +1,5 @@
 -- The equations of `expression_of`, one for each form of a tree.
-use Rattle.std.proofs.Common.{◌≡◌, ℕ, map, Option, Vec, Box, Global, sym, ap, ◌∙◌}
-use Rattle.re_syntax.proofs.Words.{Expression, empty, one_of, none_of, begin, end, cat, alt, repeat, expression_of, node_expression, members, ByteSet, Tree, Tree-F, fold-roll-Tree, Empty, Set, Not, Begin, End, Cat, Alt, Repeat, rolls-Empty, rolls-Set, rolls-Not, rolls-Begin, rolls-End, rolls-Cat, rolls-Alt, rolls-Repeat}
+use Rattle.re_syntax.proofs.Prelude.{◌≡◌, ℕ, map, Option, Vec, Box, Global, sym, ap, ◌∙◌, Expression, empty, one_of, none_of, begin, end, cat, alt, repeat, expression_of, node_expression, members, ByteSet, Tree, Tree-F, fold-roll-Tree, Empty, Set, Not, Begin, End, Cat, Alt, Repeat, rolls-Empty, rolls-Set, rolls-Not, rolls-Begin, rolls-End, rolls-Cat, rolls-Alt, rolls-Repeat}
 
 -- the empty string
 pub expression-Empty : expression_of Empty ≡ empty

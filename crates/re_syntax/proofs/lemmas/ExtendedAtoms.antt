@@ -1,7 +1,5 @@
 -- Single atoms of extended expressions, by the bytes at their place.
-use Rattle.std.proofs.Common.{◌≡◌, ◌≢◌, ℕ, ◌+◌, ◌<◌, ◌⊎◌, inl, inr, Bool, true, false, ◌∷◌, ◌++◌, length, take, drop, Some, IsTrue, slice_get, codes, refl, sym, ap, ◌∙◌, subst, arith, length-drop, Option, Global}
-use Rattle.std.proofs.lemmas.Bool.{ne_eqb, cases_eq}
-use Rattle.re_syntax.proofs.Words.{Piece, FaultKind, UnclosedBracket, PatternFault, Text, Begins, is_undefined, IsRefusedEscape, undefined, reference, BeginsRefusedEscape, EscapeStands, HasNoEscape, refused, Expression, one_of, end, byte, IsBracket, ShowsBracketFault, IsNoBracket, HasNoInterval, dollar, opens_star, opens_plus, opens_question, opens_interval, OpensDuplication, ShowsExtendedFault, extended_refused, stops, meant_bytes, IsReported, IsBracketPiece}
+use Rattle.re_syntax.proofs.Prelude.{◌≡◌, ◌≢◌, ℕ, ◌+◌, ◌<◌, ◌⊎◌, inl, inr, Bool, true, false, ◌∷◌, ◌++◌, length, take, drop, Some, IsTrue, slice_get, codes, refl, sym, ap, ◌∙◌, subst, arith, length-drop, Option, Global, ne_eqb, cases_eq, Piece, FaultKind, UnclosedBracket, PatternFault, Text, Begins, is_undefined, IsRefusedEscape, undefined, reference, BeginsRefusedEscape, EscapeStands, HasNoEscape, refused, Expression, one_of, end, byte, IsBracket, ShowsBracketFault, IsNoBracket, HasNoInterval, dollar, opens_star, opens_plus, opens_question, opens_interval, OpensDuplication, ShowsExtendedFault, extended_refused, stops, meant_bytes, IsReported, IsBracketPiece}
 use Rattle.re_syntax.specs.Working.EscapeSteps.{trailing}
 use Rattle.re_syntax.specs.Extended.{is_ordinary, Atom, bracket, period, escaped, ordinary, group}
 use Rattle.re_syntax.specs.ExtendedFaults.{IsShownIn}

@@ -1,6 +1,5 @@
 -- Braces that begin no interval of an extended expression.
-use Rattle.std.proofs.Common.{◌≡◌, Bool, true, false, nat_eq, [], ◌∷◌, codes, refl}
-use Rattle.re_syntax.proofs.Words.{Digit, Text, in_class, HasNoInterval}
+use Rattle.re_syntax.proofs.Prelude.{◌≡◌, Bool, true, false, nat_eq, [], ◌∷◌, codes, refl, Digit, Text, in_class, HasNoInterval}
 use Rattle.re_syntax.proofs.lemmas.IntervalLaws.{lacks, lacks-cut}
 use Rattle.re_syntax.proofs.lemmas.IntervalReading.{none_without_number, none_after_first, no_greatest}
 

@@ -1,8 +1,6 @@
 -- Branches and groups of extended expressions, and a whole expression, by the items at their
 -- places.
-use Rattle.std.proofs.Common.{◌≡◌, ◌≢◌, ℕ, suc, ◌+◌, ◌-◌, ◌≤◌, ◌⊎◌, inl, inr, max, Bool, true, false, ◌&&◌, nat_eq, List, [], ◌∷◌, ◌++◌, length, take, drop, codes, refl, sym, ap, ◌∙◌, subst, arith, append_assoc, length-drop, Option, Global}
-use Rattle.std.proofs.lemmas.Bool.{or_cases, eqb-true}
-use Rattle.re_syntax.proofs.Words.{Piece, Pieces, Memory, PatternFault, Extended, Text, Begins, IsAfter, Expression, sequence, choice, IsNoExtended, stops, ends, IsRefused, memory, reported, IsReported, AreReported, IsJoined, most_levels, IsSpelled, as_extended}
+use Rattle.re_syntax.proofs.Prelude.{◌≡◌, ◌≢◌, ℕ, suc, ◌+◌, ◌-◌, ◌≤◌, ◌⊎◌, inl, inr, max, Bool, true, false, ◌&&◌, nat_eq, List, [], ◌∷◌, ◌++◌, length, take, drop, codes, refl, sym, ap, ◌∙◌, subst, arith, append_assoc, length-drop, Option, Global, or_cases, eqb-true, Piece, Pieces, Memory, PatternFault, Extended, Text, Begins, IsAfter, Expression, sequence, choice, IsNoExtended, stops, ends, IsRefused, memory, reported, IsReported, AreReported, IsJoined, most_levels, IsSpelled, as_extended}
 use Rattle.re_syntax.specs.Extended.{Branches, last, more, Items, Atom, group}
 use Rattle.re_syntax.specs.ExtendedFaults.{IsStart, OpensUnclosed, IsShownIn}
 use Rattle.re_syntax.specs.Working.ExtendedSteps.{AtomStands, HasNoAtom, HasNoItems, BranchStands, HasNoBranches, BranchesStand}

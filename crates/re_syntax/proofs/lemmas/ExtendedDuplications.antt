@@ -1,6 +1,5 @@
 -- Duplications of extended expressions: at most one begins a text.
-use Rattle.std.proofs.Common.{◌≡◌, ℕ, ◌∷◌, ◌++◌, Option, codes, refl, sym, ◌∙◌, append_assoc}
-use Rattle.re_syntax.proofs.Words.{Text, ClosedInterval, HasNoInterval}
+use Rattle.re_syntax.proofs.Prelude.{◌≡◌, ℕ, ◌∷◌, ◌++◌, Option, codes, refl, sym, ◌∙◌, append_assoc, Text, ClosedInterval, HasNoInterval}
 use Rattle.re_syntax.specs.Working.ExtendedSteps.{NoDuplication}
 use Rattle.re_syntax.specs.Extended.{Duplication, star, plus, question, interval}
 use Rattle.re_syntax.proofs.lemmas.BracketsUnique.{heads, tails, apart}

@@ -1,8 +1,6 @@
 -- What an atom of an extended expression begins with: a byte that has no other meaning there, and
 -- that determines the kind of atom.
-use Rattle.std.proofs.Common.{◌≡◌, ◌≢◌, ℕ, suc, Bool, true, false, ◌&&◌, nat_eq, List, ◌∷◌, ◌++◌, IsTrue, codes, if◌then◌else◌, refl, sym, ◌∙◌, subst}
-use Rattle.std.proofs.lemmas.Bool.{ne_eqb, and_right, or_from, cond-false}
-use Rattle.re_syntax.proofs.Words.{Text, Expression, HasNoInterval, is_in, is_stop, dollar}
+use Rattle.re_syntax.proofs.Prelude.{◌≡◌, ◌≢◌, ℕ, suc, Bool, true, false, ◌&&◌, nat_eq, List, ◌∷◌, ◌++◌, IsTrue, codes, if◌then◌else◌, refl, sym, ◌∙◌, subst, ne_eqb, and_right, or_from, cond-false, Text, Expression, HasNoInterval, is_in, is_stop, dollar}
 use Rattle.re_syntax.specs.Extended.{is_ordinary, Branches, Atom, bracket, period, escaped, ordinary, group}
 use Rattle.re_syntax.proofs.lemmas.BracketsUnique.{heads, tails, apart, bracket_front}
 use Rattle.re_syntax.proofs.lemmas.ExtendedDuplications.{IsOpening, by_star, by_plus, by_question, by_brace}

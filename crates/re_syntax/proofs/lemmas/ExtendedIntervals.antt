@@ -1,6 +1,5 @@
 -- An interval whose numbers are too large or descend is no duplication.
-use Rattle.std.proofs.Common.{◌≡◌, ℕ, ◌∷◌, ◌++◌, codes, refl, sym, ◌∙◌, Option, subst, append_assoc}
-use Rattle.re_syntax.proofs.Words.{Text, Interval, IsAllowed}
+use Rattle.re_syntax.proofs.Prelude.{◌≡◌, ℕ, ◌∷◌, ◌++◌, codes, refl, sym, ◌∙◌, Option, subst, append_assoc, Text, Interval, IsAllowed}
 use Rattle.re_syntax.specs.Extended.{Duplication, star, plus, question, interval}
 use Rattle.re_syntax.proofs.lemmas.BracketsUnique.{heads, tails, apart}
 use Rattle.re_syntax.specs.Working.ExtendedSteps.{NoDuplication}

@@ -1,6 +1,5 @@
 -- Items of extended expressions, and branches of them, by their atoms and what follows them.
-use Rattle.std.proofs.Common.{◌≡◌, ◌≢◌, ℕ, suc, ◌<◌, ◌≤◌, inl, inr, max, Bool, true, false, List, [], ◌∷◌, ◌++◌, length, take, drop, Option, codes, refl, sym, ap, ◌∙◌, subst, arith, append_assoc, append-nil, length-append, length-drop, Global}
-use Rattle.re_syntax.proofs.Words.{Piece, Pieces, Counts, TooDeep, PatternFault, Text, IsAfter, Expression, begin, repeat, sequence, anchor, OpensDuplication, HasNothingToRepeat, stops, IsNext, IsReported, AreReported, IsRepeated, IsJoined}
+use Rattle.re_syntax.proofs.Prelude.{◌≡◌, ◌≢◌, ℕ, suc, ◌<◌, ◌≤◌, inl, inr, max, Bool, true, false, List, [], ◌∷◌, ◌++◌, length, take, drop, Option, codes, refl, sym, ap, ◌∙◌, subst, arith, append_assoc, append-nil, length-append, length-drop, Global, Piece, Pieces, Counts, TooDeep, PatternFault, Text, IsAfter, Expression, begin, repeat, sequence, anchor, OpensDuplication, HasNothingToRepeat, stops, IsNext, IsReported, AreReported, IsRepeated, IsJoined}
 use Rattle.re_syntax.specs.Extended.{Duplication, star, plus, question, interval, Items, none, item, Item, atom, repeated, Atom}
 use Rattle.re_syntax.specs.ExtendedFaults.{IsStart, IsShownIn}
 use Rattle.re_syntax.specs.Working.ExtendedSteps.{DuplicationStands, HasBadInterval, MayBegin, AtomStands, HasNoAtom, ItemStands, HasNoItems, BranchStands}

@@ -1,7 +1,5 @@
 -- Duplications of extended expressions at a place of the text: what a reader knows when it stops.
-use Rattle.std.proofs.Common.{◌≡◌, ℕ, ◌+◌, ◌≤◌, Bool, true, [], ◌∷◌, ◌++◌, length, take, drop, Option, Some, None, MatchOption, MatchBool, is_some, IsTrue, slice_get, codes, refl, sym, ap, ◌∙◌, subst, arith, append_assoc, length-drop}
-use Rattle.std.proofs.lemmas.Option.{slice_get_within}
-use Rattle.re_syntax.proofs.Words.{Digit, FaultKind, Counts, Text, Begins, in_class, IsAfter, is_in, OpensDuplication, opens_star, opens_plus, opens_question, opens_interval, ShowsExtendedFault, IsNoSign, IsDisallowed, least_too_large, most_too_large, descending, OpensDisallowed, IsAllowed, IsNoPart, ClosedInterval, HasNoInterval, IntervalStands}
+use Rattle.re_syntax.proofs.Prelude.{◌≡◌, ℕ, ◌+◌, ◌≤◌, Bool, true, [], ◌∷◌, ◌++◌, length, take, drop, Option, Some, None, MatchOption, MatchBool, is_some, IsTrue, slice_get, codes, refl, sym, ap, ◌∙◌, subst, arith, append_assoc, length-drop, slice_get_within, Digit, FaultKind, Counts, Text, Begins, in_class, IsAfter, is_in, OpensDuplication, opens_star, opens_plus, opens_question, opens_interval, ShowsExtendedFault, IsNoSign, IsDisallowed, least_too_large, most_too_large, descending, OpensDisallowed, IsAllowed, IsNoPart, ClosedInterval, HasNoInterval, IntervalStands}
 use Rattle.re_syntax.specs.Extended.{Duplication, star, plus, question, interval}
 use Rattle.re_syntax.specs.Working.ExtendedSteps.{NoDuplication, DuplicationStands, HasBadInterval}
 use Rattle.re_syntax.proofs.lemmas.BracketsUnique.{heads, tails, apart}

@@ -1,6 +1,5 @@
 -- What an item that begins a text says of every reading of the text as a branch.
-use Rattle.std.proofs.Common.{◌≡◌, ℕ, ◌<◌, ◌≤◌, max, Bool, true, List, ◌∷◌, refl, sym, ◌∙◌, subst, arith}
-use Rattle.re_syntax.proofs.Words.{Text, Expression, begin, anchor, stops}
+use Rattle.re_syntax.proofs.Prelude.{◌≡◌, ℕ, ◌<◌, ◌≤◌, max, Bool, true, List, ◌∷◌, refl, sym, ◌∙◌, subst, arith, Text, Expression, begin, anchor, stops}
 use Rattle.re_syntax.specs.Extended.{Duplication, Items, none, item, Item}
 use Rattle.re_syntax.proofs.lemmas.BracketsUnique.{heads, tails}
 use Rattle.re_syntax.proofs.lemmas.Chains.{chain_done, GoesOn, goes_on, longer}

@@ -1,6 +1,5 @@
 -- No branch begins with a duplication; what is inside of a group that comes first.
-use Rattle.std.proofs.Common.{◌≡◌, ℕ, Bool, true, List, ◌∷◌, ◌++◌, codes, refl, sym}
-use Rattle.re_syntax.proofs.Words.{Text, Expression, anchor, stops, ends}
+use Rattle.re_syntax.proofs.Prelude.{◌≡◌, ℕ, Bool, true, List, ◌∷◌, ◌++◌, codes, refl, sym, Text, Expression, anchor, stops, ends}
 use Rattle.re_syntax.specs.Extended.{Branches, last, more, Items, none, item, Atom}
 use Rattle.re_syntax.proofs.lemmas.BracketsUnique.{heads, apart}
 use Rattle.re_syntax.proofs.lemmas.ExtendedDuplications.{IsOpening}

@@ -1,7 +1,5 @@
 -- An extended expression is read in one way.
-use Rattle.std.proofs.Common.{◌≡◌, ℕ, suc, ◌+◌, Bool, true, false, ◌&&◌, nat_eq, List, [], ◌∷◌, refl, sym, ap, ◌∙◌, subst, arith}
-use Rattle.std.proofs.lemmas.Bool.{and_right, or_right}
-use Rattle.re_syntax.proofs.Words.{Text, Expression, begin, byte, sequence, choice, anchor, dollar, stops, ends, is_stop}
+use Rattle.re_syntax.proofs.Prelude.{◌≡◌, ℕ, suc, ◌+◌, Bool, true, false, ◌&&◌, nat_eq, List, [], ◌∷◌, refl, sym, ap, ◌∙◌, subst, arith, and_right, or_right, Text, Expression, begin, byte, sequence, choice, anchor, dollar, stops, ends, is_stop}
 use Rattle.re_syntax.specs.Extended.{Duplication, Branches, last, more, Items, none, item, Item, atom, repeated, Atom, bracket, period, escaped, ordinary, group}
 use Rattle.re_syntax.proofs.lemmas.BracketsUnique.{heads, tails, apart, IsBracket-unique}
 use Rattle.re_syntax.proofs.lemmas.BasicUnique.{SameItems}

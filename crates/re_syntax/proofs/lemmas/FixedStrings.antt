@@ -1,7 +1,5 @@
 -- The sequence of a text's bytes holds where the text occurs.
-use Rattle.std.proofs.Common.{◌≡◌, ℕ, zero, suc, ◌+◌, ◌≤◌, List, [], ◌∷◌, ◌++◌, length, map, Some, slice_get, drop, refl, ap, ◌∙◌, arith, eq-eqb, false, length-append, length-drop}
-use Rattle.std.proofs.lemmas.Bool.{eqb-true}
-use Rattle.re_syntax.proofs.Words.{Text, Expression, cat, byte, sequence, Holds, Matches}
+use Rattle.re_syntax.proofs.Prelude.{◌≡◌, ℕ, zero, suc, ◌+◌, ◌≤◌, List, [], ◌∷◌, ◌++◌, length, map, Some, slice_get, drop, refl, ap, ◌∙◌, arith, eq-eqb, false, length-append, length-drop, eqb-true, Text, Expression, cat, byte, sequence, Holds, Matches}
 use Rattle.re_syntax.proofs.lemmas.HoldsDecided.{Holds-le}
 
 -- a sequence holds where its members do one after another

@@ -1,7 +1,5 @@
 -- The text between an interval's braces is read in one way.
-use Rattle.std.proofs.Common.{◌≡◌, ℕ, Bool, true, false, not, nat_eq, [], ◌∷◌, ◌++◌, Option, Some, codes, refl, sym, ap, ◌∙◌, append_assoc}
-use Rattle.std.proofs.lemmas.Bool.{and_parts, ne_eqb, and_from, not_from_false, eq-eqb}
-use Rattle.re_syntax.proofs.Words.{list_all, Digit, Text, in_class, IsNumber, Interval, exactly, at_least, between, up_to, value}
+use Rattle.re_syntax.proofs.Prelude.{◌≡◌, ℕ, Bool, true, false, not, nat_eq, [], ◌∷◌, ◌++◌, Option, Some, codes, refl, sym, ap, ◌∙◌, append_assoc, and_parts, ne_eqb, and_from, not_from_false, eq-eqb, list_all, Digit, Text, in_class, IsNumber, Interval, exactly, at_least, between, up_to, value}
 
 -- no byte of the text is this one
 abbrev pub lacks : ℕ → Text → Bool

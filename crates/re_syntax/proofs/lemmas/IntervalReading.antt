@@ -1,9 +1,6 @@
 -- Reading an interval from the left: a number ends where the digits end, and what follows
 -- determines the form.
-use Rattle.std.proofs.Common.{◌≡◌, ℕ, ◌+◌, ◌-◌, ◌<◌, ◌≤◌, [], ◌∷◌, ◌++◌, length, take, drop, Option, Some, None, MatchOption, IsTrue, codes, refl, sym, ap, ◌∙◌, arith, append_assoc, length-drop}
-use Rattle.std.proofs.lemmas.Bool.{and_parts}
-use Rattle.std.proofs.lemmas.List.{drop-drop, length-take, take-append-drop}
-use Rattle.re_syntax.proofs.Words.{list_all, Digit, Counts, Text, Begins, in_class, IsAfter, IsNumber, value, Interval, exactly, at_least, between, up_to, ClosedInterval, IsNoPart, capped, HasNoInterval, AreDigits, HasNoDigit, IsDigitCount, NumberStands, HasNoGreatest, GreatestStands, IntervalStands}
+use Rattle.re_syntax.proofs.Prelude.{◌≡◌, ℕ, ◌+◌, ◌-◌, ◌<◌, ◌≤◌, [], ◌∷◌, ◌++◌, length, take, drop, Option, Some, None, MatchOption, IsTrue, codes, refl, sym, ap, ◌∙◌, arith, append_assoc, length-drop, and_parts, drop-drop, length-take, take-append-drop, list_all, Digit, Counts, Text, Begins, in_class, IsAfter, IsNumber, value, Interval, exactly, at_least, between, up_to, ClosedInterval, IsNoPart, capped, HasNoInterval, AreDigits, HasNoDigit, IsDigitCount, NumberStands, HasNoGreatest, GreatestStands, IntervalStands}
 use Rattle.re_syntax.proofs.lemmas.BracketsUnique.{heads, tails}
 
 -- the first of some digits is one

@@ -1,9 +1,6 @@
 -- `lines_of` is the one list of lines of an input, and `list_of` is the one list of texts of a
 -- pattern list.
-use Rattle.std.proofs.Common.{◌≡◌, ◌≢◌, ℕ, zero, suc, ◌⊎◌, inl, inr, false, nat_eq, List, [], ◌∷◌, ◌++◌, All, if◌then◌else◌, refl, sym, ap, ◌∙◌, arith, append_assoc}
-use Rattle.std.proofs.lemmas.Bool.{cond-false, ne_eqb, cases_eq}
-use Rattle.std.proofs.lemmas.List.Elements.{All-head, All-tail, All-nil, All-cons}
-use Rattle.re_syntax.proofs.Words.{Text, newline, put_before, lines_of, list_of, HasNoNewline, terminated, joined, AreLines, AreListed}
+use Rattle.re_syntax.proofs.Prelude.{◌≡◌, ◌≢◌, ℕ, zero, suc, ◌⊎◌, inl, inr, false, nat_eq, List, [], ◌∷◌, ◌++◌, All, if◌then◌else◌, refl, sym, ap, ◌∙◌, arith, append_assoc, cond-false, ne_eqb, cases_eq, All-head, All-tail, All-nil, All-cons, Text, newline, put_before, lines_of, list_of, HasNoNewline, terminated, joined, AreLines, AreListed}
 
 -- the first byte of a text without newline is none
 pub first_differs : (b : ℕ) (t : Text) → HasNoNewline (b ∷ t) → nat_eq b newline ≡ false

@@ -1,8 +1,5 @@
 -- The byte of a set of one byte alone, by the set's bits.
-use Rattle.std.proofs.Common.{◌≡◌, ℕ, ◌+◌, ◌-◌, ◌^◌, ◌<◌, inl, inr, true, true≢false, nat_eq, refl, sym, ap, ◌∙◌, arith}
-use Rattle.std.proofs.lemmas.Bool.{cases_eq, cases_lt, eq-eqb, eqb-true, lt-ltb, le-ltb, cond-true, cond-false}
-use Rattle.std.proofs.lemmas.Nat.Bits.{bit_at-zero, bit_at-lt, bit_at-trailing_zeros, same_from_bits_below}
-use Rattle.re_syntax.proofs.Words.{bit_at, trailing_zeros, w128, only, members, ByteSet}
+use Rattle.re_syntax.proofs.Prelude.{◌≡◌, ℕ, ◌+◌, ◌-◌, ◌^◌, ◌<◌, inl, inr, true, true≢false, nat_eq, refl, sym, ap, ◌∙◌, arith, cases_eq, cases_lt, eq-eqb, eqb-true, lt-ltb, le-ltb, cond-true, cond-false, bit_at-zero, bit_at-lt, bit_at-trailing_zeros, same_from_bits_below, bit_at, trailing_zeros, w128, only, members, ByteSet}
 
 -- the first word decides whether a byte below 128 is in the set
 member_low : (s : ByteSet) (b : ℕ) → b < 128 → members s b ≡ nat_eq (bit_at s.low b) 1

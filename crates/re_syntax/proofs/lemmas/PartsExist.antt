@@ -1,7 +1,5 @@
 -- Each line has a list of its parts.
-use Rattle.std.proofs.Common.{ℕ, zero, suc, ◌+◌, ◌≤◌, ◌⊎◌, inl, inr, Bool, List, [], ◌∷◌, length, arith}
-use Rattle.std.proofs.Math.Decide.{dec_le, ℕ_discrete, map_dec}
-use Rattle.re_syntax.proofs.Words.{Text, Expression, Holds, IsFound, IsPart, ArePartsFrom, AreParts}
+use Rattle.re_syntax.proofs.Prelude.{ℕ, zero, suc, ◌+◌, ◌≤◌, ◌⊎◌, inl, inr, Bool, List, [], ◌∷◌, length, arith, dec_le, ℕ_discrete, map_dec, Text, Expression, Holds, IsFound, IsPart, ArePartsFrom, AreParts}
 use Rattle.re_syntax.proofs.lemmas.Decisions.{dec_both, dec_MatchBool, dec_any, dec_bounded, least_below, greatest_below}
 use Rattle.re_syntax.proofs.lemmas.HoldsDecided.{dec_holds}
 

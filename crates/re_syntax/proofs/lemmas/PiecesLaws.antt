@@ -1,6 +1,5 @@
 -- The number of positions of several parts together.
-use Rattle.std.proofs.Common.{◌≡◌, ℕ, ◌+◌, List, [], ◌∷◌, ◌++◌, refl, ap, arith}
-use Rattle.re_syntax.proofs.Words.{up_to_word, Expression, cat, alt, choice, positions}
+use Rattle.re_syntax.proofs.Prelude.{◌≡◌, ℕ, ◌+◌, List, [], ◌∷◌, ◌++◌, refl, ap, arith, up_to_word, Expression, cat, alt, choice, positions}
 
 -- a choice has as many positions as the sequence of its branches
 positions-alt : (es : List Expression) → positions (alt es) ≡ positions (cat es)

@@ -1,10 +1,6 @@
 -- What readers of expressions share: bytes at places of a text, what was found, and what follows
 -- from what is said.
-use Rattle.std.proofs.Common.{◌≡◌, ℕ, ◌+◌, ◌<◌, max, Bool, true, false, not, ◌∷◌, ◌++◌, length, take, drop, Option, Some, None, Result, Ok, Err, IfOk, IfErr, MatchOption, MatchBool, is_some, slice_get, get_or, sym, ap, ◌∙◌, arith, take-add}
-use Rattle.std.proofs.Math.Seq.{take-append_seam}
-use Rattle.std.proofs.lemmas.List.{drop-drop, drop_more}
-use Rattle.std.proofs.lemmas.Option.{slice_get_within, slice_get-get_or, get_or_from_slice_get}
-use Rattle.re_syntax.proofs.Words.{PatternFault, Text, IsRefused, memory, reported}
+use Rattle.re_syntax.proofs.Prelude.{◌≡◌, ℕ, ◌+◌, ◌<◌, max, Bool, true, false, not, ◌∷◌, ◌++◌, length, take, drop, Option, Some, None, Result, Ok, Err, IfOk, IfErr, MatchOption, MatchBool, is_some, slice_get, get_or, sym, ap, ◌∙◌, arith, take-add, take-append_seam, drop-drop, drop_more, slice_get_within, slice_get-get_or, get_or_from_slice_get, PatternFault, Text, IsRefused, memory, reported}
 
 -- the text from the place of a byte on
 pub byte_at : (text : Text) (at b : ℕ) → slice_get text at ≡ Some b → drop at text ≡ b ∷ drop (at + 1) text

@@ -1,10 +1,5 @@
 -- The set of a range of bytes, by the words of its two ends.
-use Rattle.std.proofs.Common.{◌≡◌, ℕ, ◌+◌, ◌-◌, ◌^◌, ◌<◌, ◌≤◌, ◌⊎◌, inl, inr, min, Bool, true, false, ◌&&◌, nat_eq, nat_lt, nat_le, refl, sym, ◌∙◌, arith, if◌then◌else◌, bit_and}
-use Rattle.std.proofs.Math.Path.{fun_ext}
-use Rattle.std.proofs.lemmas.Bool.{and_parts, and_from, leb-true, ltb-true, le-leb, lt-leb, lt-ltb, le-ltb, cases_lt, cond-true, cond-false, ne_eqb}
-use Rattle.std.proofs.lemmas.Nat.{pow_below}
-use Rattle.std.proofs.lemmas.Nat.Bits.{bit_at_and, bit_at_not, bit_at_ones, bit_at_ones_above}
-use Rattle.re_syntax.proofs.Words.{bit_at, bit_not, w128, range, members, lowest_bits}
+use Rattle.re_syntax.proofs.Prelude.{◌≡◌, ℕ, ◌+◌, ◌-◌, ◌^◌, ◌<◌, ◌≤◌, ◌⊎◌, inl, inr, min, Bool, true, false, ◌&&◌, nat_eq, nat_lt, nat_le, refl, sym, ◌∙◌, arith, if◌then◌else◌, bit_and, fun_ext, and_parts, and_from, leb-true, ltb-true, le-leb, lt-leb, lt-ltb, le-ltb, cases_lt, cond-true, cond-false, ne_eqb, pow_below, bit_at_and, bit_at_not, bit_at_ones, bit_at_ones_above, bit_at, bit_not, w128, range, members, lowest_bits}
 use Rattle.re_syntax.proofs.lemmas.UnionsLaws.{same_test}
 
 -- a test that fails its second half

@@ -1,9 +1,5 @@
 -- The set of one byte, by its bits.
-use Rattle.std.proofs.Common.{◌≡◌, ℕ, ◌-◌, ◌^◌, ◌<◌, ◌≤◌, ◌⊎◌, inl, inr, false, nat_eq, nat_lt, refl, sym, ◌∙◌, arith, if◌then◌else◌}
-use Rattle.std.proofs.Math.Path.{fun_ext}
-use Rattle.std.proofs.lemmas.Bool.{cases_eq, cases_lt, eq-eqb, ne_eqb, lt-ltb, le-ltb, cond-true, cond-false}
-use Rattle.std.proofs.lemmas.Nat.Bits.{bit_at-zero, bit_at-pow_same, bit_at-pow_other}
-use Rattle.re_syntax.proofs.Words.{bit_at, only, members}
+use Rattle.re_syntax.proofs.Prelude.{◌≡◌, ℕ, ◌-◌, ◌^◌, ◌<◌, ◌≤◌, ◌⊎◌, inl, inr, false, nat_eq, nat_lt, refl, sym, ◌∙◌, arith, if◌then◌else◌, fun_ext, cases_eq, cases_lt, eq-eqb, ne_eqb, lt-ltb, le-ltb, cond-true, cond-false, bit_at-zero, bit_at-pow_same, bit_at-pow_other, bit_at, only, members}
 
 -- of a power of two one bit is set
 one_bit : (b c : ℕ) → nat_eq (bit_at (2 ^ b) c) 1 ≡ nat_eq c b

@@ -1,5 +1,5 @@
 -- What holds of some element of two lists joined.
-use Rattle.std.proofs.Common.{List, [], ◌∷◌, ◌++◌, ◌⊎◌, inl, inr, Any}
+use Rattle.re_syntax.proofs.Prelude.{List, [], ◌∷◌, ◌++◌, ◌⊎◌, inl, inr, Any}
 use Rattle.re_syntax.proofs.lemmas.Decisions.{Any-first, Any-later, Any-cases, Any-none}
 
 -- P holds of an element of two lists where it holds of one of the first

@@ -1,6 +1,5 @@
 -- The laws of the definitions: one expression, one split, one list of parts.
-use Rattle.std.proofs.Common.{◌≡◌, map, refl, ap}
-use Rattle.re_syntax.proofs.Words.{Text, Expression, byte, sequence, choice, Syntax, Fixed, IsSpelled, SpellsNoOther, as_basic, as_extended, as_fixed, SpellsOne, HasOneSplit, HasOnePartList}
+use Rattle.re_syntax.proofs.Prelude.{◌≡◌, map, refl, ap, Text, Expression, byte, sequence, choice, Syntax, Fixed, IsSpelled, SpellsNoOther, as_basic, as_extended, as_fixed, SpellsOne, HasOneSplit, HasOnePartList}
 use Rattle.re_syntax.proofs.lemmas.BasicUnique.{whole-branches as basic-branches}
 use Rattle.re_syntax.proofs.lemmas.ExtendedUnique.{whole-branches}
 use Rattle.re_syntax.proofs.lemmas.LinesLaws.{AreLines-lines_of, lines_of-unique, AreListed-list_of, list_of-unique}

@@ -1,6 +1,5 @@
 -- Basic expressions of the standard alone spell the same here.
-use Rattle.std.proofs.Common.{◌≡◌, ℕ, List, ◌∷◌, ◌++◌, Option, refl, sym, ◌∙◌}
-use Rattle.re_syntax.proofs.Words.{Basic, Text, Expression, ItemPlace, IsAtEnd, of_text, of_group, of_branch, leading, IsSpelled, as_basic, IsStandardBasic}
+use Rattle.re_syntax.proofs.Prelude.{◌≡◌, ℕ, List, ◌∷◌, ◌++◌, Option, refl, sym, ◌∙◌, Basic, Text, Expression, ItemPlace, IsAtEnd, of_text, of_group, of_branch, leading, IsSpelled, as_basic, IsStandardBasic}
 use Rattle.re_syntax.specs.Basic.{Duplication, star, interval, last, Items, none, trailing, item, Item, atom, repeated, Atom, bracket, period, escaped, ordinary, group}
 use Rattle.re_syntax.specs.Working.StandardBasic.{Duplication as StandardDuplication, star as standard_star, interval as standard_interval, IsAtEnd as StandardEnd, of_text as standard_of_text, of_group as standard_of_group, Items as StandardItems, none as standard_none, leading as standard_leading, trailing as standard_trailing, item as standard_item, Item as StandardItem, atom as standard_atom, repeated as standard_repeated, Atom as StandardAtom, bracket as standard_bracket, period as standard_period, escaped as standard_escaped, ordinary as standard_ordinary, group as standard_group, as_basic as standard_as_basic}
 use Rattle.re_syntax.proofs.lemmas.BracketsUnique.{heads, tails, apart, bracket_front}

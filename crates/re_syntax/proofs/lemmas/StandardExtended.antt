@@ -1,6 +1,5 @@
 -- Extended expressions of the standard alone spell the same here, where they have no `{,`.
-use Rattle.std.proofs.Common.{ℕ, Bool, List, [], ◌∷◌, ◌++◌, Option, codes, refl, sym, ap, ◌∙◌, append_assoc}
-use Rattle.re_syntax.proofs.Words.{Extended, Text, Expression, anchor, dollar, HasNoOpenComma, IsSpelled, as_extended, IsStandardExtended}
+use Rattle.re_syntax.proofs.Prelude.{ℕ, Bool, List, [], ◌∷◌, ◌++◌, Option, codes, refl, sym, ap, ◌∙◌, append_assoc, Extended, Text, Expression, anchor, dollar, HasNoOpenComma, IsSpelled, as_extended, IsStandardExtended}
 use Rattle.re_syntax.specs.Extended.{Duplication, star, plus, question, interval, Branches, last, more, Items, none, item, Item, atom, repeated, Atom, bracket, period, escaped, ordinary, group}
 use Rattle.re_syntax.specs.Working.StandardExtended.{Duplication as StandardDuplication, star as standard_star, plus as standard_plus, question as standard_question, interval as standard_interval, Branches as StandardBranches, last as standard_last, more as standard_more, Items as StandardItems, none as standard_none, anchor as standard_anchor, item as standard_item, Item as StandardItem, atom as standard_atom, repeated as standard_repeated, Atom as StandardAtom, bracket as standard_bracket, period as standard_period, dollar as standard_dollar, escaped as standard_escaped, ordinary as standard_ordinary, group as standard_group, as_extended as standard_as_extended}
 use Rattle.re_syntax.proofs.lemmas.BracketRests.{ComesAfter, after_two, beyond_byte, bracket_after}

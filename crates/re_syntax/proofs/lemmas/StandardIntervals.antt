@@ -1,6 +1,5 @@
 -- Intervals of the standard alone are intervals.
-use Rattle.std.proofs.Common.{◌≡◌, ℕ, [], ◌∷◌, ◌++◌, Option, codes, ap, ◌∙◌}
-use Rattle.re_syntax.proofs.Words.{Text, Interval, exactly, at_least, between, up_to, HasNoInterval, HasNoOpenComma}
+use Rattle.re_syntax.proofs.Prelude.{◌≡◌, ℕ, [], ◌∷◌, ◌++◌, Option, codes, ap, ◌∙◌, Text, Interval, exactly, at_least, between, up_to, HasNoInterval, HasNoOpenComma}
 use Rattle.re_syntax.specs.Working.StandardIntervals.{Interval as StandardInterval, exactly as standard_exactly, at_least as standard_at_least, between as standard_between, HasNoInterval as HasNoStandard}
 
 -- each of the three forms

@@ -1,5 +1,5 @@
 -- What the standard alone makes of a text is what it spells here.
-use Rattle.re_syntax.proofs.Words.{Text, KeepsStandard}
+use Rattle.re_syntax.proofs.Prelude.{Text, KeepsStandard}
 use Rattle.re_syntax.proofs.lemmas.StandardBasic.{basic-kept}
 use Rattle.re_syntax.proofs.lemmas.StandardExtended.{extended-kept}
 

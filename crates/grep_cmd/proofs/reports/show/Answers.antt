@@ -1,5 +1,4 @@
-use Rattle.std.proofs.Common.{[], subst}
-use Rattle.grep_cmd.proofs.Words.{output_line, Writes, status_line}
+use Rattle.grep_cmd.proofs.Prelude.{[], subst, output_line, Writes, status_line}
 use Rattle.grep_cmd.proofs.lemmas.ShowLaws.{shows_front, shows_middle, shows_all, says_same}
 use Rattle.grep_cmd.proofs.reports.show.Goals as goal
 

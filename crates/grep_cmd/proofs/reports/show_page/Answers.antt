@@ -1,4 +1,4 @@
-use Rattle.grep_io.specs.declared.devices.counted.WriteFault.{WriteFault}
+use Rattle.grep_cmd.proofs.Prelude.{WriteFault}
 use Rattle.grep_cmd.proofs.lemmas.ListingLaws.{shows_hits_front, shows_hits_whole}
 use Rattle.grep_cmd.proofs.reports.show_page.Goals as goal
 

@@ -1,5 +1,4 @@
-use Rattle.std.proofs.Common.{◌≡◌, [], ◌∷◌, ◌++◌, rules, subst, sym, ap, ◌∙◌, refl, arith, Err}
-use Rattle.grep_cmd.proofs.Words.{HasNoNewline, IsOneLineAndFew, Numbered, Clean, Memory, GaveLines, ScriptGives, AnsweredSoFar, HasRead}
+use Rattle.grep_cmd.proofs.Prelude.{◌≡◌, [], ◌∷◌, ◌++◌, rules, subst, sym, ap, ◌∙◌, refl, arith, Err, HasNoNewline, IsOneLineAndFew, Numbered, Clean, Memory, GaveLines, ScriptGives, AnsweredSoFar, HasRead}
 use Rattle.grep_core.proofs.lemmas.NumberedLemmas.{has_handed_none}
 use Rattle.grep_cmd.proofs.lemmas.ScriptRuns.{so_far_none, so_far_accepted, so_far_refused, ends_here, next_fails, ends_truncated, answer_fails, grows, sends_after, gives_by_reader, runs_out_at_once}
 use Rattle.grep_cmd.proofs.script.run_script.Goals.{in-Ok-false, in-Err-next_line, in-Ok-true+in-Ok-Truncated, in-Ok-true+in-Err-answer_command}
@@ -13,7 +12,7 @@ loop-fault-init g c =
     let lines = c.in-Ok.lines in
     let is = c.in-Ok.ensures.ok in
     let none = has_handed_none (λ r. g.R.CountedRead.remaining r.now) (λ r. g.R.CountedRead.failures r.now) lines (ap (λ (n : Numbered _). n.lines.ahead) is) (ap (λ (n : Numbered _). n.lines.stage) is) (ap (λ (n : Numbered _). n.number) is) in (
-      subst (λ watched. AnsweredSoFar (λ r. g.R.CountedRead.remaining r.now) (λ r. g.R.CountedRead.failures r.now) g.W.CountedWrite.contents g.W.CountedWrite.failures lines.lines.reader c.args.meter.now c.args.writer.now lines watched c.args.meter.now c.args.writer.now Clean) (sym c.new-session.ensures.is_new)
+      subst (λ watched. AnsweredSoFar (λ r. g.R.CountedRead.remaining r.now) (λ r. g.R.CountedRead.failures r.now) g.W.CountedWrite.contents g.W.CountedWrite.failures lines.lines.reader c.args.meter.now c.args.writer.now lines watched c.args.meter.now c.args.writer.now Clean) (sym c.new-session.ensures)
           (so_far_none (λ r. g.R.CountedRead.remaining r.now) (λ r. g.R.CountedRead.failures r.now) g.W.CountedWrite.contents g.W.CountedWrite.failures lines.lines.reader c.args.meter.now c.args.writer.now lines none),
       refl,
       subst IsOneLineAndFew (sym (ap (λ (n : Numbered _). n.lines.ahead) is)) none_in_nothing,

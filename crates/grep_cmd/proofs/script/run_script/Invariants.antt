@@ -1,5 +1,4 @@
-use Rattle.std.proofs.Common.{◌≡◌, ◌-◌, ◌^◌}
-use Rattle.grep_cmd.proofs.Words.{IsOneLineAndFew, AnsweredSoFar}
+use Rattle.grep_cmd.proofs.Prelude.{◌≡◌, ◌-◌, ◌^◌, IsOneLineAndFew, AnsweredSoFar}
 use Rattle.grep_cmd.proofs.script.run_script.Given as goal
 
 -- the commands so far were answered

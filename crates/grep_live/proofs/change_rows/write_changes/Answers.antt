@@ -1,5 +1,4 @@
-use Rattle.std.proofs.Common.{◌<◌, [], length, arith}
-use Rattle.grep_live.proofs.Words.{file_at, IsChange, new_mark, changes_rows}
+use Rattle.grep_live.proofs.Prelude.{◌<◌, [], length, arith, file_at, IsChange, new_mark, changes_rows}
 use Rattle.grep_session.proofs.lemmas.Writing.{none_written, writes_err}
 use Rattle.grep_live.proofs.lemmas.ListLemmas.{three-length, three-at}
 use Rattle.grep_live.proofs.lemmas.ChangesLemmas.{no_change, reported_on, reported_stops, reported_all}
@@ -12,12 +11,12 @@ loop-k-init g c = λ es meant changes are. none_written g.W.CountedWrite.content
 pub write_change-requires : goal.write_change-requires
 write_change-requires g c =
     let k = c.loop-k.k in
-    let front = marked_front c.args.session.now.files c.args.marks.now k c.requires c.loop-k-test.true in
+    let front = marked_front c.args.session.now.inputs.files c.args.marks.now k c.requires c.loop-k-test.true in
     front
 
 pub returns-in_err-write_change : goal.returns-in_err-write_change
 returns-in_err-write_change g c =
-    let inputs = c.args.session.now in
+    let inputs = c.args.session.now.inputs in
     let marks = c.args.marks.now in
     let k = c.loop-k.k in
     λ es meant changes are.
@@ -29,7 +28,7 @@ returns-in_err-write_change g c =
 
 pub loop-k-preserved : goal.loop-k-preserved
 loop-k-preserved g c =
-    let inputs = c.args.session.now in
+    let inputs = c.args.session.now.inputs in
     let marks = c.args.marks.now in
     let k = c.loop-k.k in
     λ es meant changes are.
@@ -40,7 +39,7 @@ loop-k-preserved g c =
 
 pub returns : goal.returns
 returns g c =
-    let inputs = c.args.session.now in
+    let inputs = c.args.session.now.inputs in
     let marks = c.args.marks.now in
     λ es meant changes are.
     let long = three-length (IsChange es inputs.options) inputs.files marks changes are in

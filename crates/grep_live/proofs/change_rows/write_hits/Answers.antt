@@ -1,5 +1,4 @@
-use Rattle.std.proofs.Common.{map, arith}
-use Rattle.grep_session.specs.Working.Kept.{span_places}
+use Rattle.grep_live.proofs.Prelude.{map, arith, span_places}
 use Rattle.grep_session.proofs.lemmas.Writing.{writes_err}
 use Rattle.grep_live.proofs.lemmas.ChangesLemmas.{listed_none, listed_one, listed_stops, listed_all}
 use Rattle.grep_live.proofs.change_rows.write_hits.Goals as goal
@@ -7,7 +6,7 @@ use Rattle.grep_live.proofs.change_rows.write_hits.Goals as goal
 pub loop-found-init : goal.loop-found-init
 loop-found-init g c = record {
   in_order = c.requires.in_order;
-  lists = listed_none c.args.session.now c.args.stretch.k c.args.stretch.from c.args.stretch.to g.W.CountedWrite.contents g.W.CountedWrite.failures c.args.margin.now c.args.out.now;
+  lists = listed_none c.args.session.now.inputs c.args.stretch.k c.args.stretch.from c.args.stretch.to g.W.CountedWrite.contents g.W.CountedWrite.failures c.args.margin.now c.args.out.now;
 }
 
 pub returns-in_err-write_hit_row : goal.returns-in_err-write_hit_row
@@ -17,7 +16,7 @@ returns-in_err-write_hit_row g c =
     let s = c.loop-found.invariant.lists es meant all hits in
     let f = c.in-Some.ensures.first es meant s.left s.are_left in
     writes_err g.W.CountedWrite.contents g.W.CountedWrite.failures c.args.margin.now _ _ _ c.from_residual.result c.from_residual.ensures.0
-    (listed_stops c.args.session.now c.args.stretch.k c.args.stretch.from c.args.stretch.to g.W.CountedWrite.contents g.W.CountedWrite.failures c.args.margin.now es all c.args.out.now c.loop-found.out c.loop-found.from s found.place found.hit.text.now (map span_places found.hit.parts.now) f c.write_hit_row.new.out c.in_err-write_hit_row.ensures)
+    (listed_stops c.args.session.now.inputs c.args.stretch.k c.args.stretch.from c.args.stretch.to g.W.CountedWrite.contents g.W.CountedWrite.failures c.args.margin.now es all c.args.out.now c.loop-found.out c.loop-found.from s found.place found.hit.text.now (map span_places found.hit.parts.now) f c.write_hit_row.new.out c.in_err-write_hit_row.ensures)
 
 pub loop-found-preserved : goal.loop-found-preserved
 loop-found-preserved g c =
@@ -28,10 +27,10 @@ loop-found-preserved g c =
           (λ es meant all hits.
           let s = c.loop-found.invariant.lists es meant all hits in
           let f = c.in-Some.ensures.first es meant s.left s.are_left in
-          listed_one c.args.session.now c.args.stretch.k c.args.stretch.from c.args.stretch.to g.W.CountedWrite.contents g.W.CountedWrite.failures c.args.margin.now es all c.args.out.now c.loop-found.out c.loop-found.from s found.place found.hit.text.now (map span_places found.hit.parts.now) f c.write_hit_row.new.out c.in_ok-write_hit_row.ensures);
+          listed_one c.args.session.now.inputs c.args.stretch.k c.args.stretch.from c.args.stretch.to g.W.CountedWrite.contents g.W.CountedWrite.failures c.args.margin.now es all c.args.out.now c.loop-found.out c.loop-found.from s found.place found.hit.text.now (map span_places found.hit.parts.now) f c.write_hit_row.new.out c.in_ok-write_hit_row.ensures);
     }
 
 pub returns : goal.returns
 returns g c = λ es meant all hits.
     let s = c.loop-found.invariant.lists es meant all hits in
-    listed_all c.args.session.now c.args.stretch.k c.args.stretch.from c.args.stretch.to g.W.CountedWrite.contents g.W.CountedWrite.failures c.args.margin.now es all c.args.out.now c.loop-found.out c.loop-found.from s (c.in_default.ensures.first es meant s.left s.are_left)
+    listed_all c.args.session.now.inputs c.args.stretch.k c.args.stretch.from c.args.stretch.to g.W.CountedWrite.contents g.W.CountedWrite.failures c.args.margin.now es all c.args.out.now c.loop-found.out c.loop-found.from s (c.in_default.ensures.first es meant s.left s.are_left)

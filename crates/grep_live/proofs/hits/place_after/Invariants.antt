@@ -1,14 +1,13 @@
-use Rattle.std.proofs.Common.{◌-◌, ◌≤◌, length}
-use Rattle.grep_core.specs.Run.{file_at}
+use Rattle.grep_live.proofs.Prelude.{◌-◌, ◌≤◌, length, file_at}
 use Rattle.grep_live.proofs.lemmas.NumberLemmas.{FewerBelow, Suffices}
 use Rattle.grep_live.proofs.hits.place_after.Given as goal
 
 -- the place is between these
 abbrev pub invariant-loop-low : goal.invariant-loop-low
 invariant-loop-low l = record {
-  within : l.high ≤ length (file_at l.session.files l.k).lines;
-  fewer : FewerBelow l.session l.k l.number l.low;
-  enough : Suffices l.session l.k l.number l.high;
+  within : l.high ≤ length (file_at l.session.inputs.files l.k).lines;
+  fewer : FewerBelow l.session.inputs l.k l.number l.low;
+  enough : Suffices l.session.inputs l.k l.number l.high;
 }
 
 abbrev pub decreases-loop-low : goal.decreases-loop-low

@@ -1,7 +1,5 @@
-use Rattle.std.proofs.Common.{ℕ, ◌<◌, ◌∷◌, [], length, map, get_or, subst, sym, arith}
+use Rattle.grep_live.proofs.Prelude.{ℕ, ◌<◌, ◌∷◌, [], length, map, get_or, subst, sym, arith, length-map, Span, GoesOut, StopsWithin, span_places, part_text, more_parts}
 use Rattle.std.proofs.Math.ListN.{get_or-map}
-use Rattle.std.proofs.lemmas.List.{length-map}
-use Rattle.grep_live.proofs.Words.{Span, GoesOut, StopsWithin, span_places, part_text, more_parts}
 use Rattle.grep_session.proofs.lemmas.Writing.{writes_err}
 use Rattle.grep_live.proofs.lemmas.Pushing.{each_none, each_on, each_stops, each_all}
 use Rattle.grep_live.proofs.rows.write_more_parts.Goals as goal

@@ -1,5 +1,4 @@
-use Rattle.std.proofs.Common.{◌∷◌, []}
-use Rattle.grep_live.proofs.Words.{decimal, spaced}
+use Rattle.grep_live.proofs.Prelude.{◌∷◌, [], decimal, spaced}
 use Rattle.grep_session.proofs.lemmas.Writing.{writes_err}
 use Rattle.grep_live.proofs.lemmas.Pushing.{each_none, each_on, each_stops, each_all}
 use Rattle.grep_live.proofs.rows.write_numbers.Goals as goal

@@ -1,5 +1,4 @@
-use Rattle.std.proofs.Common.{◌∷◌}
-use Rattle.std.specs.Fmt.{decimal}
+use Rattle.grep_live.proofs.Prelude.{◌∷◌, decimal}
 use Rattle.grep_live.proofs.lemmas.Pushing.{EachUpTo}
 use Rattle.grep_live.proofs.rows.write_numbers.Given as goal
 

@@ -1,5 +1,4 @@
-use Rattle.std.proofs.Common.{◌+◌, ◌<◌, ◌≤◌, [], length, get_or, map, take, drop, arith, sym, subst}
-use Rattle.grep_session.proofs.Words.{Progress, Shown, written, progress_from, GoesOut, StopsWithin, all_of, line_text, no_line, shown_rows, around_rows}
+use Rattle.grep_session.proofs.Prelude.{◌+◌, ◌<◌, ◌≤◌, [], length, get_or, map, take, drop, arith, sym, subst, Progress, Shown, written, progress_from, GoesOut, StopsWithin, all_of, line_text, no_line, shown_rows, around_rows}
 use Rattle.grep_session.proofs.lemmas.AroundSteps.{few_wait, wait_within, shown_within, around_on, around_stops, around_all}
 use Rattle.grep_session.proofs.lemmas.Writing.{WrittenUpTo, none_written, writes_err}
 use Rattle.grep_session.proofs.around.write_lines_around.Goals as goal

@@ -1,5 +1,4 @@
-use Rattle.std.proofs.Common.{◌≤◌, [], map, take, drop}
-use Rattle.grep_session.proofs.Words.{progress_from, all_of, line_text, around_rows}
+use Rattle.grep_session.proofs.Prelude.{◌≤◌, [], map, take, drop, progress_from, all_of, line_text, around_rows}
 use Rattle.grep_session.proofs.lemmas.Writing.{WrittenUpTo}
 use Rattle.grep_session.proofs.around.write_lines_around.Given as goal
 

@@ -1,5 +1,4 @@
-use Rattle.std.proofs.Common.{get_or, arith}
-use Rattle.line_chunks.specs.Working.Chunks.{all_of, no_line}
+use Rattle.grep_session.proofs.Prelude.{get_or, arith, all_of, no_line}
 use Rattle.grep_session.proofs.lemmas.AroundSteps.{not_left_out, separator_stops, before_stops, itself_written}
 use Rattle.grep_session.proofs.lemmas.Writing.{writes_err}
 use Rattle.grep_session.proofs.around.write_shown.Goals as goal

@@ -1,5 +1,4 @@
-use Rattle.std.proofs.Common.{◌+◌, ◌-◌, map, take, arith}
-use Rattle.grep_session.proofs.Words.{written, last_of, rows_around, all_of, line_text}
+use Rattle.grep_session.proofs.Prelude.{◌+◌, ◌-◌, map, take, arith, written, last_of, rows_around, all_of, line_text}
 use Rattle.grep_session.proofs.lemmas.AroundSteps.{waiting_none, waiting_on, waiting_stops, waiting_all}
 use Rattle.grep_session.proofs.lemmas.Writing.{writes_err}
 use Rattle.grep_session.proofs.around.write_waiting.Goals as goal

@@ -1,5 +1,4 @@
-use Rattle.std.proofs.Common.{◌+◌, ◌-◌, ◌≤◌, map, take, drop}
-use Rattle.grep_session.proofs.Words.{last_of, rows_around, all_of, line_text}
+use Rattle.grep_session.proofs.Prelude.{◌+◌, ◌-◌, ◌≤◌, map, take, drop, last_of, rows_around, all_of, line_text}
 use Rattle.grep_session.proofs.lemmas.Writing.{WrittenUpTo}
 use Rattle.grep_session.proofs.around.write_waiting.Given as goal
 

@@ -1,4 +1,4 @@
-use Rattle.std.proofs.Common.{◌≡◌, ◌*◌, ◌≤◌, length, subst, arith}
+use Rattle.grep_session.proofs.Prelude.{◌≡◌, ◌*◌, ◌≤◌, length, subst, arith}
 use Rattle.grep_session.proofs.lemmas.RoomLemmas.{room_at}
 use Rattle.grep_session.proofs.caches.kept_by.Goals as goal
 

@@ -1,4 +1,4 @@
-use Rattle.std.proofs.Common.{◌*◌, ◌≤◌}
+use Rattle.grep_session.proofs.Prelude.{◌*◌, ◌≤◌}
 use Rattle.grep_session.proofs.caches.kept_by.Given as goal
 
 -- the first matchers keep no more than they may

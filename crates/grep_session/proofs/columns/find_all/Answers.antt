@@ -1,7 +1,6 @@
-use Rattle.std.proofs.Common.{◌≡◌, ◌≤◌, map, take, take_all, sym, refl, subst, arith, []}
+use Rattle.grep_session.proofs.Prelude.{◌≡◌, ◌≤◌, map, take, take_all, sym, refl, subst, arith, [], AllAnswer, most_patterns, ChangeCost, IsWithin, SearchesEach, WasFileKept, chunks_of, chunks_of_files, lines_of_files, AddsColumns, kept_file}
 use Rattle.re_search.proofs.lemmas.KeptMatchers.{none_asked, same_over}
 use Rattle.grep_core.proofs.lemmas.CostLaws.{same_length}
-use Rattle.grep_session.proofs.Words.{AllAnswer, most_patterns, ChangeCost, IsWithin, SearchesEach, WasFileKept, chunks_of, chunks_of_files, lines_of_files, AddsColumns, kept_file}
 use Rattle.grep_session.proofs.lemmas.FoundLemmas.{adds_columns, adds_no_column, chunks_on, no_chunks, no_lines, its_chunks, its_lines, was_kept}
 use Rattle.grep_session.proofs.lemmas.ColumnLemmas.{files_next, files_with_parts, kept_at}
 use Rattle.grep_session.proofs.lemmas.StepLemmas.{ChangeCost-exists, each_none, each_both, each_front}

@@ -1,5 +1,4 @@
-use Rattle.std.proofs.Common.{map, take, All, List, []}
-use Rattle.grep_session.proofs.Words.{Expression, SameMatchers, HasChanged, ChangeCost, SearchesEach, WasFileKept, AddsColumns, chunks_of_files, lines_of_files, kept_file}
+use Rattle.grep_session.proofs.Prelude.{map, take, All, List, [], Expression, SameMatchers, HasChanged, ChangeCost, SearchesEach, WasFileKept, AddsColumns, chunks_of_files, lines_of_files, kept_file}
 use Rattle.grep_session.proofs.columns.find_all.Given as goal
 
 -- the first files were searched

@@ -1,5 +1,4 @@
-use Rattle.std.proofs.Common.{All, map, sym, subst}
-use Rattle.grep_session.proofs.Words.{AllZip, SameMatchers, matched_expression, wants_whole, room_of, IsFileKept, IsColumn, chunks_of_files, FitsColumn}
+use Rattle.grep_session.proofs.Prelude.{All, map, sym, subst, AllZip, SameMatchers, matched_expression, wants_whole, room_of, IsFileKept, IsColumn, chunks_of_files, FitsColumn}
 use Rattle.grep_core.proofs.lemmas.CostLaws.{same_length}
 use Rattle.grep_session.proofs.lemmas.FoundLemmas.{files_by_chunk}
 use Rattle.grep_session.proofs.lemmas.AddingLemmas.{all_back}

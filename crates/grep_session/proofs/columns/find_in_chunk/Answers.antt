@@ -1,6 +1,4 @@
-use Rattle.std.proofs.Common.{◌≡◌, ◌*◌, All, length, map, sym, ap, subst, ◌∙◌}
-use Rattle.std.proofs.lemmas.List.{length-map}
-use Rattle.grep_session.proofs.Words.{terminated, AddsAtMost, AreBelow, FoundIn, line_text, seen, IsWithin, IsKept}
+use Rattle.grep_session.proofs.Prelude.{◌≡◌, ◌*◌, All, length, map, sym, ap, subst, ◌∙◌, length-map, terminated, AddsAtMost, AreBelow, FoundIn, line_text, seen, IsWithin, IsKept}
 use Rattle.grep_session.proofs.lemmas.ColumnLaws.{column_decides, column_right, column_same, chunk_steps, chunk_begun, sought_count, matches_below, matches_grow}
 use Rattle.grep_session.proofs.columns.find_in_chunk.Goals as goal
 

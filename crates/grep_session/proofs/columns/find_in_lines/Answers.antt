@@ -1,5 +1,4 @@
-use Rattle.std.proofs.Common.{◌≡◌, ◌<◌, ◌≤◌, [], ◌∷◌, ◌++◌, All, length, map, take, get_or, sym, ap, subst, ◌∙◌, arith, take_all}
-use Rattle.grep_session.proofs.Words.{AllAnswer, most_patterns, all_of, line_text, ChangeCost, IsWithin, SearchesEach, WasKept, AddsColumns}
+use Rattle.grep_session.proofs.Prelude.{◌≡◌, ◌<◌, ◌≤◌, [], ◌∷◌, ◌++◌, All, length, map, take, get_or, sym, ap, subst, ◌∙◌, arith, take_all, AllAnswer, most_patterns, all_of, line_text, ChangeCost, IsWithin, SearchesEach, WasKept, AddsColumns}
 use Rattle.grep_core.proofs.lemmas.CostLaws.{same_length}
 use Rattle.grep_session.proofs.lemmas.FoundLemmas.{adds_no_column, adds_columns, adds_column, all_by_chunk, chunks_next, texts_next, texts_rest}
 use Rattle.re_search.proofs.lemmas.KeptMatchers.{none_asked, same_over}

@@ -1,5 +1,4 @@
-use Rattle.std.proofs.Common.{map, take, All, List}
-use Rattle.grep_session.proofs.Words.{Expression, all_of, line_text, SameMatchers, HasChanged, ChangeCost, SearchesEach, WasKept, AddsColumns}
+use Rattle.grep_session.proofs.Prelude.{map, take, All, List, Expression, all_of, line_text, SameMatchers, HasChanged, ChangeCost, SearchesEach, WasKept, AddsColumns}
 use Rattle.grep_session.proofs.columns.find_in_lines.Given as goal
 
 -- the first chunks were searched

@@ -1,6 +1,4 @@
-use Rattle.std.proofs.Common.{◌≡◌, ◌<◌, length, get_or, true, false, subst, arith}
-use Rattle.std.proofs.lemmas.List.{get_or_default}
-use Rattle.grep_session.proofs.Words.{all_of, no_line, is_selected}
+use Rattle.grep_session.proofs.Prelude.{◌≡◌, ◌<◌, length, get_or, true, false, subst, arith, get_or_default, all_of, no_line, is_selected}
 use Rattle.grep_session.proofs.lemmas.CountLaws.{none_selected, one_selected}
 use Rattle.grep_session.proofs.counts.find_selected.Goals as goal
 

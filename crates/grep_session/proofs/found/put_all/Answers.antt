@@ -1,7 +1,4 @@
-use Rattle.std.proofs.Common.{◌≡◌, ◌<◌, drop, length, get_or, arith, sym, ap, subst, ◌∙◌, add-one, ◌++◌, suc}
-use Rattle.std.proofs.Math.Seq.{map-set_same}
-use Rattle.std.proofs.lemmas.List.Elements.{AllWithin-more_set, All-from_all_within}
-use Rattle.grep_session.proofs.Words.{AllZip, AllWithin, into_iter_items, FitsColumn, FitColumns, IsFileKept, kept_file, IsColumn, chunks_of, chunks_of_files}
+use Rattle.grep_session.proofs.Prelude.{◌≡◌, ◌<◌, drop, length, get_or, arith, sym, ap, subst, ◌∙◌, add-one, ◌++◌, suc, map-set_same, AllWithin-more_set, All-from_all_within, AllZip, AllWithin, into_iter_items, FitsColumn, FitColumns, IsFileKept, kept_file, IsColumn, chunks_of, chunks_of_files}
 use Rattle.grep_session.proofs.lemmas.FoundLemmas.{same_file, chunks_from, later_on, there_still, fit_first, rest_of, right_file}
 use Rattle.grep_session.proofs.found.put_all.Goals as goal
 

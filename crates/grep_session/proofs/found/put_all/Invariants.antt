@@ -1,5 +1,4 @@
-use Rattle.std.proofs.Common.{◌≡◌, List, map, drop}
-use Rattle.grep_session.proofs.Words.{AllZip, AllWithin, into_iter_items, Expression, Options, FitsColumn, IsFileKept, kept_file, IsColumn, chunks_of_files}
+use Rattle.grep_session.proofs.Prelude.{◌≡◌, List, map, drop, AllZip, AllWithin, into_iter_items, Expression, Options, FitsColumn, IsFileKept, kept_file, IsColumn, chunks_of_files}
 use Rattle.grep_session.proofs.found.put_all.Given as goal
 
 -- the lines of the first files have what was found in them, and the others are as they were

@@ -1,6 +1,4 @@
-use Rattle.std.proofs.Common.{◌+◌, ◌≤◌, length, map, Some, sym, ap, subst, ◌∙◌, arith, refl}
-use Rattle.std.proofs.lemmas.List.{length-map}
-use Rattle.grep_session.proofs.Words.{Matches, Text, terminated, AddsAtMost, line_text, IsNextLine}
+use Rattle.grep_session.proofs.Prelude.{◌+◌, ◌≤◌, length, map, Some, sym, ap, subst, ◌∙◌, arith, refl, length-map, Matches, Text, terminated, AddsAtMost, line_text, IsNextLine}
 use Rattle.re_needle.proofs.lemmas.NextLines.{block_lines}
 use Rattle.re_meter.proofs.lemmas.Adding.{adds_both, adds_within, adds_none}
 use Rattle.grep_session.proofs.lemmas.ColumnLoops.{column_none, column_next, column_done}

@@ -1,5 +1,4 @@
-use Rattle.std.proofs.Common.{◌≡◌, ◌-◌, ◌≤◌, length, map, take}
-use Rattle.grep_session.proofs.Words.{terminated, AddsAtMost, line_text}
+use Rattle.grep_session.proofs.Prelude.{◌≡◌, ◌-◌, ◌≤◌, length, map, take, terminated, AddsAtMost, line_text}
 use Rattle.grep_session.proofs.lemmas.ColumnLoops.{ColumnSoFar}
 use Rattle.grep_session.proofs.line_matches.add_column.Given as goal
 

@@ -1,6 +1,4 @@
-use Rattle.std.proofs.Common.{◌≡◌, ◌+◌, ◌-◌, ◌*◌, ◌<◌, ◌≤◌, length, map, take, drop, get_or, sym, ap, subst, ◌∙◌, take_all, length-take, arith, ◌∷◌, []}
-use Rattle.std.proofs.lemmas.List.{length-map, drop_all}
-use Rattle.grep_session.proofs.Words.{terminated, AddsAtMost, line_text, AddsColumn, AreLeft, first_sought}
+use Rattle.grep_session.proofs.Prelude.{◌≡◌, ◌+◌, ◌-◌, ◌*◌, ◌<◌, ◌≤◌, length, map, take, drop, get_or, sym, ap, subst, ◌∙◌, take_all, length-take, arith, ◌∷◌, [], length-map, drop_all, terminated, AddsAtMost, line_text, AddsColumn, AreLeft, first_sought}
 use Rattle.re_search.proofs.lemmas.KeptMatchers.{none_asked, one_asked}
 use Rattle.re_search.proofs.lemmas.OneMatcherMore.{one_more, value_at, within}
 use Rattle.re_meter.proofs.lemmas.Adding.{adds_none}

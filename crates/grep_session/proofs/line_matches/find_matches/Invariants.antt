@@ -1,5 +1,4 @@
-use Rattle.std.proofs.Common.{ℕ, ◌-◌, ◌*◌, ◌≤◌, List, length, map, take, drop}
-use Rattle.grep_session.proofs.Words.{terminated, AddsAtMost, SameMatchers, line_text, AddsColumn, AreLeft}
+use Rattle.grep_session.proofs.Prelude.{ℕ, ◌-◌, ◌*◌, ◌≤◌, List, length, map, take, drop, terminated, AddsAtMost, SameMatchers, line_text, AddsColumn, AreLeft}
 use Rattle.grep_session.proofs.line_matches.find_matches.Given as goal
 
 -- the lines that the matchers before `number` match were added

@@ -1,7 +1,5 @@
-use Rattle.std.proofs.Common.{◌≡◌, suc, ◌<◌, true, false, Decides, [], length, map, take, drop, get_or, ap, subst, refl, ◌∙◌, arith, take_all}
-use Rattle.std.proofs.lemmas.List.{get_or_default, length-map}
+use Rattle.grep_session.proofs.Prelude.{◌≡◌, suc, ◌<◌, true, false, Decides, [], length, map, take, drop, get_or, ap, subst, refl, ◌∙◌, arith, take_all, get_or_default, length-map, line_text, no_line, is_paired, numbers_at, HasNewParts, NewPartsCost, SearchesEach, has_new_parts}
 use Rattle.std.proofs.Math.ListN.{get_or-map}
-use Rattle.grep_session.proofs.Words.{line_text, no_line, is_paired, numbers_at, HasNewParts, NewPartsCost, SearchesEach, has_new_parts}
 use Rattle.grep_session.proofs.lemmas.PartingLemmas.{parts_by, costs_one, parts_next, take-suc', with_next}
 use Rattle.re_search.proofs.lemmas.KeptMatchers.{none_asked, same_over}
 use Rattle.grep_session.proofs.lemmas.StepLemmas.{NewPartsCost-exists, each_none, each_one, each_next, each_front}

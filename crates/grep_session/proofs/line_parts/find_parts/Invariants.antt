@@ -1,5 +1,4 @@
-use Rattle.std.proofs.Common.{ℕ, ◌<◌, ◌≤◌, List, [], length, map, take, get_or}
-use Rattle.grep_session.proofs.Words.{Expression, line_text, no_line, is_paired, numbers_at, NewPartsCost, SearchesEach, AreDecided, ArePartsAgain, has_new_parts, SameMatchers}
+use Rattle.grep_session.proofs.Prelude.{ℕ, ◌<◌, ◌≤◌, List, [], length, map, take, get_or, Expression, line_text, no_line, is_paired, numbers_at, NewPartsCost, SearchesEach, AreDecided, ArePartsAgain, has_new_parts, SameMatchers}
 use Rattle.grep_session.proofs.line_parts.find_parts.Given as goal
 
 -- the parts of the first lines are there

@@ -1,4 +1,4 @@
-use Rattle.std.proofs.Common.{map}
+use Rattle.grep_session.proofs.Prelude.{map}
 use Rattle.grep_session.proofs.lemmas.PartingLemmas.{costs_search}
 use Rattle.grep_session.proofs.line_parts.put_parts.Goals as goal
 

@@ -1,5 +1,4 @@
-use Rattle.std.proofs.Common.{◌+◌, ◌<◌, length, subst, arith}
-use Rattle.grep_session.proofs.Words.{all_of, no_line, rows_from}
+use Rattle.grep_session.proofs.Prelude.{◌+◌, ◌<◌, length, subst, arith, all_of, no_line, rows_from}
 use Rattle.grep_session.proofs.lemmas.Writing.{WrittenUpTo, writes_err, none_written}
 use Rattle.grep_session.proofs.lemmas.LineSteps.{line_on, line_stops, rows_next}
 use Rattle.grep_session.proofs.lines.write_found.Goals as goal

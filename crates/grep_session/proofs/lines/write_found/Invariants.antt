@@ -1,5 +1,4 @@
-use Rattle.std.proofs.Common.{◌≡◌, ◌+◌, ◌-◌, ◌<◌, ◌≤◌, true, length, drop, get_or}
-use Rattle.grep_session.proofs.Words.{all_of, no_line, is_selected, rows_from}
+use Rattle.grep_session.proofs.Prelude.{◌≡◌, ◌+◌, ◌-◌, ◌<◌, ◌≤◌, true, length, drop, get_or, all_of, no_line, is_selected, rows_from}
 use Rattle.grep_session.proofs.lemmas.Writing.{WrittenUpTo}
 use Rattle.grep_session.proofs.lines.write_found.Given as goal
 

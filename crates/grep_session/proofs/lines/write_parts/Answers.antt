@@ -1,5 +1,4 @@
-use Rattle.std.proofs.Common.{slice_range}
-use Rattle.grep_session.proofs.Words.{Span, row}
+use Rattle.grep_session.proofs.Prelude.{slice_range, Span, row}
 use Rattle.grep_session.proofs.lemmas.Writing.{row_on, row_stops, writes_err}
 use Rattle.grep_session.proofs.lines.write_parts.Goals as goal
 

@@ -1,5 +1,4 @@
-use Rattle.std.proofs.Common.{refl}
-use Rattle.grep_session.proofs.Words.{nothing, names, counts, all_of}
+use Rattle.grep_session.proofs.Prelude.{refl, nothing, names, counts, all_of}
 use Rattle.grep_session.proofs.lemmas.LineSteps.{no_rows, rows_of_none}
 use Rattle.grep_session.proofs.lines.write_rows.Goals as goal
 

@@ -1,6 +1,4 @@
-use Rattle.std.proofs.Common.{All, ◌≡◌, take, arith, subst, take_all}
-use Rattle.std.proofs.lemmas.List.Elements.{All-map}
-use Rattle.re_syntax.specs.Lines.{HasNoNewline}
+use Rattle.grep_session.proofs.Prelude.{All, ◌≡◌, take, arith, subst, take_all, All-map, HasNoNewline}
 use Rattle.grep_session.proofs.lemmas.SessionLemmas.{fails_at, All-next}
 use Rattle.grep_session.proofs.new_lines.any_newline.Goals as goal
 

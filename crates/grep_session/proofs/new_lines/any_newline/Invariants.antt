@@ -1,5 +1,4 @@
-use Rattle.std.proofs.Common.{All, take}
-use Rattle.re_syntax.specs.Lines.{HasNoNewline}
+use Rattle.grep_session.proofs.Prelude.{All, take, HasNoNewline}
 use Rattle.grep_session.proofs.new_lines.any_newline.Given as goal
 
 abbrev pub invariant-loop-line : goal.invariant-loop-line

@@ -1,5 +1,4 @@
-use Rattle.std.proofs.Common.{◌≡◌, length, map, take, refl, take_all, subst, arith}
-use Rattle.grep_core.specs.Working.MatcherLists.{AreMatchers}
+use Rattle.grep_session.proofs.Prelude.{◌≡◌, length, map, take, refl, take_all, subst, arith, AreMatchers}
 use Rattle.grep_session.proofs.lemmas.ColumnLemmas.{map_next, map_with_parts}
 use Rattle.grep_core.proofs.lemmas.MatcherLemmas.{refused_or_memory}
 use Rattle.grep_session.proofs.lemmas.ReadingLemmas.{reported_refused}

@@ -1,5 +1,4 @@
-use Rattle.std.proofs.Common.{map, take}
-use Rattle.grep_session.proofs.Words.{AreMatchers, KeepAtMost}
+use Rattle.grep_session.proofs.Prelude.{map, take, AreMatchers, KeepAtMost}
 use Rattle.grep_session.proofs.pattern_matchers.read_matchers.Given as goal
 
 -- the first texts were read

@@ -1,5 +1,4 @@
-use Rattle.std.proofs.Common.{[], ◌∷◌, ◌++◌, map, sym, ap, ◌∙◌, append_assoc}
-use Rattle.std.proofs.lemmas.List.{map-append}
+use Rattle.grep_session.proofs.Prelude.{[], ◌∷◌, ◌++◌, map, sym, ap, ◌∙◌, append_assoc, map-append}
 use Rattle.grep_session.proofs.patterns.texts_of.Goals as goal
 
 pub loop-part-preserved : goal.loop-part-preserved

@@ -1,5 +1,4 @@
-use Rattle.std.proofs.Common.{◌≡◌, ◌++◌, map}
-use Rattle.re_syntax.specs.Lines.{list_of}
+use Rattle.grep_session.proofs.Prelude.{◌≡◌, ◌++◌, map, list_of}
 use Rattle.grep_session.proofs.patterns.texts_of.Given as goal
 
 -- the first texts were taken, and the others are left

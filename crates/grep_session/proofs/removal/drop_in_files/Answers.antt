@@ -1,7 +1,4 @@
-use Rattle.std.proofs.Common.{◌≡◌, ◌<◌, length, arith, refl, sym, subst, ◌∙◌, add-one, slice_set}
-use Rattle.std.proofs.Math.Seq.{map-set_same}
-use Rattle.std.proofs.lemmas.List.Elements.{AllWithin-more_set, AllWithin-from_all, All-from_all_within}
-use Rattle.grep_session.proofs.Words.{AllWithin, remove, IsFileKept, kept_file}
+use Rattle.grep_session.proofs.Prelude.{◌≡◌, ◌<◌, length, arith, refl, sym, subst, ◌∙◌, add-one, slice_set, map-set_same, AllWithin-more_set, AllWithin-from_all, All-from_all_within, AllWithin, remove, IsFileKept, kept_file}
 use Rattle.grep_session.proofs.lemmas.DroppingLemmas.{after_set}
 use Rattle.grep_session.proofs.removal.drop_in_files.Goals as goal
 

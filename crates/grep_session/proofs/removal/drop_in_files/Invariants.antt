@@ -1,5 +1,4 @@
-use Rattle.std.proofs.Common.{◌≡◌, ◌<◌, List, length, map, false, All}
-use Rattle.grep_session.proofs.Words.{AllWithin, remove, Expression, Options, IsFileKept, kept_file}
+use Rattle.grep_session.proofs.Prelude.{◌≡◌, ◌<◌, List, length, map, false, All, AllWithin, remove, Expression, Options, IsFileKept, kept_file}
 use Rattle.grep_session.proofs.removal.drop_in_files.Given as goal
 
 abbrev pub invariant-loop-file : goal.invariant-loop-file

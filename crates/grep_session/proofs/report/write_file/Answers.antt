@@ -1,5 +1,4 @@
-use Rattle.std.proofs.Common.{nat_lt, Ok, Err, ◌∙◌, sym, ap}
-use Rattle.grep_session.proofs.Words.{option_map, all_of, has_selected_in}
+use Rattle.grep_session.proofs.Prelude.{nat_lt, Ok, Err, ◌∙◌, sym, ap, option_map, all_of, has_selected_in}
 use Rattle.grep_session.proofs.lemmas.FileSteps.{counted_some, file_written}
 use Rattle.grep_session.proofs.lemmas.Writing.{writes_err}
 use Rattle.grep_session.proofs.report.write_file.Goals as goal

@@ -1,4 +1,4 @@
-use Rattle.std.proofs.Common.{◌||◌, nat_le, length, ap}
+use Rattle.grep_session.proofs.Prelude.{◌||◌, nat_le, length, ap}
 use Rattle.grep_session.proofs.lemmas.FileSteps.{output_on, output_stopped}
 use Rattle.grep_session.proofs.lemmas.Writing.{writes_err}
 use Rattle.grep_session.proofs.report.write_files.Goals as goal

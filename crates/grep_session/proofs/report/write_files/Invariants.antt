@@ -1,5 +1,4 @@
-use Rattle.std.proofs.Common.{drop}
-use Rattle.grep_session.specs.Working.Report.{report_rows, rows_after_laws}
+use Rattle.grep_session.proofs.Prelude.{drop, report_rows, rows_after_laws}
 use Rattle.grep_session.proofs.lemmas.Writing.{WrittenUpTo}
 use Rattle.grep_session.proofs.report.write_files.Given as goal
 

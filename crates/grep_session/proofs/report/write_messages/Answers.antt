@@ -1,4 +1,4 @@
-use Rattle.std.proofs.Common.{◌&&◌, ap}
+use Rattle.grep_session.proofs.Prelude.{◌&&◌, ap}
 use Rattle.grep_session.proofs.lemmas.FileSteps.{reported_further, reported_stopped}
 use Rattle.grep_session.proofs.lemmas.Writing.{writes_err}
 use Rattle.grep_session.proofs.report.write_messages.Goals as goal

@@ -1,5 +1,4 @@
-use Rattle.std.proofs.Common.{drop}
-use Rattle.grep_session.specs.Working.Report.{reported_from}
+use Rattle.grep_session.proofs.Prelude.{drop, reported_from}
 use Rattle.grep_session.proofs.lemmas.Writing.{WrittenUpTo}
 use Rattle.grep_session.proofs.report.write_messages.Given as goal
 

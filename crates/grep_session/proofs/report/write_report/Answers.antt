@@ -1,5 +1,4 @@
-use Rattle.std.proofs.Common.{nat_le, length, map, sym, subst}
-use Rattle.grep_session.proofs.Words.{StatusOf, kept_file, report_rows}
+use Rattle.grep_session.proofs.Prelude.{nat_le, length, map, sym, subst, StatusOf, kept_file, report_rows}
 use Rattle.grep_session.proofs.lemmas.KeptLaws.{kept_status}
 use Rattle.grep_session.proofs.lemmas.KeptOutput.{kept_output}
 use Rattle.grep_session.proofs.lemmas.Writing.{writes_err, if_ok}

@@ -1,7 +1,5 @@
-use Rattle.grep_session.proofs.Words.{MatchBool, AreParts, span_places, HasTaken, search_cost}
+use Rattle.grep_session.proofs.Prelude.{MatchBool, AreParts, span_places, HasTaken, search_cost, ◌≡◌, ◌+◌, length, map, arith, sym, subst, length-map}
 use Rattle.std.specs.Prelude.{⊤}
-use Rattle.std.proofs.Common.{◌≡◌, ◌+◌, length, map, arith, sym, subst}
-use Rattle.std.proofs.lemmas.List.{length-map}
 use Rattle.re_search.proofs.lemmas.KeptMatchers.{none_asked, same_over}
 use Rattle.grep_core.proofs.lemmas.CostLaws.{same_length}
 use Rattle.grep_session.proofs.lemmas.FindingLemmas.{unasked_parts, SpansSoFar, spans_none, spans_next, spans_done, spans_cost, spans_more}

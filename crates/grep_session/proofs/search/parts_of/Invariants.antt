@@ -1,5 +1,4 @@
-use Rattle.std.proofs.Common.{◌-◌, map, length}
-use Rattle.grep_session.proofs.Words.{SameMatchers, HasTaken, IsCourseOf, search_cost}
+use Rattle.grep_session.proofs.Prelude.{◌-◌, map, length, SameMatchers, HasTaken, IsCourseOf, search_cost}
 use Rattle.grep_session.proofs.lemmas.FindingLemmas.{SpansSoFar}
 use Rattle.grep_session.proofs.search.parts_of.Given as goal
 

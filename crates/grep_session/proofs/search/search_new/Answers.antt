@@ -1,5 +1,4 @@
-use Rattle.std.proofs.Common.{◌≡◌, ◌++◌, [], All, List, length, map, sym, ap, subst, refl, ◌∙◌, arith}
-use Rattle.grep_session.proofs.Words.{into_iter_items, Text, matched_expression, all_of, line_text, with_columns, FitColumns, CostAnew, SearchesEach, IsKept}
+use Rattle.grep_session.proofs.Prelude.{◌≡◌, ◌++◌, [], All, List, length, map, sym, ap, subst, refl, ◌∙◌, arith, into_iter_items, Text, matched_expression, all_of, line_text, with_columns, FitColumns, CostAnew, SearchesEach, IsKept}
 use Rattle.grep_session.proofs.lemmas.EditLemmas.{empty_map}
 use Rattle.grep_session.proofs.lemmas.FoundLemmas.{fit_all, right_all, texts_with_columns, all_anew, all_anew_chunks}
 use Rattle.grep_session.proofs.search.search_new.Goals as goal

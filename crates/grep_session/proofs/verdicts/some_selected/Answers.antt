@@ -1,5 +1,4 @@
-use Rattle.std.proofs.Common.{◌∙◌, ap, nat_lt}
-use Rattle.line_chunks.specs.Working.Chunks.{all_of}
+use Rattle.grep_session.proofs.Prelude.{◌∙◌, ap, nat_lt, all_of}
 use Rattle.grep_session.proofs.lemmas.CountLaws.{some_matched, some_not_matched}
 use Rattle.grep_session.proofs.verdicts.some_selected.Goals as goal
 

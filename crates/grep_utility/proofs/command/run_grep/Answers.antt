@@ -1,7 +1,5 @@
-use Rattle.std.proofs.Common.{refl}
-use Rattle.grep_core.specs.Sources.{Returns}
+use Rattle.grep_utility.proofs.Prelude.{refl, Returns, asked}
 use Rattle.grep_core.proofs.lemmas.SourceLaws.{gives_both}
-use Rattle.grep_utility.specs.Words.{asked}
 use Rattle.grep_utility.proofs.lemmas.CommandLemmas.{words_refused, is_numbered, ends_before, ends_after}
 use Rattle.grep_utility.proofs.lemmas.ReportingLemmas.{gives_up}
 use Rattle.grep_utility.proofs.command.run_grep.Goals as goal

@@ -1,6 +1,4 @@
-use Rattle.std.proofs.Common.{rules, []}
-use Rattle.grep_core.specs.Run.{writer}
-use Rattle.grep_core.specs.Sources.{Returns}
+use Rattle.grep_utility.proofs.Prelude.{rules, [], writer, Returns}
 use Rattle.grep_core.proofs.lemmas.GivenLaws.{RunGives-given}
 use Rattle.grep_core.proofs.lemmas.SourceLaws.{gives_both}
 use Rattle.grep_utility.proofs.command.search_request.Goals as goal

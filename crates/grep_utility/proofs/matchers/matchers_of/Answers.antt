@@ -1,4 +1,4 @@
-use Rattle.std.proofs.Common.{◌≡◌, rules, [], ◌∷◌, ◌++◌, length, refl, sym, ap, ◌∙◌, append_assoc}
+use Rattle.grep_utility.proofs.Prelude.{◌≡◌, rules, [], ◌∷◌, ◌++◌, length, refl, sym, ap, ◌∙◌, append_assoc}
 use Rattle.re_syntax.specs.Lines.{lines_of}
 use Rattle.grep_core.proofs.lemmas.MatcherLemmas.{AreMatchers-push, refused_or_memory}
 use Rattle.grep_utility.proofs.matchers.matchers_of.Goals as goal

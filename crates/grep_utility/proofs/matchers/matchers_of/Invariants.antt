@@ -1,7 +1,5 @@
-use Rattle.std.proofs.Common.{◌≡◌, List, ◌++◌}
-use Rattle.re_syntax.specs.Bytes.{Text}
+use Rattle.grep_utility.proofs.Prelude.{◌≡◌, List, ◌++◌, Text, AreMatchers}
 use Rattle.re_syntax.specs.Lines.{lines_of}
-use Rattle.grep_core.specs.Working.MatcherLists.{AreMatchers}
 use Rattle.grep_utility.proofs.matchers.matchers_of.Given as goal
 
 -- some patterns have their matchers, and the others are left

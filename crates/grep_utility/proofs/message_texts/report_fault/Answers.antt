@@ -1,8 +1,4 @@
-use Rattle.std.proofs.Common.{[], ◌∷◌, sym, subst}
-use Rattle.grep_core.specs.Run.{writer}
-use Rattle.grep_utility.specs.Command.{ReportsLines}
-use Rattle.grep_utility.specs.declared.prepare.CommandFault.{CommandFault}
-use Rattle.grep_utility.specs.Working.Prepared.{due_text}
+use Rattle.grep_utility.proofs.Prelude.{[], ◌∷◌, sym, subst, writer, ReportsLines, CommandFault, due_text}
 use Rattle.grep_utility.proofs.message_texts.report_fault.Goals as goal
 
 pub returns-in-TooMany : goal.returns-in-TooMany

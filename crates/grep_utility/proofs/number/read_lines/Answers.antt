@@ -1,8 +1,4 @@
-use Rattle.std.proofs.Common.{◌≡◌, ◌<◌, min, length, get_or, Some, rules, arith, sym, ap, ◌∙◌}
-use Rattle.std.proofs.lemmas.List.{take_all}
-use Rattle.re_syntax.specs.Intervals.{value}
-use Rattle.grep_utility.specs.Words.{most_around}
-use Rattle.grep_utility.specs.Working.Numbers.{digit_of}
+use Rattle.grep_utility.proofs.Prelude.{◌≡◌, ◌<◌, min, length, get_or, Some, rules, arith, sym, ap, ◌∙◌, take_all, value, most_around, digit_of}
 use Rattle.grep_utility.proofs.lemmas.NumberLemmas.{lines_of-digits, lines_next}
 use Rattle.grep_utility.proofs.number.read_lines.Goals as goal
 

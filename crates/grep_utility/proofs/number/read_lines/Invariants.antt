@@ -1,6 +1,4 @@
-use Rattle.std.proofs.Common.{◌≡◌, min, take}
-use Rattle.re_syntax.specs.Intervals.{value}
-use Rattle.grep_utility.specs.Words.{most_around}
+use Rattle.grep_utility.proofs.Prelude.{◌≡◌, min, take, value, most_around}
 use Rattle.grep_utility.proofs.lemmas.NumberLemmas.{AreDigitsTo}
 use Rattle.grep_utility.proofs.number.read_lines.Given as goal
 

@@ -1,7 +1,4 @@
-use Rattle.std.proofs.Common.{◌≡◌, ◌+◌, ◌*◌, ◌^◌, ◌≤◌, ◌<◌, length, get_or, Some, rules, arith, sym, ap, ◌∙◌}
-use Rattle.std.proofs.lemmas.List.{take_all}
-use Rattle.re_syntax.specs.Intervals.{value}
-use Rattle.grep_utility.specs.Working.Numbers.{digit_of}
+use Rattle.grep_utility.proofs.Prelude.{◌≡◌, ◌+◌, ◌*◌, ◌^◌, ◌≤◌, ◌<◌, length, get_or, Some, rules, arith, sym, ap, ◌∙◌, take_all, value, digit_of}
 use Rattle.grep_utility.proofs.lemmas.NumberLemmas.{number_of-digits, number_of-large, number_of-larger, digits_next}
 use Rattle.grep_utility.proofs.number.read_number.Goals as goal
 

@@ -1,5 +1,4 @@
-use Rattle.std.proofs.Common.{◌≡◌, ◌<◌, ◌^◌, take}
-use Rattle.re_syntax.specs.Intervals.{value}
+use Rattle.grep_utility.proofs.Prelude.{◌≡◌, ◌<◌, ◌^◌, take, value}
 use Rattle.grep_utility.proofs.lemmas.NumberLemmas.{AreDigitsTo}
 use Rattle.grep_utility.proofs.number.read_number.Given as goal
 

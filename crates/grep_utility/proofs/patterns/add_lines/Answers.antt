@@ -1,6 +1,4 @@
-use Rattle.std.proofs.Common.{Result, Bool, Err, subst, ap}
-use Rattle.grep_io.specs.declared.input.lines.ReadFault.{ReadFault}
-use Rattle.grep_core.specs.Working.Numbered.{NextIs}
+use Rattle.grep_utility.proofs.Prelude.{Result, Bool, Err, subst, ap, ReadFault, NextIs}
 use Rattle.grep_core.proofs.lemmas.OneLineLemmas.{err_with}
 use Rattle.grep_utility.proofs.lemmas.CollectingLemmas.{so_far_none, so_far_line, all_added, some_added, fewer_left}
 use Rattle.grep_utility.proofs.patterns.add_lines.Goals as goal

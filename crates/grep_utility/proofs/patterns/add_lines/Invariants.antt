@@ -1,5 +1,4 @@
-use Rattle.std.proofs.Common.{◌-◌}
-use Rattle.grep_core.specs.Reading.{most_lines}
+use Rattle.grep_utility.proofs.Prelude.{◌-◌, most_lines}
 use Rattle.grep_utility.proofs.lemmas.CollectingLemmas.{LinesSoFar}
 use Rattle.grep_utility.proofs.patterns.add_lines.Given as goal
 

@@ -1,7 +1,5 @@
-use Rattle.std.proofs.Common.{[], ◌∷◌, ap, ◌∙◌}
+use Rattle.grep_utility.proofs.Prelude.{[], ◌∷◌, ap, ◌∙◌, count_more, source_named}
 use Rattle.grep_core.proofs.lemmas.SourceLaws.{gives_both}
-use Rattle.grep_core.specs.Run.{count_more}
-use Rattle.grep_utility.specs.Folder.{source_named}
 use Rattle.grep_utility.proofs.lemmas.SourceLemmas.{file_whole, file_broken}
 use Rattle.grep_utility.proofs.patterns.add_pattern_file.Goals as goal
 

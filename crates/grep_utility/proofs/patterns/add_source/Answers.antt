@@ -1,7 +1,4 @@
-use Rattle.std.proofs.Common.{[], ◌∷◌, ◌++◌, sym, ap, ◌∙◌, subst}
-use Rattle.re_syntax.specs.Lines.{newline}
-use Rattle.grep_utility.specs.Working.CollectedTexts.{AddsSource}
-use Rattle.grep_utility.specs.Words.{given_source}
+use Rattle.grep_utility.proofs.Prelude.{[], ◌∷◌, ◌++◌, sym, ap, ◌∙◌, subst, newline, AddsSource, given_source}
 use Rattle.grep_utility.proofs.lemmas.SourceLemmas.{list_added}
 use Rattle.grep_utility.proofs.patterns.add_source.Goals as goal
 

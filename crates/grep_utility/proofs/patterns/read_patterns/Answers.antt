@@ -1,7 +1,5 @@
-use Rattle.std.proofs.Common.{◌+◌, ◌++◌, map, drop, sym, ap, ◌∙◌, subst, arith}
-use Rattle.std.proofs.lemmas.List.{drop_all}
+use Rattle.grep_utility.proofs.Prelude.{◌+◌, ◌++◌, map, drop, sym, ap, ◌∙◌, subst, arith, drop_all, given_source}
 use Rattle.grep_core.proofs.lemmas.SourceLaws.{gives_both}
-use Rattle.grep_utility.specs.Words.{given_source}
 use Rattle.grep_utility.proofs.lemmas.SourceLemmas.{SourcesSoFar, next_source, sources_more, sources_stop, sources_all}
 use Rattle.grep_utility.proofs.patterns.read_patterns.Goals as goal
 

@@ -1,7 +1,4 @@
-use Rattle.std.proofs.Common.{◌≡◌, List, Option, drop, map}
-use Rattle.re_syntax.specs.Bytes.{Text}
-use Rattle.grep_core.specs.Sources.{Returns}
-use Rattle.grep_utility.specs.Words.{given_source}
+use Rattle.grep_utility.proofs.Prelude.{◌≡◌, List, Option, drop, map, Text, Returns, given_source}
 use Rattle.grep_utility.proofs.lemmas.SourceLemmas.{SourcesSoFar}
 use Rattle.grep_utility.proofs.patterns.read_patterns.Given as goal
 

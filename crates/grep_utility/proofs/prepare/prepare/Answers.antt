@@ -1,4 +1,4 @@
-use Rattle.std.proofs.Common.{sym, ◌∙◌}
+use Rattle.grep_utility.proofs.Prelude.{sym, ◌∙◌}
 use Rattle.re_syntax.specs.Lines.{lines_of}
 use Rattle.grep_utility.proofs.lemmas.CommandLemmas.{kind_differs, not_memory}
 use Rattle.grep_utility.proofs.prepare.prepare.Goals as goal

@@ -1,4 +1,4 @@
-use Rattle.grep_utility.specs.Texts.{pattern_refused}
+use Rattle.grep_utility.proofs.Prelude.{pattern_refused}
 use Rattle.grep_utility.proofs.lemmas.ReportingLemmas.{reports_line}
 use Rattle.grep_utility.proofs.refusal.report_refused.Goals as goal
 

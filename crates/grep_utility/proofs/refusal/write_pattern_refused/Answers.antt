@@ -1,11 +1,5 @@
-use Rattle.std.proofs.Common.{[], ◌∷◌, ◌++◌, subst}
-use Rattle.std.proofs.lemmas.Result.{err_from_is_err_and}
-use Rattle.std.specs.Fmt.{decimal}
-use Rattle.re_syntax.specs.Lines.{newline}
-use Rattle.grep_core.specs.Row.{output_line}
-use Rattle.grep_core.specs.Written.{StopsWithin, Writes}
+use Rattle.grep_utility.proofs.Prelude.{[], ◌∷◌, ◌++◌, subst, err_from_is_err_and, decimal, newline, output_line, StopsWithin, Writes, kind_name}
 use Rattle.grep_core.proofs.lemmas.RowLemmas.{stops_early, writes_last}
-use Rattle.grep_utility.specs.Texts.{kind_name}
 use Rattle.grep_utility.proofs.lemmas.ReportingLemmas.{line_of_tokens}
 use Rattle.grep_utility.proofs.refusal.write_pattern_refused.Goals as goal
 

@@ -1,10 +1,4 @@
-use Rattle.std.proofs.Common.{◌≡◌, ℕ, List, Option, Some, None, inl, inr, length, sym, ◌∙◌}
-use Rattle.std.specs.Prelude.{nat_lt}
-use Rattle.std.specs.Option.{option_map, is_some}
-use Rattle.std.specs.List.{slice_get}
-use Rattle.std.proofs.lemmas.Bool.{lt-ltb, le-ltb}
-use Rattle.std.proofs.lemmas.Option.{slice_get_within, slice_get_cases}
-use Rattle.std.proofs.lemmas.Iterator.Consumers.{nth_from_yields_List, YieldsList-from_first}
+use Rattle.grep_utility.proofs.Prelude.{◌≡◌, ℕ, List, Option, Some, None, inl, inr, length, sym, ◌∙◌, nat_lt, option_map, is_some, slice_get, lt-ltb, le-ltb, slice_get_within, slice_get_cases, nth_from_yields_List, YieldsList-from_first}
 use Rattle.re_syntax.specs.Lines.{lines_of}
 use Rattle.grep_utility.proofs.searchers.has_more_than.Goals as goal
 

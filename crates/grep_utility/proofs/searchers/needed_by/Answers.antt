@@ -1,7 +1,4 @@
-use Rattle.std.proofs.Common.{IfOk, map, sym, ◌∙◌, subst}
-use Rattle.std.specs.Option.{ForSome}
-use Rattle.re_search.specs.Working.Filters.{AreNeeded}
-use Rattle.re_search.specs.Working.Matchers.{matched_expression}
+use Rattle.grep_utility.proofs.Prelude.{IfOk, map, sym, ◌∙◌, subst, ForSome, AreNeeded, matched_expression}
 use Rattle.grep_utility.proofs.searchers.needed_by.Goals.{then-matchers-le-FEW, else-matchers-le-FEW}
 use Rattle.grep_utility.proofs.searchers.needed_by.Goals as goal
 

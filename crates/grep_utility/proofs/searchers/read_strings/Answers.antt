@@ -1,10 +1,6 @@
-use Rattle.std.proofs.Common.{rules, sym, ap, ◌∙◌, ◌≡◌, ◌≤◌, [], ◌∷◌, ◌++◌, IsTrue, append_assoc, append-nil, length, length-append, subst, arith}
-use Rattle.std.proofs.lemmas.List.Elements.{All-append}
-use Rattle.re_syntax.specs.Lines.{HasNoNewline, lines_of, terminated}
-use Rattle.re_syntax.specs.Profile.{most_positions}
-use Rattle.re_syntax.specs.Spelled.{has_limit}
+use Rattle.grep_utility.proofs.Prelude.{rules, sym, ap, ◌∙◌, ◌≡◌, ◌≤◌, [], ◌∷◌, ◌++◌, IsTrue, append_assoc, append-nil, length, length-append, subst, arith, All-append, HasNoNewline, terminated, most_positions, has_limit, AreReadAs}
+use Rattle.re_syntax.specs.Lines.{lines_of}
 use Rattle.re_syntax.proofs.lemmas.LinesLaws.{all_none, lines_of-terminated, terminated-append}
-use Rattle.grep_utility.specs.Working.ServingMatchers.{AreReadAs}
 use Rattle.grep_utility.proofs.lemmas.ServingLemmas.{none_read, next_read}
 use Rattle.grep_utility.proofs.searchers.read_strings.Goals as goal
 

@@ -1,7 +1,5 @@
-use Rattle.std.proofs.Common.{◌≡◌, List, ◌++◌, All}
-use Rattle.re_syntax.specs.Bytes.{Text}
-use Rattle.re_syntax.specs.Lines.{HasNoNewline, lines_of, terminated}
-use Rattle.grep_utility.specs.Working.ServingMatchers.{AreReadAs}
+use Rattle.grep_utility.proofs.Prelude.{◌≡◌, List, ◌++◌, All, Text, HasNoNewline, terminated, AreReadAs}
+use Rattle.re_syntax.specs.Lines.{lines_of}
 use Rattle.grep_utility.proofs.searchers.read_strings.Given as goal
 
 -- some patterns are read as the strings so far, and the others are left

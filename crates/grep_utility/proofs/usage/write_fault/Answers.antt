@@ -1,7 +1,4 @@
-use Rattle.std.proofs.Common.{[], sym, subst}
-use Rattle.grep_core.specs.Row.{output_line}
-use Rattle.grep_core.specs.Written.{Writes}
-use Rattle.grep_utility.specs.Texts.{fault_text}
+use Rattle.grep_utility.proofs.Prelude.{[], sym, subst, output_line, Writes, fault_text}
 use Rattle.grep_utility.proofs.usage.write_fault.Goals as goal
 
 pub returns-in-TwoSyntaxes : goal.returns-in-TwoSyntaxes

@@ -1,7 +1,4 @@
-use Rattle.std.proofs.Common.{codes, encode_utf8, ◌≡◌, ◌∙◌, subst}
-use Rattle.std.proofs.lemmas.Result.{err_from_is_err_and}
-use Rattle.grep_core.specs.Row.{output_line}
-use Rattle.grep_core.specs.Written.{Writes}
+use Rattle.grep_utility.proofs.Prelude.{codes, encode_utf8, ◌≡◌, ◌∙◌, subst, err_from_is_err_and, output_line, Writes}
 use Rattle.grep_core.proofs.lemmas.RowLemmas.{stops_early, writes_last}
 use Rattle.grep_utility.proofs.usage.write_need.Goals as goal
 

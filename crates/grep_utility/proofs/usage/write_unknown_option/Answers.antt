@@ -1,7 +1,4 @@
-use Rattle.std.proofs.Common.{codes, encode_utf8, ◌≡◌, ◌∙◌, subst}
-use Rattle.grep_core.specs.Row.{output_line}
-use Rattle.grep_core.specs.Written.{Writes}
-use Rattle.grep_utility.specs.Texts.{fault_text}
+use Rattle.grep_utility.proofs.Prelude.{codes, encode_utf8, ◌≡◌, ◌∙◌, subst, output_line, Writes, fault_text}
 use Rattle.grep_utility.proofs.usage.write_unknown_option.Goals as goal
 
 pub returns : goal.returns

@@ -1,7 +1,4 @@
-use Rattle.std.proofs.Common.{[], sym, subst}
-use Rattle.grep_core.specs.Output.{written}
-use Rattle.grep_core.specs.Written.{Writes}
-use Rattle.grep_utility.specs.Texts.{usage}
+use Rattle.grep_utility.proofs.Prelude.{[], sym, subst, written, Writes, usage}
 use Rattle.grep_utility.proofs.lemmas.UsageLemmas.{usage_after-other}
 use Rattle.grep_utility.proofs.usage.write_usage_after.Goals as goal
 

@@ -1,9 +1,5 @@
-use Rattle.std.proofs.Common.{[]}
-use Rattle.std.proofs.lemmas.Result.{err_from_is_err_and}
-use Rattle.grep_core.specs.Row.{output_line}
-use Rattle.grep_core.specs.Output.{written}
+use Rattle.grep_utility.proofs.Prelude.{[], err_from_is_err_and, output_line, written, fault_text, usage_after}
 use Rattle.grep_core.proofs.lemmas.RowLemmas.{stops_early, writes_last}
-use Rattle.grep_utility.specs.Texts.{fault_text, usage_after}
 use Rattle.grep_utility.proofs.usage.write_usage_fault.Goals as goal
 
 pub returns-in_err-write_fault : goal.returns-in_err-write_fault

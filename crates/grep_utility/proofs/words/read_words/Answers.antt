@@ -1,6 +1,4 @@
-use Rattle.std.proofs.Common.{◌≡◌, None, ap, ◌∙◌}
-use Rattle.grep_utility.specs.Words.{Draft, no_numbers, nothing_asked, pieces, reads_on, texts_of}
-use Rattle.grep_utility.specs.Working.Tokens.{drafted}
+use Rattle.grep_utility.proofs.Prelude.{◌≡◌, None, ap, ◌∙◌, Draft, no_numbers, nothing_asked, pieces, reads_on, texts_of, drafted}
 use Rattle.grep_utility.proofs.lemmas.WordLemmas.{completes}
 use Rattle.grep_utility.proofs.words.read_words.Goals as goal
 

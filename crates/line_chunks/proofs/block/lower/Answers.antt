@@ -1,4 +1,4 @@
-use Rattle.std.proofs.Common.{ℕ, ◌-◌, ◌∙◌}
+use Rattle.line_chunks.proofs.Prelude.{ℕ, ◌-◌, ◌∙◌}
 use Rattle.line_finds.proofs.lemmas.MappedLemmas.{mapped_next, mapped_all}
 use Rattle.line_chunks.proofs.block.lower.Goals as goal
 

@@ -1,4 +1,4 @@
-use Rattle.std.proofs.Common.{◌≡◌, ◌-◌}
+use Rattle.line_chunks.proofs.Prelude.{◌≡◌, ◌-◌}
 use Rattle.line_finds.proofs.lemmas.MappedLemmas.{mapped_to}
 use Rattle.line_chunks.proofs.block.lower.Given as goal
 

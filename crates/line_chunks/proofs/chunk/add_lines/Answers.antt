@@ -1,5 +1,4 @@
-use Rattle.std.proofs.Common.{arith, ◌∙◌, ◌-◌, ◌++◌, ap, take, drop}
-use Rattle.line_chunks.specs.Working.Chunks.{seen}
+use Rattle.line_chunks.proofs.Prelude.{arith, ◌∙◌, ◌-◌, ◌++◌, ap, take, drop, seen}
 use Rattle.line_chunks.proofs.lemmas.SeenLaws.{as_many, part_added, part_undone, size_added}
 use Rattle.line_chunks.proofs.chunk.add_lines.Goals as goal
 

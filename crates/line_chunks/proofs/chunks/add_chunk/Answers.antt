@@ -1,4 +1,4 @@
-use Rattle.std.proofs.Common.{◌∙◌}
+use Rattle.line_chunks.proofs.Prelude.{◌∙◌}
 use Rattle.line_chunks.proofs.lemmas.Edits.{new_chunk_lines, new_chunk_summed}
 use Rattle.line_chunks.proofs.chunks.add_chunk.Goals as goal
 

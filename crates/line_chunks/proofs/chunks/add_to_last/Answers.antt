@@ -1,4 +1,4 @@
-use Rattle.std.proofs.Common.{arith}
+use Rattle.line_chunks.proofs.Prelude.{arith}
 use Rattle.line_chunks.proofs.lemmas.Edits.{last_end, add_summed, add_ok}
 use Rattle.line_chunks.proofs.chunks.add_to_last.Goals as goal
 

@@ -1,5 +1,4 @@
-use Rattle.std.proofs.Common.{ap, sym, ◌∙◌}
-use Rattle.line_chunks.proofs.Words.{all_of, chunks_of}
+use Rattle.line_chunks.proofs.Prelude.{ap, sym, ◌∙◌, all_of, chunks_of}
 use Rattle.line_chunks.proofs.lemmas.Sums.{length-chunks_of}
 use Rattle.line_chunks.proofs.lemmas.Edits.{seam_in, seam_order, seam_end, rest_same, made_in, lines_put, put_summed, put_few}
 use Rattle.line_chunks.proofs.chunks.insert.Goals as goal

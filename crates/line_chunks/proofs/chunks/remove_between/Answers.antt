@@ -1,5 +1,4 @@
-use Rattle.std.proofs.Common.{arith, ◌∙◌, ◌+◌, ap, length, get_or, []}
-use Rattle.line_chunks.specs.Working.Sums.{chunks_of}
+use Rattle.line_chunks.proofs.Prelude.{arith, ◌∙◌, ◌+◌, ap, length, get_or, [], chunks_of}
 use Rattle.line_chunks.proofs.lemmas.Joins.{between}
 use Rattle.line_chunks.proofs.lemmas.Edits.{chunks_of-without}
 use Rattle.line_chunks.proofs.lemmas.Sums.{length-chunks_of}

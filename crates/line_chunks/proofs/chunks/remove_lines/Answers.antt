@@ -1,5 +1,4 @@
-use Rattle.std.proofs.Common.{arith, rules, ◌<◌, length}
-use Rattle.line_chunks.specs.Working.Sums.{chunks_of}
+use Rattle.line_chunks.proofs.Prelude.{arith, rules, ◌<◌, length, chunks_of}
 use Rattle.line_chunks.proofs.lemmas.Joins.{out_of_one, out_of_many}
 use Rattle.line_chunks.proofs.lemmas.Sums.{length-chunks_of}
 use Rattle.line_chunks.proofs.lemmas.Edits.{seam_in, seam_order, seam_summed}

@@ -1,6 +1,4 @@
-use Rattle.std.proofs.Common.{arith, ◌∙◌, sym, map}
-use Rattle.std.proofs.lemmas.List.{length-set}
-use Rattle.line_chunks.proofs.Words.{line_without, chunks_of}
+use Rattle.line_chunks.proofs.Prelude.{arith, ◌∙◌, sym, map, length-set, line_without, chunks_of}
 use Rattle.line_chunks.proofs.lemmas.Columns.{chunks_mapped}
 use Rattle.line_chunks.proofs.lemmas.Sums.{length-chunks_of}
 use Rattle.line_chunks.proofs.columns.drop_in_all.Goals as goal

@@ -1,5 +1,4 @@
-use Rattle.std.proofs.Common.{◌≡◌, ◌++◌, take, drop, map, length}
-use Rattle.line_chunks.proofs.Words.{line_without, chunks_of}
+use Rattle.line_chunks.proofs.Prelude.{◌≡◌, ◌++◌, take, drop, map, length, line_without, chunks_of}
 use Rattle.line_chunks.proofs.columns.drop_in_all.Given as goal
 
 abbrev pub invariant-loop-k : goal.invariant-loop-k

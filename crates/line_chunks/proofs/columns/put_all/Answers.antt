@@ -1,6 +1,4 @@
-use Rattle.std.proofs.Common.{arith, ◌∙◌, ap, refl, sym, drop, add-one}
-use Rattle.std.proofs.lemmas.List.{length-set}
-use Rattle.line_chunks.proofs.Words.{into_iter_items, chunks_of}
+use Rattle.line_chunks.proofs.Prelude.{arith, ◌∙◌, ap, refl, sym, drop, add-one, length-set, into_iter_items, chunks_of}
 use Rattle.line_chunks.proofs.lemmas.Columns.{columns_none, columns_all, drop_drop, next_fits, next_put}
 use Rattle.line_chunks.proofs.lemmas.Sums.{length-chunks_of}
 use Rattle.line_chunks.proofs.columns.put_all.Goals as goal

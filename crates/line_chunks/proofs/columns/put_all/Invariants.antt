@@ -1,5 +1,4 @@
-use Rattle.std.proofs.Common.{◌≡◌, take, drop, length}
-use Rattle.line_chunks.proofs.Words.{into_iter_items, with_columns, chunks_of}
+use Rattle.line_chunks.proofs.Prelude.{◌≡◌, take, drop, length, into_iter_items, with_columns, chunks_of}
 use Rattle.line_chunks.proofs.columns.put_all.Given as goal
 
 abbrev pub invariant-loop-k : goal.invariant-loop-k

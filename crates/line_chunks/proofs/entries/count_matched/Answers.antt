@@ -1,4 +1,4 @@
-use Rattle.std.proofs.Common.{arith}
+use Rattle.line_chunks.proofs.Prelude.{arith}
 use Rattle.line_chunks.proofs.lemmas.Sums.{matched_within, matched_next}
 use Rattle.line_chunks.proofs.entries.count_matched.Goals as goal
 

@@ -1,5 +1,4 @@
-use Rattle.std.proofs.Common.{◌≡◌, take}
-use Rattle.line_chunks.specs.Working.Chunks.{matched_count}
+use Rattle.line_chunks.proofs.Prelude.{◌≡◌, take, matched_count}
 use Rattle.line_chunks.proofs.entries.count_matched.Given as goal
 
 abbrev pub invariant-loop-k : goal.invariant-loop-k

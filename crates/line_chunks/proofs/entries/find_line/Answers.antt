@@ -1,5 +1,4 @@
-use Rattle.std.proofs.Common.{arith}
-use Rattle.line_chunks.specs.Working.Sums.{chunks_of}
+use Rattle.line_chunks.proofs.Prelude.{arith, chunks_of}
 use Rattle.line_chunks.proofs.lemmas.Joins.{place_here}
 use Rattle.line_chunks.proofs.lemmas.Sums.{summed_to, length-chunks_of, comes_before}
 use Rattle.line_chunks.proofs.entries.find_line.Goals as goal

@@ -1,5 +1,4 @@
-use Rattle.std.proofs.Common.{◌-◌, ◌<◌, ◌≤◌, length, take}
-use Rattle.line_chunks.proofs.Words.{all_of, chunks_of}
+use Rattle.line_chunks.proofs.Prelude.{◌-◌, ◌<◌, ◌≤◌, length, take, all_of, chunks_of}
 use Rattle.line_chunks.proofs.entries.find_line.Given as goal
 
 abbrev pub invariant-loop-low : goal.invariant-loop-low

@@ -1,4 +1,4 @@
-use Rattle.std.proofs.Common.{arith}
+use Rattle.line_chunks.proofs.Prelude.{arith}
 use Rattle.line_chunks.proofs.lemmas.NextLines.{passed_on, found_there, next_chunk, next_within, all_passed}
 use Rattle.line_chunks.proofs.entries.find_next.Goals as goal
 

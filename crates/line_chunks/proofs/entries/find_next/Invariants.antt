@@ -1,5 +1,4 @@
-use Rattle.std.proofs.Common.{◌≡◌, ℕ, ◌<◌, ◌≤◌, get_or, not}
-use Rattle.line_chunks.proofs.Words.{no_line, is_matched, all_of, IsPlace, chunks_of}
+use Rattle.line_chunks.proofs.Prelude.{◌≡◌, ℕ, ◌<◌, ◌≤◌, get_or, not, no_line, is_matched, all_of, IsPlace, chunks_of}
 use Rattle.line_chunks.proofs.entries.find_next.Given as goal
 
 -- the lines so far are not of this kind

@@ -1,5 +1,4 @@
-use Rattle.std.proofs.Common.{arith, ◌<◌, length}
-use Rattle.line_chunks.proofs.Words.{all_of, chunks_of}
+use Rattle.line_chunks.proofs.Prelude.{arith, ◌<◌, length, all_of, chunks_of}
 use Rattle.line_chunks.proofs.lemmas.Sums.{summed_to, matched_to, matched_within}
 use Rattle.line_chunks.proofs.entries.hits_to.Goals as goal
 

@@ -1,4 +1,4 @@
-use Rattle.std.proofs.Common.{arith}
+use Rattle.line_chunks.proofs.Prelude.{arith}
 use Rattle.line_chunks.proofs.lemmas.Sums.{matched_few}
 use Rattle.line_chunks.proofs.entries.set_sums.Goals as goal
 

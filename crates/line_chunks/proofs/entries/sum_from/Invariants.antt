@@ -1,5 +1,4 @@
-use Rattle.std.proofs.Common.{◌≡◌}
-use Rattle.line_chunks.specs.Working.Sums.{chunks_of, IsSummedTo}
+use Rattle.line_chunks.proofs.Prelude.{◌≡◌, chunks_of, IsSummedTo}
 use Rattle.line_chunks.proofs.entries.sum_from.Given as goal
 
 abbrev pub invariant-loop-k : goal.invariant-loop-k

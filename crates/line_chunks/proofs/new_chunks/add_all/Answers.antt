@@ -1,4 +1,4 @@
-use Rattle.line_chunks.proofs.Words.{all_of, chunks_of}
+use Rattle.line_chunks.proofs.Prelude.{all_of, chunks_of}
 use Rattle.line_chunks.proofs.lemmas.Pieces.{chunk_next}
 use Rattle.line_chunks.proofs.new_chunks.add_all.Goals as goal
 

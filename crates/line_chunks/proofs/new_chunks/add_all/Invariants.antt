@@ -1,5 +1,4 @@
-use Rattle.std.proofs.Common.{◌≡◌, ◌++◌, take}
-use Rattle.line_chunks.proofs.Words.{all_of, chunks_of}
+use Rattle.line_chunks.proofs.Prelude.{◌≡◌, ◌++◌, take, all_of, chunks_of}
 use Rattle.line_chunks.proofs.new_chunks.add_all.Given as goal
 
 abbrev pub invariant-loop-entry : goal.invariant-loop-entry

@@ -1,5 +1,4 @@
-use Rattle.std.proofs.Common.{arith}
-use Rattle.line_chunks.proofs.Words.{all_of, chunks_of}
+use Rattle.line_chunks.proofs.Prelude.{arith, all_of, chunks_of}
 use Rattle.line_chunks.proofs.lemmas.Pieces.{piece_next}
 use Rattle.line_chunks.proofs.new_chunks.add_lines.Goals as goal
 

@@ -1,5 +1,4 @@
-use Rattle.std.proofs.Common.{◌≡◌, ◌≤◌, ◌-◌, ◌++◌, take, drop}
-use Rattle.line_chunks.proofs.Words.{all_of, chunks_of}
+use Rattle.line_chunks.proofs.Prelude.{◌≡◌, ◌≤◌, ◌-◌, ◌++◌, take, drop, all_of, chunks_of}
 use Rattle.line_chunks.proofs.new_chunks.add_lines.Given as goal
 
 abbrev pub invariant-loop-at : goal.invariant-loop-at

@@ -1,4 +1,4 @@
-use Rattle.line_finds.specs.Working.Marked.{AreAdded}
+use Rattle.line_finds.proofs.Prelude.{AreAdded}
 use Rattle.line_finds.proofs.found.add_lists.Given as goal
 
 -- the parts of the first lines are added

@@ -1,5 +1,4 @@
-use Rattle.std.proofs.Common.{◌≡◌, ◌≤◌}
-use Rattle.line_finds.specs.Working.Marked.{set_before}
+use Rattle.line_finds.proofs.Prelude.{◌≡◌, ◌≤◌, set_before}
 use Rattle.line_finds.proofs.found.count_set.Given as goal
 
 -- the first marks are counted

@@ -1,4 +1,4 @@
-use Rattle.std.proofs.Common.{length}
+use Rattle.line_finds.proofs.Prelude.{length}
 use Rattle.line_finds.proofs.lemmas.FoundLaws.{counted}
 use Rattle.line_finds.proofs.found.renew.Goals as goal
 

@@ -1,6 +1,4 @@
-use Rattle.std.proofs.Common.{rules, tests}
-use Rattle.std.proofs.lemmas.Fn.{filter_same}
-use Rattle.line_finds.specs.Working.Pairs.{is_other}
+use Rattle.line_finds.proofs.Prelude.{rules, tests, filter_same, is_other}
 use Rattle.line_finds.proofs.matches.drop_pairs.Goals as goal
 
 pub returns : goal.returns

@@ -1,6 +1,4 @@
-use Rattle.std.proofs.Common.{rules, tests}
-use Rattle.std.proofs.lemmas.Fn.{filter_same}
-use Rattle.line_finds.specs.Working.Pairs.{is_outside}
+use Rattle.line_finds.proofs.Prelude.{rules, tests, filter_same, is_outside}
 use Rattle.line_finds.proofs.matches.drop_within.Goals as goal
 
 pub returns : goal.returns

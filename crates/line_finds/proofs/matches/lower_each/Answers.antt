@@ -1,6 +1,4 @@
-use Rattle.std.proofs.Common.{◌∙◌}
-use Rattle.line_finds.specs.declared.matches.Match.{Match}
-use Rattle.line_finds.specs.Working.Pairs.{lowered_pair}
+use Rattle.line_finds.proofs.Prelude.{◌∙◌, Match, lowered_pair}
 use Rattle.line_finds.proofs.lemmas.MappedLemmas.{mapped_next, mapped_all}
 use Rattle.line_finds.proofs.matches.lower_each.Goals as goal
 

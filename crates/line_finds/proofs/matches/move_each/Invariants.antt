@@ -1,5 +1,4 @@
-use Rattle.std.proofs.Common.{◌≡◌}
-use Rattle.line_finds.specs.Working.Pairs.{moved_pair}
+use Rattle.line_finds.proofs.Prelude.{◌≡◌, moved_pair}
 use Rattle.line_finds.proofs.lemmas.MappedLemmas.{mapped_to}
 use Rattle.line_finds.proofs.matches.move_each.Given as goal
 

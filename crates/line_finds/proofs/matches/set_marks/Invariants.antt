@@ -1,5 +1,4 @@
-use Rattle.std.proofs.Common.{◌≡◌, drop, length}
-use Rattle.line_finds.specs.Working.Pairs.{marked}
+use Rattle.line_finds.proofs.Prelude.{◌≡◌, drop, length, marked}
 use Rattle.line_finds.proofs.matches.set_marks.Given as goal
 
 -- the marks of the pairs that are left are still to be set

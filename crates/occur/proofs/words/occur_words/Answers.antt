@@ -1,4 +1,4 @@
-use Rattle.occur.specs.Words.{texts_of}
+use Rattle.occur.proofs.Prelude.{texts_of}
 use Rattle.occur.proofs.lemmas.FormsLemmas.{reads_form, reads_help}
 use Rattle.occur.proofs.words.occur_words.Goals as goal
 

@@ -1,7 +1,5 @@
-use Rattle.std.proofs.Common.{◌∙◌, ap, sym}
+use Rattle.occur.proofs.Prelude.{◌∙◌, ap, sym, is_simple_and_free, texts_of}
 use Rattle.clap.specs.Words.{fault_of}
-use Rattle.clap.specs.Faults.{is_simple_and_free}
-use Rattle.occur.specs.Words.{texts_of}
 use Rattle.occur.proofs.lemmas.StatesLemmas.{states_found}
 use Rattle.occur.proofs.words.parse_words.Goals as goal
 

@@ -1,5 +1,4 @@
-use Rattle.std.proofs.Common.{ℕ, ◌<◌, ◌≤◌, ◌-◌}
-use Rattle.re_auto.specs.Working.Beginnings.{IsMarked}
+use Rattle.re_auto.proofs.Prelude.{ℕ, ◌<◌, ◌≤◌, ◌-◌, IsMarked}
 use Rattle.re_auto.proofs.beginnings.next_mark.Given as goal
 
 abbrev pub invariant-bytes : goal.invariant-bytes

@@ -1,5 +1,4 @@
-use Rattle.std.proofs.Common.{arith, length}
-use Rattle.re_auto.proofs.Words.{Has, row_of}
+use Rattle.re_auto.proofs.Prelude.{arith, length, Has, row_of}
 use Rattle.re_auto.proofs.lemmas.BitLemmas.{at_word, word_added, all_added, chained}
 use Rattle.re_auto.proofs.bits.add_rows.Goals as goal
 

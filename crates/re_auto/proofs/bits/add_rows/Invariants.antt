@@ -1,5 +1,4 @@
-use Rattle.std.proofs.Common.{◌≡◌, ℕ, ◌*◌, ◌≤◌, length, ◌⊎◌}
-use Rattle.re_auto.proofs.Words.{◌↔◌, Has, row_of}
+use Rattle.re_auto.proofs.Prelude.{◌≡◌, ℕ, ◌*◌, ◌≤◌, length, ◌⊎◌, ◌↔◌, Has, row_of}
 use Rattle.re_auto.proofs.bits.add_rows.Given as goal
 
 -- what is already added and what is left to add are together the whole

@@ -1,6 +1,4 @@
-use Rattle.std.proofs.Common.{arith, ◌+◌, ◌*◌, length, inl, refl}
-use Rattle.std.proofs.lemmas.Option.{slice_get-get_or}
-use Rattle.re_auto.proofs.Words.{Has, row_of}
+use Rattle.re_auto.proofs.Prelude.{arith, ◌+◌, ◌*◌, length, inl, refl, slice_get-get_or, Has, row_of}
 use Rattle.re_auto.proofs.lemmas.BitLemmas.{one_added, none_left, chained}
 use Rattle.re_auto.proofs.bits.add_rows_of_word.Goals as goal
 

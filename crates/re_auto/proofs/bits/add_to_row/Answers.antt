@@ -1,5 +1,4 @@
-use Rattle.std.proofs.Common.{arith, ◌≡◌, length, length-take, length-drop, drop, ◌*◌, ◌+◌, ◌-◌}
-use Rattle.re_auto.specs.Working.Bits.{Has}
+use Rattle.re_auto.proofs.Prelude.{arith, ◌≡◌, length, length-take, length-drop, drop, ◌*◌, ◌+◌, ◌-◌, Has}
 use Rattle.re_auto.proofs.lemmas.BitLemmas.{row_added}
 use Rattle.re_auto.proofs.bits.add_to_row.Goals as goal
 

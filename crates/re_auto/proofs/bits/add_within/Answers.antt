@@ -1,4 +1,4 @@
-use Rattle.std.proofs.Common.{arith}
+use Rattle.re_auto.proofs.Prelude.{arith}
 use Rattle.re_auto.proofs.lemmas.RangeLemmas.{added_within}
 use Rattle.re_auto.proofs.bits.add_within.Goals as goal
 

@@ -1,5 +1,4 @@
-use Rattle.std.proofs.Common.{◌≡◌, ℕ, ◌<◌, ◌≤◌, length, get_or}
-use Rattle.std.specs.Prelude.{bit_or}
+use Rattle.re_auto.proofs.Prelude.{◌≡◌, ℕ, ◌<◌, ◌≤◌, length, get_or, bit_or}
 use Rattle.re_auto.proofs.bits.add_within.Given as goal
 
 abbrev pub invariant-words : goal.invariant-words

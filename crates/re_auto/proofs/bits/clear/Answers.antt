@@ -1,4 +1,4 @@
-use Rattle.std.proofs.Common.{arith, refl}
+use Rattle.re_auto.proofs.Prelude.{arith, refl}
 use Rattle.re_auto.proofs.lemmas.BitLemmas.{all_zero}
 use Rattle.re_auto.proofs.bits.clear.Goals as goal
 

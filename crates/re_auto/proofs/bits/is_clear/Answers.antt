@@ -1,6 +1,4 @@
-use Rattle.std.proofs.Common.{◌≡◌, rules, tests}
-use Rattle.std.specs.Prelude.{◌≢◌}
-use Rattle.std.proofs.lemmas.Iterator.{cases_from_all, YieldsList-from_slice}
+use Rattle.re_auto.proofs.Prelude.{◌≡◌, rules, tests, ◌≢◌, cases_from_all, YieldsList-from_slice}
 use Rattle.re_auto.proofs.lemmas.BitLemmas.{clear_says}
 use Rattle.re_auto.proofs.bits.is_clear.Goals as goal
 

@@ -1,4 +1,4 @@
-use Rattle.std.proofs.Common.{arith}
+use Rattle.re_auto.proofs.Prelude.{arith}
 use Rattle.re_auto.proofs.lemmas.BitLemmas.{and_has}
 use Rattle.re_auto.proofs.bits.keep.Goals as goal
 

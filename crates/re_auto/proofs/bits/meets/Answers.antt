@@ -1,4 +1,4 @@
-use Rattle.std.proofs.Common.{arith, refl, true≢false, sym}
+use Rattle.re_auto.proofs.Prelude.{arith, refl, true≢false, sym}
 use Rattle.re_auto.proofs.lemmas.BitLemmas.{common, no_common}
 use Rattle.re_auto.proofs.bits.meets.Goals as goal
 

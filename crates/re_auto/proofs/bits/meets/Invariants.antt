@@ -1,5 +1,4 @@
-use Rattle.std.proofs.Common.{◌≡◌, ℕ, ◌<◌, get_or}
-use Rattle.std.specs.Prelude.{bit_and}
+use Rattle.re_auto.proofs.Prelude.{◌≡◌, ℕ, ◌<◌, get_or, bit_and}
 use Rattle.re_auto.proofs.bits.meets.Given as goal
 
 abbrev pub invariant-words : goal.invariant-words

@@ -1,5 +1,4 @@
-use Rattle.std.proofs.Common.{IsTrue}
-use Rattle.re_auto.specs.Working.Positions.{part_of}
+use Rattle.re_auto.proofs.Prelude.{IsTrue, part_of}
 use Rattle.re_auto.proofs.lemmas.SetsByChains.{fronts, fronts_back}
 use Rattle.re_auto.proofs.lemmas.LeastStarts.{starts_fronts, starts_fronts_back}
 use Rattle.re_auto.proofs.laws.fronts_decide.Goals as goal

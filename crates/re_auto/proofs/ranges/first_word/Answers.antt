@@ -1,4 +1,4 @@
-use Rattle.std.proofs.Common.{arith}
+use Rattle.re_auto.proofs.Prelude.{arith}
 use Rattle.re_auto.proofs.lemmas.RangeLemmas.{not_before}
 use Rattle.re_auto.proofs.ranges.first_word.Goals as goal
 

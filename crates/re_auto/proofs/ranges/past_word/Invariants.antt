@@ -1,4 +1,4 @@
-use Rattle.std.proofs.Common.{◌≡◌, ℕ, ◌≤◌, length, get_or}
+use Rattle.re_auto.proofs.Prelude.{◌≡◌, ℕ, ◌≤◌, length, get_or}
 use Rattle.re_auto.proofs.ranges.past_word.Given as goal
 
 abbrev pub invariant-words : goal.invariant-words

@@ -1,5 +1,4 @@
-use Rattle.std.proofs.Common.{◌≡◌, ℕ, ◌++◌, ◌∷◌, [], length, length-append, Some, slice_get, sym, ap, subst, arith, rules}
-use Rattle.re_auto.proofs.Words.{WordRange, row_of, Covers}
+use Rattle.re_auto.proofs.Prelude.{◌≡◌, ℕ, ◌++◌, ◌∷◌, [], length, length-append, Some, slice_get, sym, ap, subst, arith, rules, WordRange, row_of, Covers}
 use Rattle.re_auto.proofs.lemmas.RangeLemmas.{one_more}
 use Rattle.re_auto.proofs.lemmas.RowLemmas.{row_within}
 use Rattle.re_auto.proofs.ranges.ranges_of.Goals as goal

@@ -1,5 +1,4 @@
-use Rattle.std.proofs.Common.{◌≡◌, ℕ, length}
-use Rattle.re_auto.proofs.Words.{Some, slice_get, WordRange, row_of, Covers}
+use Rattle.re_auto.proofs.Prelude.{◌≡◌, ℕ, length, Some, slice_get, WordRange, row_of, Covers}
 use Rattle.re_auto.proofs.ranges.ranges_of.Given as goal
 
 abbrev pub invariant-rows : goal.invariant-rows

@@ -1,7 +1,4 @@
-use Rattle.std.proofs.Common.{rules, arith, ◌<◌, ◌↔◌, ℕ}
-use Rattle.re_syntax.specs.Working.Trees.{expression_of}
-use Rattle.re_auto.specs.Working.Bits.{Has}
-use Rattle.re_auto.specs.Working.Positions.{part_of}
+use Rattle.re_ends.proofs.Prelude.{rules, arith, ◌<◌, ◌↔◌, ℕ, expression_of, Has, part_of}
 use Rattle.re_auto.proofs.lemmas.Numbered.{part_numbered}
 use Rattle.re_ends.proofs.lemmas.EndLaws.{end_said}
 use Rattle.re_ends.proofs.back.end_with.Goals as goal

@@ -1,4 +1,4 @@
-use Rattle.std.proofs.Common.{arith, ◌<◌, get_or}
+use Rattle.re_ends.proofs.Prelude.{arith, ◌<◌, get_or}
 use Rattle.re_auto.proofs.lemmas.BitLemmas.{at_word, word_added, all_added, chained}
 use Rattle.re_ends.proofs.back.greatest_among.Goals as goal
 

@@ -1,6 +1,4 @@
-use Rattle.std.proofs.Common.{ℕ, ◌*◌, ◌<◌, ◌≤◌, ◌⊎◌, get_or}
-use Rattle.std.specs.Prelude.{◌↔◌}
-use Rattle.re_auto.specs.Working.Bits.{Has}
+use Rattle.re_ends.proofs.Prelude.{ℕ, ◌*◌, ◌<◌, ◌≤◌, ◌⊎◌, get_or, ◌↔◌, Has}
 use Rattle.re_ends.proofs.back.greatest_among.Given as goal
 
 -- what is already found and what is left to see are together the whole

@@ -1,4 +1,4 @@
-use Rattle.std.proofs.Common.{arith, ◌<◌, ◌+◌, ◌*◌, get_or, inl}
+use Rattle.re_ends.proofs.Prelude.{arith, ◌<◌, ◌+◌, ◌*◌, get_or, inl}
 use Rattle.re_auto.proofs.lemmas.BitLemmas.{one_added, none_left, chained}
 use Rattle.re_ends.proofs.lemmas.EndLaws.{max_past}
 use Rattle.re_ends.proofs.back.greatest_of_word.Goals as goal

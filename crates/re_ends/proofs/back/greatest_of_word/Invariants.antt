@@ -1,4 +1,4 @@
-use Rattle.std.proofs.Common.{ℕ, ◌+◌, ◌*◌, ◌<◌, get_or}
+use Rattle.re_ends.proofs.Prelude.{ℕ, ◌+◌, ◌*◌, ◌<◌, get_or}
 use Rattle.re_auto.proofs.lemmas.BitLemmas.{AreAmong, AddsUp}
 use Rattle.re_ends.proofs.back.greatest_of_word.Given as goal
 

@@ -1,7 +1,4 @@
-use Rattle.std.proofs.Common.{arith, ℕ, ◌<◌, ◌⊎◌, get_or, ◌∙◌}
-use Rattle.std.proofs.lemmas.List.{length-set}
-use Rattle.re_syntax.specs.Working.Trees.{expression_of}
-use Rattle.re_auto.specs.Working.Positions.{part_of}
+use Rattle.re_ends.proofs.Prelude.{arith, ℕ, ◌<◌, ◌⊎◌, get_or, ◌∙◌, length-set, expression_of, part_of}
 use Rattle.re_auto.proofs.lemmas.Numbered.{part_numbered}
 use Rattle.re_ends.proofs.lemmas.EndLaws.{end_named, one_more_put, all_put}
 use Rattle.re_ends.proofs.back.step_back.Goals as goal

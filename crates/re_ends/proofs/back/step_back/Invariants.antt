@@ -1,7 +1,4 @@
-use Rattle.std.proofs.Common.{◌≡◌, ℕ, ◌<◌, ◌⊎◌, get_or, length}
-use Rattle.std.specs.Prelude.{◌↔◌}
-use Rattle.re_syntax.specs.Working.Trees.{expression_of}
-use Rattle.re_auto.specs.Working.Positions.{part_of}
+use Rattle.re_ends.proofs.Prelude.{◌≡◌, ℕ, ◌<◌, ◌⊎◌, get_or, length, ◌↔◌, expression_of, part_of}
 use Rattle.re_ends.proofs.back.step_back.Given as goal
 
 -- the ends of the first positions are right

@@ -1,4 +1,4 @@
-use Rattle.re_auto.specs.Working.Positions.{part_of}
+use Rattle.re_ends.proofs.Prelude.{part_of}
 use Rattle.re_ends.proofs.lemmas.EndLaws as laws
 use Rattle.re_ends.proofs.laws.ends_decide.Goals as goal
 

@@ -1,7 +1,4 @@
-use Rattle.std.proofs.Common.{◌≡◌, inl, inr, [], length, map, get_or, sym, ap, ◌∙◌, subst, arith}
-use Rattle.std.proofs.lemmas.List.{get_or-map}
-use Rattle.std.proofs.lemmas.Bool.{eqb-false, cases_lt}
-use Rattle.re_strings.specs.Working.Branches.{text_at}
+use Rattle.re_match.proofs.Prelude.{◌≡◌, inl, inr, [], length, map, get_or, sym, ap, ◌∙◌, subst, arith, get_or-map, eqb-false, cases_lt, text_at}
 use Rattle.re_match.proofs.fixed_set.has_empty.Goals as goal
 
 pub places-preserved : goal.places-preserved

@@ -1,6 +1,4 @@
-use Rattle.std.proofs.Common.{◌≡◌, List, ◌++◌, map, sym, ap, ◌∙◌}
-use Rattle.std.proofs.lemmas.List.{append-nil}
-use Rattle.re_match.proofs.Words.{Text, lines_of}
+use Rattle.re_match.proofs.Prelude.{◌≡◌, List, ◌++◌, map, sym, ap, ◌∙◌, append-nil, Text, lines_of}
 use Rattle.re_strings.proofs.lemmas.SetSorted.{sorted_ascends, same_strings}
 use Rattle.re_match.proofs.fixed_set.strings_of.Goals as goal
 

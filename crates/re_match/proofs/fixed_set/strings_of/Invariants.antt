@@ -1,5 +1,4 @@
-use Rattle.std.proofs.Common.{◌≡◌, ◌++◌, map}
-use Rattle.re_syntax.specs.Lines.{lines_of}
+use Rattle.re_match.proofs.Prelude.{◌≡◌, ◌++◌, map, lines_of}
 use Rattle.re_match.proofs.fixed_set.strings_of.Given as goal
 
 abbrev pub invariant-lines : goal.invariant-lines

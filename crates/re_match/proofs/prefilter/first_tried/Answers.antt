@@ -1,6 +1,4 @@
-use Rattle.std.proofs.Common.{◌+◌, ◌-◌, false, length, None, Some, arith, length-drop}
-use Rattle.std.proofs.lemmas.List.{take_rest}
-use Rattle.re_syntax.specs.Working.Trees.{expression_of}
+use Rattle.re_match.proofs.Prelude.{◌+◌, ◌-◌, false, length, None, Some, arith, length-drop, take_rest, expression_of}
 use Rattle.re_needle.proofs.lemmas.NeedleLaws.{lacks_part}
 use Rattle.re_match.proofs.lemmas.StepSums.{adds_within, look_and_steps, look_more}
 use Rattle.re_match.proofs.lemmas.LaterParts.{later_by_needle, needle_inside, later_part, later_still, none_later, later_on, longest_part}

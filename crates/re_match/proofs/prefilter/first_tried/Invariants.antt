@@ -1,5 +1,4 @@
-use Rattle.std.proofs.Common.{◌-◌, length}
-use Rattle.re_match.proofs.Words.{expression_of, BeginsLater}
+use Rattle.re_match.proofs.Prelude.{◌-◌, length, expression_of, BeginsLater}
 use Rattle.re_auto.specs.Searches.{AddsAtMost}
 use Rattle.re_match.proofs.prefilter.first_tried.Given as goal
 

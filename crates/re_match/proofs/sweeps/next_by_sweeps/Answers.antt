@@ -1,7 +1,4 @@
-use Rattle.std.proofs.Common.{◌+◌, drop, refl, arith}
-use Rattle.std.proofs.lemmas.Bool.{false≢true}
-use Rattle.std.proofs.lemmas.List.{take_rest}
-use Rattle.re_match.proofs.Words.{Text, Matches, PassesUnmatched}
+use Rattle.re_match.proofs.Prelude.{◌+◌, drop, refl, arith, false≢true, take_rest, Text, Matches, PassesUnmatched}
 use Rattle.re_needle.proofs.lemmas.NextLines.{block_after, passed_on, none_next, next_from, passed_from, long}
 use Rattle.re_match.proofs.lemmas.SweptLines.{matched_at, turn_adds, last_sweep}
 use Rattle.re_match.proofs.lemmas.SameLaws.{same_twice}

@@ -1,7 +1,4 @@
-use Rattle.std.proofs.Common.{◌+◌, ◌≤◌, Some, drop, take, length, refl, arith, length-drop, length-take}
-use Rattle.re_needle.proofs.Words.{⊤, run_of, look_cost}
-use Rattle.std.proofs.lemmas.Bool.{false≢true}
-use Rattle.std.proofs.lemmas.List.{take_rest}
+use Rattle.re_needle.proofs.Prelude.{◌+◌, ◌≤◌, Some, drop, take, length, refl, arith, length-drop, length-take, ⊤, run_of, look_cost, false≢true, take_rest}
 use Rattle.re_meter.proofs.lemmas.Adding.{adds_none, adds_passed}
 use Rattle.re_needle.proofs.lemmas.BegunLines.{none_passed, passed_to_end, passed_to_line, passed_to_begin, passed_line, place_within}
 use Rattle.re_needle.proofs.lemmas.BlockLemmas.{passed_within}

@@ -1,5 +1,4 @@
-use Rattle.std.proofs.Common.{length, ◌-◌}
-use Rattle.re_needle.proofs.Words.{AddsUpTo, run_of}
+use Rattle.re_needle.proofs.Prelude.{length, ◌-◌, AddsUpTo, run_of}
 use Rattle.re_needle.proofs.lemmas.BegunLines.{IsPassedTo}
 use Rattle.re_needle.proofs.block.first_line_beginning_with.Given as goal
 

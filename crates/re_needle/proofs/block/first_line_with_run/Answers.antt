@@ -1,4 +1,4 @@
-use Rattle.re_needle.specs.Working.Needles.{run_of}
+use Rattle.re_needle.proofs.Prelude.{run_of}
 use Rattle.re_needle.proofs.block.first_line_with_run.Goals as goal
 
 pub returns-clause-passes : goal.returns-clause-passes

@@ -1,5 +1,4 @@
-use Rattle.std.proofs.Common.{map}
-use Rattle.re_syntax.specs.Working.Trees.{members}
+use Rattle.re_needle.proofs.Prelude.{map, members}
 use Rattle.re_needle.proofs.block.first_line_with_sets.Goals as goal
 
 pub returns-clause-passes : goal.returns-clause-passes

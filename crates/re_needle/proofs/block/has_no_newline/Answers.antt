@@ -1,6 +1,4 @@
-use Rattle.std.proofs.Common.{subst}
-use Rattle.std.proofs.lemmas.Bool.{false≢true}
-use Rattle.re_syntax.specs.Lines.{HasNoNewline}
+use Rattle.re_needle.proofs.Prelude.{subst, false≢true, HasNoNewline}
 use Rattle.re_needle.proofs.lemmas.CountedBlocks.{has_one}
 use Rattle.re_needle.proofs.block.has_no_newline.Goals as goal
 

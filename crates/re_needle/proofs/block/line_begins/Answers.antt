@@ -1,4 +1,4 @@
-use Rattle.std.proofs.Common.{inl, refl}
+use Rattle.re_needle.proofs.Prelude.{inl, refl}
 use Rattle.re_needle.proofs.lemmas.BegunLines.{begins_by_byte}
 use Rattle.re_needle.proofs.block.line_begins.Goals as goal
 

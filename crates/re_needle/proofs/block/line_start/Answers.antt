@@ -1,4 +1,4 @@
-use Rattle.std.specs.Prelude.{⊤}
+use Rattle.re_needle.proofs.Prelude.{⊤}
 use Rattle.re_needle.proofs.lemmas.BlockLemmas.{passes_after, passes_none}
 use Rattle.re_needle.proofs.block.line_start.Goals as goal
 

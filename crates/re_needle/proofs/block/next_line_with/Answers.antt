@@ -1,5 +1,4 @@
-use Rattle.std.proofs.Common.{◌≤◌, ◌+◌, length, take, arith, length-take}
-use Rattle.re_needle.proofs.Words.{⊤, StandsIn}
+use Rattle.re_needle.proofs.Prelude.{◌≤◌, ◌+◌, length, take, arith, length-take, ⊤, StandsIn}
 use Rattle.re_needle.proofs.lemmas.BlockLemmas.{passes_whole, passes_front}
 use Rattle.re_needle.proofs.lemmas.CountedBlocks.{stands_around}
 use Rattle.re_needle.proofs.lemmas.BlockLemmas.{passed_within}

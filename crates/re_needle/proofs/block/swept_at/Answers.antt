@@ -1,5 +1,4 @@
-use Rattle.std.proofs.Common.{◌≤◌, length, take, arith, length-take}
-use Rattle.std.specs.Prelude.{⊤}
+use Rattle.re_needle.proofs.Prelude.{◌≤◌, length, take, arith, length-take, ⊤}
 use Rattle.re_needle.proofs.lemmas.BlockLemmas.{passes_front_run, passes_whole_run, passed_within}
 use Rattle.re_needle.proofs.lemmas.Looks.{look_in_line, none_after}
 use Rattle.re_needle.proofs.block.swept_at.Goals as goal

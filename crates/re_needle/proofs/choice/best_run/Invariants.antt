@@ -1,4 +1,4 @@
-use Rattle.std.proofs.Common.{◌≤◌}
+use Rattle.re_needle.proofs.Prelude.{◌≤◌}
 use Rattle.re_needle.proofs.choice.best_run.Given as goal
 
 abbrev pub invariant-marks : goal.invariant-marks

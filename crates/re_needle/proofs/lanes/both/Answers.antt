@@ -1,4 +1,4 @@
-use Rattle.std.proofs.Common.{bit_and}
+use Rattle.re_needle.proofs.Prelude.{bit_and}
 use Rattle.memchr.proofs.lemmas.LaneLemmas.{HasLanes-zip2}
 use Rattle.re_needle.proofs.lanes.both.Goals as goal
 

@@ -1,7 +1,6 @@
-use Rattle.std.proofs.Common.{◌≡◌, ℕ, ◌/◌, ◌^◌, ◌<◌, List, length, get_or, arith, w8, Fits}
+use Rattle.re_needle.proofs.Prelude.{◌≡◌, ℕ, ◌/◌, ◌^◌, ◌<◌, List, length, get_or, arith, w8, Each1-get_or, Each1}
+use Rattle.std.proofs.Common.{Fits}
 use Rattle.re_needle.proofs.lemmas.NibbleLanes.{with_splat, may_look_up, looked_up}
-use Rattle.std.proofs.lemmas.Simd.{Each1-get_or}
-use Rattle.std.specs.Simd.Lanes.{Each1}
 use Rattle.re_needle.proofs.lanes.by_high.Goals as goal
 
 small : (v : List ℕ) → length v ≡ 32 → Each1 (Fits w8) v → (k : ℕ) → k < 32 → get_or v k 0 / 16 < 16

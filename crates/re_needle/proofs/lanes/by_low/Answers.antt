@@ -1,7 +1,5 @@
-use Rattle.std.proofs.Common.{◌≡◌, ℕ, ◌%◌, List, length, get_or, replicate, ◌∙◌, arith, bit_and}
+use Rattle.re_needle.proofs.Prelude.{◌≡◌, ℕ, ◌%◌, List, length, get_or, replicate, ◌∙◌, arith, bit_and, HasLanes, zip2, and_mask}
 use Rattle.re_needle.proofs.lemmas.NibbleLanes.{with_splat, may_look_up, looked_up}
-use Rattle.re_needle.proofs.Words.{HasLanes, zip2}
-use Rattle.std.proofs.lemmas.Nat.{and_mask}
 use Rattle.re_needle.proofs.lanes.by_low.Goals as goal
 
 low : (v : List ℕ) → length v ≡ 32 → HasLanes (zip2 bit_and v (replicate 32 15)) (λ k. get_or v k 0 % 16)

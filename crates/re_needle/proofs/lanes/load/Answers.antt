@@ -1,4 +1,4 @@
-use Rattle.std.proofs.lemmas.Simd.{length-chunk, get_or-chunk}
+use Rattle.re_needle.proofs.Prelude.{length-chunk, get_or-chunk}
 use Rattle.re_needle.proofs.lanes.load.Goals as goal
 
 pub returns : goal.returns

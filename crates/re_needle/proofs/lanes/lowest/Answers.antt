@@ -1,5 +1,4 @@
-use Rattle.std.proofs.Common.{arith, w64}
-use Rattle.std.proofs.lemmas.Nat.Bits.{bit_at-trailing_zeros}
+use Rattle.re_needle.proofs.Prelude.{arith, w64, bit_at-trailing_zeros}
 use Rattle.re_needle.proofs.lanes.lowest.Goals as goal
 
 pub returns-clause-set : goal.returns-clause-set

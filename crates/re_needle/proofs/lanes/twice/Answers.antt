@@ -1,7 +1,4 @@
-use Rattle.std.proofs.Common.{◌≡◌, ◌%◌, length, get_or, refl, ◌∙◌, arith}
-use Rattle.std.proofs.Common.{take, ◌++◌, get_or-take, length-take-le}
-use Rattle.std.proofs.lemmas.List.FromFn.{get_or-map-range_with_len}
-use Rattle.std.proofs.lemmas.List.{get_or_append_left}
+use Rattle.re_needle.proofs.Prelude.{◌≡◌, ◌%◌, length, get_or, refl, ◌∙◌, arith, take, ◌++◌, get_or-take, length-take-le, get_or-map-range_with_len, get_or_append_left}
 use Rattle.re_needle.proofs.lanes.twice.Goals as goal
 
 pub returns : goal.returns

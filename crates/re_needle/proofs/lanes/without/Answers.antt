@@ -1,9 +1,4 @@
-use Rattle.std.proofs.Common.{◌≡◌, suc, ◌-◌, ◌*◌, ◌%◌, ◌^◌, ◌<◌, sym, ap, subst, ◌∙◌, arith, w64, bit_and}
-use Rattle.std.specs.Int.{bit_not}
-use Rattle.std.proofs.lemmas.Nat.Bits.{bit_at_clear_other, bit_at_and, and_pow}
-use Rattle.std.proofs.lemmas.Nat.{and-not, and_comm}
-use Rattle.std.proofs.Common.{pow_pos, pow_mono}
-use Rattle.std.proofs.Math.Nat.{two-pow-succ}
+use Rattle.re_needle.proofs.Prelude.{◌≡◌, suc, ◌-◌, ◌*◌, ◌%◌, ◌^◌, ◌<◌, sym, ap, subst, ◌∙◌, arith, w64, bit_and, bit_not, bit_at_clear_other, bit_at_and, and_pow, and-not, and_comm, pow_pos, pow_mono, two-pow-succ}
 use Rattle.re_needle.proofs.lanes.without.Goals as goal
 
 pub returns-clause-kept : goal.returns-clause-kept

@@ -1,5 +1,4 @@
-use Rattle.std.proofs.Common.{drop, map}
-use Rattle.re_needle.specs.Working.Outlines.{shown}
+use Rattle.re_needle.proofs.Prelude.{drop, map, shown}
 use Rattle.re_needle.proofs.leading_sets.leading_sets.Goals as goal
 
 pub returns : goal.returns

@@ -1,5 +1,4 @@
-use Rattle.std.proofs.Common.{◌≡◌, ◌++◌, drop, map, Some}
-use Rattle.re_needle.proofs.Words.{members, shown}
+use Rattle.re_needle.proofs.Prelude.{◌≡◌, ◌++◌, drop, map, Some, members, shown}
 use Rattle.re_needle.proofs.leading_sets.leading_sets.Given as goal
 
 abbrev pub invariant-marks : goal.invariant-marks

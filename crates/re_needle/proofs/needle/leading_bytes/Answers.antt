@@ -1,5 +1,4 @@
-use Rattle.std.proofs.Common.{drop, map}
-use Rattle.re_needle.specs.Working.Outlines.{shown}
+use Rattle.re_needle.proofs.Prelude.{drop, map, shown}
 use Rattle.re_needle.proofs.needle.leading_bytes.Goals as goal
 
 pub returns : goal.returns

@@ -1,5 +1,4 @@
-use Rattle.std.proofs.Common.{◌≡◌, ◌++◌, drop, map, Some}
-use Rattle.re_needle.proofs.Words.{only, shown}
+use Rattle.re_needle.proofs.Prelude.{◌≡◌, ◌++◌, drop, map, Some, only, shown}
 use Rattle.re_needle.proofs.needle.leading_bytes.Given as goal
 
 abbrev pub invariant-marks : goal.invariant-marks

@@ -1,7 +1,4 @@
-use Rattle.std.proofs.Common.{◌≡◌, ◌≤◌, ◌++◌, IsTrue, length, map, drop, nat_eq, Some, not, sym, ap, ◌∙◌, arith}
-use Rattle.std.proofs.lemmas.Bool.{eqb-true, false≢true}
-use Rattle.std.proofs.lemmas.List.{take_rest, drop-map, length-map}
-use Rattle.re_needle.proofs.Words.{members, shown}
+use Rattle.re_needle.proofs.Prelude.{◌≡◌, ◌≤◌, ◌++◌, IsTrue, length, map, drop, nat_eq, Some, not, sym, ap, ◌∙◌, arith, eqb-true, false≢true, take_rest, drop-map, length-map, members, shown}
 use Rattle.re_needle.specs.declared.run_finder.RunFinder.TheVariants as r
 use Rattle.re_needle.proofs.lemmas.NeedleLaws.{run_is_needle}
 use Rattle.re_needle.proofs.needle.set_needle.Goals.{then-not-is_common, else-not-is_common}

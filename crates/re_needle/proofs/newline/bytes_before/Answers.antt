@@ -1,8 +1,5 @@
-use Rattle.std.proofs.Common.{eqb, take, sym, ap, ◌∙◌, arith, w8}
+use Rattle.re_needle.proofs.Prelude.{eqb, take, sym, ap, ◌∙◌, arith, w8, length-take-le, bitmask_splat, leading_from_mask_l, trailing_mask_l, newline}
 use lib.Count.{count_trailing_zeros}
-use Rattle.std.proofs.lemmas.List.{length-take-le}
-use Rattle.std.proofs.lemmas.Simd.{bitmask_splat, leading_from_mask_l, trailing_mask_l}
-use Rattle.re_syntax.specs.Lines.{newline}
 use Rattle.re_needle.proofs.newline.bytes_before.Goals as goal
 
 pub returns-then-marks-eq0 : goal.returns-then-marks-eq0

@@ -1,4 +1,4 @@
-use Rattle.std.proofs.Common.{arith}
+use Rattle.re_needle.proofs.Prelude.{arith}
 use Rattle.re_needle.proofs.lemmas.NewlineLaws.{none_before, is_there}
 use Rattle.re_needle.proofs.newline.first_newline.Goals as goal
 

@@ -1,5 +1,4 @@
-use Rattle.std.proofs.Common.{map, take}
-use Rattle.re_needle.proofs.Words.{alt, cat, expression_of, members, AddsOutline, BeginsWith}
+use Rattle.re_needle.proofs.Prelude.{map, take, alt, cat, expression_of, members, AddsOutline, BeginsWith}
 use Rattle.re_needle.proofs.outline.+outline.Given as goal
 
 abbrev pub invariant-add_all-parts : goal.invariant-add_all-parts

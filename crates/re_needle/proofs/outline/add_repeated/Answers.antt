@@ -1,5 +1,4 @@
-use Rattle.std.proofs.Common.{◌≤◌, arith}
-use Rattle.re_syntax.specs.Working.Trees.{members}
+use Rattle.re_needle.proofs.Prelude.{◌≤◌, arith, members}
 use Rattle.re_needle.proofs.lemmas.OutlineLaws.{adds_just, adds_least, ok_with}
 use Rattle.re_needle.proofs.outline.add_repeated.Goals as goal
 

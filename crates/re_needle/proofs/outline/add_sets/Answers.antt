@@ -1,6 +1,4 @@
-use Rattle.std.proofs.Common.{map, subst, arith}
-use Rattle.std.proofs.lemmas.List.{take_all}
-use Rattle.re_needle.proofs.Words.{members, AddsSets}
+use Rattle.re_needle.proofs.Prelude.{map, subst, arith, take_all, members, AddsSets}
 use Rattle.re_needle.proofs.outline.add_sets.Goals as goal
 
 pub returns : goal.returns

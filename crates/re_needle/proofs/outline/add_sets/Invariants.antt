@@ -1,5 +1,4 @@
-use Rattle.std.proofs.Common.{map, take}
-use Rattle.re_needle.proofs.Words.{members, AddsSets}
+use Rattle.re_needle.proofs.Prelude.{map, take, members, AddsSets}
 use Rattle.re_needle.proofs.outline.add_sets.Given as goal
 
 abbrev pub invariant-sets : goal.invariant-sets

@@ -1,4 +1,4 @@
-use Rattle.std.proofs.Common.{rules, ◌≡◌, ◌++◌, ◌∷◌, []}
+use Rattle.re_needle.proofs.Prelude.{rules, ◌≡◌, ◌++◌, ◌∷◌, []}
 use Rattle.re_needle.specs.declared.outline_item.OutlineItem.TheVariants as m
 use Rattle.re_needle.proofs.lemmas.OutlineLaws.{adds_turn}
 use Rattle.re_needle.proofs.outline.add_turns.Goals as goal

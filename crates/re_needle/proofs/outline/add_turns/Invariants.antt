@@ -1,4 +1,4 @@
-use Rattle.re_needle.proofs.Words.{members, AddsTurns}
+use Rattle.re_needle.proofs.Prelude.{members, AddsTurns}
 use Rattle.re_needle.proofs.outline.add_turns.Given as goal
 
 abbrev pub invariant-turns : goal.invariant-turns

@@ -1,8 +1,5 @@
-use Rattle.std.proofs.Common.{◌≡◌, ℕ, ◌<◌, ◌≤◌, IsTrue, List, length, map, take, get_or, refl, sym, ap, ◌∙◌, subst, arith}
-use Rattle.re_needle.proofs.Words.{take-map, nothing, members, ByteSet, set_at}
-use Rattle.std.proofs.Math.ListN.{set}
-use Rattle.std.proofs.lemmas.Bool.{or_left, or_right}
-use Rattle.std.proofs.lemmas.List.{length-map, length-set, length-take, map-set, get_or-take, get_or-map}
+use Rattle.re_needle.proofs.Prelude.{◌≡◌, ℕ, ◌<◌, ◌≤◌, IsTrue, List, length, map, take, get_or, refl, sym, ap, ◌∙◌, subst, arith, take-map, nothing, members, ByteSet, set_at, set, or_left, or_right, length-map, length-set, length-take, map-set, get_or-take}
+use Rattle.std.proofs.lemmas.List.{get_or-map}
 use Rattle.re_needle.proofs.lemmas.RunLaws.{its_members}
 use Rattle.re_needle.proofs.lemmas.ChoiceOutlines.{first_more, second_more}
 use Rattle.re_needle.proofs.outline.join.Goals as goal

@@ -1,5 +1,4 @@
-use Rattle.std.proofs.Common.{◌≡◌, ℕ, ◌<◌, ◌≤◌, IsTrue, length, map}
-use Rattle.re_needle.proofs.Words.{members, set_at}
+use Rattle.re_needle.proofs.Prelude.{◌≡◌, ℕ, ◌<◌, ◌≤◌, IsTrue, length, map, members, set_at}
 use Rattle.re_needle.proofs.outline.join.Given as goal
 
 abbrev pub invariant-places : goal.invariant-places

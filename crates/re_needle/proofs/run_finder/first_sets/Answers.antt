@@ -1,6 +1,5 @@
-use Rattle.std.proofs.Common.{rules, ◌≡◌, map, take, length, ap, ◌∙◌, sym}
-use Rattle.std.proofs.lemmas.List.{take-map, take_min}
-use Rattle.re_needle.proofs.Words.{members, most_sets}
+use Rattle.re_needle.proofs.Prelude.{rules, ◌≡◌, map, take, ap, ◌∙◌, sym, take_min, members, most_sets}
+use Rattle.std.proofs.lemmas.List.{take-map}
 use Rattle.re_needle.proofs.run_finder.first_sets.Goals as goal
 
 pub returns : goal.returns

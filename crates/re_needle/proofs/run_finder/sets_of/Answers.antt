@@ -1,6 +1,5 @@
-use Rattle.std.proofs.Common.{rules, ◌≡◌, map, take, length, min, ap, ◌∙◌, sym}
-use Rattle.std.proofs.lemmas.List.{take-map, take_min}
-use Rattle.re_needle.proofs.Words.{only, most_sets}
+use Rattle.re_needle.proofs.Prelude.{rules, ◌≡◌, map, take, length, min, ap, ◌∙◌, sym, take_min, only, most_sets}
+use Rattle.std.proofs.lemmas.List.{take-map}
 use Rattle.re_needle.proofs.run_finder.sets_of.Goals as goal
 
 pub returns : goal.returns

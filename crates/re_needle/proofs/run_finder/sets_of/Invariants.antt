@@ -1,5 +1,4 @@
-use Rattle.std.proofs.Common.{◌≡◌, map, take}
-use Rattle.re_needle.proofs.Words.{only, members}
+use Rattle.re_needle.proofs.Prelude.{◌≡◌, map, take, only, members}
 use Rattle.re_needle.proofs.run_finder.sets_of.Given as goal
 
 abbrev pub invariant-bytes : goal.invariant-bytes

@@ -1,5 +1,4 @@
-use Rattle.std.proofs.Common.{rules, map, sym, ◌∙◌}
-use Rattle.re_syntax.specs.Working.Trees.{members}
+use Rattle.re_needle.proofs.Prelude.{rules, map, sym, ◌∙◌, members}
 use Rattle.re_needle.proofs.lemmas.RunLaws.{takes_more}
 use Rattle.re_needle.proofs.set_finder.stands_at.Goals as goal
 

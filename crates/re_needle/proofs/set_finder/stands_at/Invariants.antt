@@ -1,5 +1,4 @@
-use Rattle.std.proofs.Common.{ℕ, IsTrue, ◌+◌, ◌<◌, map, slice_index}
-use Rattle.re_needle.proofs.Words.{members, set_at}
+use Rattle.re_needle.proofs.Prelude.{ℕ, IsTrue, ◌+◌, ◌<◌, map, slice_index, members, set_at}
 use Rattle.re_needle.proofs.set_finder.stands_at.Given as goal
 
 abbrev pub invariant-sets : goal.invariant-sets

@@ -1,6 +1,5 @@
-use Rattle.std.proofs.Common.{sym, ap, ◌∙◌}
+use Rattle.re_needle.proofs.Prelude.{sym, ap, ◌∙◌, Bytes, nothing, members}
 use Rattle.std.proofs.lemmas.List.{get_or-map}
-use Rattle.re_needle.proofs.Words.{Bytes, nothing, members}
 use Rattle.re_needle.proofs.set_finder.takes.Goals as goal
 
 pub returns : goal.returns

@@ -1,4 +1,4 @@
-use Rattle.std.proofs.Common.{arith}
+use Rattle.re_search.proofs.Prelude.{arith}
 use Rattle.re_search.proofs.lemmas.CourseLaws.{none_from, first_from}
 use Rattle.re_search.proofs.course.part_from.Goals as goal
 

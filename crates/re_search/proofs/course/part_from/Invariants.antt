@@ -1,4 +1,4 @@
-use Rattle.std.proofs.Common.{◌≡◌, ℕ, ◌<◌, ◌≤◌, ◌-◌, get_or, length}
+use Rattle.re_search.proofs.Prelude.{◌≡◌, ℕ, ◌<◌, ◌≤◌, ◌-◌, get_or, length}
 use Rattle.re_search.proofs.course.part_from.Given as goal
 
 -- no part begins at the places that were passed

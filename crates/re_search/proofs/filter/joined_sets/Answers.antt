@@ -1,6 +1,4 @@
-use Rattle.std.proofs.Common.{map, arith}
-use Rattle.std.proofs.lemmas.List.Elements.{All-map}
-use Rattle.re_search.proofs.Words.{members, RunIsNeeded, matched_expression}
+use Rattle.re_search.proofs.Prelude.{map, arith, All-map, members, RunIsNeeded, matched_expression}
 use Rattle.re_search.proofs.lemmas.RunFilters.{sets_more}
 use Rattle.re_search.proofs.filter.joined_sets.Goals as goal
 

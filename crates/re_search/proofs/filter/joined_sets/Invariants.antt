@@ -1,5 +1,4 @@
-use Rattle.std.proofs.Common.{ℕ, ◌<◌, length, map, get_or}
-use Rattle.re_search.proofs.Words.{members, RunIsNeeded, Matcher, matched_expression}
+use Rattle.re_search.proofs.Prelude.{ℕ, ◌<◌, length, map, get_or, members, RunIsNeeded, Matcher, matched_expression}
 use Rattle.re_search.proofs.filter.joined_sets.Given as goal
 
 abbrev pub invariant-matchers : goal.invariant-matchers

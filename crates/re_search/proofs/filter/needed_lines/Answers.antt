@@ -1,6 +1,4 @@
-use Rattle.std.proofs.Common.{◌≡◌, arith, map, ◌++◌, [], ◌∷◌, sym, ap, ◌∙◌, subst, All}
-use Rattle.std.proofs.lemmas.List.Elements.{All-push, All-map}
-use Rattle.re_search.proofs.Words.{HasNoNewline, lines_of, NeedsOneOf, matched_expression}
+use Rattle.re_search.proofs.Prelude.{◌≡◌, arith, map, ◌++◌, [], ◌∷◌, sym, ap, ◌∙◌, subst, All, All-push, All-map, HasNoNewline, lines_of, NeedsOneOf, matched_expression}
 use Rattle.re_syntax.proofs.lemmas.LinesLaws.{lines_of-terminated, terminated-append}
 use Rattle.re_search.proofs.lemmas.FilterLaws.{needed_more}
 use Rattle.re_search.proofs.filter.needed_lines.Goals as goal

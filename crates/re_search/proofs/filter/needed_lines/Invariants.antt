@@ -1,5 +1,4 @@
-use Rattle.std.proofs.Common.{◌≡◌, ℕ, ◌<◌, List, All, get_or}
-use Rattle.re_search.proofs.Words.{Text, HasNoNewline, terminated, Matcher, NeedsOneOf, matched_expression}
+use Rattle.re_search.proofs.Prelude.{◌≡◌, ℕ, ◌<◌, List, All, get_or, Text, HasNoNewline, terminated, Matcher, NeedsOneOf, matched_expression}
 use Rattle.re_search.proofs.filter.needed_lines.Given as goal
 
 abbrev pub invariant-matchers : goal.invariant-matchers

@@ -1,5 +1,4 @@
-use Rattle.std.proofs.Common.{◌≡◌, map}
-use Rattle.re_search.specs.Working.Matchers.{matched_expression}
+use Rattle.re_search.proofs.Prelude.{◌≡◌, map, matched_expression}
 use Rattle.re_search.specs.declared.filter.Needed.TheVariants as n
 use Rattle.re_search.proofs.lemmas.RunFilters.{run_is_needed}
 use Rattle.re_search.proofs.filter.needed_run.Goals as goal

@@ -1,5 +1,4 @@
-use Rattle.std.proofs.Common.{◌≡◌, map}
-use Rattle.re_search.proofs.Words.{lines_of, matched_expression}
+use Rattle.re_search.proofs.Prelude.{◌≡◌, map, lines_of, matched_expression}
 use Rattle.re_search.specs.declared.filter.Needed.TheVariants as n
 use Rattle.re_search.proofs.lemmas.FilterLaws.{texts_are_needed}
 use Rattle.re_search.proofs.filter.needed_strings.Goals as goal

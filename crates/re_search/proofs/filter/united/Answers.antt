@@ -1,4 +1,4 @@
-use Rattle.std.proofs.Common.{rules, ◌≡◌, ◌++◌, [], ◌∷◌}
+use Rattle.re_search.proofs.Prelude.{rules, ◌≡◌, ◌++◌, [], ◌∷◌}
 use Rattle.re_search.proofs.lemmas.RunFilters.{covers_one, covers_other, united_more}
 use Rattle.re_search.proofs.filter.united.Goals as goal
 

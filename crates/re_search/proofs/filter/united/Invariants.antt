@@ -1,5 +1,4 @@
-use Rattle.std.proofs.Common.{◌≡◌, ℕ, ◌<◌, length, get_or}
-use Rattle.re_search.proofs.Words.{union, members, ByteSet}
+use Rattle.re_search.proofs.Prelude.{◌≡◌, ℕ, ◌<◌, length, get_or, union, members, ByteSet}
 use Rattle.re_search.proofs.filter.united.Given as goal
 
 abbrev pub invariant-places : goal.invariant-places

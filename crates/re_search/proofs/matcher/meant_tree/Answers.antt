@@ -1,4 +1,4 @@
-use Rattle.std.proofs.Common.{inr, arith, rules}
+use Rattle.re_search.proofs.Prelude.{inr, arith, rules}
 use Rattle.re_search.proofs.lemmas.ReadingLaws.{too_many, few_meant}
 use Rattle.re_search.proofs.matcher.meant_tree.Goals as goal
 

@@ -1,4 +1,4 @@
-use Rattle.std.proofs.Common.{refl, rules}
+use Rattle.re_search.proofs.Prelude.{refl, rules}
 use Rattle.re_search.proofs.lemmas.ReadingLaws.{fixed_positions}
 use Rattle.re_search.proofs.matcher.spelled_positions.Goals as goal
 

@@ -1,5 +1,4 @@
-use Rattle.std.proofs.Common.{[], ◌∷◌, arith, map, subst, take_all}
-use Rattle.re_search.proofs.Words.{expression_of, AddsEach}
+use Rattle.re_search.proofs.Prelude.{[], ◌∷◌, arith, map, subst, take_all, expression_of, AddsEach}
 use Rattle.re_search.proofs.lemmas.PlainLaws.{no_strings, next_string}
 use Rattle.re_search.proofs.plain.add_each.Goals as goal
 

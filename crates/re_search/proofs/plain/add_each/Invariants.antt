@@ -1,5 +1,4 @@
-use Rattle.std.proofs.Common.{map, take}
-use Rattle.re_search.proofs.Words.{expression_of, AddsEach}
+use Rattle.re_search.proofs.Prelude.{map, take, expression_of, AddsEach}
 use Rattle.re_search.proofs.plain.add_each.Given as goal
 
 abbrev pub invariant-trees : goal.invariant-trees

@@ -1,6 +1,4 @@
-use Rattle.std.proofs.Common.{rules, IfSome, ◌≡◌, ◌∷◌, [], ◌++◌, sym, subst, ◌∙◌}
-use Rattle.std.proofs.lemmas.Option.{IfSome_then}
-use Rattle.re_search.proofs.Words.{expression_of, Text, newline, HasNoNewline, string_expression}
+use Rattle.re_search.proofs.Prelude.{rules, IfSome, ◌≡◌, ◌∷◌, [], ◌++◌, sym, subst, ◌∙◌, IfSome_then, expression_of, Text, newline, HasNoNewline, string_expression}
 use Rattle.re_search.proofs.lemmas.PlainLaws.{no_newline, string_added}
 use Rattle.re_search.proofs.plain.add_string.Goals as goal
 

@@ -1,7 +1,4 @@
-use Rattle.std.proofs.Common.{rules, [], ◌∷◌, IfSome, map, ◌≡◌, ◌++◌, sym, subst, arith}
-use Rattle.std.proofs.lemmas.List.{length-map}
-use Rattle.std.proofs.lemmas.Option.{IfSome_then}
-use Rattle.re_search.proofs.Words.{the_lemmas, alt, expression_of, newline, IsSpelled, AddsStrings}
+use Rattle.re_search.proofs.Prelude.{rules, [], ◌∷◌, IfSome, map, ◌≡◌, ◌++◌, sym, subst, arith, length-map, IfSome_then, the_lemmas, alt, expression_of, newline, IsSpelled, AddsStrings}
 use Rattle.re_search.proofs.lemmas.PlainLaws.{no_newline, fixed_added, several_added}
 use Rattle.re_search.proofs.plain.add_strings.Goals.{in-Fixed, in_default}
 use Rattle.re_search.proofs.plain.add_strings.Goals as goal

@@ -1,5 +1,4 @@
-use Rattle.std.proofs.Common.{rules, ◌≡◌, [], ◌∷◌, ◌++◌, map, subst, take_all, arith}
-use Rattle.re_search.proofs.Words.{byte, expression_of}
+use Rattle.re_search.proofs.Prelude.{rules, ◌≡◌, [], ◌∷◌, ◌++◌, map, subst, take_all, arith, byte, expression_of}
 use Rattle.re_search.proofs.lemmas.PlainStrings.{byte_more}
 use Rattle.re_search.proofs.plain.bytes_of.Goals as goal
 

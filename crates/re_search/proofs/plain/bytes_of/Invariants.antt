@@ -1,5 +1,4 @@
-use Rattle.std.proofs.Common.{◌≡◌, map, take}
-use Rattle.re_search.proofs.Words.{byte, expression_of}
+use Rattle.re_search.proofs.Prelude.{◌≡◌, map, take, byte, expression_of}
 use Rattle.re_search.proofs.plain.bytes_of.Given as goal
 
 abbrev pub invariant-trees : goal.invariant-trees

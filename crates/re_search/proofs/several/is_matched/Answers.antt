@@ -1,6 +1,4 @@
-use Rattle.std.proofs.Common.{◌≡◌, map, take, arith, refl, take_all}
-use Rattle.std.proofs.lemmas.Bool.{false≢true}
-use Rattle.std.proofs.lemmas.List.{length-map}
+use Rattle.re_search.proofs.Prelude.{◌≡◌, map, take, arith, refl, take_all, false≢true, length-map}
 use Rattle.re_search.proofs.lemmas.OneMatcherMore.{one_more, value_at, within, none_more, one_matches, steps_more}
 use Rattle.re_search.proofs.lemmas.KeptMatchers.{one_kept}
 use Rattle.re_search.proofs.several.is_matched.Goals as goal

@@ -1,5 +1,5 @@
-use Rattle.std.proofs.Common.{◌+◌, ◌*◌, length, map, take, false}
-use Rattle.re_auto.specs.Searches.{DecidesMatchOfAll, AddsAtMost, SameMatchers}
+use Rattle.re_search.proofs.Prelude.{◌+◌, ◌*◌, length, map, take, false, DecidesMatchOfAll, SameMatchers}
+use Rattle.re_auto.specs.Searches.{AddsAtMost}
 use Rattle.re_search.proofs.several.is_matched.Given as goal
 
 abbrev pub invariant-loop-matcher : goal.invariant-loop-matcher

@@ -1,5 +1,4 @@
-use Rattle.std.proofs.Common.{◌≡◌, map, take, arith, take_all}
-use Rattle.std.proofs.lemmas.List.{length-map}
+use Rattle.re_search.proofs.Prelude.{◌≡◌, map, take, arith, take_all, length-map}
 use Rattle.re_search.proofs.lemmas.OneMatcherMore.{one_more, value_at, within, part_more, steps_more}
 use Rattle.re_search.proofs.lemmas.KeptMatchers.{one_kept}
 use Rattle.re_search.proofs.several.parts.Goals as goal

@@ -1,5 +1,5 @@
-use Rattle.std.proofs.Common.{◌+◌, ◌-◌, ◌*◌, length, map, take}
-use Rattle.re_auto.specs.Searches.{FindsPartOfAll, AddsAtMost, SameMatchers}
+use Rattle.re_search.proofs.Prelude.{◌+◌, ◌-◌, ◌*◌, length, map, take, FindsPartOfAll, SameMatchers}
+use Rattle.re_auto.specs.Searches.{AddsAtMost}
 use Rattle.re_search.proofs.several.parts.Given as goal
 
 abbrev pub invariant-loop-matcher : goal.invariant-loop-matcher

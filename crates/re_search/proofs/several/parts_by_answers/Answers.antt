@@ -1,6 +1,4 @@
-use Rattle.std.proofs.Common.{◌≡◌, map, take, get_or, sym, subst, arith, take_all}
-use Rattle.std.proofs.lemmas.List.{length-map}
-use Rattle.re_search.specs.Working.Courses.{IsAnswer}
+use Rattle.re_search.proofs.Prelude.{◌≡◌, map, take, get_or, sym, subst, arith, take_all, length-map, IsAnswer}
 use Rattle.re_search.proofs.lemmas.OneMatcherMore.{answer_of, one_more, value_at, within, part_more, steps_more}
 use Rattle.re_search.proofs.lemmas.KeptAnswers.{one_answer}
 use Rattle.re_search.proofs.lemmas.KeptMatchers.{one_kept}

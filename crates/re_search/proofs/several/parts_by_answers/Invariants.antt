@@ -1,6 +1,5 @@
-use Rattle.std.proofs.Common.{◌+◌, ◌-◌, ◌*◌, length, map, take}
-use Rattle.re_auto.specs.Searches.{FindsPartOfAll, AddsAtMost, SameMatchers}
-use Rattle.re_search.specs.Working.Courses.{AreAnswers}
+use Rattle.re_search.proofs.Prelude.{◌+◌, ◌-◌, ◌*◌, length, map, take, FindsPartOfAll, SameMatchers, AreAnswers}
+use Rattle.re_auto.specs.Searches.{AddsAtMost}
 use Rattle.re_search.proofs.several.parts_by_answers.Given as goal
 
 abbrev pub invariant-loop-number : goal.invariant-loop-number

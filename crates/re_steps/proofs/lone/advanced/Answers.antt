@@ -1,5 +1,4 @@
-use Rattle.std.proofs.Common.{arith, inl, inr, refl}
-use Rattle.re_steps.proofs.Words.{expression_of, InWord, part_of}
+use Rattle.re_steps.proofs.Prelude.{arith, inl, inr, refl, expression_of, InWord, part_of}
 use Rattle.re_auto.proofs.lemmas.BitLemmas.{one_added, none_left, chained}
 use Rattle.re_auto.proofs.lemmas.WordLemmas.{in_both, in_either, bounded, second_as}
 use Rattle.re_steps.proofs.lemmas.LoneLaws.{none_in_zero}

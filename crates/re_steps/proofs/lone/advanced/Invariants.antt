@@ -1,5 +1,4 @@
-use Rattle.std.proofs.Common.{ℕ}
-use Rattle.re_steps.proofs.Words.{expression_of, InWord, part_of}
+use Rattle.re_steps.proofs.Prelude.{ℕ, expression_of, InWord, part_of}
 use Rattle.re_auto.proofs.lemmas.BitLemmas.{AreAmong, AddsUp}
 use Rattle.re_steps.proofs.lone.advanced.Given as goal
 

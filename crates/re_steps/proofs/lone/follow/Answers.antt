@@ -1,5 +1,4 @@
-use Rattle.std.proofs.Common.{◌≡◌, suc, ◌<◌, inl, inr, length, arith, subst, add-one, eqb-true}
-use Rattle.re_steps.proofs.Words.{expression_of, IsLastEnd}
+use Rattle.re_steps.proofs.Prelude.{◌≡◌, suc, ◌<◌, inl, inr, length, arith, subst, add-one, eqb-true, expression_of, IsLastEnd}
 use Rattle.re_steps.proofs.lemmas.LoneLaws.{reached_first, reached_next, reached_small, none_yet, noted, longest_of, none_of_all, all_known, goes_here, stops_clear, stops_late, goes_further}
 use Rattle.re_steps.proofs.lone.follow.Goals as goal
 

@@ -1,5 +1,4 @@
-use Rattle.std.proofs.Common.{◌≡◌, ℕ, ◌+◌, ◌-◌, ◌<◌, ◌≤◌, length}
-use Rattle.re_steps.proofs.Words.{expression_of, AreReached, GoesOnAt, IsLastEnd}
+use Rattle.re_steps.proofs.Prelude.{◌≡◌, ℕ, ◌+◌, ◌-◌, ◌<◌, ◌≤◌, length, expression_of, AreReached, GoesOnAt, IsLastEnd}
 use Rattle.re_steps.proofs.lone.follow.Given as goal
 
 abbrev pub invariant-places : goal.invariant-places

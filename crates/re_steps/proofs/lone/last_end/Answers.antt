@@ -1,4 +1,4 @@
-use Rattle.std.proofs.Common.{inl, inr, refl}
+use Rattle.re_steps.proofs.Prelude.{inl, inr, refl}
 use Rattle.re_auto.proofs.lemmas.WordLemmas.{in_both}
 use Rattle.re_steps.proofs.lemmas.LoneLaws.{none_in_zero, some_held, some_in_both}
 use Rattle.re_steps.proofs.lone.last_end.Goals as goal

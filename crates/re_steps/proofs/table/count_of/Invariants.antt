@@ -1,4 +1,4 @@
-use Rattle.std.proofs.Common.{ℕ, ◌<◌, ◌≤◌, slice_index}
+use Rattle.re_steps.proofs.Prelude.{ℕ, ◌<◌, ◌≤◌, slice_index}
 use Rattle.re_steps.proofs.table.count_of.Given as goal
 
 abbrev pub invariant-bytes : goal.invariant-bytes

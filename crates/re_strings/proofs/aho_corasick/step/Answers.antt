@@ -1,4 +1,4 @@
-use Rattle.std.proofs.Common.{◌≡◌, slice_index, arith}
+use Rattle.re_strings.proofs.Prelude.{◌≡◌, slice_index, arith}
 use Rattle.re_strings.proofs.lemmas.SetSteps.{may_at_first, goes_on, falls_back}
 use Rattle.re_strings.proofs.lemmas.SetTries.{ascends}
 use Rattle.re_strings.proofs.aho_corasick.step.Goals as goal

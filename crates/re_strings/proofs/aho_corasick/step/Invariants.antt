@@ -1,5 +1,4 @@
-use Rattle.std.proofs.Common.{ℕ, ◌<◌, ◌≤◌, length}
-use Rattle.re_strings.proofs.Words.{Text, Labels, IsTrieOf, AreFallbacksOf, StandsFor, MayStandFor}
+use Rattle.re_strings.proofs.Prelude.{ℕ, ◌<◌, ◌≤◌, length, Text, Labels, IsTrieOf, AreFallbacksOf, StandsFor, MayStandFor}
 use Rattle.re_strings.proofs.aho_corasick.step.Given as goal
 
 abbrev pub invariant-nodes : goal.invariant-nodes

@@ -1,4 +1,4 @@
-use Rattle.std.proofs.Common.{◌≡◌, ℕ, ◌<◌, ◌≤◌, ◌-◌, length, slice_index}
+use Rattle.re_strings.proofs.Prelude.{◌≡◌, ℕ, ◌<◌, ◌≤◌, ◌-◌, length, slice_index}
 use Rattle.re_strings.proofs.build.add_depths.Given as goal
 
 abbrev pub invariant-nodes : goal.invariant-nodes

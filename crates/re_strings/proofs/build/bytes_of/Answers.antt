@@ -1,4 +1,4 @@
-use Rattle.std.proofs.Common.{arith}
+use Rattle.re_strings.proofs.Prelude.{arith}
 use Rattle.re_strings.proofs.build.bytes_of.Goals as goal
 
 pub returns-clause-all : goal.returns-clause-all

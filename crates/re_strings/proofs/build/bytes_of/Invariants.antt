@@ -1,5 +1,4 @@
-use Rattle.std.proofs.Common.{◌≡◌, ℕ, ◌<◌, length, slice_index}
-use Rattle.re_strings.specs.Working.Branches.{branch_at}
+use Rattle.re_strings.proofs.Prelude.{◌≡◌, ℕ, ◌<◌, length, slice_index, branch_at}
 use Rattle.re_strings.proofs.build.bytes_of.Given as goal
 
 abbrev pub invariant-places : goal.invariant-places

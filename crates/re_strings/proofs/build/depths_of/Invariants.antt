@@ -1,5 +1,4 @@
-use Rattle.std.proofs.Common.{◌≡◌, ℕ, ◌<◌, ◌≤◌, length, slice_index}
-use Rattle.re_strings.specs.Working.FixedSets.{Labels, IsTrieOf}
+use Rattle.re_strings.proofs.Prelude.{◌≡◌, ℕ, ◌<◌, ◌≤◌, length, slice_index, Labels, IsTrieOf}
 use Rattle.re_strings.proofs.build.depths_of.Given as goal
 
 abbrev pub invariant-nodes : goal.invariant-nodes

@@ -1,4 +1,4 @@
-use Rattle.std.proofs.Common.{map}
+use Rattle.re_strings.proofs.Prelude.{map}
 use Rattle.re_strings.proofs.lemmas.SetTable.{nodes_right}
 use Rattle.re_strings.proofs.build.nodes_of.Goals as goal
 

@@ -1,5 +1,4 @@
-use Rattle.std.proofs.Common.{◌≡◌, ℕ, ◌<◌, length, slice_index, map}
-use Rattle.re_strings.specs.Working.Branches.{branch_at, own_length}
+use Rattle.re_strings.proofs.Prelude.{◌≡◌, ℕ, ◌<◌, length, slice_index, map, branch_at, own_length}
 use Rattle.re_strings.proofs.build.owns_of.Given as goal
 
 abbrev pub invariant-places : goal.invariant-places

@@ -1,5 +1,4 @@
-use Rattle.std.proofs.Common.{map, arith}
-use Rattle.re_strings.specs.Working.FixedSets.{Labels}
+use Rattle.re_strings.proofs.Prelude.{map, arith, Labels}
 use Rattle.re_strings.proofs.lemmas.SetLeaps.{same_leaps}
 use Rattle.re_strings.proofs.build.table_of.Goals as goal
 

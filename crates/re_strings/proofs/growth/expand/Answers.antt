@@ -1,8 +1,4 @@
-use Rattle.std.proofs.Common.{◌≡◌, ℕ, ◌+◌, ◌<◌, ◌≤◌, ◌++◌, ◌∷◌, [], inl, inr, List, Some, take, length, map, slice_get, sym, ap, subst, ◌∙◌, arith, append_assoc}
-use Rattle.std.proofs.lemmas.List.{get_or_default}
-use Rattle.std.proofs.lemmas.List.Elements.{All-push}
-use Rattle.std.proofs.lemmas.Bool.{cases_lt}
-use Rattle.re_strings.proofs.Words.{Text, Branch, IsBranch, branch_at, no_branch, text_at}
+use Rattle.re_strings.proofs.Prelude.{◌≡◌, ℕ, ◌+◌, ◌<◌, ◌≤◌, ◌++◌, ◌∷◌, [], inl, inr, List, Some, take, length, map, slice_get, sym, ap, subst, ◌∙◌, arith, append_assoc, get_or_default, All-push, cases_lt, Text, Branch, IsBranch, branch_at, no_branch, text_at}
 use Rattle.re_strings.proofs.lemmas.SetBranches.{run_after, run_branch, run_text, child_more, found_still, found_last, run_found, row_done, longer}
 use Rattle.re_strings.proofs.growth.expand.Goals as goal
 

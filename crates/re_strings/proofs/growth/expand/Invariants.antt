@@ -1,5 +1,4 @@
-use Rattle.std.proofs.Common.{◌≡◌, ℕ, ◌<◌, ◌≤◌, ◌-◌, ◌++◌, ◌∷◌, [], List, All, map, length, slice_get, Some}
-use Rattle.re_strings.proofs.Words.{Branch, text_at, rank, IsBranch, branch_at, branch_text}
+use Rattle.re_strings.proofs.Prelude.{◌≡◌, ℕ, ◌<◌, ◌≤◌, ◌-◌, ◌++◌, ◌∷◌, [], List, All, map, length, slice_get, Some, Branch, text_at, rank, IsBranch, branch_at, branch_text}
 use Rattle.re_strings.proofs.growth.expand.Given as goal
 
 abbrev pub invariant-runs : goal.invariant-runs

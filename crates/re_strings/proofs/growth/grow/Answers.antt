@@ -1,6 +1,4 @@
-use Rattle.std.proofs.Common.{rules, ◌≡◌, ◌<◌, ◌++◌, ◌∷◌, [], List, length, map, sym, ap, subst, ◌∙◌, arith}
-use Rattle.std.proofs.lemmas.List.{length-map}
-use Rattle.re_strings.proofs.Words.{Text, AreRows}
+use Rattle.re_strings.proofs.Prelude.{rules, ◌≡◌, ◌<◌, ◌++◌, ◌∷◌, [], List, length, map, sym, ap, subst, ◌∙◌, arith, length-map, Text, AreRows}
 use Rattle.re_strings.proofs.lemmas.SetBranches.{rows_at_first, rows_more}
 use Rattle.re_strings.proofs.growth.grow.Goals as goal
 

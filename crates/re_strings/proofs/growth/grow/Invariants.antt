@@ -1,5 +1,4 @@
-use Rattle.std.proofs.Common.{◌<◌, ◌-◌, ◌^◌, map, length}
-use Rattle.re_strings.specs.Working.Branches.{AreRows}
+use Rattle.re_strings.proofs.Prelude.{◌<◌, ◌-◌, ◌^◌, map, length, AreRows}
 use Rattle.re_strings.proofs.growth.grow.Given as goal
 
 abbrev pub invariant-nodes : goal.invariant-nodes

@@ -1,5 +1,4 @@
-use Rattle.std.proofs.Common.{◌≡◌, ℕ, ◌<◌, map, slice_get}
-use Rattle.re_strings.specs.Working.Branches.{text_at}
+use Rattle.re_strings.proofs.Prelude.{◌≡◌, ℕ, ◌<◌, map, slice_get, text_at}
 use Rattle.re_strings.proofs.growth.run_end.Given as goal
 
 abbrev pub invariant-places : goal.invariant-places

@@ -1,5 +1,4 @@
-use Rattle.std.proofs.Common.{sym, ap, ◌∙◌}
-use Rattle.re_strings.specs.Working.Keys.{key}
+use Rattle.re_strings.proofs.Prelude.{sym, ap, ◌∙◌, key}
 use Rattle.re_strings.proofs.lemmas.KeyLaws.{key_plain, key_lower}
 use Rattle.re_strings.proofs.keys.key_of.Goals as goal
 

@@ -1,7 +1,4 @@
-use Rattle.std.proofs.Common.{◌≡◌, ◌+◌, ◌≤◌, inl, inr, List, [], length, map, get_or, slice_index, sym, subst, arith}
-use Rattle.std.proofs.lemmas.List.{get_or-map, length-map}
-use Rattle.std.proofs.lemmas.Bool.{cases_lt}
-use Rattle.re_strings.proofs.Words.{Text, text_at, pair_row}
+use Rattle.re_strings.proofs.Prelude.{◌≡◌, ◌+◌, ◌≤◌, inl, inr, List, [], length, map, get_or, slice_index, sym, subst, arith, get_or-map, length-map, cases_lt, Text, text_at, pair_row}
 use Rattle.re_strings.proofs.lemmas.SetLeaps.{leaps_by_places}
 use Rattle.re_strings.proofs.leaps.leaps_of.Goals as goal
 

@@ -1,5 +1,4 @@
-use Rattle.std.proofs.Common.{◌≡◌, ℕ, ◌+◌, ◌<◌, ◌≤◌, length, map, slice_index}
-use Rattle.re_strings.proofs.Words.{text_at, pair_row}
+use Rattle.re_strings.proofs.Prelude.{◌≡◌, ℕ, ◌+◌, ◌<◌, ◌≤◌, length, map, slice_index, text_at, pair_row}
 use Rattle.re_strings.proofs.leaps.leaps_of.Given as goal
 
 abbrev pub invariant-strings : goal.invariant-strings

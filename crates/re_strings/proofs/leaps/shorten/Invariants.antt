@@ -1,5 +1,4 @@
-use Rattle.std.proofs.Common.{◌≡◌, ℕ, ◌+◌, ◌<◌, ◌≤◌, ◌-◌, length, slice_index}
-use Rattle.re_strings.specs.Working.FixedSets.{pair_row}
+use Rattle.re_strings.proofs.Prelude.{◌≡◌, ℕ, ◌+◌, ◌<◌, ◌≤◌, ◌-◌, length, slice_index, pair_row}
 use Rattle.re_strings.proofs.leaps.shorten.Given as goal
 
 abbrev pub invariant-pairs : goal.invariant-pairs

@@ -1,7 +1,4 @@
-use Rattle.std.proofs.Common.{◌≡◌, ◌≤◌, inl, inr, [], length, map, get_or, ap, subst, arith}
-use Rattle.std.proofs.lemmas.List.{get_or-map}
-use Rattle.std.proofs.lemmas.Bool.{cases_lt}
-use Rattle.re_strings.specs.Working.Branches.{text_at}
+use Rattle.re_strings.proofs.Prelude.{◌≡◌, ◌≤◌, inl, inr, [], length, map, get_or, ap, subst, arith, get_or-map, cases_lt, text_at}
 use Rattle.re_strings.proofs.leaps.window_of.Goals as goal
 
 pub strings-preserved : goal.strings-preserved

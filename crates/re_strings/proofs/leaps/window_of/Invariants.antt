@@ -1,5 +1,4 @@
-use Rattle.std.proofs.Common.{ℕ, ◌<◌, ◌≤◌, length, map}
-use Rattle.re_strings.specs.Working.Branches.{text_at}
+use Rattle.re_strings.proofs.Prelude.{ℕ, ◌<◌, ◌≤◌, length, map, text_at}
 use Rattle.re_strings.proofs.leaps.window_of.Given as goal
 
 abbrev pub invariant-strings : goal.invariant-strings

@@ -1,6 +1,4 @@
-use Rattle.std.proofs.Common.{rules, ◌≡◌, ◌+◌, ◌<◌, [], ◌∷◌, ◌++◌, length, slice_index, sym, ap, subst, ◌∙◌, arith, length-append}
-use Rattle.std.proofs.lemmas.Grind.{get_or_default_zero}
-use Rattle.re_strings.specs.Working.FixedSets.{AreLinked, StandsFor, own_or}
+use Rattle.re_strings.proofs.Prelude.{rules, ◌≡◌, ◌+◌, ◌<◌, [], ◌∷◌, ◌++◌, length, slice_index, sym, ap, subst, ◌∙◌, arith, length-append, get_or_default_zero, AreLinked, StandsFor, own_or}
 use Rattle.re_strings.proofs.lemmas.SetLinks.{own_or_within, linked_more, linked_right}
 use Rattle.re_strings.proofs.lemmas.SetSearch.{row_read}
 use Rattle.re_strings.proofs.links.link_children.Goals as goal

@@ -1,5 +1,4 @@
-use Rattle.std.proofs.Common.{false, ◌+◌, ◌≤◌, ◌-◌, length, slice_index}
-use Rattle.re_strings.specs.Working.FixedSets.{Labels, IsTrieOf, AreStartsOf, AreOwn, AreLinked, AreLinkedFor}
+use Rattle.re_strings.proofs.Prelude.{false, ◌+◌, ◌≤◌, ◌-◌, length, slice_index, Labels, IsTrieOf, AreStartsOf, AreOwn, AreLinked, AreLinkedFor}
 use Rattle.re_strings.proofs.links.link_children.Given as goal
 
 abbrev pub invariant-children : goal.invariant-children

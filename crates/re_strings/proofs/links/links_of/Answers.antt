@@ -1,5 +1,4 @@
-use Rattle.std.proofs.Common.{ap, ◌∙◌, ◌∷◌, [], ◌++◌, subst, arith, ◌≡◌, length, slice_index}
-use Rattle.re_strings.specs.Working.FixedSets.{AreLinked}
+use Rattle.re_strings.proofs.Prelude.{ap, ◌∙◌, ◌∷◌, [], ◌++◌, subst, arith, ◌≡◌, length, slice_index, AreLinked}
 use Rattle.re_strings.proofs.lemmas.SetLinks.{root_linked, root_linked_right}
 use Rattle.re_strings.proofs.links.links_of.Goals as goal
 

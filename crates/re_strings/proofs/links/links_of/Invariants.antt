@@ -1,5 +1,4 @@
-use Rattle.std.proofs.Common.{false, slice_index}
-use Rattle.re_strings.specs.Working.FixedSets.{Labels, IsTrieOf, AreStartsOf, AreOwn, AreLinked, AreLinkedFor}
+use Rattle.re_strings.proofs.Prelude.{false, slice_index, Labels, IsTrieOf, AreStartsOf, AreOwn, AreLinked, AreLinkedFor}
 use Rattle.re_strings.proofs.links.links_of.Given as goal
 
 abbrev pub invariant-nodes : goal.invariant-nodes

@@ -1,5 +1,4 @@
-use Rattle.std.proofs.Common.{[], ◌∷◌, ◌++◌, sym, subst}
-use Rattle.re_strings.specs.Working.FixedSets.{IsFront, StandsFor, MayStandFor}
+use Rattle.re_strings.proofs.Prelude.{[], ◌∷◌, ◌++◌, sym, subst, IsFront, StandsFor, MayStandFor}
 use Rattle.re_strings.proofs.lemmas.SetSteps.{goes_on, nothing_left}
 use Rattle.re_strings.proofs.links.start_of.Goals as goal
 

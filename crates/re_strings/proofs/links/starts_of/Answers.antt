@@ -1,4 +1,4 @@
-use Rattle.std.proofs.Common.{◌≡◌, length, arith}
+use Rattle.re_strings.proofs.Prelude.{◌≡◌, length, arith}
 use Rattle.re_strings.proofs.links.starts_of.Goals as goal
 
 pub returns-clause-starts : goal.returns-clause-starts

@@ -1,5 +1,4 @@
-use Rattle.std.proofs.Common.{ℕ, ◌<◌, ◌≤◌, ◌-◌, length, slice_index}
-use Rattle.re_strings.proofs.Words.{Labels, IsTrieOf, StepsOn, key}
+use Rattle.re_strings.proofs.Prelude.{ℕ, ◌<◌, ◌≤◌, ◌-◌, length, slice_index, Labels, IsTrieOf, StepsOn, key}
 use Rattle.re_strings.proofs.links.starts_of.Given as goal
 
 abbrev pub invariant-bytes : goal.invariant-bytes

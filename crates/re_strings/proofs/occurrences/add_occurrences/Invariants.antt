@@ -1,5 +1,4 @@
-use Rattle.std.proofs.Common.{◌+◌, ◌<◌, length}
-use Rattle.re_strings.proofs.Words.{OccursAt, AddsEnds, AgreesUpTo}
+use Rattle.re_strings.proofs.Prelude.{◌+◌, ◌<◌, length, OccursAt, AddsEnds, AgreesUpTo}
 use Rattle.re_strings.proofs.occurrences.add_occurrences.Given as goal
 
 abbrev pub invariant-places : goal.invariant-places

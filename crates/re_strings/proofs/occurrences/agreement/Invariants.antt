@@ -1,5 +1,4 @@
-use Rattle.std.proofs.Common.{◌-◌, length}
-use Rattle.re_strings.specs.Working.Overlaps.{AgreesUpTo}
+use Rattle.re_strings.proofs.Prelude.{◌-◌, length, AgreesUpTo}
 use Rattle.re_strings.proofs.occurrences.agreement.Given as goal
 
 abbrev pub invariant-bytes : goal.invariant-bytes

@@ -1,5 +1,4 @@
-use Rattle.std.proofs.Common.{◌≡◌, ℕ, ◌<◌, length, slice_index}
-use Rattle.re_strings.specs.Working.Overlaps.{AgreesUpTo, CommonLength}
+use Rattle.re_strings.proofs.Prelude.{◌≡◌, ℕ, ◌<◌, length, slice_index, AgreesUpTo, CommonLength}
 use Rattle.re_strings.proofs.occurrences.find_own_lengths.Given as goal
 
 abbrev pub invariant-places : goal.invariant-places

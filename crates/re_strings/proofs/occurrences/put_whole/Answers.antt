@@ -1,4 +1,4 @@
-use Rattle.std.proofs.Common.{◌≡◌, ◌+◌, ◌<◌}
+use Rattle.re_strings.proofs.Prelude.{◌≡◌, ◌+◌, ◌<◌}
 use Rattle.re_strings.proofs.lemmas.SetEnds.{same_ends_added}
 use Rattle.re_strings.proofs.occurrences.put_whole.Goals as goal
 

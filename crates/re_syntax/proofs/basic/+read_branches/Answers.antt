@@ -1,6 +1,4 @@
-use Rattle.std.proofs.Common.{◌+◌, ◌-◌, ◌≢◌, inl, get_or, drop, refl, ap, ◌∙◌, arith, rules}
-use Rattle.std.proofs.lemmas.Result.{err_from_is_err_and}
-use Rattle.re_syntax.proofs.Words.{one_of, memory, reported}
+use Rattle.re_syntax.proofs.Prelude.{◌+◌, ◌-◌, ◌≢◌, inl, get_or, drop, refl, ap, ◌∙◌, arith, rules, err_from_is_err_and, one_of, memory, reported}
 use Rattle.re_syntax.specs.Working.BasicSteps.{DuplicationStands}
 use Rattle.re_syntax.proofs.lemmas.ExpressionLaws.{expression-Set}
 use Rattle.re_syntax.proofs.lemmas.BasicEnds.{item_within}

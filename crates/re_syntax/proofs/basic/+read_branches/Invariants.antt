@@ -1,5 +1,4 @@
-use Rattle.std.proofs.Common.{◌+◌, ◌-◌, ◌*◌, length}
-use Rattle.re_syntax.specs.Working.BasicSteps.{SoFar}
+use Rattle.re_syntax.proofs.Prelude.{◌+◌, ◌-◌, ◌*◌, length, SoFar}
 use Rattle.re_syntax.proofs.lemmas.BasicItems.{ItemSoFar}
 use Rattle.re_syntax.proofs.lemmas.BasicBranches.{BranchesSoFar}
 use Rattle.re_syntax.proofs.basic.+read_branches.Given as goal

@@ -1,5 +1,4 @@
-use Rattle.std.proofs.Common.{drop}
-use Rattle.re_syntax.specs.Working.BasicSteps.{HasItem, HasNoItem, HasNoTail, at_end, ComesAfterTail}
+use Rattle.re_syntax.proofs.Prelude.{drop, HasItem, HasNoItem, HasNoTail, at_end, ComesAfterTail}
 use Rattle.re_syntax.proofs.lemmas.BasicEnds.{item_here, tail_here}
 use Rattle.re_syntax.proofs.lemmas.Places.{none_found}
 use Rattle.re_syntax.proofs.basic.has_item.Goals as goal

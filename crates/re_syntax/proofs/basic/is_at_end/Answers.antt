@@ -1,5 +1,4 @@
-use Rattle.std.proofs.Common.{drop}
-use Rattle.re_syntax.specs.Basic.{IsAtEnd}
+use Rattle.re_syntax.proofs.Prelude.{drop, IsAtEnd}
 use Rattle.re_syntax.proofs.lemmas.BasicEnds.{at_text_end, at_group_end, at_branch_end, not_at_end}
 use Rattle.re_syntax.proofs.lemmas.Places.{either_found, some_found, nothing_found}
 use Rattle.re_syntax.proofs.basic.is_at_end.Goals as goal

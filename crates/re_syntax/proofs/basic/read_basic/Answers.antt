@@ -1,4 +1,4 @@
-use Rattle.std.proofs.Common.{rules}
+use Rattle.re_syntax.proofs.Prelude.{rules}
 use Rattle.re_syntax.proofs.lemmas.SpelledUnique.{IsSpelled-unique}
 use Rattle.re_syntax.proofs.basic.read_basic.Goals as goal
 

@@ -1,5 +1,4 @@
-use Rattle.std.proofs.Common.{inr}
-use Rattle.std.proofs.lemmas.Result.{err_from_is_err_and}
+use Rattle.re_syntax.proofs.Prelude.{inr, err_from_is_err_and}
 use Rattle.re_syntax.proofs.lemmas.BasicGroups.{whole_read, not_whole, memory_or_none}
 use Rattle.re_syntax.proofs.basic.read_whole.Goals as goal
 

@@ -1,5 +1,4 @@
-use Rattle.std.proofs.Common.{ap, ◌∙◌}
-use Rattle.std.proofs.lemmas.Result.{err_from_is_err_and}
+use Rattle.re_syntax.proofs.Prelude.{ap, ◌∙◌, err_from_is_err_and}
 use Rattle.re_syntax.proofs.lemmas.BracketWhole.{next_byte, left_at, up_to, only_one, shown_in}
 use Rattle.re_syntax.proofs.bracket.read_bracket.Goals as goal
 

@@ -1,5 +1,4 @@
-use Rattle.std.proofs.Common.{◌≡◌, inr, IfOk, IfErr, OnOk, subst, ◌∙◌}
-use Rattle.re_syntax.proofs.Words.{members, Element, left, HasNoElement}
+use Rattle.re_syntax.proofs.Prelude.{◌≡◌, inr, IfOk, IfErr, OnOk, subst, ◌∙◌, members, Element, left, HasNoElement}
 use Rattle.re_syntax.proofs.lemmas.BracketNamed.{class_passed, equivalence_passed, no_class, class_shown, no_equivalence, equivalence_shown}
 use Rattle.re_syntax.proofs.bracket.read_element.Goals as goal
 

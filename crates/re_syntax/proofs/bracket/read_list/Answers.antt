@@ -1,5 +1,4 @@
-use Rattle.std.proofs.Common.{ap, ◌∙◌}
-use Rattle.std.proofs.lemmas.Result.{err_from_is_err_and}
+use Rattle.re_syntax.proofs.Prelude.{ap, ◌∙◌, err_from_is_err_and}
 use Rattle.re_syntax.proofs.lemmas.BracketElements.{shown_along}
 use Rattle.re_syntax.proofs.lemmas.BracketLists.{goes_on-first, goes_on-next, goes_on-last, goes_on-none, element-shortens}
 use Rattle.re_syntax.proofs.bracket.read_list.Goals as goal

@@ -1,5 +1,4 @@
-use Rattle.std.proofs.Common.{◌≡◌, length}
-use Rattle.re_syntax.proofs.Words.{left, members}
+use Rattle.re_syntax.proofs.Prelude.{◌≡◌, length, left, members}
 use Rattle.re_syntax.proofs.lemmas.BracketLists.{GoesOn}
 use Rattle.re_syntax.proofs.bracket.read_list.Given as goal
 

@@ -1,4 +1,4 @@
-use Rattle.std.proofs.Common.{inl}
+use Rattle.re_syntax.proofs.Prelude.{inl}
 use Rattle.re_syntax.proofs.lemmas.BracketPoints.{symbol_passed, byte_passed, no_symbol, symbol_shown}
 use Rattle.re_syntax.proofs.bracket.read_point.Goals as goal
 

@@ -1,5 +1,4 @@
-use Rattle.std.proofs.Common.{◌∙◌}
-use Rattle.std.proofs.lemmas.Result.{err_from_is_err_and}
+use Rattle.re_syntax.proofs.Prelude.{◌∙◌, err_from_is_err_and}
 use Rattle.re_syntax.proofs.lemmas.BracketElements.{no_element_at_all, no_stray_hyphen, no_range, alone_stands, range_stands, shown_along}
 use Rattle.re_syntax.proofs.bracket.read_point_or_range.Goals as goal
 

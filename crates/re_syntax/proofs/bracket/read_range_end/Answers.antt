@@ -1,5 +1,4 @@
-use Rattle.std.proofs.Common.{ap, ◌∙◌}
-use Rattle.re_syntax.specs.Working.Cursors.{left}
+use Rattle.re_syntax.proofs.Prelude.{ap, ◌∙◌, left}
 use Rattle.re_syntax.proofs.lemmas.BracketPoints.{too_low}
 use Rattle.re_syntax.proofs.bracket.read_range_end.Goals as goal
 

@@ -1,5 +1,4 @@
-use Rattle.std.proofs.Common.{ap, ◌∙◌, ◌++◌, codes, arith, below_more}
-use Rattle.re_syntax.proofs.Words.{Begins, class_name, left}
+use Rattle.re_syntax.proofs.Prelude.{ap, ◌∙◌, ◌++◌, codes, arith, below_more, Begins, class_name, left}
 use Rattle.re_syntax.proofs.lemmas.ClassNames.{each_class}
 use Rattle.re_syntax.proofs.lemmas.BracketPoints.{not_begins_along}
 use Rattle.re_syntax.proofs.bracket.take_class.Goals as goal

@@ -1,5 +1,4 @@
-use Rattle.std.proofs.Common.{◌≡◌, ℕ, ◌++◌, ◌<◌, codes, get_or}
-use Rattle.re_syntax.proofs.Words.{Upper, Begins, class_name, left}
+use Rattle.re_syntax.proofs.Prelude.{◌≡◌, ℕ, ◌++◌, ◌<◌, codes, get_or, Upper, Begins, class_name, left}
 use Rattle.re_syntax.proofs.bracket.take_class.Given as goal
 
 -- the cursor has not moved, and no name of a class that was tried comes next

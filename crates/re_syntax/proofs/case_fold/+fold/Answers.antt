@@ -1,5 +1,4 @@
-use Rattle.std.proofs.Common.{ap, sym, ◌∙◌}
-use Rattle.re_syntax.proofs.Words.{expression_of, folded}
+use Rattle.re_syntax.proofs.Prelude.{ap, sym, ◌∙◌, expression_of, folded}
 use Rattle.re_syntax.proofs.lemmas.FoldedLaws.{folded-Cat, folded-Alt, folded-Repeat}
 use Rattle.re_syntax.proofs.case_fold.+fold.Goals as goal
 

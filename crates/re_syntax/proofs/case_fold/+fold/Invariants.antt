@@ -1,5 +1,4 @@
-use Rattle.std.proofs.Common.{◌≡◌, map, take}
-use Rattle.re_syntax.proofs.Words.{expression_of, folded}
+use Rattle.re_syntax.proofs.Prelude.{◌≡◌, map, take, expression_of, folded}
 use Rattle.re_syntax.proofs.case_fold.+fold.Given as goal
 
 abbrev pub invariant-fold_all-loop-i : goal.invariant-fold_all-loop-i

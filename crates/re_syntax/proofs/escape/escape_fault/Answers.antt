@@ -1,5 +1,4 @@
-use Rattle.std.proofs.Common.{◌≡◌, ◌∙◌, sym, false, true}
-use Rattle.re_syntax.specs.EscapeFaults.{undefined, reference}
+use Rattle.re_syntax.proofs.Prelude.{◌≡◌, ◌∙◌, sym, false, true, undefined, reference}
 use Rattle.re_syntax.proofs.escape.escape_fault.Goals as goal
 
 pub returns-then-byte : goal.returns-then-byte

@@ -1,6 +1,4 @@
-use Rattle.std.proofs.Common.{◌≡◌, ◌≢◌, ◌+◌, ◌-◌, inl, true, false, get_or, drop, refl, ap, ◌∙◌, arith, rules}
-use Rattle.std.proofs.lemmas.Result.{err_from_is_err_and}
-use Rattle.re_syntax.proofs.Words.{one_of, memory, reported, stops}
+use Rattle.re_syntax.proofs.Prelude.{◌≡◌, ◌≢◌, ◌+◌, ◌-◌, inl, true, false, get_or, drop, refl, ap, ◌∙◌, arith, rules, err_from_is_err_and, one_of, memory, reported, stops}
 use Rattle.re_syntax.specs.Working.ExtendedSteps.{DuplicationStands}
 use Rattle.re_syntax.proofs.lemmas.ExpressionLaws.{expression-Set, expression-Begin, expression-End}
 use Rattle.re_syntax.proofs.lemmas.ExtendedAtoms.{shown_escape, escaped_stands, no_escape_atom, bracket_atom, no_bracket_atom, shown_no_bracket, dollar_stands, single_stands}

@@ -1,4 +1,4 @@
-use Rattle.std.proofs.Common.{◌+◌, ◌-◌, ◌*◌, length}
+use Rattle.re_syntax.proofs.Prelude.{◌+◌, ◌-◌, ◌*◌, length}
 use Rattle.re_syntax.proofs.lemmas.ExtendedItems.{ItemSoFar, SoFar}
 use Rattle.re_syntax.proofs.lemmas.ExtendedBranches.{BranchesSoFar}
 use Rattle.re_syntax.proofs.extended.+read_branches.Given as goal

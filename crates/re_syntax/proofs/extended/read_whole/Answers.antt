@@ -1,4 +1,4 @@
-use Rattle.std.proofs.lemmas.Result.{err_from_is_err_and}
+use Rattle.re_syntax.proofs.Prelude.{err_from_is_err_and}
 use Rattle.re_syntax.proofs.lemmas.ExtendedBranches.{whole_read, memory_or_none}
 use Rattle.re_syntax.proofs.extended.read_whole.Goals as goal
 

@@ -1,5 +1,4 @@
-use Rattle.std.proofs.Common.{sym, ap}
-use Rattle.re_syntax.specs.Working.ExtendedSteps.{stops}
+use Rattle.re_syntax.proofs.Prelude.{sym, ap, stops}
 use Rattle.re_syntax.proofs.lemmas.Places.{byte_at}
 use Rattle.re_syntax.proofs.extended.stops_at.Goals as goal
 

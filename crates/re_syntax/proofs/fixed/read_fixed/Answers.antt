@@ -1,5 +1,4 @@
-use Rattle.std.proofs.Common.{◌≡◌, map, take, ap, ◌∙◌, arith, take_all}
-use Rattle.re_syntax.proofs.Words.{byte, sequence, expression_of}
+use Rattle.re_syntax.proofs.Prelude.{◌≡◌, map, take, ap, ◌∙◌, arith, take_all, byte, sequence, expression_of}
 use Rattle.re_syntax.proofs.lemmas.SpelledUnique.{fixed_spelled, fixed_only}
 use Rattle.re_syntax.proofs.fixed.read_fixed.Goals as goal
 

@@ -1,5 +1,4 @@
-use Rattle.std.proofs.Common.{◌≡◌, map, take}
-use Rattle.re_syntax.proofs.Words.{byte, expression_of}
+use Rattle.re_syntax.proofs.Prelude.{◌≡◌, map, take, byte, expression_of}
 use Rattle.re_syntax.proofs.fixed.read_fixed.Given as goal
 
 abbrev pub invariant-loop-b : goal.invariant-loop-b

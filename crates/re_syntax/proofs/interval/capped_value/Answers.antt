@@ -1,5 +1,4 @@
-use Rattle.std.proofs.Common.{◌+◌, ◌-◌, ◌*◌, min, take, get_or, sym, ap, ◌∙◌}
-use Rattle.re_syntax.specs.Intervals.{capped, value}
+use Rattle.re_syntax.proofs.Prelude.{◌+◌, ◌-◌, ◌*◌, min, take, get_or, sym, ap, ◌∙◌, capped, value}
 use Rattle.re_syntax.proofs.lemmas.DigitsLaws.{value_after-take, capped-step}
 use Rattle.re_syntax.proofs.interval.capped_value.Goals as goal
 

@@ -1,5 +1,4 @@
-use Rattle.std.proofs.Common.{◌≡◌, take}
-use Rattle.re_syntax.specs.Intervals.{value, capped}
+use Rattle.re_syntax.proofs.Prelude.{◌≡◌, take, value, capped}
 use Rattle.re_syntax.proofs.interval.capped_value.Given as goal
 
 abbrev pub invariant-loop-digit : goal.invariant-loop-digit

@@ -1,4 +1,4 @@
-use Rattle.re_syntax.specs.IntervalFaults.{least_too_large, most_too_large, descending}
+use Rattle.re_syntax.proofs.Prelude.{least_too_large, most_too_large, descending}
 use Rattle.re_syntax.proofs.interval.counts_fault.Goals as goal
 
 pub returns-then-counts-gt-MOST_REPEATS : goal.returns-then-counts-gt-MOST_REPEATS

@@ -1,6 +1,4 @@
-use Rattle.std.proofs.Common.{take, drop, ◌∙◌, ap, arith}
-use Rattle.std.proofs.lemmas.List.{take_rest}
-use Rattle.re_syntax.specs.Intervals.{capped, value}
+use Rattle.re_syntax.proofs.Prelude.{take, drop, ◌∙◌, ap, arith, take_rest, capped, value}
 use Rattle.re_syntax.proofs.lemmas.IntervalReading.{number_stands, same_front}
 use Rattle.re_syntax.proofs.interval.read_number.Goals as goal
 

@@ -1,5 +1,4 @@
-use Rattle.std.proofs.Common.{sym, ap, ◌∙◌, rules}
-use Rattle.re_syntax.specs.Working.Counted.{up_to_word}
+use Rattle.re_syntax.proofs.Prelude.{sym, ap, ◌∙◌, rules, up_to_word}
 use Rattle.re_syntax.proofs.lemmas.PiecesLaws.{positions-choice}
 use Rattle.re_syntax.proofs.pieces.any_of.Goals as goal
 

@@ -1,4 +1,4 @@
-use Rattle.std.proofs.Common.{refl, ◌∙◌}
+use Rattle.re_syntax.proofs.Prelude.{refl, ◌∙◌}
 use Rattle.re_syntax.proofs.lemmas.PiecesLaws.{counted_sum}
 use Rattle.re_syntax.proofs.pieces.joined.Goals as goal
 

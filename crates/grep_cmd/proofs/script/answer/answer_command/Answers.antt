@@ -1,7 +1,6 @@
-use Rattle.std.proofs.Common.{◌≡◌, Some, None, refl, rules, [], ◌∷◌}
+use Rattle.grep_cmd.proofs.Prelude.{◌≡◌, Some, None, refl, rules, [], ◌∷◌, Accepted, does, reports, reports_changes, reports_page, is_bad, edits, shows, lists_changes, lists_page, line_command, reply_to, bad_command, answer_for, line_meant}
 use Rattle.re_meter.proofs.lemmas.Adding.{adds_none}
 use Rattle.grep_core.proofs.lemmas.RowLemmas.{goes_nowhere}
-use Rattle.grep_cmd.proofs.Words.{Accepted, does, reports, reports_changes, reports_page, is_bad, edits, shows, lists_changes, lists_page, line_command, reply_to, bad_command, answer_for, line_meant}
 use Rattle.grep_cmd.specs.declared.script.reply.Answer.TheVariants.{Refused}
 use Rattle.grep_cmd.proofs.lemmas.ScriptAnswers.{answers_step, does_alone, refused_as, answered_in_time, not_for_memory, shown_is_no_refusal, changes_is_no_refusal, page_is_no_refusal, answers_changes}
 use Rattle.grep_cmd.proofs.script.answer.answer_command.Goals as goal
@@ -14,7 +13,7 @@ returns-in-Ok-Some-Edit-clause-answers g c =
     λ reader handed h.
     let done = does_alone g.R.CountedRead.remaining g.R.CountedRead.failures reader handed c.args.lines.now.lines.line c.args.lines.now c.args.meter.now c.make_edit.new.meter c.args.session.now c.make_edit.new.session g.W.CountedWrite.contents g.W.CountedWrite.failures c.args.out.now c.args.out.now c.reply_to_edit.new.out flushed
     (does edit) (reply_to c.make_edit.result ∷ []) h (rw is (refl, refl))
-    (c.make_edit.result, record { gives = c.make_edit.ensures.gives; carries = c.make_edit.ensures.carries; named = λ none. not_for_memory c.make_edit.result (c.make_edit.ensures.memory none) }, refl) c.make_edit.ensures.steps.most c.make_edit.ensures.steps.refusals c.make_edit.ensures.steps.is_most c.make_edit.ensures.steps.few in
+    (c.make_edit.result, record { gives = c.make_edit.ensures.gives; marks = c.make_edit.ensures.marks; named = λ none. not_for_memory c.make_edit.result (c.make_edit.ensures.memory none) }, refl) c.make_edit.ensures.steps.most c.make_edit.ensures.steps.refusals c.make_edit.ensures.steps.is_most c.make_edit.ensures.steps.few in
     answers_step g.R.CountedRead.remaining g.R.CountedRead.failures reader handed c.args.lines.now.lines.line c.args.lines.now c.args.meter.now c.make_edit.new.meter c.args.session.now c.make_edit.new.session g.W.CountedWrite.contents g.W.CountedWrite.failures c.args.out.now c.args.out.now c.reply_to_edit.new.out flushed
     (reply_to c.make_edit.result ∷ []) (answer_for c.make_edit.result) c.reply_to_edit.result done (refused_as c.make_edit.result) (answered_in_time c.make_edit.result) c.reply_to_edit.ensures
 

@@ -1,5 +1,4 @@
-use Rattle.std.proofs.Common.{◌≡◌, refl, sym, ap, ◌∙◌, [], ◌∷◌}
-use Rattle.grep_cmd.proofs.Words.{AddFile, Splice, does, reply_to, answer_for, file_meant, counted_meant}
+use Rattle.grep_cmd.proofs.Prelude.{◌≡◌, refl, sym, ap, ◌∙◌, [], ◌∷◌, AddFile, Splice, does, reply_to, answer_for, file_meant, counted_meant}
 use Rattle.grep_cmd.proofs.lemmas.ScriptAnswers.{answers_step, answers_truncated, answers_lost, refused_as, answered_in_time, not_for_memory}
 use Rattle.grep_cmd.proofs.script.answer.answer_counted.Goals as goal
 
@@ -36,7 +35,7 @@ returns-in-Add-clause-answers g c =
       step = does edit;
       has_handed = t.1;
       is_step = rw is (t.0, ap does (sym meant));
-      replies_to = (answer, record { gives = c.add_file.ensures.gives; carries = c.add_file.ensures.carries; named = λ none. not_for_memory answer (c.add_file.ensures.memory none) }, refl);
+      replies_to = (answer, record { gives = c.add_file.ensures.gives; marks = c.add_file.ensures.marks; named = λ none. not_for_memory answer (c.add_file.ensures.memory none) }, refl);
       most = steps.most;
       refusals = steps.refusals;
       is_most = steps.is_most;
@@ -61,7 +60,7 @@ returns-in-Splice-clause-answers g c =
       step = does edit;
       has_handed = t.1;
       is_step = rw is (t.0, ap does (sym meant));
-      replies_to = (answer, record { gives = c.splice.ensures.gives; carries = c.splice.ensures.carries; named = λ none. not_for_memory answer (c.splice.ensures.memory none) }, refl);
+      replies_to = (answer, record { gives = c.splice.ensures.gives; marks = c.splice.ensures.marks; named = λ none. not_for_memory answer (c.splice.ensures.memory none) }, refl);
       most = steps.most;
       refusals = steps.refusals;
       is_most = steps.is_most;

@@ -1,5 +1,4 @@
-use Rattle.std.proofs.Common.{◌≤◌, length, map, refl, [], ◌∷◌, arith}
-use Rattle.grep_cmd.proofs.Words.{does, reply_to, answer_for, counted_meant}
+use Rattle.grep_cmd.proofs.Prelude.{◌≤◌, length, map, refl, [], ◌∷◌, arith, does, reply_to, answer_for, counted_meant}
 use Rattle.grep_cmd.specs.declared.script.command.CountedEdit.TheVariants.{AddPatterns}
 use Rattle.grep_cmd.proofs.lemmas.ScriptAnswers.{answers_step, answers_truncated, answers_lost, refused_as, answered_in_time, not_for_memory}
 use Rattle.grep_cmd.proofs.script.answer.answer_patterns.Goals as goal
@@ -30,7 +29,7 @@ returns-in-Ok-clause-answers g c =
       step = does (counted_meant AddPatterns taken);
       has_handed = t.1;
       is_step = rw is (t.0, refl);
-      replies_to = (c.in-Ok.answer, record { gives = c.in-Ok.ensures.gives; carries = c.in-Ok.ensures.carries; named = λ none. not_for_memory c.in-Ok.answer (c.in-Ok.ensures.memory none) }, refl);
+      replies_to = (c.in-Ok.answer, record { gives = c.in-Ok.ensures.gives; marks = c.in-Ok.ensures.marks; named = λ none. not_for_memory c.in-Ok.answer (c.in-Ok.ensures.memory none) }, refl);
       most = c.in-Ok.ensures.steps.most;
       refusals = c.in-Ok.ensures.steps.refusals;
       is_most = c.in-Ok.ensures.steps.is_most;

@@ -1,5 +1,4 @@
-use Rattle.std.proofs.Common.{◌≡◌, true, false, codes, bytes_eq, [], option_map, IfOk, IfErr, rules, sym, ap, ◌∙◌, subst}
-use Rattle.grep_cmd.proofs.Words.{command_of, line_command, file_command, missing_command, unnamed_command, AsksForMemory, meant}
+use Rattle.grep_cmd.proofs.Prelude.{◌≡◌, true, false, codes, bytes_eq, [], option_map, IfOk, IfErr, rules, sym, ap, ◌∙◌, subst, command_of, line_command, file_command, missing_command, unnamed_command, AsksForMemory, meant}
 use Rattle.grep_cmd.proofs.lemmas.ScriptCommands.{command_none, command_file, command_missing, command_unnamed}
 use Rattle.grep_cmd.proofs.script.command.read_command.Goals as goal
 

@@ -1,5 +1,4 @@
-use Rattle.std.proofs.Common.{◌≡◌, [], ◌∷◌, Some, None, rules, sym, ap, ◌∙◌}
-use Rattle.grep_cmd.proofs.Words.{number_of, splice_command, four_words}
+use Rattle.grep_cmd.proofs.Prelude.{◌≡◌, [], ◌∷◌, Some, None, rules, sym, ap, ◌∙◌, number_of, splice_command, four_words}
 use Rattle.grep_cmd.proofs.lemmas.ScriptCommands.{four_words-some, splice_some, splice_none}
 use Rattle.grep_cmd.proofs.script.command.read_splice.Goals as goal
 

@@ -1,5 +1,4 @@
-use Rattle.std.proofs.Common.{Result, Bool, Err, subst, ap}
-use Rattle.grep_cmd.proofs.Words.{ReadFault, NextIs}
+use Rattle.grep_cmd.proofs.Prelude.{Result, Bool, Err, subst, ap, ReadFault, NextIs}
 use Rattle.grep_cmd.proofs.script.counted.next_line.Goals as goal
 
 pub returns-in-Err-Device-clause-next : goal.returns-in-Err-Device-clause-next

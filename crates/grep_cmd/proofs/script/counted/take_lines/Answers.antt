@@ -1,6 +1,4 @@
-use Rattle.std.proofs.Common.{◌≡◌, ◌<◌, ◌≤◌, [], ◌∷◌, ◌++◌, length, rules, sym, ap, ◌∙◌, subst, arith}
-use Rattle.std.proofs.lemmas.List.{length_push}
-use Rattle.grep_cmd.proofs.Words.{HasHanded, HasNoNewline}
+use Rattle.grep_cmd.proofs.Prelude.{◌≡◌, ◌<◌, ◌≤◌, [], ◌∷◌, ◌++◌, length, rules, sym, ap, ◌∙◌, subst, arith, length_push, HasHanded, HasNoNewline}
 use Rattle.grep_core.proofs.lemmas.RowLemmas.{goes_on}
 use Rattle.grep_cmd.proofs.lemmas.FreeLines.{free_line}
 use Rattle.grep_cmd.proofs.lemmas.ScriptAnswers.{one_more_taken, takes_fewer}

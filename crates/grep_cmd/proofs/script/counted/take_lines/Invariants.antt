@@ -1,5 +1,4 @@
-use Rattle.std.proofs.Common.{◌≡◌, ◌≤◌, ◌-◌, length, List, [], ◌++◌}
-use Rattle.grep_cmd.proofs.Words.{Text, GoesOut, IsOneLineAndFew, HasHanded}
+use Rattle.grep_cmd.proofs.Prelude.{◌≡◌, ◌≤◌, ◌-◌, length, List, [], ◌++◌, Text, GoesOut, IsOneLineAndFew, HasHanded}
 use Rattle.grep_cmd.proofs.script.counted.take_lines.Given as goal
 
 -- these lines were taken, at most the counted number

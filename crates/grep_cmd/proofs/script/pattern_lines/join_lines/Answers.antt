@@ -1,6 +1,4 @@
-use Rattle.std.proofs.Common.{◌≡◌, ◌<◌, [], ◌∷◌, ◌++◌, map, length, get_or, nat_eq, if◌then◌else◌, rules, arith, ◌∙◌}
-use Rattle.std.proofs.lemmas.List.{length-map, get_or-map}
-use Rattle.re_syntax.specs.Lines.{newline}
+use Rattle.grep_cmd.proofs.Prelude.{◌≡◌, ◌<◌, [], ◌∷◌, ◌++◌, map, length, get_or, nat_eq, if◌then◌else◌, rules, arith, ◌∙◌, length-map, get_or-map, newline}
 use Rattle.grep_cmd.proofs.lemmas.ScriptAnswers.{joined-next-at}
 use Rattle.grep_cmd.proofs.script.pattern_lines.join_lines.Goals as goal
 

@@ -1,5 +1,4 @@
-use Rattle.std.proofs.Common.{◌≡◌, map, take}
-use Rattle.re_syntax.specs.Lines.{joined}
+use Rattle.grep_cmd.proofs.Prelude.{◌≡◌, map, take, joined}
 use Rattle.grep_cmd.proofs.script.pattern_lines.join_lines.Given as goal
 
 -- the lines before this place were joined

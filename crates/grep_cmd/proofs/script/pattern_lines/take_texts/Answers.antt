@@ -1,6 +1,4 @@
-use Rattle.std.proofs.Common.{◌≡◌, ◌<◌, ◌≤◌, [], ◌∷◌, ◌++◌, map, length, rules, sym, ap, ◌∙◌, subst, arith}
-use Rattle.std.proofs.lemmas.List.{length_push, length-map}
-use Rattle.grep_core.specs.Working.Numbered.{HasHanded}
+use Rattle.grep_cmd.proofs.Prelude.{◌≡◌, ◌<◌, ◌≤◌, [], ◌∷◌, ◌++◌, map, length, rules, sym, ap, ◌∙◌, subst, arith, length_push, length-map, HasHanded}
 use Rattle.grep_core.proofs.lemmas.RowLemmas.{goes_on}
 use Rattle.grep_cmd.proofs.lemmas.ScriptAnswers.{one_more_taken, takes_fewer}
 use Rattle.grep_cmd.proofs.script.pattern_lines.take_texts.Goals as goal

@@ -1,5 +1,4 @@
-use Rattle.std.proofs.Common.{◌≡◌, ◌≤◌, ◌-◌, length, List, [], ◌++◌, map}
-use Rattle.grep_cmd.proofs.Words.{Text, GoesOut, IsOneLineAndFew, HasHanded}
+use Rattle.grep_cmd.proofs.Prelude.{◌≡◌, ◌≤◌, ◌-◌, length, List, [], ◌++◌, map, Text, GoesOut, IsOneLineAndFew, HasHanded}
 use Rattle.grep_cmd.proofs.script.pattern_lines.take_texts.Given as goal
 
 -- these lines were taken, at most the counted number

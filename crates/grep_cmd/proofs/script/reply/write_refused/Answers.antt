@@ -1,6 +1,4 @@
-use Rattle.std.proofs.Common.{sym, subst}
-use Rattle.grep_cmd.proofs.Words.{output_line, Writes, EditFault, cause, refused_for}
-use Rattle.std.proofs.Common.{[]}
+use Rattle.grep_cmd.proofs.Prelude.{sym, subst, output_line, Writes, EditFault, cause, refused_for, []}
 use Rattle.grep_cmd.proofs.script.reply.write_refused.Goals as goal
 
 pub returns-in-LineHasNewline : goal.returns-in-LineHasNewline

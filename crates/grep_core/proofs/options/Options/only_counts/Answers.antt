@@ -1,6 +1,4 @@
-use Rattle.std.proofs.Common.{Bool, true, false, refl, sym, ap, ◌∙◌}
-use Rattle.std.proofs.lemmas.Bool.{false≢true}
-use Rattle.grep_core.specs.Output.{Form, counts}
+use Rattle.grep_core.proofs.Prelude.{Bool, true, false, refl, sym, ap, ◌∙◌, false≢true, Form, counts}
 use Rattle.grep_core.proofs.options.Options.only_counts.Goals as goal
 
 -- whether the form is that of counts

@@ -1,5 +1,4 @@
-use Rattle.std.proofs.Common.{subst}
-use Rattle.grep_core.specs.Working.OneLine.{IsPlain}
+use Rattle.grep_core.proofs.Prelude.{subst, IsPlain}
 use Rattle.grep_core.proofs.options.Options.shown_around.Goals as goal
 
 pub returns-in-Nothing : goal.returns-in-Nothing

@@ -1,5 +1,4 @@
-use Rattle.std.proofs.Common.{Decides, ◌≡◌, ◌+◌, ◌≤◌, ◌∙◌, [], ◌∷◌, ◌++◌, true, length, length-append, append_assoc, map, take, refl, sym, ap, subst, arith, if◌then◌else◌}
-use Rattle.grep_core.proofs.Words.{terminated, SearchesLines, Selected, writer, IsOneLineAndFew, LastLines, Waits, Numbered, HasHanded, next_shown, last_of, IsNextOf}
+use Rattle.grep_core.proofs.Prelude.{Decides, ◌≡◌, ◌+◌, ◌≤◌, ◌∙◌, [], ◌∷◌, ◌++◌, true, length, length-append, append_assoc, map, take, refl, sym, ap, subst, arith, if◌then◌else◌, terminated, SearchesLines, Selected, writer, IsOneLineAndFew, LastLines, Waits, Numbered, HasHanded, next_shown, last_of, IsNextOf}
 use Rattle.re_search.proofs.lemmas.KeptMatchers.{unasked, asked_over, same_sought}
 use Rattle.grep_io.proofs.lemmas.WindowLemmas.{none_in_nothing, few_after}
 use Rattle.grep_core.proofs.lemmas.WaitingRows.{if_kept}

@@ -1,5 +1,4 @@
-use Rattle.std.proofs.Common.{◌≡◌, ◌-◌, ◌^◌, map}
-use Rattle.grep_core.proofs.Words.{SameSearchers, IsOneLineAndFew, writer}
+use Rattle.grep_core.proofs.Prelude.{◌≡◌, ◌-◌, ◌^◌, map, SameSearchers, IsOneLineAndFew, writer}
 use Rattle.grep_core.proofs.lemmas.AroundSearch.{FollowedSoFar}
 use Rattle.grep_core.proofs.search.around.search_around.Given as goal
 

@@ -1,5 +1,4 @@
-use Rattle.std.proofs.Common.{◌-◌, List, [], ◌∷◌, length, if◌then◌else◌}
-use Rattle.grep_core.proofs.Words.{Text, group_separator, rows_around, row_by}
+use Rattle.grep_core.proofs.Prelude.{◌-◌, List, [], ◌∷◌, length, if◌then◌else◌, Text, group_separator, rows_around, row_by}
 use Rattle.grep_core.proofs.lemmas.WaitingRows.{holds_too, stops_err, stops_between, stops_waiting, row_last}
 use Rattle.grep_core.proofs.search.around.write_shown.Goals as goal
 

@@ -1,5 +1,4 @@
-use Rattle.std.proofs.Common.{◌≡◌, ◌+◌, ◌-◌, ◌<◌, ◌≤◌, [], length, get_or, arith, ◌∙◌, ap, sym}
-use Rattle.grep_core.proofs.Words.{hyphen, rows_around, row_with}
+use Rattle.grep_core.proofs.Prelude.{◌≡◌, ◌+◌, ◌-◌, ◌<◌, ◌≤◌, [], length, get_or, arith, ◌∙◌, ap, sym, hyphen, rows_around, row_with}
 use Rattle.grep_core.proofs.lemmas.WaitingRows.{length_rows, row_at, rows_none_out, row_out, row_stops, rows_all_out, stops_err}
 use Rattle.grep_core.proofs.search.around.write_waiting.Goals as goal
 

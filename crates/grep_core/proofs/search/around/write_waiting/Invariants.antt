@@ -1,5 +1,4 @@
-use Rattle.std.proofs.Common.{◌-◌, [], length, take}
-use Rattle.grep_core.proofs.Words.{written, GoesOut, rows_around}
+use Rattle.grep_core.proofs.Prelude.{◌-◌, [], length, take, written, GoesOut, rows_around}
 use Rattle.grep_core.proofs.search.around.write_waiting.Given as goal
 
 -- the rows of the lines up to here were written

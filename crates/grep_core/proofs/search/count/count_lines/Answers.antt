@@ -1,5 +1,4 @@
-use Rattle.std.proofs.Common.{◌∙◌, [], false, map, refl, arith}
-use Rattle.grep_core.proofs.Words.{lines_of, sought_by, IsSought, writer}
+use Rattle.grep_core.proofs.Prelude.{◌∙◌, [], false, map, refl, arith, lines_of, sought_by, IsSought, writer}
 use Rattle.re_search.proofs.lemmas.KeptMatchers.{unasked, asked_over}
 use Rattle.grep_core.proofs.lemmas.WrittenLemmas.{TakesAll-written}
 use Rattle.grep_core.proofs.lemmas.FileOutput.{rows_none}

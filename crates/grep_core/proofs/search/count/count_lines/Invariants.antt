@@ -1,5 +1,4 @@
-use Rattle.std.proofs.Common.{◌-◌, ◌^◌, map, false}
-use Rattle.grep_core.proofs.Words.{SameSearchers, writer}
+use Rattle.grep_core.proofs.Prelude.{◌-◌, ◌^◌, map, false, SameSearchers, writer}
 use Rattle.grep_core.proofs.lemmas.LinesLemmas.{SearchedSoFar}
 use Rattle.grep_core.proofs.search.count.count_lines.Given as goal
 

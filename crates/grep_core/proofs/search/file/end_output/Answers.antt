@@ -1,5 +1,4 @@
-use Rattle.std.proofs.Common.{[]}
-use Rattle.grep_core.proofs.Words.{form, written, summary_as}
+use Rattle.grep_core.proofs.Prelude.{[], form, written, summary_as}
 use Rattle.grep_core.proofs.lemmas.RowLemmas.{writes_then_nothing}
 use Rattle.grep_core.proofs.search.file.end_output.Goals as goal
 

@@ -1,5 +1,4 @@
-use Rattle.std.proofs.Common.{◌≡◌, ◌∙◌, Result, Err, refl, sym, ap, subst}
-use Rattle.grep_core.proofs.Words.{FileFound, SearchFault, writer, EndsSource}
+use Rattle.grep_core.proofs.Prelude.{◌≡◌, ◌∙◌, Result, Err, refl, sym, ap, subst, FileFound, SearchFault, writer, EndsSource}
 use Rattle.grep_core.specs.declared.status.RunFault.TheVariants.{Write, Memory}
 use Rattle.grep_core.specs.declared.status.SearchFault.TheVariants as search_fault
 use Rattle.grep_core.proofs.lemmas.WrittenLemmas.{TakesAll-written, TakesFront-written}

@@ -1,6 +1,5 @@
-use Rattle.std.proofs.Common.{◌∙◌, [], false, map, refl, sym, arith}
+use Rattle.grep_core.proofs.Prelude.{◌∙◌, [], false, map, refl, sym, arith, writer, leaves_early}
 use Rattle.re_search.proofs.lemmas.KeptMatchers.{unasked, asked_over, same_sought}
-use Rattle.grep_core.proofs.Words.{writer, leaves_early}
 use Rattle.grep_core.proofs.lemmas.WrittenLemmas.{TakesAll-written}
 use Rattle.grep_core.proofs.lemmas.FileOutput.{rows_none}
 use Rattle.grep_core.proofs.lemmas.PassedLines.{are_ahead, passed_state, handed_with, handed_passed}

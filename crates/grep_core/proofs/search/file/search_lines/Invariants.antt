@@ -1,5 +1,4 @@
-use Rattle.std.proofs.Common.{◌≡◌, ◌-◌, ◌^◌, map, false}
-use Rattle.grep_core.proofs.Words.{SameSearchers, writer, leaves_early}
+use Rattle.grep_core.proofs.Prelude.{◌≡◌, ◌-◌, ◌^◌, map, false, SameSearchers, writer, leaves_early}
 use Rattle.grep_core.proofs.lemmas.LinesLemmas.{SearchedSoFar}
 use Rattle.grep_core.proofs.search.file.search_lines.Given as goal
 

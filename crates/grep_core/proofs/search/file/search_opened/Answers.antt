@@ -1,4 +1,4 @@
-use Rattle.std.proofs.Common.{false, map}
+use Rattle.grep_core.proofs.Prelude.{false, map}
 use Rattle.grep_core.proofs.lemmas.LinesLemmas.{counts_plain}
 use Rattle.grep_core.proofs.lemmas.OpenedLemmas.{gives_anyway}
 use Rattle.grep_core.proofs.search.file.search_opened.Goals as goal

@@ -1,5 +1,4 @@
-use Rattle.std.proofs.Common.{◌+◌, [], ◌∷◌, map, Ok, refl, sym, ap, subst, ◌∙◌}
-use Rattle.grep_core.proofs.Words.{Bor, Text, Numbered, Options, Missing, writer, devices, count_more, source_at, Returns}
+use Rattle.grep_core.proofs.Prelude.{◌+◌, [], ◌∷◌, map, Ok, refl, sym, ap, subst, ◌∙◌, Bor, Text, Numbered, Options, Missing, writer, devices, count_more, source_at, Returns}
 use Rattle.grep_core.proofs.lemmas.SourceLaws.{gives_both}
 use Rattle.grep_core.proofs.lemmas.OpenedLemmas.{source_missing, source_unread, given_in}
 use Rattle.grep_core.proofs.lemmas.SummaryLemmas.{source_ended_as}

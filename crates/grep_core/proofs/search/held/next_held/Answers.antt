@@ -1,6 +1,4 @@
-use Rattle.std.proofs.Common.{◌≡◌, ◌+◌, ◌∷◌, ◌++◌, List, [], length, take, refl, sym, ap, ◌∙◌, subst, arith, append_assoc, length-append}
-use Rattle.std.proofs.lemmas.List.Elements.{All-nil}
-use Rattle.grep_core.proofs.Words.{Text, lines_of, terminated, HasNoNewline, sought_by, Sought, IsSought}
+use Rattle.grep_core.proofs.Prelude.{◌≡◌, ◌+◌, ◌∷◌, ◌++◌, List, [], length, take, refl, sym, ap, ◌∙◌, subst, arith, append_assoc, length-append, All-nil, Text, lines_of, terminated, HasNoNewline, sought_by, Sought, IsSought}
 use Rattle.re_search.proofs.lemmas.NextLines.{block_lines, free_lines}
 use Rattle.grep_io.proofs.lemmas.PassedLemmas.{count_block, count_lines}
 use Rattle.grep_core.proofs.lemmas.SearchedBlockLemmas.{lines_within, first_bytes, before_bytes, line_bytes, end_bytes, free_up_to, free_before}

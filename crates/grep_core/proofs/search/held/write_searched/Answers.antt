@@ -1,8 +1,7 @@
-use Rattle.std.proofs.Common.{◌≡◌, ◌+◌, ◌∷◌, [], length, map, refl, sym, ap, subst, arith, length-append}
+use Rattle.grep_core.proofs.Prelude.{◌≡◌, ◌+◌, ◌∷◌, [], length, map, refl, sym, ap, subst, arith, length-append, GoesOut, StopsWithin, RowsOfLines}
 use Rattle.grep_core.proofs.lemmas.CostLaws.{searched_bytes, searched_bytes_and_parts}
 use Rattle.grep_core.proofs.lemmas.OneLineLemmas.{err_with}
 use Rattle.grep_core.proofs.lemmas.SearchedBlockLemmas.{rows_unselected, rows_matched, stretch_inverted, selected_matched, unselected_unmatched}
-use Rattle.grep_core.proofs.Words.{GoesOut, StopsWithin, RowsOfLines}
 use Rattle.grep_core.proofs.lemmas.WriterLaws.{TakesAll-nothing}
 use Rattle.grep_core.proofs.lemmas.WrittenLemmas.{TakesAll-written, TakesFront-written}
 use Rattle.grep_core.proofs.search.held.write_searched.Goals as goal

@@ -1,4 +1,4 @@
-use Rattle.std.proofs.Common.{◌∙◌, length, map}
+use Rattle.grep_core.proofs.Prelude.{◌∙◌, length, map}
 use Rattle.re_search.proofs.lemmas.KeptMatchers.{asked_over}
 use Rattle.grep_core.proofs.lemmas.CostLaws.{line_asked, searched_once}
 use Rattle.grep_core.proofs.lemmas.OneLineLemmas.{err_with, line_broken, line_passed, line_selected}

@@ -1,5 +1,4 @@
-use Rattle.std.proofs.Common.{◌≡◌, ◌∙◌, length, map, arith}
-use Rattle.re_search.specs.Working.Searchers.{asks_whole}
+use Rattle.grep_core.proofs.Prelude.{◌≡◌, ◌∙◌, length, map, arith, asks_whole}
 use Rattle.re_search.proofs.lemmas.KeptMatchers.{unasked, asked_over, same_sought}
 use Rattle.grep_core.proofs.lemmas.OneLineLemmas.{err_with}
 use Rattle.grep_core.proofs.lemmas.PassLemmas.{TakesAll-line, TakesFront-line}

@@ -1,5 +1,4 @@
-use Rattle.std.proofs.Common.{◌-◌, map, length}
-use Rattle.grep_core.proofs.Words.{SameSearchers, sought_by, HasTaken, IsCourseOf, writer, search_cost}
+use Rattle.grep_core.proofs.Prelude.{◌-◌, map, length, SameSearchers, sought_by, HasTaken, IsCourseOf, writer, search_cost}
 use Rattle.grep_core.proofs.lemmas.PartsLemmas.{PartsSoFar}
 use Rattle.grep_core.proofs.search.line.write_parts.Given as goal
 

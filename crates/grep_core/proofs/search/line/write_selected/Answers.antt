@@ -1,4 +1,4 @@
-use Rattle.std.proofs.Common.{map, sym}
+use Rattle.grep_core.proofs.Prelude.{map, sym}
 use Rattle.grep_core.proofs.lemmas.OneLineLemmas.{row_written, row_broken}
 use Rattle.grep_core.proofs.search.line.write_selected.Goals as goal
 

@@ -1,5 +1,4 @@
-use Rattle.std.proofs.Common.{Bool, Result, Err, ap, sym, subst}
-use Rattle.grep_core.proofs.Words.{ReadFault, NextIs}
+use Rattle.grep_core.proofs.Prelude.{Bool, Result, Err, ap, sym, subst, ReadFault, NextIs}
 use Rattle.grep_core.proofs.search.next_line.take_next.Goals as goal
 
 pub returns-in-Ok-true : goal.returns-in-Ok-true

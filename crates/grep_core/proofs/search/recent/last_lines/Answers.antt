@@ -1,6 +1,4 @@
-use Rattle.std.proofs.Common.{◌≡◌, ◌≢◌, ◌-◌, length, take, sym, ap, ◌∙◌, arith}
-use Rattle.std.proofs.lemmas.List.{length-take}
-use Rattle.re_syntax.specs.Lines.{lines_of, terminated}
+use Rattle.grep_core.proofs.Prelude.{◌≡◌, ◌≢◌, ◌-◌, length, take, sym, ap, ◌∙◌, arith, length-take, lines_of, terminated}
 use Rattle.grep_core.proofs.lemmas.BlockLines.{begins_none, begins_all, begins_last, begins_before}
 use Rattle.grep_core.proofs.search.recent.last_lines.Goals as goal
 

@@ -1,5 +1,4 @@
-use Rattle.std.proofs.Common.{◌≡◌, ◌-◌, ◌≤◌, length, take}
-use Rattle.re_syntax.specs.Lines.{lines_of, terminated}
+use Rattle.grep_core.proofs.Prelude.{◌≡◌, ◌-◌, ◌≤◌, length, take, lines_of, terminated}
 use Rattle.grep_core.proofs.search.recent.last_lines.Given as goal
 
 -- the last lines were looked at, one a turn

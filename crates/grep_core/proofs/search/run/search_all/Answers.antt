@@ -1,4 +1,4 @@
-use Rattle.std.proofs.Common.{◌<◌, ◌≤◌, nat_le, length, map, refl, ap, ◌∙◌, arith}
+use Rattle.grep_core.proofs.Prelude.{◌<◌, ◌≤◌, nat_le, length, map, refl, ap, ◌∙◌, arith}
 use Rattle.re_search.proofs.lemmas.KeptMatchers.{unasked, asked_over}
 use Rattle.grep_core.proofs.lemmas.SourceLaws.{gives_none, gives_both}
 use Rattle.grep_core.proofs.lemmas.RunLaws.{run_none, run_further, run_ends_at, run_given_up, run_ends}

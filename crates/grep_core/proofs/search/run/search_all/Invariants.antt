@@ -1,5 +1,4 @@
-use Rattle.std.proofs.Common.{◌≡◌, ◌≤◌, length, map, take}
-use Rattle.grep_core.proofs.Words.{SameSearchers, writer, Returns}
+use Rattle.grep_core.proofs.Prelude.{◌≡◌, ◌≤◌, length, map, take, SameSearchers, writer, Returns}
 use Rattle.grep_core.proofs.lemmas.RunLaws.{RunSoFar}
 use Rattle.grep_core.proofs.search.run.search_all.Given as goal
 

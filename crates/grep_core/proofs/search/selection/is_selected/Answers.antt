@@ -1,4 +1,4 @@
-use Rattle.std.proofs.Common.{map}
+use Rattle.grep_core.proofs.Prelude.{map}
 use Rattle.grep_core.proofs.lemmas.OneLineLemmas.{selected_by}
 use Rattle.grep_core.proofs.search.selection.is_selected.Goals as goal
 

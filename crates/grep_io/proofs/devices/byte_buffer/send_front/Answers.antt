@@ -1,6 +1,4 @@
-use Rattle.std.proofs.Common.{◌≡◌, length, take, arith, subst}
-use Rattle.std.proofs.lemmas.List.{length-take-le}
-use Rattle.std.specs.Io.KnownBytes.{Appends}
+use Rattle.grep_io.proofs.Prelude.{◌≡◌, length, take, arith, subst, length-take-le, Appends}
 use Rattle.grep_io.proofs.lemmas.SentLemmas.{front_sent, some_sent}
 use Rattle.grep_io.proofs.devices.byte_buffer.send_front.Goals as goal
 

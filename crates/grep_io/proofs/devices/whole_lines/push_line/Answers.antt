@@ -1,4 +1,4 @@
-use Rattle.std.proofs.Common.{take, sym, ap, ◌∙◌, arith}
+use Rattle.grep_io.proofs.Prelude.{take, sym, ap, ◌∙◌, arith}
 use Rattle.grep_io.proofs.lemmas.LineSentLemmas.{line_goes, line_stays}
 use Rattle.grep_io.proofs.devices.whole_lines.push_line.Goals as goal
 

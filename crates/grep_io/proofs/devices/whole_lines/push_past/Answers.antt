@@ -1,4 +1,4 @@
-use Rattle.std.proofs.Common.{arith, rules}
+use Rattle.grep_io.proofs.Prelude.{arith, rules}
 use Rattle.grep_io.proofs.lemmas.WriteLemmas.{written_further}
 use Rattle.grep_io.proofs.devices.whole_lines.push_past.Goals as goal
 

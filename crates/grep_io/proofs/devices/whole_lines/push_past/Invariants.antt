@@ -1,5 +1,4 @@
-use Rattle.std.proofs.Common.{◌≡◌, ◌-◌, ◌≤◌, length, take}
-use Rattle.std.specs.Io.KnownBytes.{Appends}
+use Rattle.grep_io.proofs.Prelude.{◌≡◌, ◌-◌, ◌≤◌, length, take, Appends}
 use Rattle.grep_io.proofs.devices.whole_lines.push_past.Given as goal
 
 -- the bytes up to here were written

@@ -1,5 +1,4 @@
-use Rattle.std.proofs.Common.{◌+◌, ◌*◌, ◌-◌, length, sym, ap, ◌∙◌, arith}
-use Rattle.grep_io.proofs.Words.{is_byte, places_between, newline}
+use Rattle.grep_io.proofs.Prelude.{◌+◌, ◌*◌, ◌-◌, length, sym, ap, ◌∙◌, arith, is_byte, places_between, newline}
 use Rattle.memchr.proofs.lemmas.PlaceLemmas.{places_between-none, length-places_from}
 use Rattle.grep_io.proofs.lemmas.NewlineLanes.{places_joined}
 use Rattle.grep_io.proofs.input.newlines.count_newlines.Goals as goal

@@ -1,5 +1,4 @@
-use Rattle.std.proofs.Common.{◌≡◌, ◌-◌, ◌≤◌, length}
-use Rattle.grep_io.proofs.Words.{is_byte, places_between, newline}
+use Rattle.grep_io.proofs.Prelude.{◌≡◌, ◌-◌, ◌≤◌, length, is_byte, places_between, newline}
 use Rattle.grep_io.proofs.input.newlines.count_newlines.Given as goal
 
 abbrev pub invariant-portions : goal.invariant-portions

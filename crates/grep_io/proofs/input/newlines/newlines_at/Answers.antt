@@ -1,6 +1,4 @@
-use Rattle.std.proofs.Common.{◌≡◌, ℕ, map, replicate, eqb, ◌==◌, if◌then◌else◌, take, drop, sym, subst, w8}
-use Rattle.std.proofs.lemmas.Simd.{tops_compared, length-chunk}
-use Rattle.grep_io.proofs.Words.{sel_l, newline}
+use Rattle.grep_io.proofs.Prelude.{◌≡◌, ℕ, map, replicate, eqb, ◌==◌, if◌then◌else◌, take, drop, sym, subst, w8, tops_compared, length-chunk, sel_l, newline}
 use Rattle.grep_io.proofs.lemmas.NewlineLanes.{ones_at}
 use Rattle.grep_io.proofs.input.newlines.newlines_at.Goals as goal
 

@@ -1,6 +1,4 @@
-use Rattle.std.proofs.Common.{◌+◌, ◌-◌, length, ap, sym, ◌∙◌, arith}
-use Rattle.std.proofs.lemmas.Bool.{eq-eqb, eqb-true}
-use Rattle.grep_io.proofs.Words.{is_byte, newline}
+use Rattle.grep_io.proofs.Prelude.{◌+◌, ◌-◌, length, ap, sym, ◌∙◌, arith, eq-eqb, eqb-true, is_byte, newline}
 use Rattle.memchr.proofs.lemmas.PlaceLemmas.{places_between-none, length-places_from, length-places_between-hit, length-places_between-miss}
 use Rattle.grep_io.proofs.input.newlines.newlines_between.Goals.{then-bytes-place-eq10, else-bytes-place-eq10}
 use Rattle.grep_io.proofs.input.newlines.newlines_between.Goals as goal

@@ -1,7 +1,4 @@
-use Rattle.std.proofs.Common.{◌≡◌, ℕ, List, map, ◌+◌, ◌*◌, ◌-◌, ◌≤◌, length, sym, ap, ◌∙◌, subst, map-id, Fits, w8, w16, arith, lit≤, zero-le}
-use Rattle.grep_io.proofs.Words.{Each1, sum_l, is_byte, places_between, newline}
-use Rattle.std.proofs.lemmas.Simd.{bytes_below, Each1-zip2, Each1-replicate, Each2-of, length-chunk, sum-zip2, sum_bound, sum_fits, fold-sum, widens}
-use Rattle.std.proofs.lemmas.List.{length-map}
+use Rattle.grep_io.proofs.Prelude.{◌≡◌, ℕ, List, map, ◌+◌, ◌*◌, ◌-◌, ◌≤◌, length, sym, ap, ◌∙◌, subst, map-id, Fits, w8, w16, arith, lit≤, zero-le, Each1, sum_l, is_byte, places_between, newline, bytes_below, Each1-zip2, Each1-replicate, Each2-of, length-chunk, sum-zip2, sum_bound, sum_fits, fold-sum, widens, length-map}
 use Rattle.memchr.specs.Find.{places_from}
 use Rattle.memchr.proofs.lemmas.PlaceLemmas.{places_between-none}
 use Rattle.grep_io.proofs.lemmas.NewlineLanes.{sum_of_ones, small_ones, places_joined}

@@ -1,5 +1,4 @@
-use Rattle.std.proofs.Common.{◌≡◌, ◌+◌, ◌*◌, ◌≤◌, length}
-use Rattle.grep_io.proofs.Words.{Each1, sum_l, is_byte, places_between, newline}
+use Rattle.grep_io.proofs.Prelude.{◌≡◌, ◌+◌, ◌*◌, ◌≤◌, length, Each1, sum_l, is_byte, places_between, newline}
 use Rattle.grep_io.proofs.input.newlines.newlines_in_vectors.Given as goal
 
 abbrev pub invariant-vectors : goal.invariant-vectors

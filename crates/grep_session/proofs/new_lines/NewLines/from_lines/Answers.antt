@@ -1,7 +1,5 @@
-use Rattle.std.proofs.Common.{◌<◌, length, map, sym, subst, ap, ◌∙◌, arith}
+use Rattle.grep_session.proofs.Prelude.{◌<◌, length, map, sym, subst, ap, ◌∙◌, arith, length-map, HasNoNewline}
 use Rattle.std.proofs.Math.ListN.{get_or-map}
-use Rattle.std.proofs.lemmas.List.{length-map}
-use Rattle.re_syntax.specs.Lines.{HasNoNewline}
 use Rattle.grep_session.proofs.new_lines.NewLines.from_lines.Goals as goal
 
 pub push-requires : goal.push-requires

@@ -1,4 +1,4 @@
-use Rattle.std.proofs.Common.{◌≡◌, map, take}
+use Rattle.grep_session.proofs.Prelude.{◌≡◌, map, take}
 use Rattle.grep_session.proofs.new_lines.NewLines.from_lines.Given as goal
 
 -- the first lines were added

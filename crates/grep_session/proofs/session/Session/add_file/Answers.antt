@@ -1,44 +1,44 @@
-use Rattle.std.proofs.Common.{◌≡◌, Ok, All, map, inl, refl, ap, ◌∙◌, sym, subst, ◌++◌, ◌∷◌, []}
-use Rattle.std.proofs.lemmas.List.{map-append}
-use Rattle.std.proofs.lemmas.List.Elements.{All-push}
-use Rattle.grep_session.proofs.Words.{matched_expression, whole_file, with_files, IsFileKept, kept_file, inputs_of}
+use Rattle.grep_session.proofs.Prelude.{◌≡◌, Ok, All, map, inl, refl, ap, ◌∙◌, sym, subst, ◌++◌, ◌∷◌, [], map-append, All-push, matched_expression, whole_file, with_files, IsFileKept, kept_file, inputs_of}
 use Rattle.grep_session.proofs.lemmas.EditLemmas.{asked_session, file_steps}
+use Rattle.grep_session.proofs.lemmas.FitLemmas.{fit_as, fit_pushed}
 use Rattle.grep_session.proofs.session.Session.add_file.Goals as goal
 
 pub returns-in-Err-clause-steps : goal.returns-in-Err-clause-steps
 returns-in-Err-clause-steps c = rw (← c.self.view_is) (file_steps c.self.inside c.self.invariant _ c.search_new.ensures.free _ _ c.search_new.ensures.steps c.args.name.items)
 
-pub returns-in-Err-push-clause-steps : goal.returns-in-Err-push-clause-steps
-returns-in-Err-push-clause-steps c = rw (← c.self.view_is) (file_steps c.self.inside c.self.invariant _ c.search_new.ensures.free _ _ c.search_new.ensures.steps c.args.name.items)
+pub returns-in-Err-push_file-clause-steps : goal.returns-in-Err-push_file-clause-steps
+returns-in-Err-push_file-clause-steps c = rw (← c.self.view_is) (file_steps c.self.inside c.self.invariant _ c.search_new.ensures.free _ _ c.search_new.ensures.steps c.args.name.items)
 
 pub returns-clause-steps : goal.returns-clause-steps
 returns-clause-steps c = rw (← c.self.view_is) (file_steps c.self.inside c.self.invariant _ c.search_new.ensures.free _ _ c.search_new.ensures.steps c.args.name.items)
 
 pub invariant_of-self : goal.invariant_of-self
-invariant_of-self c = asked_session c.self.inside _ refl refl c.self.invariant c.search_new.ensures.same_matchers c.self.invariant.kept
+invariant_of-self c = asked_session c.self.inside _ refl refl c.self.invariant c.search_new.ensures.same_matchers c.self.invariant.kept c.self.invariant.fit
 
-pub invariant_of-self-in-Err-push : goal.invariant_of-self-in-Err-push
-invariant_of-self-in-Err-push c =
+pub invariant_of-self-in-Err-push_file : goal.invariant_of-self-in-Err-push_file
+invariant_of-self-in-Err-push_file c =
     let s = c.self.inside in
-    asked_session s _ refl refl c.self.invariant c.search_new.ensures.same_matchers (subst (All (IsFileKept (map matched_expression s.matchers.items) s.options)) (sym c.in-Err-push.ensures.err) c.self.invariant.kept)
+    asked_session s _ refl refl c.self.invariant c.search_new.ensures.same_matchers (subst (All (IsFileKept (map matched_expression s.matchers.items) s.options)) (sym c.in-Err-push_file.ensures.err.0) c.self.invariant.kept)
+    (fit_as (map kept_file s.files.items) _ s.marks.items _ (ap (map kept_file) c.in-Err-push_file.ensures.err.0) c.in-Err-push_file.ensures.err.1 c.self.invariant.fit)
 
 pub invariant_of-self-2 : goal.invariant_of-self-2
 invariant_of-self-2 c =
     let s = c.self.inside in
     let Kept = IsFileKept (map matched_expression s.matchers.items) s.options in
-    asked_session s _ refl refl c.self.invariant c.search_new.ensures.same_matchers (subst (All Kept) (sym c.in-Ok-push.ensures.ok) (All-push Kept s.files.items _ c.self.invariant.kept c.in-Ok.ensures.ok))
+    asked_session s _ refl refl c.self.invariant c.search_new.ensures.same_matchers (subst (All Kept) (sym c.in-Ok-push_file.ensures.ok.0) (All-push Kept s.files.items _ c.self.invariant.kept c.in-Ok.ensures.ok))
+    (fit_pushed s.files.items s.marks.items _ _ _ c.in-Ok-push_file.ensures.ok.0 c.in-Ok-push_file.ensures.ok.1 c.self.invariant.fit)
 
 pub returns-in-Err-clause-memory : goal.returns-in-Err-clause-memory
 returns-in-Err-clause-memory c = λ newline. absurd (newline c.search_new.ensures.free)
 
-pub returns-in-Err-push-clause-memory : goal.returns-in-Err-push-clause-memory
-returns-in-Err-push-clause-memory c = λ newline. absurd (newline c.search_new.ensures.free)
+pub returns-in-Err-push_file-clause-memory : goal.returns-in-Err-push_file-clause-memory
+returns-in-Err-push_file-clause-memory c = λ newline. absurd (newline c.search_new.ensures.free)
 
 pub returns-clause-gives : goal.returns-clause-gives
 returns-clause-gives c =
     let s = c.self.inside in
     let old = inputs_of s in
     let name = c.args.name.items in
-    let files : map kept_file c.push.new.all.items ≡ old.files ++ whole_file name c.args.lines ∷ [] =
-    ap (map kept_file) c.in-Ok-push.ensures.ok ∙ map-append kept_file s.files.items _ ∙ ap (λ lines. old.files ++ whole_file name lines ∷ []) c.in-Ok.ensures.texts in
+    let files : map kept_file c.push_file.new.files.items ≡ old.files ++ whole_file name c.args.lines ∷ [] =
+    ap (map kept_file) c.in-Ok-push_file.ensures.ok.0 ∙ map-append kept_file s.files.items _ ∙ ap (λ lines. old.files ++ whole_file name lines ∷ []) c.in-Ok.ensures.texts in
     rw (← c.self.view_is) (inl (c.search_new.ensures.free, ap (λ fs. Ok (with_files fs old)) files))

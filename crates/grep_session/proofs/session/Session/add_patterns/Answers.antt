@@ -1,12 +1,12 @@
-use Rattle.std.proofs.Common.{◌≡◌, ◌+◌, ◌≤◌, ◌<◌, ◌++◌, Ok, Err, length, map, inl, inr, refl, sym, ap, subst, ◌∙◌, arith, All}
-use Rattle.std.proofs.lemmas.List.{length-map, map-append}
-use Rattle.grep_session.proofs.Words.{list_of, IsReadable, matched_expression, wants_whole, room_of, AddPatterns, EditGives, with_patterns, most_patterns, IsFileKept, AreMatchers, RefusesFirst, SameMatchers, inputs_of}
+use Rattle.grep_session.proofs.Prelude.{◌≡◌, ◌+◌, ◌≤◌, ◌<◌, ◌++◌, Ok, Err, length, map, inl, inr, refl, sym, ap, subst, ◌∙◌, arith, All, length-map, map-append, list_of, IsReadable, matched_expression, wants_whole, room_of, AddPatterns, EditGives, with_patterns, most_patterns, IsFileKept, AreMatchers, RefusesFirst, SameMatchers, inputs_of, kept_file}
 use Rattle.grep_core.proofs.lemmas.CostLaws.{same_length}
 use Rattle.grep_session.proofs.lemmas.EditLemmas.{AreMatchers-same, asked_session}
 use Rattle.grep_session.proofs.lemmas.StepLemmas.{takes_none}
 use Rattle.grep_session.proofs.lemmas.NewPatternLemmas.{are_added, bounded_off, not_too_many, refuses_new, takes_new}
 use Rattle.re_search.proofs.lemmas.KeptMatchers.{none_asked}
 use Rattle.grep_session.proofs.lemmas.RoomLemmas.{keep_same, keep_both}
+use Rattle.grep_session.proofs.lemmas.SessionLemmas.{inputs_are}
+use Rattle.grep_session.proofs.lemmas.FitLemmas.{fit_as, fit_lose}
 use Rattle.grep_session.proofs.session.Session.add_patterns.Goals as goal
 
 pub returns-in-Err-read_matchers-clause-gives : goal.returns-in-Err-read_matchers-clause-gives
@@ -16,7 +16,7 @@ returns-in-Err-read_matchers-clause-gives c =
     let at : c.len.result ≡ length s.matchers.items = omega (arith, c.len.ensures, s.matchers.ok.0) in
     let refused = rw c.deref.ensures.value at c.in-Err-read_matchers.ensures.err in
     let reported = subst (λ ts. RefusesFirst s.syntax s.options.ignore_case ts c.in-Err-read_matchers.fault) c.in-Ok.ensures refused in
-    subst (λ old. EditGives {T = Unit {0}} (AddPatterns list) old old (Err c.in-Err-read_matchers.fault)) c.self.view_is (refuses_new list (inputs_of s) (not_too_many s c.args.list.now c.self.invariant c.len.result at c.if-too_many.ensures) (Unit {0}) c.in-Err-read_matchers.fault reported)
+    subst (λ old. EditGives {T = Unit {0}} (AddPatterns list) old old (Err c.in-Err-read_matchers.fault)) (inputs_are c.self.view_is) (refuses_new list (inputs_of s) (not_too_many s c.args.list.now c.self.invariant c.len.result at c.if-too_many.ensures) (Unit {0}) c.in-Err-read_matchers.fault reported)
 
 pub invariant_of-self-in-Err-find_columns : goal.invariant_of-self-in-Err-find_columns
 invariant_of-self-in-Err-find_columns c =
@@ -24,7 +24,7 @@ invariant_of-self-in-Err-find_columns c =
     let at : c.len-first.result ≡ length s.matchers.items = omega (arith, c.len-first.ensures, s.matchers.ok.0) in
     let room : c.len-first.result + length (list_of c.args.list.now) ≤ most_patterns = omega (arith, c.if-too_many.ensures, c.len.ensures, c.len-first.ensures) in
     let same = bounded_off s c.args.list.now c.self.invariant c.len-first.result at room _ c.add_matchers.new.matchers.items c.find_columns.new.matchers.items _ c.in-Ok-add_matchers.ensures.ok c.find_columns.ensures.same_matchers c.truncate.ensures.items in
-    asked_session s _ refl c.reserve_texts.ensures.items c.self.invariant same (subst (All (IsFileKept (map matched_expression s.matchers.items) s.options)) (sym c.in-Err-find_columns.ensures.err) c.self.invariant.kept)
+    asked_session s _ refl c.reserve_texts.ensures.items c.self.invariant same (subst (All (IsFileKept (map matched_expression s.matchers.items) s.options)) (sym c.in-Err-find_columns.ensures.err) c.self.invariant.kept) (fit_as (map kept_file s.files.items) _ s.marks.items _ c.find_columns.ensures.same refl c.self.invariant.fit)
 
 pub returns-in-Err-find_columns-clause-steps : goal.returns-in-Err-find_columns-clause-steps
 returns-in-Err-find_columns-clause-steps c =
@@ -62,6 +62,7 @@ invariant_of-self-2 c =
       rooms = keep_same s.states all now c.find_columns.ensures.same_matchers.same_rooms (keep_both s.states s.matchers.items c.in-Ok-read_matchers.matchers.items all c.in-Ok-add_matchers.ensures.ok c.self.invariant.rooms c.in-Ok-read_matchers.ensures.rooms);
       some_states = c.self.invariant.some_states;
       few_states = c.self.invariant.few_states;
+      fit = fit_lose (map kept_file s.files.items) _ s.marks.items _ c.find_columns.ensures.same c.lose_all.ensures c.self.invariant.fit;
     }
 
 pub returns-clause-gives : goal.returns-clause-gives
@@ -129,12 +130,12 @@ returns-in-Err-find_columns-clause-memory c =
     rw (← c.self.view_is) (λ many. absurd (not_too_many s c.args.list.now c.self.invariant c.len.result at c.if-too_many.ensures many))
 
 pub invariant_of-self : goal.invariant_of-self
-invariant_of-self c = asked_session c.self.inside _ refl c.reserve_texts.ensures.items c.self.invariant none_asked c.self.invariant.kept
+invariant_of-self c = asked_session c.self.inside _ refl c.reserve_texts.ensures.items c.self.invariant none_asked c.self.invariant.kept c.self.invariant.fit
 
 pub invariant_of-self-in-Err-add_matchers : goal.invariant_of-self-in-Err-add_matchers
 invariant_of-self-in-Err-add_matchers c =
     let s = c.self.inside in
-    asked_session s _ refl c.reserve_texts.ensures.items c.self.invariant (subst (SameMatchers matched_expression wants_whole room_of s.matchers.items) (sym c.in-Err-add_matchers.ensures.err) none_asked) c.self.invariant.kept
+    asked_session s _ refl c.reserve_texts.ensures.items c.self.invariant (subst (SameMatchers matched_expression wants_whole room_of s.matchers.items) (sym c.in-Err-add_matchers.ensures.err) none_asked) c.self.invariant.kept c.self.invariant.fit
 
 pub returns-then-too_many-clause-gives : goal.returns-then-too_many-clause-gives
 returns-then-too_many-clause-gives c =
@@ -159,13 +160,16 @@ pub returns-then-too_many-clause-steps : goal.returns-then-too_many-clause-steps
 returns-then-too_many-clause-steps c = takes_none (AddPatterns c.args.list.now) _ _
 
 pub returns-in-Err-reserve_texts-clause-gives : goal.returns-in-Err-reserve_texts-clause-gives
-returns-in-Err-reserve_texts-clause-gives c = ap (λ texts. with_patterns (map (λ text. text.items) texts) (inputs_of c.self.inside)) c.reserve_texts.ensures.items ∙ c.self.view_is
+returns-in-Err-reserve_texts-clause-gives c = ap (λ texts. with_patterns (map (λ text. text.items) texts) (inputs_of c.self.inside)) c.reserve_texts.ensures.items ∙ (inputs_are c.self.view_is)
 
 pub returns-in-Err-add_matchers-clause-gives : goal.returns-in-Err-add_matchers-clause-gives
-returns-in-Err-add_matchers-clause-gives c = ap (λ texts. with_patterns (map (λ text. text.items) texts) (inputs_of c.self.inside)) c.reserve_texts.ensures.items ∙ c.self.view_is
+returns-in-Err-add_matchers-clause-gives c = ap (λ texts. with_patterns (map (λ text. text.items) texts) (inputs_of c.self.inside)) c.reserve_texts.ensures.items ∙ (inputs_are c.self.view_is)
 
 pub returns-in-Err-find_columns-clause-gives : goal.returns-in-Err-find_columns-clause-gives
 returns-in-Err-find_columns-clause-gives c =
     let s = c.self.inside in
     let texts = ap (map (λ text. text.items)) c.reserve_texts.ensures.items in
-    (λ i. record { syntax = s.syntax; options = s.options; patterns = texts i; files = c.find_columns.ensures.same i }) ∙ c.self.view_is
+    (λ i. record { syntax = s.syntax; options = s.options; patterns = texts i; files = c.find_columns.ensures.same i }) ∙ (inputs_are c.self.view_is)
+
+pub returns-clause-marks : goal.returns-clause-marks
+returns-clause-marks c = rw (← c.self.view_is) c.lose_all.ensures

@@ -1,5 +1,4 @@
-use Rattle.std.proofs.Common.{◌≤◌, ◌*◌, List, length, sym, subst}
-use Rattle.grep_session.proofs.Words.{Matcher, KeepAtMost}
+use Rattle.grep_session.proofs.Prelude.{◌≤◌, ◌*◌, List, length, sym, subst, Matcher, KeepAtMost}
 use Rattle.grep_session.proofs.session.Session.cached.Goals as goal
 
 pub kept_by-requires : goal.kept_by-requires

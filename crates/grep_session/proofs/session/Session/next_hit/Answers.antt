@@ -1,7 +1,7 @@
-use Rattle.std.proofs.Common.{◌≡◌, List, map, All, ap, subst, ◌∙◌, length, get_or, ◌<◌, ◌≤◌, ℕ, []}
-use Rattle.grep_session.proofs.Words.{Expression, matched_expression, File, Inputs, AreMeant, Selected, file_at, KeptFile, IsFileKept, inputs_of}
+use Rattle.grep_session.proofs.Prelude.{◌≡◌, List, map, All, ap, subst, ◌∙◌, length, get_or, ◌<◌, ◌≤◌, ℕ, [], Expression, matched_expression, File, Inputs, AreMeant, Selected, file_at, KeptFile, IsFileKept, inputs_of}
 use Rattle.grep_core.proofs.lemmas.LawsHold.{means_one}
 use Rattle.grep_session.proofs.lemmas.CountLemmas.{file_there, kept_there}
+use Rattle.grep_session.proofs.lemmas.SessionLemmas.{inputs_are}
 use Rattle.grep_session.proofs.session.Session.next_hit.Goals as goal
 
 pub returns-clause-passed : goal.returns-clause-passed
@@ -11,7 +11,7 @@ returns-clause-passed c =
     let there = c.in-Some.ensures.lookup.3 in
     let inside : c.args.k < length s.files.items = subst (λ (fs : List KeptFile). c.args.k < length fs) c.deref.ensures.value there.0 in
     let at : c.in-Some.file.now ≡ get_or s.files.items c.args.k c.in-Some.file.now = there.1 c.in-Some.file.now ∙ ap (λ (fs : List KeptFile). get_or fs c.args.k c.in-Some.file.now) c.deref.ensures.value in
-    subst (λ (inputs : Inputs). (es : List Expression) → AreMeant inputs.syntax inputs.options inputs.patterns es → (i : ℕ) → c.args.place ≤ i → i < c.next_selected.result → Selected es inputs.options (get_or (file_at inputs.files c.args.k).lines i []) → ⊥) c.self.view_is
+    subst (λ (inputs : Inputs). (es : List Expression) → AreMeant inputs.syntax inputs.options inputs.patterns es → (i : ℕ) → c.args.place ≤ i → i < c.next_selected.result → Selected es inputs.options (get_or (file_at inputs.files c.args.k).lines i []) → ⊥) (inputs_are c.self.view_is)
     (λ es meant.
     let same : found ≡ es = means_one s.syntax s.options (inputs_of s).patterns found es c.self.invariant.matchers.meant meant in
     let all : All (IsFileKept es s.options) s.files.items = subst (λ es. All (IsFileKept es s.options) s.files.items) same c.self.invariant.kept in
@@ -25,7 +25,7 @@ returns-clause-hit c =
     let there = c.in-Some.ensures.lookup.3 in
     let inside : c.args.k < length s.files.items = subst (λ (fs : List KeptFile). c.args.k < length fs) c.deref.ensures.value there.0 in
     let at : c.in-Some.file.now ≡ get_or s.files.items c.args.k c.in-Some.file.now = there.1 c.in-Some.file.now ∙ ap (λ (fs : List KeptFile). get_or fs c.args.k c.in-Some.file.now) c.deref.ensures.value in
-    subst (λ (inputs : Inputs). (es : List Expression) → AreMeant inputs.syntax inputs.options inputs.patterns es → c.next_selected.result < length (file_at inputs.files c.args.k).lines → Selected es inputs.options (get_or (file_at inputs.files c.args.k).lines c.next_selected.result [])) c.self.view_is
+    subst (λ (inputs : Inputs). (es : List Expression) → AreMeant inputs.syntax inputs.options inputs.patterns es → c.next_selected.result < length (file_at inputs.files c.args.k).lines → Selected es inputs.options (get_or (file_at inputs.files c.args.k).lines c.next_selected.result [])) (inputs_are c.self.view_is)
     (λ es meant.
     let same : found ≡ es = means_one s.syntax s.options (inputs_of s).patterns found es c.self.invariant.matchers.meant meant in
     let all : All (IsFileKept es s.options) s.files.items = subst (λ es. All (IsFileKept es s.options) s.files.items) same c.self.invariant.kept in

@@ -1,7 +1,7 @@
-use Rattle.std.proofs.Common.{map, subst}
-use Rattle.grep_session.proofs.Words.{matched_expression, ReportsInputs, inputs_of}
+use Rattle.grep_session.proofs.Prelude.{map, subst, matched_expression, ReportsInputs, inputs_of}
 use Rattle.grep_session.proofs.lemmas.HeadlineLaws.{reports_inputs}
 use Rattle.grep_session.proofs.lemmas.KeptLaws.{files_fit}
+use Rattle.grep_session.proofs.lemmas.SessionLemmas.{inputs_are}
 use Rattle.grep_session.proofs.session.Session.report.Goals as goal
 
 pub write_report-requires : goal.write_report-requires
@@ -14,5 +14,5 @@ returns g c =
     let s = c.self.inside in
     let es = map matched_expression s.matchers.items in
     let reports = rw c.deref.ensures.value at c.write_report.ensures in
-    subst (λ inputs. ReportsInputs g.W.CountedWrite.contents g.W.CountedWrite.failures inputs c.args.margin.now c.args.out.now c.write_report.new.out c.write_report.result) c.self.view_is
+    subst (λ inputs. ReportsInputs g.W.CountedWrite.contents g.W.CountedWrite.failures inputs c.args.margin.now c.args.out.now c.write_report.new.out c.write_report.result) (inputs_are c.self.view_is)
     (reports_inputs (inputs_of s) es c.self.invariant.matchers.meant g.W.CountedWrite.contents g.W.CountedWrite.failures c.args.margin.now c.args.out.now c.write_report.new.out c.write_report.result (reports es c.self.invariant.kept))

@@ -1,4 +1,4 @@
-use Rattle.std.proofs.Common.{sym, ◌∙◌}
+use Rattle.grep_utility.proofs.Prelude.{sym, ◌∙◌}
 use Rattle.grep_utility.proofs.lemmas.OperandLemmas.{length-sources_named}
 use Rattle.grep_utility.proofs.operands.OperandsSources.count.Goals as goal
 

@@ -1,6 +1,4 @@
-use Rattle.std.proofs.Common.{◌<◌, sym, ap, ◌∙◌, subst}
-use Rattle.grep_utility.specs.Folder.{searched, display_name}
-use Rattle.grep_utility.specs.Words.{texts_of}
+use Rattle.grep_utility.proofs.Prelude.{◌<◌, sym, ap, ◌∙◌, subst, searched, display_name, texts_of}
 use Rattle.grep_utility.proofs.lemmas.OperandLemmas.{length-sources_named, name-sources_named}
 use Rattle.grep_utility.proofs.operands.OperandsSources.name.Goals as goal
 

@@ -1,7 +1,4 @@
-use Rattle.std.proofs.Common.{◌+◌, ◌<◌, sym, ap, ◌∙◌, subst}
-use Rattle.grep_utility.specs.Folder.{searched, after_use}
-use Rattle.grep_utility.specs.Working.Operands.{StandsAt}
-use Rattle.grep_utility.specs.Words.{texts_of}
+use Rattle.grep_utility.proofs.Prelude.{◌+◌, ◌<◌, sym, ap, ◌∙◌, subst, searched, after_use, StandsAt, texts_of}
 use Rattle.grep_utility.proofs.lemmas.OperandLemmas.{length-sources_named, StandsAt-next}
 use Rattle.grep_utility.proofs.operands.OperandsSources.open.Goals as goal
 

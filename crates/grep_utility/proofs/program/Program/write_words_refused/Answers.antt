@@ -1,8 +1,4 @@
-use Rattle.std.proofs.Common.{[], ◌∷◌, sym, subst, append-nil}
-use Rattle.std.proofs.lemmas.Result.{err_from_is_err_and}
-use Rattle.grep_core.specs.Output.{written}
-use Rattle.grep_core.specs.Row.{output_line}
-use Rattle.grep_core.specs.Written.{Writes}
+use Rattle.grep_utility.proofs.Prelude.{[], ◌∷◌, sym, subst, append-nil, err_from_is_err_and, written, output_line, Writes}
 use Rattle.grep_core.proofs.lemmas.RowLemmas.{stops_early, writes_last}
 use Rattle.grep_utility.proofs.program.Program.write_words_refused.Goals as goal
 

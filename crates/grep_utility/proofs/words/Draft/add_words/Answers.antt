@@ -1,6 +1,4 @@
-use Rattle.std.proofs.Common.{◌≡◌, ◌∷◌, None, Ok, rules, sym, ap, ◌∙◌}
-use Rattle.grep_utility.specs.Words.{pieces, reads_on, texts_of}
-use Rattle.grep_utility.specs.Working.Tokens.{drafted, token_of, tokens_left}
+use Rattle.grep_utility.proofs.Prelude.{◌≡◌, ◌∷◌, None, Ok, rules, sym, ap, ◌∙◌, pieces, reads_on, texts_of, drafted, token_of, tokens_left}
 use Rattle.grep_utility.proofs.lemmas.WordLemmas.{piece_added}
 use Rattle.grep_utility.proofs.words.Draft.add_words.Goals as goal
 

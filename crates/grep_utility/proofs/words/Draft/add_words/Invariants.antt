@@ -1,7 +1,4 @@
-use Rattle.std.proofs.Common.{◌≡◌}
-use Rattle.std.specs.Prelude.{None}
-use Rattle.grep_utility.specs.Words.{pieces, reads_on, texts_of}
-use Rattle.grep_utility.specs.Working.Tokens.{drafted, tokens_left}
+use Rattle.grep_utility.proofs.Prelude.{◌≡◌, None, pieces, reads_on, texts_of, drafted, tokens_left}
 use Rattle.grep_utility.proofs.words.Draft.add_words.Given as goal
 
 -- the request so far with the pieces that are left is what the words ask for

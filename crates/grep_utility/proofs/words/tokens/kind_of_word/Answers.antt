@@ -1,6 +1,5 @@
-use Rattle.std.proofs.Common.{◌∷◌, ap, ◌∙◌, rules}
+use Rattle.grep_utility.proofs.Prelude.{◌∷◌, ap, ◌∙◌, rules, by_characters}
 use Rattle.std.specs.Str.{chars}
-use Rattle.grep_utility.specs.Words.{by_characters}
 use Rattle.grep_utility.proofs.lemmas.TokenLemmas.{word_of-end, word_of-other, by_characters-operand, by_characters-group}
 use Rattle.grep_utility.proofs.words.tokens.kind_of_word.Goals as goal
 

@@ -1,6 +1,5 @@
-use Rattle.std.proofs.Common.{◌∷◌, ap, ◌∙◌, sym}
+use Rattle.grep_utility.proofs.Prelude.{◌∷◌, ap, ◌∙◌, sym, chars_past_char}
 use Rattle.std.specs.Str.{chars}
-use Rattle.std.proofs.lemmas.Str.{chars_past_char}
 use Rattle.grep_utility.proofs.words.tokens.split_first_char.Goals as goal
 
 pub returns : goal.returns

@@ -1,4 +1,4 @@
-use Rattle.std.proofs.Common.{sym, arith}
+use Rattle.line_chunks.proofs.Prelude.{sym, arith}
 use Rattle.line_chunks.proofs.lemmas.BlockLemmas.{part_next}
 use Rattle.line_chunks.proofs.block.Block.add_part.Goals as goal
 

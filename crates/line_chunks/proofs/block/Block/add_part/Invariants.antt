@@ -1,5 +1,4 @@
-use Rattle.std.proofs.Common.{◌≡◌, ◌++◌}
-use Rattle.std.specs.Prelude.{slice_range}
+use Rattle.line_chunks.proofs.Prelude.{◌≡◌, ◌++◌, slice_range}
 use Rattle.line_chunks.proofs.block.Block.add_part.Given as goal
 
 abbrev pub invariant-loop-k : goal.invariant-loop-k

@@ -1,4 +1,4 @@
-use Rattle.std.proofs.Common.{◌∙◌}
+use Rattle.line_chunks.proofs.Prelude.{◌∙◌}
 use Rattle.line_chunks.proofs.lemmas.BlockLemmas.{are_of, many_starts}
 use Rattle.line_chunks.proofs.block.Block.len.Goals as goal
 

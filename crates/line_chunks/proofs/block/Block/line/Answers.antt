@@ -1,5 +1,4 @@
-use Rattle.std.proofs.Common.{◌∙◌, ap, arith, length, subst, sym}
-use Rattle.re_syntax.specs.Lines.{HasNoNewline}
+use Rattle.line_chunks.proofs.Prelude.{◌∙◌, ap, arith, length, subst, sym, HasNoNewline}
 use Rattle.line_chunks.proofs.lemmas.BlockLemmas.{end_within, line_between, free_in, free_at}
 use Rattle.line_chunks.proofs.block.Block.line.Goals as goal
 

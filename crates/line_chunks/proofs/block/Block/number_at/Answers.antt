@@ -1,4 +1,4 @@
-use Rattle.std.proofs.Common.{arith, ◌<◌, length}
+use Rattle.line_chunks.proofs.Prelude.{arith, ◌<◌, length}
 use Rattle.line_chunks.proofs.lemmas.BlockLemmas.{not_yet, here_now}
 use Rattle.line_chunks.proofs.block.Block.number_at.Goals as goal
 

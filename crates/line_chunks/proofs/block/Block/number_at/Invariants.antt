@@ -1,5 +1,4 @@
-use Rattle.std.proofs.Common.{◌≡◌, ◌≤◌, ◌-◌, ℕ, length, take}
-use Rattle.re_syntax.specs.Lines.{terminated}
+use Rattle.line_chunks.proofs.Prelude.{◌≡◌, ◌≤◌, ◌-◌, ℕ, length, take, terminated}
 use Rattle.line_chunks.proofs.block.Block.number_at.Given as goal
 
 abbrev pub invariant-loop-number : goal.invariant-loop-number

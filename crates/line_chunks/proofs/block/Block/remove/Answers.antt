@@ -1,4 +1,4 @@
-use Rattle.std.proofs.Common.{ap, arith, length}
+use Rattle.line_chunks.proofs.Prelude.{ap, arith, length}
 use Rattle.line_chunks.proofs.lemmas.BlockLemmas.{are_of, many_starts, begins_in_order, begins_within, are_without, is_cut, seen_as}
 use Rattle.line_chunks.proofs.block.Block.remove.Goals as goal
 

@@ -1,4 +1,4 @@
-use Rattle.std.proofs.Common.{◌∙◌, arith, ap, length}
+use Rattle.line_chunks.proofs.Prelude.{◌∙◌, arith, ap, length}
 use Rattle.line_chunks.proofs.lemmas.BlockLemmas.{are_of, many_starts, start_of, whole_is}
 use Rattle.line_chunks.proofs.block.Block.start.Goals as goal
 

@@ -1,4 +1,4 @@
-use Rattle.std.proofs.Common.{◌∙◌}
+use Rattle.line_chunks.proofs.Prelude.{◌∙◌}
 use Rattle.line_chunks.proofs.lemmas.BlockLemmas.{are_of}
 use Rattle.line_chunks.proofs.block.Block.text.Goals as goal
 

@@ -1,6 +1,4 @@
-use Rattle.std.proofs.Common.{arith, ◌∙◌, ap, length, drop}
-use Rattle.std.proofs.lemmas.List.Elements.{All-drop}
-use Rattle.re_syntax.specs.Lines.{HasNoNewline, lines_of}
+use Rattle.line_chunks.proofs.Prelude.{arith, ◌∙◌, ap, length, drop, All-drop, HasNoNewline, lines_of}
 use Rattle.re_syntax.proofs.lemmas.LinesLaws.{lines_of-terminated}
 use Rattle.line_chunks.proofs.lemmas.BlockLemmas.{begins_within, rest_is, free_in}
 use Rattle.line_chunks.proofs.block.Block.text_from.Goals as goal

@@ -1,5 +1,4 @@
-use Rattle.std.proofs.Common.{◌∙◌, ap, map}
-use Rattle.line_chunks.specs.Working.Chunks.{line_without}
+use Rattle.line_chunks.proofs.Prelude.{◌∙◌, ap, map, line_without}
 use Rattle.line_chunks.proofs.lemmas.SeenLaws.{seen_without}
 use Rattle.line_chunks.proofs.chunk.Chunk.drop_number.Goals as goal
 

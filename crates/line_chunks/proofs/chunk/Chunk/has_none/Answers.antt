@@ -1,6 +1,4 @@
-use Rattle.std.proofs.Common.{◌∙◌, ap, sym, arith}
-use Rattle.std.specs.Prelude.{not}
-use Rattle.std.proofs.lemmas.Bool.{eqb-true}
+use Rattle.line_chunks.proofs.Prelude.{◌∙◌, ap, sym, arith, not, eqb-true}
 use Rattle.line_chunks.proofs.lemmas.NextLines.{none_matched, all_matched}
 use Rattle.line_chunks.proofs.chunk.Chunk.has_none.Goals as goal
 

@@ -1,5 +1,4 @@
-use Rattle.std.proofs.Common.{◌∙◌, ap}
-use Rattle.line_chunks.specs.Working.Chunks.{matched_count}
+use Rattle.line_chunks.proofs.Prelude.{◌∙◌, ap, matched_count}
 use Rattle.line_chunks.proofs.lemmas.SeenLaws.{hits_seen}
 use Rattle.line_chunks.proofs.chunk.Chunk.hits.Goals as goal
 

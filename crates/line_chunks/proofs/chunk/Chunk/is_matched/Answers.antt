@@ -1,5 +1,4 @@
-use Rattle.std.proofs.Common.{arith, ◌∙◌, ap, length}
-use Rattle.line_chunks.proofs.Words.{not, ◌==◌, Finds}
+use Rattle.line_chunks.proofs.Prelude.{arith, ◌∙◌, ap, length, not, ◌==◌, Finds}
 use Rattle.line_chunks.proofs.lemmas.SeenLaws.{as_many, found_at}
 use Rattle.line_chunks.proofs.chunk.Chunk.is_matched.Goals as goal
 

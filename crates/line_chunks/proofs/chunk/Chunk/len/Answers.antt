@@ -1,4 +1,4 @@
-use Rattle.std.proofs.Common.{◌∙◌}
+use Rattle.line_chunks.proofs.Prelude.{◌∙◌}
 use Rattle.line_chunks.proofs.lemmas.SeenLaws.{as_many}
 use Rattle.line_chunks.proofs.chunk.Chunk.len.Goals as goal
 

@@ -1,4 +1,4 @@
-use Rattle.std.proofs.Common.{arith, ◌∙◌}
+use Rattle.line_chunks.proofs.Prelude.{arith, ◌∙◌}
 use Rattle.line_chunks.proofs.lemmas.SeenLaws.{as_many, text_at}
 use Rattle.line_chunks.proofs.chunk.Chunk.line.Goals as goal
 

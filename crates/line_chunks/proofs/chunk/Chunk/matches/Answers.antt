@@ -1,5 +1,4 @@
-use Rattle.std.proofs.Common.{ℕ, ◌∙◌, ap, subst}
-use Rattle.line_finds.specs.Working.Finds.{Finds, numbers_at, AreBelow}
+use Rattle.line_chunks.proofs.Prelude.{ℕ, ◌∙◌, ap, subst, Finds, numbers_at, AreBelow}
 use Rattle.line_chunks.proofs.lemmas.SeenLaws.{as_many, found_at}
 use Rattle.line_chunks.proofs.chunk.Chunk.matches.Goals as goal
 

@@ -1,5 +1,4 @@
-use Rattle.std.proofs.Common.{◌≡◌, ℕ, ◌<◌, ◌≤◌, get_or, not}
-use Rattle.line_chunks.specs.Working.Chunks.{no_line, is_matched}
+use Rattle.line_chunks.proofs.Prelude.{◌≡◌, ℕ, ◌<◌, ◌≤◌, get_or, not, no_line, is_matched}
 use Rattle.line_chunks.proofs.chunk.Chunk.next_line.Given as goal
 
 -- the lines so far are not of this kind

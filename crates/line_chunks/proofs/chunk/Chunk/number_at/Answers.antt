@@ -1,5 +1,4 @@
-use Rattle.std.proofs.Common.{arith, ◌∙◌, ap, sym, length, take}
-use Rattle.re_syntax.specs.Lines.{terminated}
+use Rattle.line_chunks.proofs.Prelude.{arith, ◌∙◌, ap, sym, length, take, terminated}
 use Rattle.line_chunks.proofs.lemmas.SeenLaws.{as_many, texts_are}
 use Rattle.line_chunks.proofs.chunk.Chunk.number_at.Goals as goal
 

@@ -1,4 +1,4 @@
-use Rattle.std.proofs.Common.{arith, ◌∙◌, ◌++◌, ap, take, drop}
+use Rattle.line_chunks.proofs.Prelude.{arith, ◌∙◌, ◌++◌, ap, take, drop}
 use Rattle.line_chunks.proofs.lemmas.SeenLaws.{as_many, lines_removed, size_removed}
 use Rattle.line_chunks.proofs.chunk.Chunk.remove.Goals as goal
 

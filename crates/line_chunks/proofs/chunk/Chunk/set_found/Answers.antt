@@ -1,5 +1,4 @@
-use Rattle.std.proofs.Common.{◌∙◌, ap, sym}
-use Rattle.line_chunks.specs.Working.Chunks.{seen}
+use Rattle.line_chunks.proofs.Prelude.{◌∙◌, ap, sym, seen}
 use Rattle.line_chunks.proofs.lemmas.SeenLaws.{as_many, texts_are}
 use Rattle.line_chunks.proofs.chunk.Chunk.set_found.Goals as goal
 

@@ -1,5 +1,4 @@
-use Rattle.std.proofs.Common.{arith, ◌<◌, ◌^◌, subst, ◌∙◌, ap, length, take}
-use Rattle.re_syntax.specs.Lines.{terminated}
+use Rattle.line_chunks.proofs.Prelude.{arith, ◌<◌, ◌^◌, subst, ◌∙◌, ap, length, take, terminated}
 use Rattle.line_chunks.proofs.lemmas.SeenLaws.{as_many, texts_are}
 use Rattle.line_chunks.proofs.chunk.Chunk.start.Goals as goal
 

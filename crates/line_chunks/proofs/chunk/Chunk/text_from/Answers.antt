@@ -1,4 +1,4 @@
-use Rattle.std.proofs.Common.{arith, ◌∙◌, ap, drop}
+use Rattle.line_chunks.proofs.Prelude.{arith, ◌∙◌, ap, drop}
 use Rattle.line_chunks.proofs.lemmas.SeenLaws.{as_many, texts_are}
 use Rattle.line_chunks.proofs.chunk.Chunk.text_from.Goals as goal
 

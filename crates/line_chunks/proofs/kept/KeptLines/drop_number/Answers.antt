@@ -1,5 +1,4 @@
-use Rattle.std.proofs.Common.{arith, ap, length}
-use Rattle.line_chunks.proofs.Words.{all_of, line_without, chunks_of}
+use Rattle.line_chunks.proofs.Prelude.{arith, ap, length, all_of, line_without, chunks_of}
 use Rattle.line_chunks.proofs.lemmas.Columns.{lines_mapped}
 use Rattle.line_chunks.proofs.kept.KeptLines.drop_number.Goals as goal
 

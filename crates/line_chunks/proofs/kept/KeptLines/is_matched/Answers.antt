@@ -1,5 +1,4 @@
-use Rattle.std.proofs.Common.{◌∙◌, ap, get_or}
-use Rattle.line_chunks.specs.Working.Chunks.{no_line, all_of, is_matched}
+use Rattle.line_chunks.proofs.Prelude.{◌∙◌, ap, get_or, no_line, all_of, is_matched}
 use Rattle.line_chunks.proofs.lemmas.Sums.{line_found}
 use Rattle.line_chunks.proofs.kept.KeptLines.is_matched.Goals as goal
 

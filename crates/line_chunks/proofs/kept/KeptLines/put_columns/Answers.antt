@@ -1,5 +1,4 @@
-use Rattle.std.proofs.Common.{arith, ap, length}
-use Rattle.line_chunks.proofs.Words.{into_iter_items, all_of, chunks_of}
+use Rattle.line_chunks.proofs.Prelude.{arith, ap, length, into_iter_items, all_of, chunks_of}
 use Rattle.line_chunks.proofs.lemmas.Columns.{lines_with_columns}
 use Rattle.line_chunks.proofs.kept.KeptLines.put_columns.Goals as goal
 

@@ -1,6 +1,4 @@
-use Rattle.std.proofs.Common.{◌≡◌, ◌+◌, ◌-◌, false, ◌∙◌, length, replicate, sym, ap, subst, arith}
-use Rattle.line_finds.specs.Working.Finds.{AreBelow, numbers_at, finds_at, paired_before}
-use Rattle.line_finds.specs.Working.Marked.{AreMarks}
+use Rattle.line_finds.proofs.Prelude.{◌≡◌, ◌+◌, ◌-◌, false, ◌∙◌, length, replicate, sym, ap, subst, arith, AreBelow, numbers_at, finds_at, paired_before, AreMarks}
 use Rattle.line_finds.proofs.lemmas.FoundLaws.{found_same, grown, cut_off}
 use Rattle.line_finds.proofs.found.Found.add_part.Goals as goal
 

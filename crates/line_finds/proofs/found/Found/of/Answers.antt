@@ -1,5 +1,4 @@
-use Rattle.std.proofs.Common.{sym, subst, arith}
-use Rattle.line_finds.specs.Working.Finds.{AreBelow}
+use Rattle.line_finds.proofs.Prelude.{sym, subst, arith, AreBelow}
 use Rattle.line_finds.proofs.lemmas.FoundLaws.{counted}
 use Rattle.line_finds.proofs.found.Found.of.Goals as goal
 

@@ -1,6 +1,4 @@
-use Rattle.std.proofs.Common.{◌≡◌, ◌+◌, ◌∷◌, [], false, ◌∙◌, length, sym, ap, subst, arith}
-use Rattle.std.proofs.lemmas.List.{length-append}
-use Rattle.line_finds.specs.Working.Finds.{AreBelow, finds_at, no_finds, paired_before}
+use Rattle.line_finds.proofs.Prelude.{◌≡◌, ◌+◌, ◌∷◌, [], false, ◌∙◌, length, sym, ap, subst, arith, length-append, AreBelow, finds_at, no_finds, paired_before}
 use Rattle.line_finds.proofs.lemmas.FoundLaws.{marks_next, paired_next, below_next, found_none}
 use Rattle.line_finds.proofs.found.Found.push_none.Goals as goal
 

@@ -1,6 +1,4 @@
-use Rattle.std.proofs.Common.{◌≡◌, ◌+◌, ◌-◌, ◌≤◌, [], ◌∙◌, length, get_or, sym, ap, subst, arith}
-use Rattle.std.proofs.lemmas.List.{length-take}
-use Rattle.line_finds.specs.Working.Finds.{AreBelow, finds_at}
+use Rattle.line_finds.proofs.Prelude.{◌≡◌, ◌+◌, ◌-◌, ◌≤◌, [], ◌∙◌, length, get_or, sym, ap, subst, arith, length-take, AreBelow, finds_at}
 use Rattle.line_finds.proofs.lemmas.FoundLaws.{found_same, kept_before, kept_after, kept_few}
 use Rattle.line_finds.proofs.found.Found.remove.Goals as goal
 

@@ -1,5 +1,4 @@
-use Rattle.std.proofs.Common.{◌≡◌, ◌++◌, take}
-use Rattle.line_finds.specs.Working.Pairs.{pairs_of, moved_to}
+use Rattle.line_finds.proofs.Prelude.{◌≡◌, ◌++◌, take, pairs_of, moved_to}
 use Rattle.line_finds.proofs.matches.Matches.add_each.Given as goal
 
 -- the first pairs are added

@@ -1,7 +1,4 @@
-use Rattle.std.proofs.Common.{◌+◌, ◌-◌, ◌∙◌, length, ap, sym, subst, arith}
-use Rattle.std.proofs.lemmas.List.{length-map}
-use Rattle.line_finds.specs.Working.Finds.{numbers_at, AreBelow}
-use Rattle.line_finds.specs.Working.Pairs.{pair_of}
+use Rattle.line_finds.proofs.Prelude.{◌+◌, ◌-◌, ◌∙◌, length, ap, sym, subst, arith, length-map, numbers_at, AreBelow, pair_of}
 use Rattle.line_finds.proofs.lemmas.PairLaws.{added_old, added_new, added_below, cut_back}
 use Rattle.line_finds.proofs.matches.Matches.add_part.Goals as goal
 

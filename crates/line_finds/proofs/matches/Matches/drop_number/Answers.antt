@@ -1,6 +1,4 @@
-use Rattle.std.proofs.Common.{◌∙◌, ap, sym, subst}
-use Rattle.line_finds.specs.Working.Finds.{numbers_at, AreBelow, without}
-use Rattle.line_finds.specs.Working.Pairs.{pairs_of}
+use Rattle.line_finds.proofs.Prelude.{◌∙◌, ap, sym, subst, numbers_at, AreBelow, without, pairs_of}
 use Rattle.line_finds.proofs.lemmas.PairLaws.{dropped_numbers, dropped_below}
 use Rattle.line_finds.proofs.matches.Matches.drop_number.Goals as goal
 

@@ -1,5 +1,4 @@
-use Rattle.std.proofs.Common.{◌<◌, ◌∙◌, drop}
-use Rattle.std.proofs.lemmas.List.Elements.{All-drop}
+use Rattle.line_finds.proofs.Prelude.{◌<◌, ◌∙◌, drop, All-drop}
 use Rattle.line_finds.proofs.lemmas.MarkLaws.{rest_is, rest_below, marks_are}
 use Rattle.line_finds.proofs.matches.Matches.marks.Goals as goal
 

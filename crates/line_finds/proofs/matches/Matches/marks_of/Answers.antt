@@ -1,5 +1,4 @@
-use Rattle.std.proofs.Common.{◌∙◌, ap}
-use Rattle.line_finds.specs.Working.Pairs.{pairs_of}
+use Rattle.line_finds.proofs.Prelude.{◌∙◌, ap, pairs_of}
 use Rattle.line_finds.proofs.lemmas.MarkLaws.{all_below, marks_of_are}
 use Rattle.line_finds.proofs.matches.Matches.marks_of.Goals as goal
 

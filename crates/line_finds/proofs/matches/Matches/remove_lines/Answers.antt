@@ -1,6 +1,4 @@
-use Rattle.std.proofs.Common.{◌+◌, ◌-◌, ◌∙◌, ap, sym, subst}
-use Rattle.line_finds.specs.Working.Finds.{numbers_at, AreBelow}
-use Rattle.line_finds.specs.Working.Pairs.{pairs_of}
+use Rattle.line_finds.proofs.Prelude.{◌+◌, ◌-◌, ◌∙◌, ap, sym, subst, numbers_at, AreBelow, pairs_of}
 use Rattle.line_finds.proofs.lemmas.PairLaws.{left_before, left_after, left_below}
 use Rattle.line_finds.proofs.matches.Matches.remove_lines.Goals as goal
 

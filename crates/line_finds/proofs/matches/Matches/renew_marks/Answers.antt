@@ -1,5 +1,4 @@
-use Rattle.std.proofs.Common.{◌∙◌, ap, length}
-use Rattle.line_finds.specs.Working.Pairs.{pairs_of}
+use Rattle.line_finds.proofs.Prelude.{◌∙◌, ap, length, pairs_of}
 use Rattle.line_finds.proofs.lemmas.MarkLaws.{marks_are}
 use Rattle.line_finds.proofs.matches.Matches.renew_marks.Goals as goal
 

@@ -1,4 +1,4 @@
-use Rattle.std.proofs.Common.{◌<◌, ◌+◌, ◌∙◌, ap, arith, length}
+use Rattle.line_finds.proofs.Prelude.{◌<◌, ◌+◌, ◌∙◌, ap, arith, length}
 use Rattle.line_finds.proofs.lemmas.SpanLemmas.{are_of, begins_in_order, begins_within, list_between}
 use Rattle.line_finds.proofs.spans.SpanLists.at.Goals as goal
 

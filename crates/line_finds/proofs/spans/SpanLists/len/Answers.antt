@@ -1,4 +1,4 @@
-use Rattle.std.proofs.Common.{◌∙◌}
+use Rattle.line_finds.proofs.Prelude.{◌∙◌}
 use Rattle.line_finds.proofs.lemmas.SpanLemmas.{are_of, many_ends}
 use Rattle.line_finds.proofs.spans.SpanLists.len.Goals as goal
 

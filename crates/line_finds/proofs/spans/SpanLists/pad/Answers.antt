@@ -1,5 +1,4 @@
-use Rattle.std.proofs.Common.{◌∙◌, ◌++◌, ◌-◌, ap, take}
-use Rattle.std.specs.Prelude.{is_ok, replicate, if◌then◌else◌}
+use Rattle.line_finds.proofs.Prelude.{◌∙◌, ◌++◌, ◌-◌, ap, take, is_ok, replicate, if◌then◌else◌}
 use Rattle.line_finds.proofs.lemmas.SpanLemmas.{are_of, are_still, are_padded}
 use Rattle.line_finds.proofs.spans.SpanLists.pad.Goals as goal
 

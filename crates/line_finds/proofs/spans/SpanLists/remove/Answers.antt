@@ -1,4 +1,4 @@
-use Rattle.std.proofs.Common.{arith}
+use Rattle.line_finds.proofs.Prelude.{arith}
 use Rattle.line_finds.proofs.lemmas.SpanLemmas.{without_any}
 use Rattle.line_finds.proofs.spans.SpanLists.remove.Goals as goal
 

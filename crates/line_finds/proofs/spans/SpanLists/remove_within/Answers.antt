@@ -1,4 +1,4 @@
-use Rattle.std.proofs.Common.{ap, arith, length}
+use Rattle.line_finds.proofs.Prelude.{ap, arith, length}
 use Rattle.line_finds.proofs.lemmas.SpanLemmas.{are_of, many_ends, begins_in_order, begins_within, are_without, are_lists, seen_as}
 use Rattle.line_finds.proofs.spans.SpanLists.remove_within.Goals as goal
 

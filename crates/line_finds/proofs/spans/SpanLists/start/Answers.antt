@@ -1,4 +1,4 @@
-use Rattle.std.proofs.Common.{◌∙◌, arith}
+use Rattle.line_finds.proofs.Prelude.{◌∙◌, arith}
 use Rattle.line_finds.proofs.lemmas.SpanLemmas.{are_of, many_ends, start_of}
 use Rattle.line_finds.proofs.spans.SpanLists.start.Goals as goal
 

@@ -1,5 +1,4 @@
-use Rattle.std.proofs.Common.{ℕ, ◌<◌, ◌≤◌, ◌-◌, slice_index}
-use Rattle.re_auto.specs.Working.Beginnings.{IsMarked}
+use Rattle.re_auto.proofs.Prelude.{ℕ, ◌<◌, ◌≤◌, ◌-◌, slice_index, IsMarked}
 use Rattle.re_auto.proofs.beginnings.Beginnings.next_before.Given as goal
 
 abbrev pub invariant-places : goal.invariant-places

@@ -1,5 +1,4 @@
-use Rattle.std.proofs.Common.{slice_index}
-use Rattle.re_auto.proofs.Words.{is_byte, is_byte2, is_byte3, Names, One, Two, Three}
+use Rattle.re_auto.proofs.Prelude.{slice_index, is_byte, is_byte2, is_byte3, Names, One, Two, Three}
 use Rattle.re_auto.proofs.lemmas.BeginningLemmas.{first_found, says_one, says_two, says_three}
 use Rattle.re_auto.proofs.lemmas.PartLemmas.{via}
 use Rattle.re_auto.proofs.beginnings.Beginnings.next_from.Goals as goal

@@ -1,5 +1,4 @@
-use Rattle.std.proofs.Common.{◌≡◌, ℕ, ◌<◌, false, IsTrue, length, get_or}
-use Rattle.re_auto.proofs.Words.{◌↔◌, Has, row_of}
+use Rattle.re_auto.proofs.Prelude.{◌≡◌, ℕ, ◌<◌, false, IsTrue, length, get_or, ◌↔◌, Has, row_of}
 use Rattle.re_auto.proofs.build.classes.bytes_meeting.Given as goal
 
 abbrev pub invariant-bytes : goal.invariant-bytes

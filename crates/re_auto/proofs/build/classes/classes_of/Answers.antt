@@ -1,5 +1,4 @@
-use Rattle.std.proofs.Common.{rules, arith, ◌≡◌, ◌+◌, ◌*◌, ◌<◌, ◌++◌, ◌∷◌, [], length, length-append, max, get_or, sym, ap, ◌∙◌, subst}
-use Rattle.re_auto.specs.Working.Bits.{row_of}
+use Rattle.re_auto.proofs.Prelude.{rules, arith, ◌≡◌, ◌+◌, ◌*◌, ◌<◌, ◌++◌, ◌∷◌, [], length, length-append, max, get_or, sym, ap, ◌∙◌, subst, row_of}
 use Rattle.re_auto.proofs.lemmas.RowLemmas.{row_within}
 use Rattle.re_auto.proofs.lemmas.ClassLemmas.{pushed}
 use Rattle.re_auto.proofs.build.classes.classes_of.Goals as goal

@@ -1,5 +1,4 @@
-use Rattle.std.proofs.Common.{◌≡◌, ℕ, ◌*◌, ◌<◌, ◌≤◌, length, get_or}
-use Rattle.re_auto.specs.Working.Bits.{row_of}
+use Rattle.re_auto.proofs.Prelude.{◌≡◌, ℕ, ◌*◌, ◌<◌, ◌≤◌, length, get_or, row_of}
 use Rattle.re_auto.proofs.build.classes.classes_of.Given as goal
 
 abbrev pub invariant-bytes : goal.invariant-bytes

@@ -1,5 +1,4 @@
-use Rattle.std.proofs.Common.{◌+◌, ◌*◌, ◌∙◌, min, map, sym, ap}
-use Rattle.re_auto.proofs.Words.{cat, expression_of, positions, copies, most_positions}
+use Rattle.re_auto.proofs.Prelude.{◌+◌, ◌*◌, ◌∙◌, min, map, sym, ap, cat, expression_of, positions, copies, most_positions}
 use Rattle.re_auto.proofs.lemmas.CountLaws.{count-Alt, count-Repeat, counted_more, min_product}
 use Rattle.re_auto.proofs.build.count.+count.Goals as goal
 

@@ -1,5 +1,4 @@
-use Rattle.std.proofs.Common.{◌+◌, ◌≡◌, map, min, take}
-use Rattle.re_auto.proofs.Words.{cat, expression_of, positions, most_positions}
+use Rattle.re_auto.proofs.Prelude.{◌+◌, ◌≡◌, map, min, take, cat, expression_of, positions, most_positions}
 use Rattle.re_auto.proofs.build.count.+count.Given as goal
 
 abbrev pub invariant-count_all-members : goal.invariant-count_all-members

@@ -1,5 +1,4 @@
-use Rattle.std.proofs.Common.{length, sym, ap, ◌∙◌}
-use Rattle.std.proofs.lemmas.List.{with_items_is}
+use Rattle.re_auto.proofs.Prelude.{length, sym, ap, ◌∙◌, with_items_is}
 use Rattle.re_auto.proofs.build.ends.add_set.Goals as goal
 
 pub add-requires : goal.add-requires

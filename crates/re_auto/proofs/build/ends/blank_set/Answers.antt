@@ -1,6 +1,4 @@
-use Rattle.std.proofs.Common.{subst, sym}
-use Rattle.std.proofs.lemmas.Result.{IfOk-weaker}
-use Rattle.re_auto.specs.Working.Bits.{Are}
+use Rattle.re_auto.proofs.Prelude.{subst, sym, IfOk-weaker, Are}
 use Rattle.re_auto.proofs.lemmas.BitLemmas.{zeros_are}
 use Rattle.re_auto.proofs.build.ends.blank_set.Goals as goal
 

@@ -1,4 +1,4 @@
-use Rattle.std.proofs.Common.{arith}
+use Rattle.re_auto.proofs.Prelude.{arith}
 use Rattle.re_auto.proofs.build.ends.one_member.Goals as goal
 
 pub insert-requires : goal.insert-requires

@@ -1,5 +1,4 @@
-use Rattle.std.proofs.Common.{subst}
-use Rattle.re_auto.proofs.Words.{expression_of, AreClasses}
+use Rattle.re_auto.proofs.Prelude.{subst, expression_of, AreClasses}
 use Rattle.re_auto.proofs.lemmas.FillingLemmas.{reported_too}
 use Rattle.re_auto.proofs.build.fill.fill_tables.Goals as goal
 

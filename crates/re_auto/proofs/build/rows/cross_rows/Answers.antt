@@ -1,5 +1,4 @@
-use Rattle.std.proofs.Common.{arith, ◌≡◌}
-use Rattle.re_auto.specs.Working.Bits.{Has, row_of}
+use Rattle.re_auto.proofs.Prelude.{arith, ◌≡◌, Has, row_of}
 use Rattle.re_auto.proofs.lemmas.BitLemmas.{at_word, word_added, all_added, chained}
 use Rattle.re_auto.proofs.lemmas.RowLemmas.{one_row}
 use Rattle.re_auto.proofs.build.rows.cross_rows.Goals as goal

@@ -1,5 +1,4 @@
-use Rattle.std.proofs.Common.{arith, ◌≡◌, ◌+◌, ◌*◌, inl}
-use Rattle.re_auto.specs.Working.Bits.{Has, row_of}
+use Rattle.re_auto.proofs.Prelude.{arith, ◌≡◌, ◌+◌, ◌*◌, inl, Has, row_of}
 use Rattle.re_auto.proofs.lemmas.BitLemmas.{one_added, chained}
 use Rattle.re_auto.proofs.build.rows.cross_word.Goals as goal
 

@@ -1,4 +1,4 @@
-use Rattle.std.proofs.Common.{arith, ◌≡◌, length, length-take, length-drop, drop, ◌*◌, ◌+◌, ◌-◌}
+use Rattle.re_auto.proofs.Prelude.{arith, ◌≡◌, length, length-take, length-drop, drop, ◌*◌, ◌+◌, ◌-◌}
 use Rattle.re_auto.proofs.lemmas.BitLemmas.{row_added}
 use Rattle.re_auto.proofs.build.rows.insert_in_row.Goals as goal
 

@@ -1,5 +1,4 @@
-use Rattle.std.proofs.Common.{arith, ◌≡◌, length, sym, ap, ◌∙◌}
-use Rattle.re_auto.proofs.Words.{members, Has, row_of}
+use Rattle.re_auto.proofs.Prelude.{arith, ◌≡◌, length, sym, ap, ◌∙◌, members, Has, row_of}
 use Rattle.re_auto.proofs.lemmas.RowLemmas.{row_within, marked, not_marked, same_truth, other_truth}
 use Rattle.re_auto.proofs.build.rows.mark_takers.Goals as goal
 use Rattle.re_auto.proofs.build.rows.mark_takers.Goals.{then-has-wanted, else-has-wanted}

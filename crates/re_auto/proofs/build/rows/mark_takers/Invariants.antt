@@ -1,5 +1,4 @@
-use Rattle.std.proofs.Common.{◌≡◌, ℕ, ◌<◌, length, ◌⊎◌}
-use Rattle.re_auto.proofs.Words.{◌↔◌, members, Has, row_of}
+use Rattle.re_auto.proofs.Prelude.{◌≡◌, ℕ, ◌<◌, length, ◌⊎◌, ◌↔◌, members, Has, row_of}
 use Rattle.re_auto.proofs.build.rows.mark_takers.Given as goal
 
 abbrev pub invariant-bytes : goal.invariant-bytes

@@ -1,10 +1,5 @@
-use Rattle.std.proofs.Common.{arith, ◌≡◌, ◌-◌, suc, subst, sym, ap, length, ◌∙◌, inl, inr}
-use Rattle.std.proofs.lemmas.List.{length-set}
-use Rattle.re_syntax.specs.Working.Trees.{expression_of}
-use Rattle.re_auto.specs.Working.Bits.{Has}
-use Rattle.re_auto.specs.Working.Positions.{part_of}
+use Rattle.re_ends.proofs.Prelude.{arith, ◌≡◌, ◌-◌, suc, subst, sym, ap, length, ◌∙◌, inl, inr, length-set, expression_of, Has, part_of, AreEndsAt}
 use Rattle.re_auto.proofs.lemmas.Numbered.{part_numbered}
-use Rattle.re_ends.specs.Working.GreatestEnds.{AreEndsAt}
 use Rattle.re_ends.proofs.lemmas.EndLaws.{one_more_place}
 use Rattle.re_ends.proofs.back.EndPair.add_ends.Goals as goal
 

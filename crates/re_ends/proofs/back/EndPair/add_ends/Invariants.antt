@@ -1,9 +1,4 @@
-use Rattle.std.proofs.Common.{◌≡◌, ℕ, ◌<◌, ◌≤◌, ◌⊎◌, get_or, length}
-use Rattle.std.specs.Prelude.{◌↔◌}
-use Rattle.re_syntax.specs.Working.Trees.{expression_of}
-use Rattle.re_auto.specs.Working.Positions.{part_of}
-use Rattle.re_ends.specs.Working.GreatestEnds.{AreEndsAt, MatchesPast}
-use Rattle.re_ends.specs.Working.EndPairs.{AreEndsFor}
+use Rattle.re_ends.proofs.Prelude.{◌≡◌, ℕ, ◌<◌, ◌≤◌, ◌⊎◌, get_or, length, ◌↔◌, expression_of, part_of, AreEndsAt, MatchesPast, AreEndsFor}
 use Rattle.re_ends.proofs.back.EndPair.add_ends.Given as goal
 
 -- the places from this one on have their ends

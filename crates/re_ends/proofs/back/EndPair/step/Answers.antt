@@ -1,9 +1,4 @@
-use Rattle.std.proofs.Common.{arith, ◌≡◌, ◌+◌, ◌∙◌, ap, refl, suc, subst, sym}
-use Rattle.std.proofs.lemmas.List.{with_items_is}
-use Rattle.std.specs.Prelude.{slice_index}
-use Rattle.re_syntax.specs.Working.Trees.{expression_of}
-use Rattle.re_auto.specs.Working.Positions.{part_of, is_end}
-use Rattle.re_ends.specs.Working.GreatestEnds.{AreEndsAt, IsStepBack}
+use Rattle.re_ends.proofs.Prelude.{arith, ◌≡◌, ◌+◌, ◌∙◌, ap, refl, suc, subst, sym, with_items_is, slice_index, expression_of, part_of, is_end, AreEndsAt, IsStepBack}
 use Rattle.re_ends.proofs.lemmas.EndLaws.{ends_back}
 use Rattle.re_ends.proofs.back.EndPair.step.Goals as goal
 

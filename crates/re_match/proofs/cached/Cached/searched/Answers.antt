@@ -1,5 +1,4 @@
-use Rattle.std.proofs.Common.{refl, inl, sym, ap, ◌∙◌, subst}
-use Rattle.re_match.proofs.Words.{expression_of, Goes, mode_for, cache_of, TreeMatcher}
+use Rattle.re_match.proofs.Prelude.{refl, inl, sym, ap, ◌∙◌, subst, expression_of, Goes, mode_for, cache_of, TreeMatcher}
 use Rattle.re_steps.proofs.lemmas.StageLaws.{searches_readied}
 use Rattle.re_match.proofs.cached.Cached.searched.Goals as goal
 

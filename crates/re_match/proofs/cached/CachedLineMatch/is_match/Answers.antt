@@ -1,5 +1,4 @@
-use Rattle.re_match.proofs.Words.{expression_of, IsSettled, LooksOver, mode_for}
-use Rattle.std.proofs.Common.{inl, inr, refl}
+use Rattle.re_match.proofs.Prelude.{expression_of, IsSettled, LooksOver, mode_for, inl, inr, refl}
 use Rattle.re_needle.proofs.lemmas.NeedleLaws.{settled_says}
 use Rattle.re_steps.proofs.lemmas.StageLaws.{searches_say, searches_steps}
 use Rattle.re_match.proofs.lemmas.LookLaws.{looks_over, looks_and_steps}

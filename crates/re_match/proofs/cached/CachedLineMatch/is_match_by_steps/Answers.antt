@@ -1,4 +1,4 @@
-use Rattle.re_match.proofs.Words.{expression_of, mode_for}
+use Rattle.re_match.proofs.Prelude.{expression_of, mode_for}
 use Rattle.re_steps.proofs.lemmas.StageLaws.{searches_say, searches_steps}
 use Rattle.re_match.proofs.cached.CachedLineMatch.is_match_by_steps.Goals as goal
 

@@ -1,4 +1,4 @@
-use Rattle.re_match.specs.Working.Literals.{literal_expression}
+use Rattle.re_match.proofs.Prelude.{literal_expression}
 use Rattle.re_needle.proofs.lemmas.NeededLaws.{sequence_needed}
 use Rattle.re_needle.proofs.lemmas.BlockLemmas.{passes_unmatched}
 use Rattle.re_match.proofs.fixed.Fixed.candidate.Goals as goal

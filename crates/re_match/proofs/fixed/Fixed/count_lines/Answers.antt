@@ -1,5 +1,4 @@
-use Rattle.std.proofs.Common.{rules}
-use Rattle.re_match.proofs.Words.{lines_of, IsPartOfLines}
+use Rattle.re_match.proofs.Prelude.{rules, lines_of, IsPartOfLines}
 use Rattle.re_needle.proofs.lemmas.CountedBlocks.{counts_literal}
 use Rattle.re_match.proofs.fixed.Fixed.count_lines.Goals as goal
 

@@ -1,5 +1,4 @@
-use Rattle.std.proofs.Common.{◌≡◌, ◌∙◌, ap}
-use Rattle.std.specs.Str.{bytes_eq}
+use Rattle.re_match.proofs.Prelude.{◌≡◌, ◌∙◌, ap, bytes_eq}
 use Rattle.re_match.proofs.lemmas.OneText.{equals-decides}
 use Rattle.re_match.proofs.fixed.Fixed.is_line.Goals as goal
 

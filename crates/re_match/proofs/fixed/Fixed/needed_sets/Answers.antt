@@ -1,5 +1,4 @@
-use Rattle.std.proofs.Common.{map}
-use Rattle.re_match.proofs.Words.{members, literal_expression}
+use Rattle.re_match.proofs.Prelude.{map, members, literal_expression}
 use Rattle.re_needle.proofs.lemmas.NeededLaws.{sequence_needed}
 use Rattle.re_needle.proofs.lemmas.NeedleLaws.{text_front}
 use Rattle.re_match.proofs.fixed.Fixed.needed_sets.Goals as goal

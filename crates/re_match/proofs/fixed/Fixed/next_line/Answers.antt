@@ -1,4 +1,4 @@
-use Rattle.re_syntax.specs.Lines.{lines_of}
+use Rattle.re_match.proofs.Prelude.{lines_of}
 use Rattle.re_needle.proofs.lemmas.NextLines.{finds_literal}
 use Rattle.re_match.proofs.fixed.Fixed.next_line.Goals as goal
 

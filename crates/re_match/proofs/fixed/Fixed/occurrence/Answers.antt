@@ -1,5 +1,4 @@
-use Rattle.std.proofs.Common.{◌<◌, inr, None, Some, length, arith}
-use Rattle.std.proofs.lemmas.List.{take_rest}
+use Rattle.re_match.proofs.Prelude.{◌<◌, inr, None, Some, length, arith, take_rest}
 use Rattle.re_match.proofs.lemmas.OneText.{no_part, first_part}
 use Rattle.re_match.proofs.fixed.Fixed.occurrence.Goals as goal
 

@@ -1,5 +1,4 @@
-use Rattle.std.proofs.Common.{◌≡◌, ◌∷◌, [], true, false, refl, inl, inr, sym, ap, ◌∙◌}
-use Rattle.re_match.specs.Working.Literals.{Literal, literal_expression}
+use Rattle.re_match.proofs.Prelude.{◌≡◌, ◌∷◌, [], true, false, refl, inl, inr, sym, ap, ◌∙◌, Literal, literal_expression}
 use Rattle.re_match.proofs.lemmas.PartsWithin.{part_within}
 use Rattle.re_match.proofs.fixed.Fixed.part.Goals as goal
 

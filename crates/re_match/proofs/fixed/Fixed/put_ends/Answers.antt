@@ -1,7 +1,4 @@
-use Rattle.std.proofs.Common.{◌≡◌, ◌<◌, [], ◌∷◌, true, false, length, map, sym, ap, ◌∙◌, subst, arith}
-use Rattle.std.proofs.Math.Decide.{dec_le}
-use Rattle.std.proofs.lemmas.Bool.{false≢true}
-use Rattle.re_match.proofs.Words.{Text, byte, sequence, AddsEnds, FoundPast, Literal, literal_expression}
+use Rattle.re_match.proofs.Prelude.{◌≡◌, ◌<◌, [], ◌∷◌, true, false, length, map, sym, ap, ◌∙◌, subst, arith, dec_le, false≢true, Text, byte, sequence, AddsEnds, FoundPast, Literal, literal_expression}
 use Rattle.re_ends.proofs.lemmas.FoundEnds.{adds_alike, whole_found}
 use Rattle.re_match.proofs.lemmas.OneText.{past_found}
 use Rattle.re_match.proofs.fixed.Fixed.put_ends.Goals as goal

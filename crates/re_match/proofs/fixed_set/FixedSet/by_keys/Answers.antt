@@ -1,5 +1,4 @@
-use Rattle.std.proofs.Common.{rules, ◌≡◌, [], map, sym, ap, ◌∙◌}
-use Rattle.re_match.proofs.Words.{lines_of, keys}
+use Rattle.re_match.proofs.Prelude.{rules, ◌≡◌, [], map, sym, ap, ◌∙◌, lines_of, keys}
 use Rattle.re_match.proofs.fixed_set.FixedSet.by_keys.Goals as goal
 
 pub invariant_of-result : goal.invariant_of-result

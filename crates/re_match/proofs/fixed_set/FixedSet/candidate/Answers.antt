@@ -1,4 +1,4 @@
-use Rattle.re_match.specs.Working.Literals.{any_literal}
+use Rattle.re_match.proofs.Prelude.{any_literal}
 use Rattle.re_match.proofs.lemmas.SetBlocks.{passes_whole_too}
 use Rattle.re_match.proofs.fixed_set.FixedSet.candidate.Goals as goal
 

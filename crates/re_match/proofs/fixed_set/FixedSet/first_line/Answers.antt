@@ -1,6 +1,4 @@
-use Rattle.std.proofs.Common.{None, Some, refl, inl, inr, sym, ◌∙◌, slice_range, length-take-le}
-use Rattle.std.proofs.lemmas.Bool.{false≢true}
-use Rattle.re_match.proofs.Words.{lines_of, Literals}
+use Rattle.re_match.proofs.Prelude.{None, Some, refl, inl, inr, sym, ◌∙◌, slice_range, length-take-le, false≢true, lines_of, Literals}
 use Rattle.re_syntax.proofs.lemmas.LinesLaws.{AreLines-lines_of}
 use Rattle.re_match.proofs.lemmas.SetAround.{set_around, stops_around}
 use Rattle.re_match.proofs.lemmas.SetMatches.{empty_matches}

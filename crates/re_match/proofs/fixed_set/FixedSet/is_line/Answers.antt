@@ -1,5 +1,4 @@
-use Rattle.std.proofs.Common.{rules, ◌≡◌, [], map, subst, sym, ap}
-use Rattle.re_match.proofs.Words.{◌↔◌, IsTrue, lines_of, IsString, Literals, keys}
+use Rattle.re_match.proofs.Prelude.{rules, ◌≡◌, [], map, subst, sym, ap, ◌↔◌, IsTrue, lines_of, IsString, Literals, keys}
 use Rattle.re_match.proofs.lemmas.SetMatches.{line_decides, no_bytes}
 use Rattle.re_match.proofs.fixed_set.FixedSet.is_line.Goals as goal
 

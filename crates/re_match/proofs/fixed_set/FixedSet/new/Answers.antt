@@ -1,5 +1,4 @@
-use Rattle.std.proofs.Common.{map, sym, ap, ◌∙◌}
-use Rattle.re_match.proofs.Words.{lines_of, keys}
+use Rattle.re_match.proofs.Prelude.{map, sym, ap, ◌∙◌, lines_of, keys}
 use Rattle.re_strings.proofs.lemmas.KeyLaws.{lines_lowered, lines_plain}
 use Rattle.re_match.proofs.fixed_set.FixedSet.new.Goals as goal
 

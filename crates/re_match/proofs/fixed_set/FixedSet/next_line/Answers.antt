@@ -1,5 +1,4 @@
-use Rattle.std.proofs.Common.{false}
-use Rattle.re_match.proofs.Words.{Text, Matches, any_literal}
+use Rattle.re_match.proofs.Prelude.{false, Text, Matches, any_literal}
 use Rattle.re_needle.proofs.lemmas.NextLines.{none_next, next_from}
 use Rattle.re_match.proofs.fixed_set.FixedSet.next_line.Goals as goal
 

@@ -1,5 +1,4 @@
-use Rattle.std.proofs.Common.{inl, inr}
-use Rattle.re_match.proofs.Words.{lines_of, Literals}
+use Rattle.re_match.proofs.Prelude.{inl, inr, lines_of, Literals}
 use Rattle.re_match.proofs.lemmas.SetMatches.{best_is_part}
 use Rattle.re_match.proofs.fixed_set.FixedSet.occurrence.Goals as goal
 

@@ -1,5 +1,4 @@
-use Rattle.std.proofs.Common.{◌≡◌, ◌∷◌, [], true, false, sym, ap, ◌∙◌}
-use Rattle.re_match.specs.Working.Literals.{Literals, any_literal}
+use Rattle.re_match.proofs.Prelude.{◌≡◌, ◌∷◌, [], true, false, sym, ap, ◌∙◌, Literals, any_literal}
 use Rattle.re_match.proofs.lemmas.PartsWithin.{part_within}
 use Rattle.re_match.proofs.fixed_set.FixedSet.part.Goals as goal
 

@@ -1,5 +1,4 @@
-use Rattle.std.proofs.Common.{◌≡◌, true, false, sym, ap, ◌∙◌}
-use Rattle.re_match.proofs.Words.{lines_of, Literals, any_literal}
+use Rattle.re_match.proofs.Prelude.{◌≡◌, true, false, sym, ap, ◌∙◌, lines_of, Literals, any_literal}
 use Rattle.re_ends.proofs.lemmas.FoundEnds.{adds_alike, whole_found}
 use Rattle.re_match.proofs.lemmas.SetMatches.{strings_found}
 use Rattle.re_match.proofs.fixed_set.FixedSet.put_ends.Goals as goal

@@ -1,6 +1,4 @@
-use Rattle.std.proofs.Common.{refl, sym, ◌∙◌}
-use Rattle.std.proofs.lemmas.Bool.{false≢true}
-use Rattle.re_match.proofs.Words.{lines_of, Literals}
+use Rattle.re_match.proofs.Prelude.{refl, sym, ◌∙◌, false≢true, lines_of, Literals}
 use Rattle.re_match.proofs.lemmas.SetMatches.{empty_matches, ends_decide}
 use Rattle.re_match.proofs.fixed_set.FixedSet.stands_by_steps.Goals as goal
 

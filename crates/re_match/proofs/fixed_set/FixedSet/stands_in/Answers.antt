@@ -1,6 +1,4 @@
-use Rattle.std.proofs.Common.{refl, inl, inr, sym, ◌∙◌}
-use Rattle.std.proofs.lemmas.Bool.{false≢true}
-use Rattle.re_match.proofs.Words.{lines_of, Literals}
+use Rattle.re_match.proofs.Prelude.{refl, inl, inr, sym, ◌∙◌, false≢true, lines_of, Literals}
 use Rattle.re_match.proofs.lemmas.SetMatches.{empty_matches, ends_decide}
 use Rattle.re_match.proofs.fixed_set.FixedSet.stands_in.Goals as goal
 

@@ -1,6 +1,4 @@
-use Rattle.std.proofs.Common.{◌+◌, ◌-◌, ◌≤◌, length, drop, arith, length-drop}
-use Rattle.std.proofs.lemmas.List.{take_rest}
-use Rattle.re_match.proofs.Words.{Text, Matches}
+use Rattle.re_match.proofs.Prelude.{◌+◌, ◌-◌, ◌≤◌, length, drop, arith, length-drop, take_rest, Text, Matches}
 use Rattle.re_needle.proofs.lemmas.NextLines.{CountsTo, counts_next, counts_all}
 use Rattle.re_match.proofs.lemmas.StepSums.{adds_both, adds_within}
 use Rattle.re_match.proofs.lemmas.SameLaws.{same_twice}

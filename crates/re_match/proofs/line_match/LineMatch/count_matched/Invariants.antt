@@ -1,5 +1,4 @@
-use Rattle.std.proofs.Common.{◌-◌, length}
-use Rattle.re_match.proofs.Words.{Text, Matches, SameMatcher}
+use Rattle.re_match.proofs.Prelude.{◌-◌, length, Text, Matches, SameMatcher}
 use Rattle.re_auto.specs.Searches.{AddsAtMost}
 use Rattle.re_needle.proofs.lemmas.NextLines.{CountsTo}
 use Rattle.re_match.proofs.line_match.LineMatch.count_matched.Given as goal

@@ -1,5 +1,4 @@
-use Rattle.std.proofs.Common.{◌≤◌, subst}
-use Rattle.re_match.proofs.Words.{IfSome, run_of, FindsRun}
+use Rattle.re_match.proofs.Prelude.{◌≤◌, subst, IfSome, run_of, FindsRun}
 use Rattle.re_needle.proofs.lemmas.BlockLemmas.{passes_unmatched_run}
 use Rattle.re_needle.proofs.lemmas.BegunLines.{passes_unmatched_begun}
 use Rattle.re_match.proofs.lemmas.SweptLines.{stops_seen, stops_matched}

@@ -1,6 +1,4 @@
-use Rattle.std.proofs.Common.{false, ◌+◌, ◌-◌, length, None, Some}
-use Rattle.std.proofs.lemmas.List.{take_rest}
-use Rattle.re_syntax.specs.Working.Trees.{expression_of}
+use Rattle.re_match.proofs.Prelude.{false, ◌+◌, ◌-◌, length, None, Some, take_rest, expression_of}
 use Rattle.re_needle.proofs.lemmas.NeedleLaws.{lacks_part, all_is_part}
 use Rattle.re_match.proofs.lemmas.StepSums.{look_adds}
 use Rattle.re_match.proofs.prefilter.Prefilter.part.Goals as goal

@@ -1,5 +1,4 @@
-use Rattle.std.proofs.Common.{map}
-use Rattle.re_match.proofs.Words.{members, run_of}
+use Rattle.re_match.proofs.Prelude.{map, members, run_of}
 use Rattle.re_needle.proofs.lemmas.NeedleLaws.{front_needed}
 use Rattle.re_match.proofs.lemmas.NeededSets.{none_needed}
 use Rattle.re_match.proofs.prefilter.Prefilter.sets.Goals as goal

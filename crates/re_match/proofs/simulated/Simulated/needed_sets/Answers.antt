@@ -1,4 +1,4 @@
-use Rattle.re_syntax.specs.Working.Trees.{expression_of}
+use Rattle.re_match.proofs.Prelude.{expression_of}
 use Rattle.re_match.proofs.simulated.Simulated.needed_sets.Goals as goal
 
 pub returns : goal.returns

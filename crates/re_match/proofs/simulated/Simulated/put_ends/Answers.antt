@@ -1,5 +1,4 @@
-use Rattle.std.proofs.Common.{[], ◌∷◌, false}
-use Rattle.re_match.proofs.Words.{expression_of, FoundPast, MatchesPast}
+use Rattle.re_match.proofs.Prelude.{[], ◌∷◌, false, expression_of, FoundPast, MatchesPast}
 use Rattle.re_ends.proofs.lemmas.FoundEnds.{adds_alike, matched_found}
 use Rattle.re_match.proofs.simulated.Simulated.put_ends.Goals as goal
 

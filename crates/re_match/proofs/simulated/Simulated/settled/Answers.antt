@@ -1,4 +1,4 @@
-use Rattle.re_syntax.specs.Working.Trees.{expression_of}
+use Rattle.re_match.proofs.Prelude.{expression_of}
 use Rattle.re_match.proofs.simulated.Simulated.settled.Goals as goal
 
 pub returns-clause-settled : goal.returns-clause-settled

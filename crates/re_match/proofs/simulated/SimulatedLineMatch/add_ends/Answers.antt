@@ -1,5 +1,4 @@
-use Rattle.std.proofs.Common.{true, false, ◌≡◌, sym, ap, ◌∙◌}
-use Rattle.re_match.proofs.Words.{expression_of, TreeMatcher}
+use Rattle.re_match.proofs.Prelude.{true, false, ◌≡◌, sym, ap, ◌∙◌, expression_of, TreeMatcher}
 use Rattle.re_ends.proofs.lemmas.FoundEnds.{adds_alike, whole_found}
 use Rattle.re_match.proofs.simulated.SimulatedLineMatch.add_ends.Goals as goal
 

@@ -1,5 +1,4 @@
-use Rattle.std.proofs.Common.{◌≡◌, false, sym, ap, ◌∙◌}
-use Rattle.re_match.specs.Working.Simulated.{TreeMatcher}
+use Rattle.re_match.proofs.Prelude.{◌≡◌, false, sym, ap, ◌∙◌, TreeMatcher}
 use Rattle.re_match.proofs.simulated.SimulatedLineMatch.find.Goals as goal
 
 pub returns-clause-reported : goal.returns-clause-reported

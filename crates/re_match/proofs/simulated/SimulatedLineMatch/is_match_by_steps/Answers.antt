@@ -1,5 +1,4 @@
-use Rattle.std.proofs.Common.{[], refl}
-use Rattle.re_match.proofs.Words.{expression_of, Cache, mode_for}
+use Rattle.re_match.proofs.Prelude.{[], refl, expression_of, Cache, mode_for}
 use Rattle.re_steps.proofs.lemmas.StageLaws.{searches_say, searches_steps}
 use Rattle.re_match.proofs.simulated.SimulatedLineMatch.is_match_by_steps.Goals as goal
 

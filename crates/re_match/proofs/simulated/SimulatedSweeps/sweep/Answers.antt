@@ -1,4 +1,4 @@
-use Rattle.re_syntax.specs.Working.Trees.{expression_of}
+use Rattle.re_match.proofs.Prelude.{expression_of}
 use Rattle.re_match.proofs.simulated.SimulatedSweeps.sweep.Goals as goal
 
 pub returns-clause-passes : goal.returns-clause-passes

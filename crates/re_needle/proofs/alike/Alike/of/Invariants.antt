@@ -1,5 +1,4 @@
-use Rattle.std.proofs.Common.{ℕ, ◌<◌, IsTrue}
-use Rattle.re_needle.proofs.Words.{members, HasBits}
+use Rattle.re_needle.proofs.Prelude.{ℕ, ◌<◌, IsTrue, members, HasBits}
 use Rattle.re_needle.proofs.alike.Alike.of.Given as goal
 
 abbrev pub invariant-bytes : goal.invariant-bytes

@@ -1,5 +1,4 @@
-use Rattle.std.proofs.Common.{map}
-use Rattle.re_needle.proofs.Words.{expression_of, IsOutline, shown}
+use Rattle.re_needle.proofs.Prelude.{map, expression_of, IsOutline, shown}
 use Rattle.re_syntax.proofs.lemmas.Places.{ok_as}
 use Rattle.re_needle.proofs.lemmas.OutlineLaws.{outline_alone}
 use Rattle.re_needle.proofs.needle.Needle.of.Goals as goal

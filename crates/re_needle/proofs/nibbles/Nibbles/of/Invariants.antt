@@ -1,5 +1,4 @@
-use Rattle.std.proofs.Common.{◌≢◌, ℕ, ◌<◌, IsTrue}
-use Rattle.re_needle.proofs.Words.{members, bits_of}
+use Rattle.re_needle.proofs.Prelude.{◌≢◌, ℕ, ◌<◌, IsTrue, members, bits_of}
 use Rattle.re_needle.proofs.nibbles.Nibbles.of.Given as goal
 
 abbrev pub invariant-bytes : goal.invariant-bytes

@@ -1,5 +1,4 @@
-use Rattle.std.proofs.Common.{arith}
-use Rattle.re_needle.specs.Working.Runs.{AllPass}
+use Rattle.re_needle.proofs.Prelude.{arith, AllPass}
 use Rattle.re_needle.proofs.lemmas.RunLaws.{nowhere_marked}
 use Rattle.re_needle.proofs.probes.Probes.next_marks.Goals as goal
 

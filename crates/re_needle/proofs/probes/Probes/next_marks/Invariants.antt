@@ -1,5 +1,4 @@
-use Rattle.std.proofs.Common.{◌≡◌, ℕ, ◌+◌, ◌-◌, ◌<◌, ◌≤◌}
-use Rattle.re_needle.proofs.Words.{bit_at, Nowhere, AllPass}
+use Rattle.re_needle.proofs.Prelude.{◌≡◌, ℕ, ◌+◌, ◌-◌, ◌<◌, ◌≤◌, bit_at, Nowhere, AllPass}
 use Rattle.re_needle.proofs.probes.Probes.next_marks.Given as goal
 
 abbrev pub invariant-quiet : goal.invariant-quiet

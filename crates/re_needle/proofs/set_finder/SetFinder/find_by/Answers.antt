@@ -1,7 +1,4 @@
-use Rattle.std.proofs.Common.{rules, ◌≡◌, ℕ, ◌+◌, ◌<◌, ◌≤◌, length, map, slice_index, sym, ap, ◌∙◌, subst, arith}
-use Rattle.std.proofs.lemmas.Bool.{false≢true}
-use Rattle.std.proofs.lemmas.List.{length-map}
-use Rattle.re_needle.proofs.Words.{members, RunStandsAt}
+use Rattle.re_needle.proofs.Prelude.{rules, ◌≡◌, ℕ, ◌+◌, ◌<◌, ◌≤◌, length, map, slice_index, sym, ap, ◌∙◌, subst, arith, false≢true, length-map, members, RunStandsAt}
 use Rattle.re_needle.proofs.lemmas.RunLaws.{marks_stand, nowhere_on, nowhere_at, nowhere_stands, finds_none, finds_some}
 use Rattle.re_needle.proofs.set_finder.SetFinder.find_by.Goals as goal
 

@@ -1,5 +1,4 @@
-use Rattle.std.proofs.Common.{◌-◌, ◌≤◌, map}
-use Rattle.re_needle.proofs.Words.{Nowhere, members, RunStandsAt}
+use Rattle.re_needle.proofs.Prelude.{◌-◌, ◌≤◌, map, Nowhere, members, RunStandsAt}
 use Rattle.re_needle.proofs.set_finder.SetFinder.find_by.Given as goal
 
 abbrev pub invariant-runs : goal.invariant-runs

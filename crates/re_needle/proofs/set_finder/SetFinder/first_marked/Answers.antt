@@ -1,7 +1,5 @@
-use Rattle.std.proofs.Common.{◌≡◌, ◌+◌, map, refl, sym, ◌∙◌, subst, arith}
-use Rattle.std.proofs.lemmas.Bool.{false≢true}
+use Rattle.re_needle.proofs.Prelude.{◌≡◌, ◌+◌, map, refl, sym, ◌∙◌, subst, arith, false≢true, members, RunStandsAt}
 use Rattle.memchr.proofs.lemmas.ScanLemmas.{unmarked, Nowhere-unset}
-use Rattle.re_needle.proofs.Words.{members, RunStandsAt}
 use Rattle.re_needle.proofs.set_finder.SetFinder.first_marked.Goals as goal
 
 pub returns : goal.returns

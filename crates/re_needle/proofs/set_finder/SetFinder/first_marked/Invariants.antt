@@ -1,5 +1,4 @@
-use Rattle.std.proofs.Common.{◌+◌, map}
-use Rattle.re_needle.proofs.Words.{Marks, members, RunStandsAt}
+use Rattle.re_needle.proofs.Prelude.{◌+◌, map, Marks, members, RunStandsAt}
 use Rattle.re_needle.proofs.set_finder.SetFinder.first_marked.Given as goal
 
 abbrev pub invariant-marks : goal.invariant-marks

@@ -1,4 +1,4 @@
-use Rattle.std.proofs.Common.{◌+◌, ◌*◌, length, refl, arith}
+use Rattle.re_search.proofs.Prelude.{◌+◌, ◌*◌, length, refl, arith}
 use Rattle.re_search.proofs.lemmas.CourseLaws.{course_begins}
 use Rattle.re_search.proofs.course.Course.new.Goals as goal
 

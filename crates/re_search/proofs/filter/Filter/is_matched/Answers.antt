@@ -1,8 +1,6 @@
-use Rattle.std.proofs.Common.{◌≡◌, ◌≤◌, arith, ◌+◌, ◌∙◌, ap, subst, length, length-append, map}
-use Rattle.std.proofs.lemmas.List.{map-append}
+use Rattle.re_search.proofs.Prelude.{◌≡◌, ◌≤◌, arith, ◌+◌, ◌∙◌, ap, subst, length, length-append, map, map-append, AllAnswer}
 use Rattle.re_search.proofs.lemmas.KeptMatchers.{none_asked}
 use Rattle.re_search.proofs.lemmas.WithPartsMatchers.{front_answers, back_answers, back_matches, front_decides, same_joined, steps_joined, steps_of_rest}
-use Rattle.re_auto.specs.Searches.{AllAnswer}
 use Rattle.re_search.proofs.filter.Filter.is_matched.Goals as goal
 
 pub is_matched_from-requires : goal.is_matched_from-requires

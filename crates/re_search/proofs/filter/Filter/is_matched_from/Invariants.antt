@@ -1,5 +1,4 @@
-use Rattle.std.proofs.Common.{◌+◌, ◌-◌, ◌*◌, length, map, take, false}
-use Rattle.re_search.proofs.Words.{DecidesMatchOfAll, SameMatchers, AddsUpTo}
+use Rattle.re_search.proofs.Prelude.{◌+◌, ◌-◌, ◌*◌, length, map, take, false, DecidesMatchOfAll, SameMatchers, AddsUpTo}
 use Rattle.re_search.proofs.filter.Filter.is_matched_from.Given as goal
 
 abbrev pub invariant-loop-place : goal.invariant-loop-place

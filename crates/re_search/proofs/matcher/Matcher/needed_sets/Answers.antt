@@ -1,4 +1,4 @@
-use Rattle.re_search.specs.Working.Matchers.{matched_expression}
+use Rattle.re_search.proofs.Prelude.{matched_expression}
 use Rattle.re_match.proofs.lemmas.NeededSets.{none_needed}
 use Rattle.re_search.proofs.matcher.Matcher.needed_sets.Goals as goal
 

@@ -1,5 +1,4 @@
-use Rattle.std.proofs.Common.{inl, inr, sym, ◌∙◌}
-use Rattle.std.proofs.lemmas.Result.{IfOk-weaker, IfErr-weaker}
+use Rattle.re_search.proofs.Prelude.{inl, inr, sym, ◌∙◌, IfOk-weaker, IfErr-weaker}
 use Rattle.re_search.proofs.lemmas.ReadingLaws.{string_means, refused_unreadable}
 use Rattle.re_search.proofs.matcher.Matcher.new.Goals as goal
 

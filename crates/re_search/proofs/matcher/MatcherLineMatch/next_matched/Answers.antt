@@ -1,4 +1,4 @@
-use Rattle.std.proofs.Common.{refl}
+use Rattle.re_search.proofs.Prelude.{refl}
 use Rattle.re_search.proofs.matcher.MatcherLineMatch.next_matched.Goals as goal
 
 pub returns-in-Fixed-clause-reported : goal.returns-in-Fixed-clause-reported

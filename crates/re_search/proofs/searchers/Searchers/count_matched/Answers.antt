@@ -1,6 +1,4 @@
-use Rattle.std.proofs.Common.{◌≡◌, ◌+◌, None, Some, length, map, drop, get_or, slice_set, refl, ap, subst, arith, length-drop}
-use Rattle.std.proofs.lemmas.List.{take_rest, get_or_default}
-use Rattle.re_search.proofs.Words.{lines_of, expressions_by, sought_by, Sought, IsSought, FindsSought, SameMatchers}
+use Rattle.re_search.proofs.Prelude.{◌≡◌, ◌+◌, None, Some, length, map, drop, get_or, slice_set, refl, ap, subst, arith, length-drop, take_rest, get_or_default, lines_of, expressions_by, sought_by, Sought, IsSought, FindsSought, SameMatchers}
 use Rattle.re_search.proofs.lemmas.KeptMatchers.{none_asked, one_kept, asked_over, same_sought}
 use Rattle.re_search.proofs.lemmas.OneMatcher.{only_one, counts_of_one}
 use Rattle.re_needle.proofs.lemmas.NextLines.{CountsTo, counts_next, counts_all}

@@ -1,5 +1,4 @@
-use Rattle.std.proofs.Common.{◌*◌, ◌-◌, length}
-use Rattle.re_search.proofs.Words.{SameSearchers, expressions_by, sought_by, IsSought}
+use Rattle.re_search.proofs.Prelude.{◌*◌, ◌-◌, length, SameSearchers, expressions_by, sought_by, IsSought}
 use Rattle.re_auto.specs.Searches.{AddsAtMost}
 use Rattle.re_needle.proofs.lemmas.NextLines.{CountsTo}
 use Rattle.re_search.proofs.searchers.Searchers.count_matched.Given as goal

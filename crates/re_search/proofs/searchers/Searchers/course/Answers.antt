@@ -1,4 +1,4 @@
-use Rattle.re_search.specs.Working.Searchers.{sought_by}
+use Rattle.re_search.proofs.Prelude.{sought_by}
 use Rattle.re_search.proofs.searchers.Searchers.course.Goals as goal
 
 pub returns-clause-right : goal.returns-clause-right

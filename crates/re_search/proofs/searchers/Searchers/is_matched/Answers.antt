@@ -1,7 +1,4 @@
-use Rattle.std.proofs.Common.{◌≤◌, length, refl, arith, rules}
-use Rattle.std.proofs.lemmas.Bool.{false≢true}
-use Rattle.std.proofs.lemmas.List.{length-map}
-use Rattle.re_search.specs.Working.Searchers.{expressions_by}
+use Rattle.re_search.proofs.Prelude.{◌≤◌, length, refl, arith, rules, false≢true, length-map, expressions_by}
 use Rattle.re_search.proofs.lemmas.SearchedBlocks.{ruled_out}
 use Rattle.re_search.proofs.searchers.Searchers.is_matched.Goals as goal
 

@@ -1,7 +1,4 @@
-use Rattle.std.proofs.Common.{◌≡◌, ◌+◌, ◌≤◌, length, drop, refl, ap, subst, arith, slice_range}
-use Rattle.std.proofs.lemmas.Bool.{false≢true}
-use Rattle.std.proofs.lemmas.List.{take_rest, length-map}
-use Rattle.re_search.proofs.Words.{expressions_by, sought_by, Sought, IsSought, PassesUnsought}
+use Rattle.re_search.proofs.Prelude.{◌≡◌, ◌+◌, ◌≤◌, length, drop, refl, ap, subst, arith, slice_range, false≢true, take_rest, length-map, expressions_by, sought_by, Sought, IsSought, PassesUnsought}
 use Rattle.re_needle.proofs.lemmas.BlockLemmas.{passed_within}
 use Rattle.re_search.proofs.lemmas.KeptMatchers.{asked_over, same_sought}
 use Rattle.re_search.proofs.lemmas.FilterLaws.{filter_passes}

@@ -1,6 +1,4 @@
-use Rattle.std.proofs.Common.{◌≡◌, length, map, get_or, slice_set, refl, arith}
-use Rattle.std.proofs.lemmas.List.{get_or_default}
-use Rattle.re_search.proofs.Words.{lines_of, SameMatchers}
+use Rattle.re_search.proofs.Prelude.{◌≡◌, length, map, get_or, slice_set, refl, arith, get_or_default, lines_of, SameMatchers}
 use Rattle.re_search.proofs.lemmas.KeptMatchers.{none_asked, one_kept}
 use Rattle.re_search.proofs.lemmas.OneMatcher.{only_one, finds_of_one}
 use Rattle.re_search.proofs.searchers.Searchers.next_matched.Goals as goal

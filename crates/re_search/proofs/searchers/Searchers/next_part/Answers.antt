@@ -1,4 +1,4 @@
-use Rattle.std.proofs.lemmas.List.{length-map}
+use Rattle.re_search.proofs.Prelude.{length-map}
 use Rattle.re_search.proofs.searchers.Searchers.next_part.Goals as goal
 
 pub invariant_of-self : goal.invariant_of-self

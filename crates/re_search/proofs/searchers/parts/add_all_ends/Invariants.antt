@@ -1,6 +1,5 @@
-use Rattle.std.proofs.Common.{◌+◌, ◌*◌, length, map, take}
-use Rattle.re_auto.specs.Searches.{AddsAtMost, SameMatchers}
-use Rattle.re_ends.specs.Working.GreatestEnds.{AddsEnds, FoundPast}
+use Rattle.re_search.proofs.Prelude.{◌+◌, ◌*◌, length, map, take, SameMatchers, AddsEnds, FoundPast}
+use Rattle.re_auto.specs.Searches.{AddsAtMost}
 use Rattle.re_search.proofs.searchers.parts.add_all_ends.Given as goal
 
 abbrev pub invariant-loop-matcher : goal.invariant-loop-matcher

@@ -1,6 +1,4 @@
-use Rattle.std.proofs.Common.{◌≡◌, ◌∙◌, ℕ, get_or, map, subst, sym, ap, refl}
-use Rattle.std.proofs.lemmas.List.{with_items_is}
-use Rattle.re_search.proofs.Words.{FoundPast, Sought, with_refusal, AreEnds}
+use Rattle.re_search.proofs.Prelude.{◌≡◌, ◌∙◌, ℕ, get_or, map, subst, sym, ap, refl, with_items_is, FoundPast, Sought, with_refusal, AreEnds}
 use Rattle.re_search.proofs.lemmas.CourseLaws.{ends_of_zeros, zero_at, refused}
 use Rattle.re_search.proofs.searchers.parts.learn.Goals as goal
 

@@ -1,5 +1,4 @@
-use Rattle.std.proofs.Common.{◌*◌, ◌+◌, ◌-◌, length, map, subst}
-use Rattle.re_search.proofs.Words.{Sought, IsKnownOf}
+use Rattle.re_search.proofs.Prelude.{◌*◌, ◌+◌, ◌-◌, length, map, subst, Sought, IsKnownOf}
 use Rattle.re_auto.specs.Searches.{AddsAtMost}
 use Rattle.re_search.proofs.lemmas.SearchedBlocks.{same_length}
 use Rattle.re_search.proofs.lemmas.CourseLaws.{searched, looked_up}

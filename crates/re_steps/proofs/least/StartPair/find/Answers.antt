@@ -1,5 +1,4 @@
-use Rattle.std.proofs.Common.{◌≡◌, ◌+◌, ◌-◌, ◌≤◌, length, subst, arith, add-one}
-use Rattle.re_steps.proofs.Words.{expression_of, Search, AddsUpTo}
+use Rattle.re_steps.proofs.Prelude.{◌≡◌, ◌+◌, ◌-◌, ◌≤◌, length, subst, arith, add-one, expression_of, Search, AddsUpTo}
 use Rattle.re_meter.proofs.lemmas.Adding.{adds_none, adds_within, adds_both, built_adds}
 use Rattle.re_steps.proofs.lemmas.StageLaws.{passed_adds}
 use Rattle.re_steps.proofs.lemmas.BestSpans.{carries_none, best_is_part}

@@ -1,5 +1,4 @@
-use Rattle.std.proofs.Common.{◌≡◌, ◌-◌, ◌≤◌, length}
-use Rattle.re_steps.proofs.Words.{expression_of, place_of, AddsUpTo, AreStartsFor, Carries}
+use Rattle.re_steps.proofs.Prelude.{◌≡◌, ◌-◌, ◌≤◌, length, expression_of, place_of, AddsUpTo, AreStartsFor, Carries}
 use Rattle.re_steps.proofs.least.StartPair.find.Given as goal
 
 abbrev pub invariant-places : goal.invariant-places

@@ -1,5 +1,4 @@
-use Rattle.std.proofs.Common.{◌≡◌, None, refl, sym, ◌∙◌}
-use Rattle.re_steps.proofs.Words.{expression_of, Search}
+use Rattle.re_steps.proofs.Prelude.{◌≡◌, None, refl, sym, ◌∙◌, expression_of, Search}
 use Rattle.re_steps.proofs.lemmas.BestSpans.{none_of, carries_past}
 use Rattle.re_steps.proofs.least.StartPair.skip.Goals as goal
 

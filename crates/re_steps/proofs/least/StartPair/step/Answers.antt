@@ -1,5 +1,4 @@
-use Rattle.std.proofs.Common.{◌≡◌, suc, ◌+◌, Some, None, refl, ap, ◌∙◌, add-one}
-use Rattle.re_steps.proofs.Words.{expression_of, better, places}
+use Rattle.re_steps.proofs.Prelude.{◌≡◌, suc, ◌+◌, Some, None, refl, ap, ◌∙◌, add-one, expression_of, better, places}
 use Rattle.re_syntax.proofs.lemmas.BestStretches.{better_places}
 use Rattle.re_steps.proofs.lemmas.BestSpans.{carries_on}
 use Rattle.re_steps.proofs.least.StartPair.step.Goals as goal

@@ -1,6 +1,4 @@
-use Rattle.std.proofs.Common.{◌≡◌, ◌++◌, replicate, sym, ap, ◌∙◌, subst}
-use Rattle.std.proofs.lemmas.List.{take-replicate}
-use Rattle.re_steps.specs.Working.Pairs.{unknown, Mirrors}
+use Rattle.re_steps.proofs.Prelude.{◌≡◌, ◌++◌, replicate, sym, ap, ◌∙◌, subst, take-replicate, unknown, Mirrors}
 use Rattle.re_steps.proofs.lemmas.PairLemmas.{mirrors_longer}
 use Rattle.re_steps.proofs.pairs.Pairs.add_row.Goals as goal
 

@@ -1,5 +1,4 @@
-use Rattle.std.proofs.Common.{add-one}
-use Rattle.re_steps.proofs.Words.{expression_of, Search}
+use Rattle.re_steps.proofs.Prelude.{add-one, expression_of, Search}
 use Rattle.re_steps.proofs.lemmas.StageLaws.{goes_to, goes_built}
 use Rattle.re_steps.proofs.sets.SetPair.pass.Goals as goal
 

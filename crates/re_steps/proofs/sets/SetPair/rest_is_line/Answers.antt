@@ -1,5 +1,4 @@
-use Rattle.std.proofs.Common.{◌≡◌, inl, inr, refl, arith, add-one}
-use Rattle.re_steps.proofs.Words.{expression_of, Search, Whole}
+use Rattle.re_steps.proofs.Prelude.{◌≡◌, inl, inr, refl, arith, add-one, expression_of, Search, Whole}
 use Rattle.re_steps.proofs.lemmas.StageLaws.{goes_built}
 use Rattle.re_steps.proofs.sets.SetPair.rest_is_line.Goals as goal
 

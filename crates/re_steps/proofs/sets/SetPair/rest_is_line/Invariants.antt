@@ -1,5 +1,4 @@
-use Rattle.std.proofs.Common.{◌≡◌, []}
-use Rattle.re_steps.proofs.Words.{expression_of, Whole, AreSetsFor, Cache, Stage, Goes}
+use Rattle.re_steps.proofs.Prelude.{◌≡◌, [], expression_of, Whole, AreSetsFor, Cache, Stage, Goes}
 use Rattle.re_steps.proofs.sets.SetPair.rest_is_line.Given as goal
 
 abbrev pub invariant-places : goal.invariant-places

@@ -1,5 +1,4 @@
-use Rattle.std.proofs.Common.{◌≡◌, length, inl, inr, refl, arith}
-use Rattle.std.proofs.lemmas.Bool.{false≢true}
+use Rattle.re_steps.proofs.Prelude.{◌≡◌, length, inl, inr, refl, arith, false≢true}
 use Rattle.re_steps.proofs.sets.SetPair.rest_stands.Goals as goal
 
 pub places-preserved : goal.places-preserved

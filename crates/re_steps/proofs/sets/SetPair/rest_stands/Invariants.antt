@@ -1,5 +1,4 @@
-use Rattle.std.proofs.Common.{◌≡◌, [], ◌-◌, ◌≤◌, length}
-use Rattle.re_steps.proofs.Words.{expression_of, Search, AreSetsFor, Cache, Stage, Goes}
+use Rattle.re_steps.proofs.Prelude.{◌≡◌, [], ◌-◌, ◌≤◌, length, expression_of, Search, AreSetsFor, Cache, Stage, Goes}
 use Rattle.re_steps.proofs.sets.SetPair.rest_stands.Given as goal
 
 abbrev pub invariant-places : goal.invariant-places

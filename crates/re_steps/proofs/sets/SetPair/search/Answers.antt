@@ -1,5 +1,4 @@
-use Rattle.std.proofs.Common.{inl, refl}
-use Rattle.re_steps.proofs.Words.{expression_of, Stage}
+use Rattle.re_steps.proofs.Prelude.{inl, refl, expression_of, Stage}
 use Rattle.re_steps.proofs.lemmas.StageLaws.{goes_nowhere}
 use Rattle.re_steps.proofs.sets.SetPair.search.Goals as goal
 

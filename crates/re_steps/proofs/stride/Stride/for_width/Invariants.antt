@@ -1,4 +1,4 @@
-use Rattle.std.proofs.Common.{◌-◌, ◌≤◌}
+use Rattle.re_steps.proofs.Prelude.{◌-◌, ◌≤◌}
 use Rattle.re_steps.proofs.stride.Stride.for_width.Given as goal
 
 abbrev pub invariant-shifts : goal.invariant-shifts

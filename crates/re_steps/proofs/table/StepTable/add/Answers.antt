@@ -1,6 +1,4 @@
-use Rattle.std.proofs.Common.{◌≡◌, ◌++◌, ◌∷◌, [], length, length-append, replicate, refl, ap, ◌∙◌, subst, arith}
-use Rattle.std.proofs.lemmas.List.{get_or_append_left}
-use Rattle.re_steps.proofs.Words.{unknown, Mirrors, expression_in, rows_of}
+use Rattle.re_steps.proofs.Prelude.{◌≡◌, ◌++◌, ◌∷◌, [], length, length-append, replicate, refl, ap, ◌∙◌, subst, arith, get_or_append_left, unknown, Mirrors, expression_in, rows_of}
 use Rattle.re_steps.proofs.lemmas.StateSetKeys.{new_last, new_number}
 use Rattle.re_steps.proofs.lemmas.RowLaws.{sound_longer, get_left, get_last}
 use Rattle.re_steps.proofs.table.StepTable.add.Goals as goal

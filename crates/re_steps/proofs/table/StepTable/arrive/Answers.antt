@@ -1,5 +1,4 @@
-use Rattle.std.proofs.Common.{arith, ◌≡◌, ◌*◌, inl, inr, refl, sym, subst}
-use Rattle.re_steps.proofs.Words.{IsNowhere, Goes, Stage, IsPlain, IsRowOf, cache_of, row_under, expression_in, rows_of}
+use Rattle.re_steps.proofs.Prelude.{arith, ◌≡◌, ◌*◌, inl, inr, refl, sym, subst, IsNowhere, Goes, Stage, IsPlain, IsRowOf, cache_of, row_under, expression_in, rows_of}
 use Rattle.re_steps.proofs.lemmas.StageLaws.{goes_to}
 use Rattle.re_steps.proofs.lemmas.RowLaws.{row_zero}
 use Rattle.re_steps.proofs.lemmas.WalkLaws.{under_low, under_high, is_whole, is_search}

@@ -1,6 +1,4 @@
-use Rattle.std.proofs.Common.{arith, refl, sym, ◌∙◌, subst}
-use Rattle.std.proofs.lemmas.Option.{slice_get_within}
-use Rattle.re_steps.proofs.Words.{IsMadeFor, IsSame, expression_in, rows_of}
+use Rattle.re_steps.proofs.Prelude.{arith, refl, sym, ◌∙◌, subst, slice_get_within, IsMadeFor, IsSame, expression_in, rows_of}
 use Rattle.re_steps.proofs.lemmas.RowLaws.{first_later, says_cell, row_small}
 use Rattle.re_steps.proofs.table.StepTable.begin_anew.Goals as goal
 

@@ -1,6 +1,4 @@
-use Rattle.std.proofs.Common.{arith, ◌≡◌, ◌<◌, ◌⊎◌, ℕ, inl, inr, length, false, eq-eqb, refl, sym, ◌∙◌, subst}
-use Rattle.std.proofs.lemmas.Bool.{false≢true}
-use Rattle.re_steps.proofs.Words.{Text, IsAccepting, expression_in, rows_of}
+use Rattle.re_steps.proofs.Prelude.{arith, ◌≡◌, ◌<◌, ◌⊎◌, ℕ, inl, inr, length, false, eq-eqb, refl, sym, ◌∙◌, subst, false≢true, Text, IsAccepting, expression_in, rows_of}
 use Rattle.re_steps.proofs.lemmas.RowLaws.{mark_of_set}
 use Rattle.re_steps.proofs.lemmas.WalkLaws.{is_search}
 use Rattle.re_steps.proofs.table.StepTable.is_matched_at_once.Goals as goal

@@ -1,6 +1,4 @@
-use Rattle.std.proofs.Common.{arith, ◌≡◌, ◌+◌, ◌*◌, ◌⊎◌, ℕ, List, slice_index, sym, ap, ◌∙◌, subst}
-use Rattle.std.proofs.lemmas.Option.{slice_get_within}
-use Rattle.re_steps.proofs.Words.{IsMadeFor, IsNextSet, StepTable, unknown, IsKeptOrLost, HoldsNoOther, Rows, IsRowOf, AreSound, cache_of, expression_in, rows_of}
+use Rattle.re_steps.proofs.Prelude.{arith, ◌≡◌, ◌+◌, ◌*◌, ◌⊎◌, ℕ, List, slice_index, sym, ap, ◌∙◌, subst, slice_get_within, IsMadeFor, IsNextSet, StepTable, unknown, IsKeptOrLost, HoldsNoOther, Rows, IsRowOf, AreSound, cache_of, expression_in, rows_of}
 use Rattle.re_steps.proofs.lemmas.RowLaws.{first_later, cell_within, sound_held, says_cell, set_of_row, row_small}
 use Rattle.re_steps.proofs.lemmas.WalkLaws.{holds_no_other}
 use Rattle.re_steps.proofs.table.StepTable.learn.Goals as goal

@@ -1,6 +1,4 @@
-use Rattle.std.proofs.Common.{◌≡◌, ◌++◌, ◌∷◌, [], List, Some, true, slice_get, inl, inr, refl, sym, ap, ◌∙◌, subst}
-use Rattle.std.proofs.lemmas.Bool.{false≢true}
-use Rattle.re_steps.proofs.Words.{Text, Expression, Mode, StateSet, StandsAt, expression_in}
+use Rattle.re_steps.proofs.Prelude.{◌≡◌, ◌++◌, ◌∷◌, [], List, Some, true, slice_get, inl, inr, refl, sym, ap, ◌∙◌, subst, false≢true, Text, Expression, Mode, StateSet, StandsAt, expression_in}
 use Rattle.re_steps.proofs.lemmas.RowLaws.{get_cases}
 use Rattle.re_steps.proofs.table.StepTable.make_rows.Goals as goal
 

@@ -1,5 +1,4 @@
-use Rattle.std.proofs.Common.{◌≡◌, None, Some, sym, ◌∙◌}
-use Rattle.re_steps.specs.Working.Rows.{expression_in}
+use Rattle.re_steps.proofs.Prelude.{◌≡◌, None, Some, sym, ◌∙◌, expression_in}
 use Rattle.re_steps.proofs.lemmas.StateSetKeys.{found_set, no_set}
 use Rattle.re_steps.proofs.lemmas.StageLaws.{same_trans}
 use Rattle.re_steps.proofs.lemmas.RowLaws.{made_same}

@@ -1,6 +1,4 @@
-use Rattle.std.proofs.Common.{arith, ◌∙◌, ◌+◌, ◌-◌, ◌<◌, length, sym, subst, add-one}
-use Rattle.std.proofs.lemmas.Option.{slice_get-get_or}
-use Rattle.re_steps.proofs.Words.{IsMadeFor, expression_in, IsAt}
+use Rattle.re_steps.proofs.Prelude.{arith, ◌∙◌, ◌+◌, ◌-◌, ◌<◌, length, sym, subst, add-one, slice_get-get_or, IsMadeFor, expression_in, IsAt}
 use Rattle.re_steps.proofs.lemmas.WalkLaws.{walked_is, arrives_on}
 use Rattle.re_steps.proofs.table.StepTable.onward.Goals as goal
 

@@ -1,5 +1,4 @@
-use Rattle.std.proofs.Common.{arith, ◌≡◌, ◌*◌, length, inl, inr, refl, sym, ◌∙◌, subst}
-use Rattle.re_steps.proofs.Words.{IsRowOf, expression_in, rows_of, IsAt}
+use Rattle.re_steps.proofs.Prelude.{arith, ◌≡◌, ◌*◌, length, inl, inr, refl, sym, ◌∙◌, subst, IsRowOf, expression_in, rows_of, IsAt}
 use Rattle.re_steps.proofs.lemmas.StageLaws.{goes_nowhere}
 use Rattle.re_steps.proofs.lemmas.RowLaws.{row_inside, mark_of_row}
 use Rattle.re_steps.proofs.lemmas.WalkLaws.{first_stage, comes_first}

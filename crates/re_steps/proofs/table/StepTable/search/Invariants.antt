@@ -1,5 +1,4 @@
-use Rattle.std.proofs.Common.{length, ◌-◌, ◌*◌, ◌≤◌}
-use Rattle.re_steps.proofs.Words.{Stage, IsRightFor, IsRow, Lasts, IsAt}
+use Rattle.re_steps.proofs.Prelude.{length, ◌-◌, ◌*◌, ◌≤◌, Stage, IsRightFor, IsRow, Lasts, IsAt}
 use Rattle.re_steps.proofs.table.StepTable.search.Given as goal
 
 abbrev pub invariant-places : goal.invariant-places

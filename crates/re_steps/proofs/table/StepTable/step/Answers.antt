@@ -1,5 +1,4 @@
-use Rattle.std.proofs.Common.{arith, ◌≡◌, ◌<◌, [], Option, None, Some, IfSome, refl, sym, ◌∙◌, subst}
-use Rattle.re_steps.proofs.Words.{IfNone, unknown, Lands, LandsAlone, IsRow, IsRightFor, IsKnownCell, cell_at, cache_of, row_under, expression_in, rows_of, many_reused, IsMadeFor}
+use Rattle.re_steps.proofs.Prelude.{arith, ◌≡◌, ◌<◌, [], Option, None, Some, IfSome, refl, sym, ◌∙◌, subst, IfNone, unknown, Lands, LandsAlone, IsRow, IsRightFor, IsKnownCell, cell_at, cache_of, row_under, expression_in, rows_of, many_reused, IsMadeFor}
 use Rattle.re_steps.proofs.lemmas.StageLaws.{nothing_held}
 use Rattle.re_steps.proofs.lemmas.WalkLaws.{lands_held, lands_learned, lands_alone, row_below}
 use Rattle.re_steps.proofs.table.StepTable.step.Goals as goal

@@ -1,5 +1,4 @@
-use Rattle.std.proofs.Common.{length, ◌-◌, ◌≡◌, ◌≤◌}
-use Rattle.re_steps.proofs.Words.{Steps, Stage, IsRow, walked, IsAt}
+use Rattle.re_steps.proofs.Prelude.{length, ◌-◌, ◌≡◌, ◌≤◌, Steps, Stage, IsRow, walked, IsAt}
 use Rattle.re_steps.proofs.table.StepTable.walk.Given as goal
 
 abbrev pub invariant-places : goal.invariant-places

@@ -1,6 +1,4 @@
-use Rattle.std.proofs.Common.{◌≡◌, ℕ, ◌+◌, ◌<◌, length, slice_index, refl, sym, subst, ◌∙◌, arith}
-use Rattle.std.proofs.lemmas.List.{length-map}
-use Rattle.re_strings.proofs.Words.{Labels, IsTableOf, StandsAtNode, Steps, EndsWith, Occurs, key, keys}
+use Rattle.re_strings.proofs.Prelude.{◌≡◌, ℕ, ◌+◌, ◌<◌, length, slice_index, refl, sym, subst, ◌∙◌, arith, length-map, Labels, IsTableOf, StandsAtNode, Steps, EndsWith, Occurs, key, keys}
 use Rattle.re_strings.proofs.lemmas.KeyLaws.{key_at, start_of_key}
 use Rattle.re_strings.proofs.lemmas.SetSearch.{byte_read, node_length, nothing_read}
 use Rattle.re_strings.proofs.lemmas.SetEnds.{OccursBy, adds_no_ends, adds_more_ends, same_ends_added, one_place_more}

@@ -1,5 +1,4 @@
-use Rattle.std.proofs.Common.{◌<◌, length}
-use Rattle.re_strings.proofs.Words.{AddsEnds, Labels, IsTableOf, StandsAtNode, keys}
+use Rattle.re_strings.proofs.Prelude.{◌<◌, length, AddsEnds, Labels, IsTableOf, StandsAtNode, keys}
 use Rattle.re_strings.proofs.lemmas.SetEnds.{OccursBy}
 use Rattle.re_strings.proofs.aho_corasick.AhoCorasick.add_ends.Given as goal
 

@@ -1,5 +1,4 @@
-use Rattle.std.proofs.Common.{◌≡◌, ℕ, ◌<◌, ◌≤◌, ◌-◌, length}
-use Rattle.re_strings.proofs.Words.{Labels, IsTableOf, Occurs, StandsSince, keys}
+use Rattle.re_strings.proofs.Prelude.{◌≡◌, ℕ, ◌<◌, ◌≤◌, ◌-◌, length, Labels, IsTableOf, Occurs, StandsSince, keys}
 use Rattle.re_strings.proofs.aho_corasick.AhoCorasick.ended_by.Given as goal
 
 abbrev pub invariant-places : goal.invariant-places

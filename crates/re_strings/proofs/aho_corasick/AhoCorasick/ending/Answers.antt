@@ -1,5 +1,4 @@
-use Rattle.std.proofs.Common.{◌≡◌, slice_index, sym, ap, subst, ◌∙◌, arith}
-use Rattle.re_strings.specs.Working.FixedSets.{EndsIn}
+use Rattle.re_strings.proofs.Prelude.{◌≡◌, slice_index, sym, ap, subst, ◌∙◌, arith, EndsIn}
 use Rattle.re_strings.proofs.lemmas.SetSearch.{row_read}
 use Rattle.re_strings.proofs.aho_corasick.AhoCorasick.ending.Goals as goal
 

@@ -1,8 +1,4 @@
-use Rattle.std.proofs.Common.{◌≡◌, ◌-◌, ◌<◌, inl, inr, length, refl, sym, ap, subst, ◌∙◌, arith}
-use Rattle.std.proofs.lemmas.Bool.{false≢true, cases_lt}
-use Rattle.std.proofs.lemmas.List.{length-map}
-use Rattle.std.proofs.lemmas.Option.{none-some}
-use Rattle.re_strings.proofs.Words.{many_passed, key, keys, IsBestOccurrence}
+use Rattle.re_strings.proofs.Prelude.{◌≡◌, ◌-◌, ◌<◌, inl, inr, length, refl, sym, ap, subst, ◌∙◌, arith, false≢true, cases_lt, length-map, none-some, many_passed, key, keys, IsBestOccurrence}
 use Rattle.re_strings.proofs.lemmas.SetSearch.{stands_at_first, row_read, best_at_first, best_on, best_settled}
 use Rattle.re_strings.proofs.lemmas.SetReached.{begun_on, settled}
 use Rattle.re_strings.proofs.aho_corasick.AhoCorasick.find_by.Goals as goal

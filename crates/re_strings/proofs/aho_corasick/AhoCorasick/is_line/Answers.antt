@@ -1,7 +1,4 @@
-use Rattle.std.proofs.Common.{◌≡◌, [], ◌∷◌, ◌++◌, length, nat_eq, slice_index, sym, ap, subst, ◌∙◌, arith}
-use Rattle.re_strings.proofs.Words.{◌↔◌, IsTrue, IsFront, IsString, key, keys}
-use Rattle.std.proofs.lemmas.Bool.{false≢true}
-use Rattle.std.proofs.lemmas.List.{length-map}
+use Rattle.re_strings.proofs.Prelude.{◌≡◌, [], ◌∷◌, ◌++◌, length, nat_eq, slice_index, sym, ap, subst, ◌∙◌, arith, ◌↔◌, IsTrue, IsFront, IsString, key, keys, false≢true, length-map}
 use Rattle.re_strings.proofs.lemmas.KeyLaws.{key_at}
 use Rattle.re_strings.proofs.lemmas.SetSearch.{goes_on_in_line, ends_whole, all_read, one_more_byte}
 use Rattle.re_strings.proofs.aho_corasick.AhoCorasick.is_line.Goals as goal

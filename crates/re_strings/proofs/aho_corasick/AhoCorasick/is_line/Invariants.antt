@@ -1,5 +1,4 @@
-use Rattle.std.proofs.Common.{◌≡◌, ◌<◌, length, take}
-use Rattle.re_strings.proofs.Words.{Labels, IsTableOf, keys}
+use Rattle.re_strings.proofs.Prelude.{◌≡◌, ◌<◌, length, take, Labels, IsTableOf, keys}
 use Rattle.re_strings.proofs.aho_corasick.AhoCorasick.is_line.Given as goal
 
 abbrev pub invariant-places : goal.invariant-places

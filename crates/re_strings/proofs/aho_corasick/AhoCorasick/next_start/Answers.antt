@@ -1,6 +1,4 @@
-use Rattle.std.proofs.Common.{◌≡◌, length, subst, arith}
-use Rattle.std.proofs.lemmas.List.{length-map}
-use Rattle.re_strings.proofs.Words.{NoneBegins, key, keys}
+use Rattle.re_strings.proofs.Prelude.{◌≡◌, length, subst, arith, length-map, NoneBegins, key, keys}
 use Rattle.re_strings.proofs.lemmas.KeyLaws.{passed_by_keys}
 use Rattle.re_strings.proofs.lemmas.SetLeaps.{leap_stands, leap_between, bytes_stand, bytes_between}
 use Rattle.re_strings.proofs.aho_corasick.AhoCorasick.next_start.Goals as goal

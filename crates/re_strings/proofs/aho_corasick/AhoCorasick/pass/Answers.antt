@@ -1,6 +1,4 @@
-use Rattle.std.proofs.Common.{◌≡◌, ◌<◌, ap, length, slice_index, sym, subst, ◌∙◌, arith}
-use Rattle.std.proofs.lemmas.List.{length-map}
-use Rattle.re_strings.proofs.Words.{Steps, StandsAtNode, key, keys}
+use Rattle.re_strings.proofs.Prelude.{◌≡◌, ◌<◌, ap, length, slice_index, sym, subst, ◌∙◌, arith, length-map, Steps, StandsAtNode, key, keys}
 use Rattle.re_strings.proofs.lemmas.KeyLaws.{key_at, start_of_key}
 use Rattle.re_strings.proofs.lemmas.SetSearch.{byte_read, stands_after}
 use Rattle.re_strings.proofs.aho_corasick.AhoCorasick.pass.Goals as goal

@@ -1,5 +1,4 @@
-use Rattle.std.proofs.Common.{◌≡◌, ℕ, ◌+◌, ◌<◌, length, slice_index, refl, ap, subst, ◌∙◌, arith}
-use Rattle.re_strings.specs.Working.FixedSets.{IsOutput, StandsFor, EndsWith}
+use Rattle.re_strings.proofs.Prelude.{◌≡◌, ℕ, ◌+◌, ◌<◌, length, slice_index, refl, ap, subst, ◌∙◌, arith, IsOutput, StandsFor, EndsWith}
 use Rattle.re_strings.proofs.lemmas.SetSearch.{row_read}
 use Rattle.re_strings.proofs.lemmas.SetEnds.{PutsLonger, adds_no_ends, adds_more_ends, same_ends_added, first_output, none_longer, next_output, output_put, all_put}
 use Rattle.re_strings.proofs.aho_corasick.AhoCorasick.put_outputs.Goals as goal

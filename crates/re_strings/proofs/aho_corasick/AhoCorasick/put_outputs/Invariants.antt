@@ -1,5 +1,4 @@
-use Rattle.std.proofs.Common.{◌<◌, ◌≤◌, length}
-use Rattle.re_strings.proofs.Words.{AddsEnds, Labels, IsTableOf}
+use Rattle.re_strings.proofs.Prelude.{◌<◌, ◌≤◌, length, AddsEnds, Labels, IsTableOf}
 use Rattle.re_strings.proofs.lemmas.SetEnds.{Follows, PutsLonger}
 use Rattle.re_strings.proofs.aho_corasick.AhoCorasick.put_outputs.Given as goal
 

@@ -1,6 +1,4 @@
-use Rattle.std.proofs.Common.{◌≡◌, ◌+◌, ◌<◌, length, subst, arith}
-use Rattle.std.proofs.lemmas.List.{length-map}
-use Rattle.re_strings.proofs.Words.{key, keys, NoneBegins}
+use Rattle.re_strings.proofs.Prelude.{◌≡◌, ◌+◌, ◌<◌, length, subst, arith, length-map, key, keys, NoneBegins}
 use Rattle.re_strings.proofs.lemmas.SetLeaps.{none_begins_on, none_begins_to_end}
 use Rattle.re_strings.proofs.leaps.Leaps.leap.Goals as goal
 

@@ -1,6 +1,4 @@
-use Rattle.std.proofs.Common.{◌≡◌, ◌+◌, ◌-◌, ◌<◌, length, slice_index, sym, ap, ◌∙◌, arith}
-use Rattle.std.proofs.lemmas.List.{length-map}
-use Rattle.re_strings.proofs.Words.{pair_row, key, keys}
+use Rattle.re_strings.proofs.Prelude.{◌≡◌, ◌+◌, ◌-◌, ◌<◌, length, slice_index, sym, ap, ◌∙◌, arith, length-map, pair_row, key, keys}
 use Rattle.re_strings.proofs.lemmas.KeyLaws.{key_at}
 use Rattle.re_strings.proofs.lemmas.SetSearch.{row_read}
 use Rattle.re_strings.proofs.lemmas.SetLeaps.{none_begins_leap}

@@ -1,5 +1,4 @@
-use Rattle.std.proofs.Common.{◌≡◌, ◌+◌, ◌-◌, subst, arith}
-use Rattle.re_strings.proofs.Words.{keys, NoneBegins}
+use Rattle.re_strings.proofs.Prelude.{◌≡◌, ◌+◌, ◌-◌, subst, arith, keys, NoneBegins}
 use Rattle.re_strings.proofs.lemmas.SetLeaps.{none_begins_at_first, none_begins_on}
 use Rattle.re_strings.proofs.leaps.Leaps.stride.Goals as goal
 

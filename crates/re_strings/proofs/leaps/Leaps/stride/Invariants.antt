@@ -1,5 +1,4 @@
-use Rattle.std.proofs.Common.{List, ◌≤◌, ◌-◌, length}
-use Rattle.re_strings.proofs.Words.{Text, AreLeapsOf, NoneBegins, keys}
+use Rattle.re_strings.proofs.Prelude.{List, ◌≤◌, ◌-◌, length, Text, AreLeapsOf, NoneBegins, keys}
 use Rattle.re_strings.proofs.leaps.Leaps.stride.Given as goal
 
 abbrev pub invariant-windows : goal.invariant-windows

@@ -1,4 +1,4 @@
-use Rattle.std.proofs.Common.{◌≡◌, ℕ, ◌<◌, ◌≤◌, slice_index}
+use Rattle.re_strings.proofs.Prelude.{◌≡◌, ℕ, ◌<◌, ◌≤◌, slice_index}
 use Rattle.re_strings.proofs.trie.Trie.child.Given as goal
 
 abbrev pub invariant-children : goal.invariant-children

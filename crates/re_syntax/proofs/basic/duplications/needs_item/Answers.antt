@@ -1,5 +1,4 @@
-use Rattle.std.proofs.Common.{drop}
-use Rattle.re_syntax.specs.BasicFaults.{NeedsItem}
+use Rattle.re_syntax.proofs.Prelude.{drop, NeedsItem}
 use Rattle.re_syntax.proofs.lemmas.BasicIntervals.{interval_needs, plus_needs, question_needs, needs_no_item}
 use Rattle.re_syntax.proofs.lemmas.Places.{either_found, some_found, nothing_found}
 use Rattle.re_syntax.proofs.basic.duplications.needs_item.Goals as goal

@@ -1,5 +1,4 @@
-use Rattle.std.proofs.Common.{◌≡◌, ap, ◌∙◌, arith}
-use Rattle.re_syntax.specs.Working.Trees.{members}
+use Rattle.re_syntax.proofs.Prelude.{◌≡◌, ap, ◌∙◌, arith, members}
 use Rattle.re_syntax.proofs.lemmas.ClosedLaws.{closed_below, closed_below-none, closed_below-step, closed_below-all}
 use Rattle.re_syntax.proofs.bytes.ByteSet.closed.Goals as goal
 

@@ -1,5 +1,4 @@
-use Rattle.std.proofs.Common.{◌≡◌}
-use Rattle.re_syntax.proofs.Words.{Bytes, members}
+use Rattle.re_syntax.proofs.Prelude.{◌≡◌, Bytes, members}
 use Rattle.re_syntax.proofs.lemmas.ClosedLaws.{closed_below}
 use Rattle.re_syntax.proofs.bytes.ByteSet.closed.Given as goal
 

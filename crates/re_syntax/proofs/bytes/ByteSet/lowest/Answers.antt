@@ -1,4 +1,4 @@
-use Rattle.std.proofs.Common.{arith}
+use Rattle.re_syntax.proofs.Prelude.{arith}
 use Rattle.re_syntax.proofs.lemmas.OneByte.{lowest_low, lowest_high}
 use Rattle.re_syntax.proofs.bytes.ByteSet.lowest.Goals as goal
 

@@ -1,5 +1,4 @@
-use Rattle.std.proofs.Common.{◌≡◌, arith, rules, sym, ap, ◌∙◌}
-use Rattle.re_syntax.proofs.Words.{members, only}
+use Rattle.re_syntax.proofs.Prelude.{◌≡◌, arith, rules, sym, ap, ◌∙◌, members, only}
 use Rattle.re_syntax.proofs.lemmas.OneByte.{same_low, same_high}
 use Rattle.re_syntax.proofs.bytes.ByteSet.one_byte.Goals as goal
 use Rattle.re_syntax.proofs.bytes.ByteSet.one_byte.Goals.{then-self-only-via-then-self-only, then-self-only-via-else-self-only+then-self-only-2}

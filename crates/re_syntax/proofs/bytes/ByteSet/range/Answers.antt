@@ -1,5 +1,4 @@
-use Rattle.std.proofs.Common.{◌+◌, ◌-◌, ap, ◌∙◌}
-use Rattle.re_syntax.specs.Working.Trees.{lowest_bits}
+use Rattle.re_syntax.proofs.Prelude.{◌+◌, ◌-◌, ap, ◌∙◌, lowest_bits}
 use Rattle.re_syntax.proofs.lemmas.RangeWords.{members-range}
 use Rattle.re_syntax.proofs.bytes.ByteSet.range.Goals as goal
 

@@ -1,4 +1,4 @@
-use Rattle.std.proofs.Common.{refl}
+use Rattle.re_syntax.proofs.Prelude.{refl}
 use Rattle.re_syntax.proofs.lemmas.CursorsLaws.{begins-drop, begins_not}
 use Rattle.re_syntax.proofs.cursor.Cursor.skip.Goals as goal
 

@@ -1,6 +1,4 @@
-use Rattle.std.proofs.Common.{◌≡◌, ◌+◌, ◌-◌, ◌<◌, [], ◌∷◌, length, take, drop, rules, arith, sym, ap, ◌∙◌, add-one}
-use Rattle.std.proofs.lemmas.List.{take_rest}
-use Rattle.re_syntax.specs.Lines.{lines_of}
+use Rattle.re_syntax.proofs.Prelude.{◌≡◌, ◌+◌, ◌-◌, ◌<◌, [], ◌∷◌, length, take, drop, rules, arith, sym, ap, ◌∙◌, add-one, take_rest, lines_of}
 use Rattle.re_syntax.proofs.lemmas.SplittingLaws.{lines_of-at, lines_of-none, lines_of-empty, lines_of-beyond}
 use Rattle.re_syntax.proofs.split.FilePatternsIterator.next.Goals as goal
 

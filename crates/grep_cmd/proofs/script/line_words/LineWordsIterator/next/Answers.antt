@@ -1,6 +1,4 @@
-use Rattle.std.proofs.Common.{◌≡◌, ◌+◌, ◌-◌, [], ◌∷◌, length, take, drop, rules, arith, sym, ap, ◌∙◌, add-one}
-use Rattle.std.proofs.lemmas.List.{take_rest}
-use Rattle.grep_cmd.proofs.Words.{words_of, words_of_rest}
+use Rattle.grep_cmd.proofs.Prelude.{◌≡◌, ◌+◌, ◌-◌, [], ◌∷◌, length, take, drop, rules, arith, sym, ap, ◌∙◌, add-one, take_rest, words_of, words_of_rest}
 use Rattle.grep_cmd.proofs.lemmas.ScriptWords.{words_of-at, words_of-none}
 use Rattle.grep_cmd.proofs.script.line_words.LineWordsIterator.next.Goals as goal
 

@@ -1,5 +1,4 @@
-use Rattle.std.proofs.Common.{rules, [], ◌∷◌, ◌≡◌, ◌∙◌, ◌<◌, ap, length}
-use Rattle.grep_core.specs.Working.LastLines.{LastLines, with_lines}
+use Rattle.grep_core.proofs.Prelude.{rules, [], ◌∷◌, ◌≡◌, ◌∙◌, ◌<◌, ap, length, LastLines, with_lines}
 use Rattle.grep_core.proofs.lemmas.RecentLinesLemmas.{pushed}
 use Rattle.grep_core.proofs.search.recent.RecentLines.push.Goals as goal
 

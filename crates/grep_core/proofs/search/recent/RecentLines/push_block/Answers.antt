@@ -1,6 +1,4 @@
-use Rattle.std.proofs.Common.{rules, ◌≡◌, [], ◌∷◌, ◌++◌, ◌-◌, length, map, take, drop, sym, ap, ◌∙◌, append_assoc, append-nil, arith}
-use Rattle.std.proofs.lemmas.List.{length-drop, take_all}
-use Rattle.grep_core.proofs.Words.{lines_of, terminated, LastLines, with_lines, last_of}
+use Rattle.grep_core.proofs.Prelude.{rules, ◌≡◌, [], ◌∷◌, ◌++◌, ◌-◌, length, map, take, drop, sym, ap, ◌∙◌, append_assoc, append-nil, arith, length-drop, take_all, lines_of, terminated, LastLines, with_lines, last_of}
 use Rattle.re_syntax.proofs.lemmas.LinesLaws.{lines_of-terminated}
 use Rattle.grep_core.proofs.lemmas.BlockLines.{holds_none, holds_more, holds_last, last_free}
 use Rattle.grep_core.proofs.lemmas.RecentLinesLemmas.{few_held}

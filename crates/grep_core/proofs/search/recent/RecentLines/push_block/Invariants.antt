@@ -1,5 +1,4 @@
-use Rattle.std.proofs.Common.{◌≡◌, List, ◌++◌, drop}
-use Rattle.grep_core.proofs.Words.{Text, lines_of, with_lines}
+use Rattle.grep_core.proofs.Prelude.{◌≡◌, List, ◌++◌, drop, Text, lines_of, with_lines}
 use Rattle.grep_core.proofs.search.recent.RecentLines.push_block.Given as goal
 
 -- some lines are held, and the others are left

@@ -1,5 +1,4 @@
-use Rattle.std.proofs.Common.{subst, arith}
-use Rattle.grep_io.proofs.Words.{HasNoNewline, EndsRows}
+use Rattle.grep_io.proofs.Prelude.{subst, arith, HasNoNewline, EndsRows}
 use Rattle.grep_io.proofs.lemmas.BufferLemmas.{part_sent, rows_make_room, rows_sent}
 use Rattle.grep_io.proofs.devices.buffered.Buffered.send_rows.Goals as goal
 

@@ -1,5 +1,4 @@
-use Rattle.std.proofs.Common.{◌≤◌, ◌-◌, arith}
-use Rattle.std.proofs.lemmas.List.{length-take-le}
+use Rattle.grep_io.proofs.Prelude.{◌≤◌, ◌-◌, arith, length-take-le}
 use Rattle.grep_io.proofs.lemmas.LimitedLemmas.{limited-Consumes, limited-end}
 use Rattle.grep_io.proofs.devices.limited.LimitedRead.read.Goals as goal
 

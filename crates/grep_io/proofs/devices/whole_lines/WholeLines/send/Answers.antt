@@ -1,4 +1,4 @@
-use Rattle.std.proofs.Common.{arith}
+use Rattle.grep_io.proofs.Prelude.{arith}
 use Rattle.grep_io.proofs.lemmas.LineSentLemmas.{no_newline_after_front}
 use Rattle.grep_io.proofs.devices.whole_lines.WholeLines.send.Goals as goal
 

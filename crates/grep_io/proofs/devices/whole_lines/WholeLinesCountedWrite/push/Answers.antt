@@ -1,4 +1,4 @@
-use Rattle.std.proofs.Common.{arith, rules}
+use Rattle.grep_io.proofs.Prelude.{arith, rules}
 use Rattle.grep_io.proofs.lemmas.LineSentLemmas.{no_newline_waits, line_taken, line_within, line_written, line_counted, text_collected}
 use Rattle.grep_io.proofs.devices.whole_lines.WholeLinesCountedWrite.push.Goals as goal
 

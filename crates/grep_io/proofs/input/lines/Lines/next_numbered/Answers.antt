@@ -1,5 +1,4 @@
-use Rattle.std.proofs.Common.{◌≡◌, ◌≢◌, ◌<◌, ◌∙◌, [], Err, sym, ap, arith}
-use Rattle.grep_io.proofs.Words.{Ended, most_lines, Numbered}
+use Rattle.grep_io.proofs.Prelude.{◌≡◌, ◌≢◌, ◌<◌, ◌∙◌, [], Err, sym, ap, arith, Ended, most_lines, Numbered}
 use Rattle.grep_io.proofs.lemmas.WindowLemmas.{none_in_nothing, one_line, one_line_and_few}
 use Rattle.grep_io.proofs.lemmas.NumberedLemmas.{next_is_line, next_is_end, next_is_cut, next_is_past, next_is_refused}
 use Rattle.grep_io.proofs.input.lines.Lines.next_numbered.Goals as goal

@@ -1,4 +1,4 @@
-use Rattle.std.proofs.Common.{◌+◌, refl}
+use Rattle.grep_io.proofs.Prelude.{◌+◌, refl}
 use Rattle.grep_io.proofs.lemmas.PassedLemmas.{all_ahead, none_at_end, passes_block, stage_stays}
 use Rattle.grep_io.proofs.input.lines.Lines.pass.Goals as goal
 

@@ -1,5 +1,4 @@
-use Rattle.std.proofs.Common.{◌≡◌, ◌-◌, ◌^◌, length}
-use Rattle.grep_io.proofs.Words.{prepend_known, Keeps, Open}
+use Rattle.grep_io.proofs.Prelude.{◌≡◌, ◌-◌, ◌^◌, length, prepend_known, Keeps, Open}
 use Rattle.grep_io.proofs.input.lines.Lines.read_on.Given as goal
 
 -- nothing is lost, and nothing has failed

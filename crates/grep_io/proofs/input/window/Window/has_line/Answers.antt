@@ -1,5 +1,4 @@
-use Rattle.std.proofs.Common.{◌≤◌, length, arith}
-use Rattle.grep_io.specs.Working.Held.{waiting}
+use Rattle.grep_io.proofs.Prelude.{◌≤◌, length, arith, waiting}
 use Rattle.grep_io.proofs.lemmas.WindowBlocks.{whole_line}
 use Rattle.grep_io.proofs.input.window.Window.has_line.Goals as goal
 

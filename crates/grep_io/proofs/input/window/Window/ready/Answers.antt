@@ -1,5 +1,4 @@
-use Rattle.std.proofs.Common.{◌-◌, ◌≤◌, ◌++◌, ◌≡◌, length, slice_range, arith, ap, sym, ◌∙◌}
-use Rattle.grep_io.specs.Working.Held.{Held, waiting}
+use Rattle.grep_io.proofs.Prelude.{◌-◌, ◌≤◌, ◌++◌, ◌≡◌, length, slice_range, arith, ap, sym, ◌∙◌, Held, waiting}
 use Rattle.grep_io.proofs.lemmas.WindowBlocks.{block_range, ahead_begins}
 use Rattle.grep_io.proofs.input.window.Window.ready.Goals as goal
 

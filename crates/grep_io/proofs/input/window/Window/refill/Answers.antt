@@ -1,5 +1,4 @@
-use Rattle.std.proofs.Common.{◌≡◌, ◌-◌, ◌<◌, ◌≤◌, ◌++◌, length, get_or, take, drop, slice_range, refl, sym, ap, ◌∙◌, length-take, subst, rules, arith}
-use Rattle.grep_io.proofs.Words.{Text, newline, HasNoNewline, IsOneLineAndFew, Held}
+use Rattle.grep_io.proofs.Prelude.{◌≡◌, ◌-◌, ◌<◌, ◌≤◌, ◌++◌, length, get_or, take, drop, slice_range, refl, sym, ap, ◌∙◌, length-take, subst, rules, arith, Text, newline, HasNoNewline, IsOneLineAndFew, Held}
 use Rattle.grep_io.proofs.lemmas.WindowLemmas.{one_line, at_failure}
 use Rattle.grep_io.proofs.lemmas.WindowBlocks.{fresh_ended, fresh_cut_off}
 use Rattle.grep_io.proofs.input.window.Window.refill.Goals as goal

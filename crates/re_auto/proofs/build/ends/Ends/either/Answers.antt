@@ -1,4 +1,4 @@
-use Rattle.std.proofs.Common.{arith, true, false}
+use Rattle.re_auto.proofs.Prelude.{arith, true, false}
 use Rattle.re_auto.proofs.lemmas.PartLemmas.{skipped}
 use Rattle.re_auto.proofs.build.ends.Ends.either.Goals as goal
 

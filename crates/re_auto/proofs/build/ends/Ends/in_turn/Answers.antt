@@ -1,4 +1,4 @@
-use Rattle.std.proofs.Common.{arith, true, false}
+use Rattle.re_auto.proofs.Prelude.{arith, true, false}
 use Rattle.re_auto.proofs.build.ends.Ends.in_turn.Goals as goal
 
 pub returns-clause-shows : goal.returns-clause-shows

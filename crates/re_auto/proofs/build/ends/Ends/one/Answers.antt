@@ -1,4 +1,4 @@
-use Rattle.std.proofs.Common.{true, false, refl}
+use Rattle.re_auto.proofs.Prelude.{true, false, refl}
 use Rattle.re_auto.proofs.lemmas.PartLemmas.{never_holds}
 use Rattle.re_auto.proofs.build.ends.Ends.one.Goals as goal
 

@@ -1,4 +1,4 @@
-use Rattle.std.proofs.Common.{true, false}
+use Rattle.re_auto.proofs.Prelude.{true, false}
 use Rattle.re_auto.proofs.lemmas.PartLemmas.{always}
 use Rattle.re_auto.proofs.build.ends.Ends.optional.Goals as goal
 

@@ -1,7 +1,4 @@
-use Rattle.std.proofs.Common.{rules, ◌≡◌, ◌<◌, IfOk, [], map, drop, Some, None, refl, sym, ap, ◌∙◌, subst, arith}
-use Rattle.std.proofs.Math.Seq.{drop-length}
-use Rattle.std.proofs.lemmas.Result.{IfOk-weaker}
-use Rattle.re_auto.proofs.Words.{alt, cat, empty, begin, end, repeat, expression_of, positions, the_lemmas, HasWidth, IsTail, IsAddedOf, part_of}
+use Rattle.re_auto.proofs.Prelude.{rules, ◌≡◌, ◌<◌, IfOk, [], map, drop, Some, None, refl, sym, ap, ◌∙◌, subst, arith, drop-length, IfOk-weaker, alt, cat, empty, begin, end, repeat, expression_of, positions, the_lemmas, HasWidth, IsTail, IsAddedOf, part_of}
 use Rattle.re_syntax.proofs.lemmas.ExpressionLaws.{expression-Empty, expression-Set, expression-Not, expression-Begin, expression-End, expression-Cat, expression-Alt}
 use Rattle.re_auto.proofs.lemmas.Numbered.{part_numbered}
 use Rattle.re_auto.proofs.lemmas.PartLemmas.{always, never_holds, width_of}

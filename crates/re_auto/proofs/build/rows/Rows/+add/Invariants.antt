@@ -1,5 +1,4 @@
-use Rattle.std.proofs.Common.{map, drop, ◌≤◌, length}
-use Rattle.re_auto.proofs.Words.{alt, cat, expression_of, AreTurns, AreUpTo, IsAddedOf}
+use Rattle.re_auto.proofs.Prelude.{map, drop, ◌≤◌, length, alt, cat, expression_of, AreTurns, AreUpTo, IsAddedOf}
 use Rattle.re_auto.proofs.build.rows.Rows.+add.Given as goal
 
 abbrev pub invariant-add_sequence-members : goal.invariant-add_sequence-members

@@ -1,5 +1,4 @@
-use Rattle.std.proofs.Common.{length, inl, inr, refl, ap, ◌∙◌}
-use Rattle.std.proofs.lemmas.List.{with_items_is}
+use Rattle.re_auto.proofs.Prelude.{length, inl, inr, refl, ap, ◌∙◌, with_items_is}
 use Rattle.re_auto.proofs.build.rows.Rows.cross.Goals as goal
 
 pub returns : goal.returns

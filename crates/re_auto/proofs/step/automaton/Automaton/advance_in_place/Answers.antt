@@ -1,6 +1,4 @@
-use Rattle.std.proofs.Common.{refl, ◌≡◌, ◌∙◌, ap, length}
-use Rattle.re_auto.proofs.Words.{with_items, expression_of, part_of, IsNext, Has, IsNextSet}
-use Rattle.std.proofs.lemmas.List.{with_items_is}
+use Rattle.re_auto.proofs.Prelude.{refl, ◌≡◌, ◌∙◌, ap, length, with_items, expression_of, part_of, IsNext, Has, IsNextSet, with_items_is}
 use Rattle.re_auto.proofs.lemmas.SetsByWords.{stands_next, next_small}
 use Rattle.re_auto.proofs.lemmas.WordLemmas.{next_of_word, turned}
 use Rattle.re_auto.proofs.step.automaton.Automaton.advance_in_place.Goals as goal

@@ -1,5 +1,4 @@
-use Rattle.std.proofs.Common.{true≢false, sym, ◌∙◌}
-use Rattle.re_auto.proofs.Words.{expression_of, AreTablesOf}
+use Rattle.re_auto.proofs.Prelude.{true≢false, sym, ◌∙◌, expression_of, AreTablesOf}
 use Rattle.re_auto.proofs.lemmas.SetsByWords.{nowhere_stays}
 use Rattle.re_auto.proofs.step.automaton.Automaton.begins.Goals as goal
 

@@ -1,7 +1,4 @@
-use Rattle.std.proofs.Common.{ℕ, subst, sym}
-use Rattle.std.proofs.lemmas.Result.{IfOk-weaker}
-use Rattle.std.proofs.Math.ListN.{replicate}
-use Rattle.re_auto.proofs.Words.{expression_of, positions, Are, AreTablesOf, words_for}
+use Rattle.re_auto.proofs.Prelude.{ℕ, subst, sym, IfOk-weaker, replicate, expression_of, positions, Are, AreTablesOf, words_for}
 use Rattle.re_auto.proofs.lemmas.BitLemmas.{zeros_are}
 use Rattle.re_auto.proofs.step.automaton.Automaton.blank_words.Goals as goal
 

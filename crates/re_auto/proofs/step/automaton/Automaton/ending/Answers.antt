@@ -1,5 +1,4 @@
-use Rattle.std.proofs.Common.{true, false}
-use Rattle.re_auto.proofs.Words.{expression_of, positions, Are, part_of, AreTablesOf, words_for}
+use Rattle.re_auto.proofs.Prelude.{true, false, expression_of, positions, Are, part_of, AreTablesOf, words_for}
 use Rattle.re_auto.proofs.step.automaton.Automaton.ending.Goals as goal
 
 pub returns-then-at_end : goal.returns-then-at_end

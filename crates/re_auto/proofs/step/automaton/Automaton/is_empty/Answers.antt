@@ -1,4 +1,4 @@
-use Rattle.re_auto.proofs.Words.{expression_of, AreTablesOf}
+use Rattle.re_auto.proofs.Prelude.{expression_of, AreTablesOf}
 use Rattle.re_auto.proofs.step.automaton.Automaton.is_empty.Goals as goal
 
 pub returns-in-true-true : goal.returns-in-true-true

@@ -1,6 +1,4 @@
-use Rattle.std.proofs.Common.{refl, ◌∙◌}
-use Rattle.std.proofs.lemmas.List.{with_items_is}
-use Rattle.re_syntax.specs.Working.Trees.{expression_of}
+use Rattle.re_auto.proofs.Prelude.{refl, ◌∙◌, with_items_is, expression_of}
 use Rattle.re_auto.proofs.lemmas.SetsByWords.{starts_at}
 use Rattle.re_auto.proofs.step.automaton.Automaton.start.Goals as goal
 

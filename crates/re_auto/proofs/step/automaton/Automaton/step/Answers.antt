@@ -1,5 +1,4 @@
-use Rattle.std.proofs.Common.{◌≡◌, arith, sym, ◌∙◌}
-use Rattle.re_auto.proofs.Words.{expression_of, positions, AreTablesOf, words_for}
+use Rattle.re_auto.proofs.Prelude.{◌≡◌, arith, sym, ◌∙◌, expression_of, positions, AreTablesOf, words_for}
 use Rattle.re_auto.proofs.step.automaton.Automaton.step.Goals as goal
 
 pub only_word-requires : goal.only_word-requires

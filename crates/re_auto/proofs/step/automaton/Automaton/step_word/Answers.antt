@@ -1,4 +1,4 @@
-use Rattle.re_auto.proofs.Words.{expression_of, part_of}
+use Rattle.re_auto.proofs.Prelude.{expression_of, part_of}
 use Rattle.re_auto.proofs.lemmas.BitLemmas.{chained}
 use Rattle.re_auto.proofs.lemmas.WordLemmas.{next_word}
 use Rattle.re_auto.proofs.step.automaton.Automaton.step_word.Goals as goal

@@ -1,5 +1,4 @@
-use Rattle.std.proofs.Common.{◌≡◌, length, refl, sym, ◌∙◌}
-use Rattle.re_auto.proofs.Words.{expression_of, positions, AreTablesOf}
+use Rattle.re_auto.proofs.Prelude.{◌≡◌, length, refl, sym, ◌∙◌, expression_of, positions, AreTablesOf}
 use Rattle.re_auto.proofs.lemmas.RowLemmas.{row_within}
 use Rattle.re_auto.proofs.step.automaton.Automaton.step_words.Goals as goal
 

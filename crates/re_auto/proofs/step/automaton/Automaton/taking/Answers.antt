@@ -1,6 +1,4 @@
-use Rattle.std.proofs.Common.{◌≡◌, ◌∙◌, get_or}
-use Rattle.std.proofs.lemmas.List.{get_or_read}
-use Rattle.re_auto.proofs.Words.{expression_of, AreTablesOf}
+use Rattle.re_auto.proofs.Prelude.{◌≡◌, ◌∙◌, get_or, get_or_read, expression_of, AreTablesOf}
 use Rattle.re_auto.proofs.step.automaton.Automaton.taking.Goals as goal
 
 pub row-requires : goal.row-requires

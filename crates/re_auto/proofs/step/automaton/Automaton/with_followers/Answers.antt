@@ -1,5 +1,4 @@
-use Rattle.std.proofs.Common.{arith, inl}
-use Rattle.re_auto.proofs.Words.{expression_of, InWord, part_of}
+use Rattle.re_auto.proofs.Prelude.{arith, inl, expression_of, InWord, part_of}
 use Rattle.re_auto.proofs.lemmas.BitLemmas.{one_added, none_left, chained}
 use Rattle.re_auto.proofs.lemmas.WordLemmas.{in_either, bounded, second_as}
 use Rattle.re_auto.proofs.step.automaton.Automaton.with_followers.Goals as goal

@@ -1,4 +1,4 @@
-use Rattle.re_syntax.specs.Working.Trees.{expression_of}
+use Rattle.re_auto.proofs.Prelude.{expression_of}
 use Rattle.re_auto.proofs.lemmas.StartsByLists.{says_least}
 use Rattle.re_auto.proofs.step.starts.Starts.accepts.Goals as goal
 

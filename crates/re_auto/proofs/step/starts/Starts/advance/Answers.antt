@@ -1,6 +1,4 @@
-use Rattle.std.proofs.Common.{arith, ◌≡◌, ◌∙◌, ap, length}
-use Rattle.re_auto.proofs.Words.{with_items, expression_of, part_of, IsNextStarts, least_of, AreNext}
-use Rattle.std.proofs.lemmas.List.{with_items_is}
+use Rattle.re_auto.proofs.Prelude.{arith, ◌≡◌, ◌∙◌, ap, length, with_items, expression_of, part_of, IsNextStarts, least_of, AreNext, with_items_is}
 use Rattle.re_auto.proofs.lemmas.Numbered.{part_numbered}
 use Rattle.re_auto.proofs.lemmas.StartsByLists.{next_starts, starts_next}
 use Rattle.re_auto.proofs.step.starts.Starts.advance.Goals as goal

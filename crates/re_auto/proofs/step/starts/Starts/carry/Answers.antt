@@ -1,5 +1,4 @@
-use Rattle.std.proofs.Common.{arith, ◌∙◌}
-use Rattle.re_auto.proofs.Words.{expression_of, Carries, Brings}
+use Rattle.re_auto.proofs.Prelude.{arith, ◌∙◌, expression_of, Carries, Brings}
 use Rattle.re_auto.proofs.lemmas.BitLemmas.{word_added, all_added, chained}
 use Rattle.re_auto.proofs.step.starts.Starts.carry.Goals as goal
 

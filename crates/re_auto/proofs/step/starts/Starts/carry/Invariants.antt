@@ -1,5 +1,4 @@
-use Rattle.std.proofs.Common.{ℕ, ◌*◌, ◌≤◌, ◌⊎◌}
-use Rattle.re_auto.proofs.Words.{◌↔◌, expression_of, Has, AreAlike, Carries, Brings}
+use Rattle.re_auto.proofs.Prelude.{ℕ, ◌*◌, ◌≤◌, ◌⊎◌, ◌↔◌, expression_of, Has, AreAlike, Carries, Brings}
 use Rattle.re_auto.proofs.step.starts.Starts.carry.Given as goal
 
 -- what is already carried and what is left to carry are together the whole

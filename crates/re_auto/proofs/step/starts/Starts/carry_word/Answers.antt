@@ -1,6 +1,4 @@
-use Rattle.std.proofs.Common.{arith, ◌∙◌, ◌<◌, ◌+◌, ◌*◌, inl}
-use Rattle.std.proofs.lemmas.List.{get_or_read_under}
-use Rattle.re_auto.proofs.Words.{expression_of, Has, Carries, Brings}
+use Rattle.re_auto.proofs.Prelude.{arith, ◌∙◌, ◌<◌, ◌+◌, ◌*◌, inl, get_or_read_under, expression_of, Has, Carries, Brings}
 use Rattle.re_auto.proofs.lemmas.BitLemmas.{at_word}
 use Rattle.re_auto.proofs.lemmas.StartsByLists.{one_row}
 use Rattle.re_auto.proofs.lemmas.BitLemmas.{one_added, none_left, chained}

@@ -1,5 +1,4 @@
-use Rattle.std.proofs.Common.{ℕ, ◌+◌, ◌*◌, get_or}
-use Rattle.re_auto.proofs.Words.{expression_of, AreAlike, Carries, Brings}
+use Rattle.re_auto.proofs.Prelude.{ℕ, ◌+◌, ◌*◌, get_or, expression_of, AreAlike, Carries, Brings}
 use Rattle.re_auto.proofs.lemmas.BitLemmas.{AreAmong, AddsUp}
 use Rattle.re_auto.proofs.step.starts.Starts.carry_word.Given as goal
 

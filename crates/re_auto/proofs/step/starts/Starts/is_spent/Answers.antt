@@ -1,5 +1,4 @@
-use Rattle.std.proofs.Common.{refl, Some, None}
-use Rattle.re_auto.proofs.Words.{IsSpent, least_of}
+use Rattle.re_auto.proofs.Prelude.{refl, Some, None, IsSpent, least_of}
 use Rattle.re_auto.proofs.lemmas.StartsByLists.{spent_by, spent_some, over_by}
 use Rattle.re_auto.proofs.step.starts.Starts.is_spent.Goals as goal
 

@@ -1,6 +1,4 @@
-use Rattle.std.proofs.Common.{arith, ◌≤◌, get_or}
-use Rattle.re_auto.proofs.Words.{bit_and, Has, AtMost}
-use Rattle.std.proofs.lemmas.List.{get_or_read_under}
+use Rattle.re_auto.proofs.Prelude.{arith, ◌≤◌, get_or, bit_and, Has, AtMost, get_or_read_under}
 use Rattle.re_auto.proofs.lemmas.BitLemmas.{named_added, all_named, none_past, both_at_word, without_none, chained}
 use Rattle.re_auto.proofs.step.starts.Starts.least_among.Goals as goal
 

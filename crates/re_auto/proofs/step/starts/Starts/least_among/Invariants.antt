@@ -1,5 +1,4 @@
-use Rattle.std.proofs.Common.{ℕ, ◌*◌, ◌≤◌, ◌⊎◌, get_or}
-use Rattle.re_auto.proofs.Words.{◌↔◌, Has, AtMost}
+use Rattle.re_auto.proofs.Prelude.{ℕ, ◌*◌, ◌≤◌, ◌⊎◌, get_or, ◌↔◌, Has, AtMost}
 use Rattle.re_auto.proofs.step.starts.Starts.least_among.Given as goal
 
 -- what is already found and what is left to see are together the whole

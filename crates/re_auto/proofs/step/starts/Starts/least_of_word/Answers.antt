@@ -1,6 +1,4 @@
-use Rattle.std.proofs.Common.{arith, ◌≤◌, ◌<◌, ◌+◌, ◌*◌, get_or, inl}
-use Rattle.std.proofs.lemmas.List.{get_or_read_under}
-use Rattle.re_auto.specs.Working.StartSets.{AtMost}
+use Rattle.re_auto.proofs.Prelude.{arith, ◌≤◌, ◌<◌, ◌+◌, ◌*◌, get_or, inl, get_or_read_under, AtMost}
 use Rattle.re_auto.proofs.lemmas.BitLemmas.{one_added, none_left, chained}
 use Rattle.re_auto.proofs.step.starts.Starts.least_of_word.Goals as goal
 

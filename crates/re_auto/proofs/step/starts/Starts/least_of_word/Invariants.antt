@@ -1,5 +1,4 @@
-use Rattle.std.proofs.Common.{ℕ, ◌+◌, ◌*◌, ◌≤◌, get_or}
-use Rattle.re_auto.specs.Working.StartSets.{AtMost}
+use Rattle.re_auto.proofs.Prelude.{ℕ, ◌+◌, ◌*◌, ◌≤◌, get_or, AtMost}
 use Rattle.re_auto.proofs.lemmas.BitLemmas.{AreAmong, AddsUp}
 use Rattle.re_auto.proofs.step.starts.Starts.least_of_word.Given as goal
 

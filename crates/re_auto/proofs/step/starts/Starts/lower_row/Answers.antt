@@ -1,5 +1,4 @@
-use Rattle.std.proofs.Common.{arith, ◌∙◌, ◌≡◌, ◌≤◌, get_or}
-use Rattle.re_auto.proofs.Words.{bit_and, Has, Carries}
+use Rattle.re_auto.proofs.Prelude.{arith, ◌∙◌, ◌≡◌, ◌≤◌, get_or, bit_and, Has, Carries}
 use Rattle.re_auto.proofs.lemmas.BitLemmas.{named_added, all_named, none_past, both_at_word, same_named, chained}
 use Rattle.re_auto.proofs.step.starts.Starts.lower_row.Goals as goal
 

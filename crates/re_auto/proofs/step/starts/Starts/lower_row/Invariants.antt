@@ -1,5 +1,4 @@
-use Rattle.std.proofs.Common.{◌≡◌, ℕ, ◌*◌, ◌≤◌, ◌⊎◌}
-use Rattle.re_auto.proofs.Words.{◌↔◌, Has, AreAlike, Carries}
+use Rattle.re_auto.proofs.Prelude.{◌≡◌, ℕ, ◌*◌, ◌≤◌, ◌⊎◌, ◌↔◌, Has, AreAlike, Carries}
 use Rattle.re_auto.proofs.step.starts.Starts.lower_row.Given as goal
 
 -- what is already given and what is left to give are together the whole

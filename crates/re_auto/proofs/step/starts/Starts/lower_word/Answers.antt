@@ -1,5 +1,4 @@
-use Rattle.std.proofs.Common.{arith, ◌∙◌, ◌≡◌, ◌≤◌, ◌+◌, ◌*◌, inl}
-use Rattle.re_auto.specs.Working.StartSets.{Carries}
+use Rattle.re_auto.proofs.Prelude.{arith, ◌∙◌, ◌≡◌, ◌≤◌, ◌+◌, ◌*◌, inl, Carries}
 use Rattle.re_auto.proofs.lemmas.BitLemmas.{one_added, none_left, chained}
 use Rattle.re_auto.proofs.step.starts.Starts.lower_word.Goals as goal
 

@@ -1,5 +1,4 @@
-use Rattle.std.proofs.Common.{refl, ◌∙◌}
-use Rattle.std.proofs.lemmas.List.{with_items_is}
+use Rattle.re_auto.proofs.Prelude.{refl, ◌∙◌, with_items_is}
 use Rattle.re_auto.proofs.lemmas.StartsByLists.{starts_begin}
 use Rattle.re_auto.proofs.step.starts.Starts.start.Goals as goal
 

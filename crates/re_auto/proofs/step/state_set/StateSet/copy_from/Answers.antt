@@ -1,4 +1,4 @@
-use Rattle.std.proofs.Common.{◌∙◌, refl}
+use Rattle.re_auto.proofs.Prelude.{◌∙◌, refl}
 use Rattle.re_auto.proofs.step.state_set.StateSet.copy_from.Goals as goal
 
 pub returns : goal.returns

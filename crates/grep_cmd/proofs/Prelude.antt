@@ -1,0 +1,63 @@
+-- The words of specs and of std that proofs of this crate use, passed on from one place. Declares nothing.
+pub use Rattle.grep_cmd.specs.Editor.{ArePresent, EditorsFollow, EndsWithStatus, IsHeld, IsHeldChange, IsHeldHit, IsHeldPart, IsOneReply, ListsAfter, ListsAfterAll, ReadsChanges, Took, bytes_of, has_status}
+pub use Rattle.grep_cmd.specs.Lists.{ReportsChanges, ReportsPage, WritesHits, WritesReport}
+pub use Rattle.grep_cmd.specs.Replies.{AllSearchAtMost, AnswersScript, BeginsScript, GaveLines, IsAnswered, ReadsScript, Replies, RepliesTo, ScriptGives, SearchesAtMost, SearchesTouched, StopsWriting, bad_command, end_for, is_refusal, refused_for, reply_to, truncated}
+unfoldable pub use Rattle.grep_cmd.specs.Replies.{cause}
+pub use Rattle.grep_cmd.specs.Script.{AsksForMemory, Command, IsBegun, IsStep, IsUnfinished, Step, Steps, changes_command, close_command, context_command, context_from, counts, does, drop_command, edits, file_command, file_from, flag_command, flag_from, flag_of, is_bad, is_truncated, line_command, listing_command, lists_changes, lists_page, missing_command, name_of, page_command, page_from, patterns_command, patterns_from, reports, reports_changes, reports_page, show_command, shows, space, splice_command, splice_from, switch_of, syntax_command, syntax_of, unnamed_command}
+unfoldable pub use Rattle.grep_cmd.specs.Script.{command_of, words_of}
+pub use Rattle.grep_cmd.specs.Show.{AreShown, Shows, status_line, with_margin}
+pub use Rattle.grep_cmd.specs.Working.Answered.{AnsweredSoFar, AnswersLine, AreDone, DoesStep, FlushesAfter, FlushesFor, HasRead, LosesLines, ReadsNext, Replied, TakesLines, WantsLines, answer_for, was_refused}
+pub use Rattle.grep_cmd.specs.Working.Commands.{counted_meant, file_meant, line_meant, meant}
+pub use Rattle.grep_cmd.specs.Working.ScriptWords.{four_words, words_of_rest}
+pub use Rattle.grep_cmd.specs.declared.script.ScriptEnd.{ScriptEnd}
+pub use Rattle.grep_cmd.specs.declared.script.ScriptEnd.TheVariants.{Clean}
+pub use Rattle.grep_cmd.specs.declared.script.ScriptFault.{ScriptFault}
+pub use Rattle.grep_cmd.specs.declared.script.ScriptFault.TheVariants.{Memory, Read, Write}
+pub use Rattle.grep_cmd.specs.declared.script.reply.Answer.{Answer}
+pub use Rattle.grep_cmd.specs.declared.script.reply.Answer.TheVariants.{Accepted, Truncated}
+pub use Rattle.grep_core.specs.Choose.{IfHolds}
+pub use Rattle.grep_core.specs.Files.{Ending, File, Inputs, broken, whole}
+pub use Rattle.grep_core.specs.Meters.{Adds}
+pub use Rattle.grep_core.specs.Output.{written}
+pub use Rattle.grep_core.specs.Reading.{IsOneLineAndFew, file_of, most_lines}
+pub use Rattle.grep_core.specs.Row.{output_line}
+pub use Rattle.grep_core.specs.Run.{file_at}
+pub use Rattle.grep_core.specs.Working.Handed.{AreHanded}
+pub use Rattle.grep_core.specs.Working.Numbered.{HasHanded, NextIs, Numbered, StandsAs}
+pub use Rattle.grep_core.specs.Written.{GoesOut, StopsWithin, Writes}
+pub use Rattle.grep_core.specs.declared.options.Flag.{Flag}
+pub use Rattle.grep_core.specs.declared.options.Flag.TheVariants.{Count, FilesWithMatches, IgnoreCase, InvertMatch, LineNumber, LineRegexp, NoMessages, OnlyMatching, Quiet}
+pub use Rattle.grep_core.specs.declared.options.Options.{Options}
+pub use Rattle.grep_core.specs.declared.status.Status.{Status}
+pub use Rattle.grep_io.specs.declared.devices.counted.WriteFault.{WriteFault}
+pub use Rattle.grep_io.specs.declared.input.lines.ReadFault.{ReadFault}
+pub use Rattle.grep_io.specs.declared.input.lines.Stage.{Stage}
+pub use Rattle.grep_io.specs.declared.input.lines.Stage.TheVariants.{Ended, Failed, Open}
+pub use Rattle.grep_live.specs.Changes.{Change, IsChange, all_after, is_idle, spliced_hits}
+pub use Rattle.grep_live.specs.Follows.{Follows, FollowsFile, view_after}
+pub use Rattle.grep_live.specs.Hits.{AreHits, Hit, HitOf, HitsFrom, View}
+pub use Rattle.grep_live.specs.Lists.{AllThree}
+pub use Rattle.grep_live.specs.Reported.{WritesChanges, WritesPage}
+pub use Rattle.grep_live.specs.Rows.{all_hits, change_row, change_rows, changes_rows, hit_row, more_parts, page_row, page_rows, part_text, parts_text, spaced, total_row}
+pub use Rattle.grep_session.specs.Edits.{AddFile, AddMissing, Applies, DropFile, DropPattern, Edit, EditGives, SetContext, SetFlag, SetSyntax, Splice, missing_file, spliced, whole_file, with_files}
+pub use Rattle.grep_session.specs.Headline.{GrepGives, ReportsAllInputs}
+pub use Rattle.grep_session.specs.Listed.{ListedParts}
+pub use Rattle.grep_session.specs.Marks.{AreFit, MarksAfter, MarksGiven, Watched, all_known, lost, mark_at, marks_by_flag, new_mark, new_watched, touched, whole_mark}
+pub use Rattle.grep_session.specs.declared.fault.EditFault.{EditFault}
+pub use Rattle.grep_session.specs.declared.mark.Mark.{Mark}
+pub use Rattle.grep_utility.specs.Words.{number_of}
+pub use Rattle.re_syntax.specs.Bytes.{Text}
+pub use Rattle.re_syntax.specs.Expression.{Expression}
+pub use Rattle.re_syntax.specs.Lines.{HasNoNewline, joined, newline, put_before}
+unfoldable pub use Rattle.re_syntax.specs.Lines.{lines_of}
+pub use Rattle.re_syntax.specs.Parts.{AreParts, ArePartsFrom}
+pub use Rattle.std.proofs.Common.{All, Bool, Err, IfErr, IfOk, IsErr, List, MatchBool, None, Ok, Option, Result, Some, [], add-one, ap, append-nil, append_assoc, arith, bytes_eq, codes, cond, decimal, drop, eqb, eqb-true, false, get_or, if◌then◌else◌, inl, inr, length, length-append, length-drop, length-set, length-take, lt-ltb, map, min, nat_eq, ne_eqb, option_map, pow-suc, refl, remove, rules, slice_range, slice_set, subst, suc, sum_by, sym, take, take-take, true, true≢false, zero, ℕ, ◌%◌, ◌++◌, ◌+◌, ◌-◌, ◌/◌, ◌<◌, ◌^◌, ◌||◌, ◌∙◌, ◌∷◌, ◌≡◌, ◌≢◌, ◌≤◌}
+pub use Rattle.std.proofs.lemmas.Bool.{cases_lt, cond-false, cond-true, false_from_ne_true, or_parts, or_right}
+pub use Rattle.std.proofs.lemmas.Fmt.{decimal_is_IsNumeral_wide, length-decimal-le}
+pub use Rattle.std.proofs.lemmas.List.{get_or-map, length-map, length_push, take_more, take_rest}
+pub use Rattle.std.proofs.lemmas.List.Elements.{All-append, All-cons, All-drop, All-get_or, All-head, All-map, All-nil, All-set, All-tail, All-take, All-weaker}
+pub use Rattle.std.proofs.lemmas.List.Folds.{list_any-append}
+pub use Rattle.std.proofs.lemmas.List.Sums.{get_or-le-sum_by, sum_by-append, sum_by-cons, sum_by-take-drop, sum_by-take-le}
+pub use Rattle.std.specs.Fmt.{digit_glyph, digits_onto}
+pub use Rattle.std.specs.List.{list_any, splice}
+pub use Rattle.std.specs.Str.Parse.{digits_value}

@@ -1,0 +1,2 @@
+pub mod CountLemmas
+pub mod MemoryLemmas

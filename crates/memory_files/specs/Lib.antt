@@ -1,0 +1,2 @@
+-- files in memory, for tests alone
+pub mod Working

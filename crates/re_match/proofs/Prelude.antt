@@ -1,0 +1,45 @@
+-- The words of specs and of std that proofs of this crate use, passed on from one place. Declares nothing.
+pub use Rattle.memchr.specs.Find.{FindsNeedle, OccursAt}
+pub use Rattle.re_auto.specs.Searches.{FindsPart}
+pub use Rattle.re_ends.specs.Working.GreatestEnds.{AddsEnds, FoundPast, MatchesPast}
+pub use Rattle.re_match.specs.Working.Literals.{IsPartOfLines, Literal, Literals, any_literal, literal_expression, literal_meaning}
+pub use Rattle.re_match.specs.Working.NextParts.{BeginsLater}
+pub use Rattle.re_match.specs.Working.Same.{SameMatcher}
+pub use Rattle.re_match.specs.Working.Simulated.{TreeMatcher}
+pub use Rattle.re_match.specs.Working.Sweeps.{LooksOver, StopsAt, left_for}
+pub use Rattle.re_match.specs.declared.sweeps.Stop.{Stop}
+pub use Rattle.re_match.specs.declared.sweeps.Stop.TheVariants.{Matched, Seen, Unseen}
+pub use Rattle.re_match.specs.declared.sweeps.Sweep.{Sweep}
+pub use Rattle.re_meter.specs.Meters.{AddsUpTo, many_passed}
+pub use Rattle.re_needle.specs.Working.Blocks.{IsBlock, IsLineFrom, PassesAll, PassesUnmatched, StopsInLine}
+pub use Rattle.re_needle.specs.Working.Needles.{IsJustRun, IsNeedleOf, IsSettled, RunIsNeeded, run_of}
+pub use Rattle.re_needle.specs.Working.Runs.{FindsRun, RunStandsAt, look_cost, set_at}
+pub use Rattle.re_needle.specs.declared.block.Swept.{Swept}
+pub use Rattle.re_needle.specs.declared.needle.Needle.{Needle}
+pub use Rattle.re_steps.specs.Working.Lone.{HasNone, IsLongest}
+pub use Rattle.re_steps.specs.Working.Rows.{cache_of}
+pub use Rattle.re_steps.specs.Working.Stages.{Cache, mode_for}
+unfoldable pub use Rattle.re_steps.specs.Working.Stages.{Goes}
+pub use Rattle.re_strings.specs.Working.Branches.{text_at}
+pub use Rattle.re_strings.specs.Working.FixedSets.{IsString, Occurs}
+unfoldable pub use Rattle.re_strings.specs.Working.FixedSets.{IsBestOccurrence}
+pub use Rattle.re_strings.specs.Working.Keys.{keys}
+unfoldable pub use Rattle.re_strings.specs.Working.Keys.{key}
+pub use Rattle.re_strings.specs.Working.Reached.{EndsFirst}
+pub use Rattle.re_syntax.specs.Bytes.{Bytes, Text, only}
+pub use Rattle.re_syntax.specs.Expression.{Expression, alt, byte, cat, sequence}
+pub use Rattle.re_syntax.specs.Holds.{Holds, Matches, folded, positions}
+pub use Rattle.re_syntax.specs.Lines.{HasNoNewline, newline, terminated}
+unfoldable pub use Rattle.re_syntax.specs.Lines.{lines_of}
+pub use Rattle.re_syntax.specs.Parts.{IsFound, IsPart}
+pub use Rattle.re_syntax.specs.Working.Trees.{expression_of, members}
+pub use Rattle.re_syntax.specs.declared.span.Span.{Span}
+pub use Rattle.std.proofs.Common.{All, Bool, Decides, IfSome, IsTrue, List, None, Option, Some, [], ap, append-nil, arith, bytes_eq, drop, drop-drop, drop_of_length-le, eq-eqb, eqb-true, false, get_or, get_or-append-add, get_or-drop, get_or-take, inl, inr, is_some, length, length-append, length-drop, length-take, length-take-le, map, min, option_map, refl, rules, slice_get, slice_index, slice_range, subst, suc, sym, take, take-append-drop, true, zero, zero-add, ℕ, ◌++◌, ◌+◌, ◌-◌, ◌<◌, ◌↔◌, ◌∙◌, ◌∷◌, ◌≡◌, ◌≢◌, ◌≤◌}
+pub use Rattle.std.proofs.Math.Decide.{dec_le}
+pub use Rattle.std.proofs.Math.Seq.{drop-length}
+pub use Rattle.std.proofs.lemmas.Bool.{cases_eq, cases_lt, eqb-false, false≢true}
+pub use Rattle.std.proofs.lemmas.List.{drop-append-le, get_or-map, get_or_append_left, length-map, map-append, take-append-le, take_rest}
+pub use Rattle.std.proofs.lemmas.List.Elements.{All-head}
+pub use Rattle.std.proofs.lemmas.Option.{slice_get-map}
+pub use Rattle.std.proofs.lemmas.Slice.Eq.{bytes_eq-Decides}
+pub use Rattle.std.specs.Prelude.{⊤}
