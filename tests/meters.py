@@ -36,7 +36,7 @@ def may_list(name: str) -> set[str]:
     return users | {"grep", "occur", "examples"} if name == "re_auto" else users | MAKES_METERS if name == "re_meter" else users
 
 
-MATCHERS = {"Cached", "Fixed", "FixedSet", "LineMatch", "Matcher", "Simulated"}
+MATCHERS = {"Cached", "LineMatch", "Matcher", "Strings"}
 """What `re_search` may pass on of the crates below it: each of their public searches takes a meter."""
 
 QUICK = re.compile(r"\bmem(?:r?chr[23]?|mem)\b|\bstd::simd\b|\bFinder\b")
@@ -46,7 +46,7 @@ MAY_BE_QUICK = {
     "counted for each look": {"re_needle/text_finder.rt", "re_needle/run_finder.rt"},
     "looks ask these, and what sets are made of": {"re_needle/alike.rt", "re_needle/lanes.rt", "re_needle/nibbles.rt",
                                                    "re_needle/probes.rt"},
-    "makes what looks for a needle": {"re_needle/needle.rt", "re_needle/survey.rt", "re_match/fixed.rt"},
+    "makes what looks for a needle": {"re_needle/needle.rt", "re_needle/survey.rt", "re_match/strings.rt"},
     "bytes without a stretch on its way, each a step": {"re_auto/beginnings.rt"},
     "the children of a node, each byte a step or passed": {"re_strings/trie.rt"},
     "splits lines": {"re_needle/newline.rt", "re_needle/block.rt", "grep_io/input/newlines.rt", "grep_io/input/window.rt",

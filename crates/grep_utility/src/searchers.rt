@@ -14,7 +14,7 @@ ghost use Rattle.grep_utility.specs.Working.ServingMatchers.{ServeFor, IsJoined,
 
 use crate::matchers::matchers_of;
 use grep_core::Options;
-use re_search::{Filter, FixedSet, Matcher, add_strings, needed_run, needed_strings};
+use re_search::{Filter, Matcher, Strings, add_strings, needed_run, needed_strings};
 use re_syntax::{FaultKind, MOST_POSITIONS, PatternFault, Syntax, split_file};
 use std::alloc::{AllocError, Global};
 
@@ -152,9 +152,9 @@ fn most_bytes(syntax: Syntax, fold: bool) -> usize
 fn joined(alloc: Global, texts: &[u8], options: &Options) -> Result<Vec<Matcher>, AllocError>
     ensures { IfOk result (λ matchers. IsJoined options.now (lines_of texts.now) matchers.items) }
 {
-    let set = FixedSet::new(alloc, texts, options.ignore_case, options.line_regexp)?;
+    let strings = Strings::any(alloc, texts, options.ignore_case, options.line_regexp)?;
     let mut matchers = Vec::new(alloc);
-    matchers.push(Matcher::FixedSet(Box::new(alloc, set)?))?;
+    matchers.push(Matcher::Strings(strings))?;
     Ok(matchers)
 }
 

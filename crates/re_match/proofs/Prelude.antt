@@ -2,23 +2,25 @@
 pub use Rattle.memchr.specs.Find.{FindsNeedle, OccursAt}
 pub use Rattle.re_auto.specs.Searches.{FindsPart}
 pub use Rattle.re_ends.specs.Working.GreatestEnds.{AddsEnds, FoundPast, MatchesPast}
-pub use Rattle.re_match.specs.Working.Literals.{IsPartOfLines, Literal, Literals, any_literal, literal_expression, literal_meaning}
+pub use Rattle.re_match.specs.Working.CachedMatchers.{CachedMatcher, SameCached, cache_in, no_cache}
+pub use Rattle.re_match.specs.Working.Literals.{Literals, any_literal, literal_meaning}
+pub use Rattle.re_match.specs.Working.Strings.{IsPartOfLines, StringMatcher, look_expression, matched_strings}
 pub use Rattle.re_match.specs.Working.NextParts.{BeginsLater}
 pub use Rattle.re_match.specs.Working.Same.{SameMatcher}
-pub use Rattle.re_match.specs.Working.Simulated.{TreeMatcher}
 pub use Rattle.re_match.specs.Working.Sweeps.{LooksOver, StopsAt, left_for}
 pub use Rattle.re_match.specs.declared.sweeps.Stop.{Stop}
 pub use Rattle.re_match.specs.declared.sweeps.Stop.TheVariants.{Matched, Seen, Unseen}
 pub use Rattle.re_match.specs.declared.sweeps.Sweep.{Sweep}
-pub use Rattle.re_meter.specs.Meters.{AddsUpTo, many_passed}
+pub use Rattle.re_auto.specs.declared.mode.Mode.{Mode}
+pub use Rattle.re_meter.specs.Meters.{AddsUpTo, Steps, many_passed}
 pub use Rattle.re_needle.specs.Working.Blocks.{IsBlock, IsLineFrom, PassesAll, PassesUnmatched, StopsInLine}
-pub use Rattle.re_needle.specs.Working.Needles.{IsJustRun, IsNeedleOf, IsSettled, RunIsNeeded, run_of}
+pub use Rattle.re_needle.specs.Working.Needles.{IsJustRun, IsNeedleOf, RunIsNeeded, run_of}
 pub use Rattle.re_needle.specs.Working.Runs.{FindsRun, RunStandsAt, look_cost, set_at}
 pub use Rattle.re_needle.specs.declared.block.Swept.{Swept}
 pub use Rattle.re_needle.specs.declared.needle.Needle.{Needle}
 pub use Rattle.re_steps.specs.Working.Lone.{HasNone, IsLongest}
 pub use Rattle.re_steps.specs.Working.Rows.{cache_of}
-pub use Rattle.re_steps.specs.Working.Stages.{Cache, mode_for}
+pub use Rattle.re_steps.specs.Working.Stages.{Cache, IsReadied, Searches, mode_for}
 unfoldable pub use Rattle.re_steps.specs.Working.Stages.{Goes}
 pub use Rattle.re_strings.specs.Working.Branches.{text_at}
 pub use Rattle.re_strings.specs.Working.FixedSets.{IsString, Occurs}

@@ -6,7 +6,6 @@ pub mod SetMatches
 pub mod SetBlocks
 pub mod SetAround
 pub mod StepSums
-pub mod PartsWithin
 pub mod LaterParts
 pub mod SweptLines
 pub mod LookLaws

@@ -1,6 +1,6 @@
 pub mod Same
 pub mod Literals
-pub mod Simulated
+pub mod Strings
 pub mod CachedMatchers
 pub mod NextParts
 pub mod Sweeps

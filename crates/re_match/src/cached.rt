@@ -1,47 +1,64 @@
 //! Search by stepping an automaton over the line, with a cache of the steps between sets of
 //! positions.
-ghost use Rattle.std.specs.Prelude.{◌≡◌, ℕ, ◌+◌, ◌-◌, ◌<◌, ◌≤◌, ◌↔◌, [], ◌∷◌, false, IsTrue, IfOk};
+ghost use Rattle.std.specs.Prelude.{◌≡◌, ℕ, ◌+◌, ◌-◌, ◌<◌, ◌≤◌, ◌↔◌, [], ◌∷◌, true, false, IsTrue, IfOk};
 ghost use Rattle.std.specs.Prelude.{IfErr, IfSome, length, map};
 ghost use Rattle.std.specs.NonZero.{non_zero_usize_get};
 ghost use Rattle.re_syntax.specs.Working.Trees.{expression_of, members};
-ghost use Rattle.re_syntax.specs.Holds.{Matches};
-ghost use Rattle.re_needle.specs.Working.Needles.{IsNeeded, RunIsNeeded};
+ghost use Rattle.re_syntax.specs.Holds.{Matches, positions};
+ghost use Rattle.re_syntax.specs.Profile.{most_positions};
+ghost use Rattle.re_auto.specs.declared.build.BuildFault.TheVariants.{Memory};
+ghost use Rattle.re_auto.specs.Working.Tables.{IsRefused};
+ghost use Rattle.re_auto.specs.Working.StateSets.{IsMadeFor};
 ghost use Rattle.re_auto.specs.Searches.{FindsPart};
-ghost use Rattle.re_meter.specs.Meters.{AddsAtMost, AddsUpTo};
-ghost use Rattle.re_steps.specs.Working.Stages.{Searches, mode_for};
+ghost use Rattle.re_needle.specs.Working.Needles.{IsNeeded, RunIsNeeded, IsSettled};
+ghost use Rattle.re_meter.specs.Meters.{AddsAtMost, AddsUpTo, many_built};
+ghost use Rattle.re_steps.specs.Working.Simulations.{AreSetsFor, AreStartsFor};
+ghost use Rattle.re_steps.specs.Working.Stages.{Cache, Searches, FinishesFrom, IsReadied, mode_for};
 ghost use Rattle.re_ends.specs.Working.GreatestEnds.{AddsEnds, FoundPast};
-ghost use Rattle.re_match.specs.Working.CachedMatchers.{AnswersLine, SameCached};
+ghost use Rattle.re_ends.specs.Working.EndPairs.{AreEndsFor};
+ghost use Rattle.re_match.specs.Working.CachedMatchers.{AnswersLine, SameCached, no_cache};
+ghost use Rattle.re_match.specs.Working.Sweeps.{LooksOver};
 
+use crate::front_ends::add_line;
 use crate::line_match::LineMatch;
-use crate::simulated::Simulated;
+use crate::prefilter::{NextPart, Prefilter};
 use crate::sweeps::{Stop, Sweep, Sweeps, next_by_sweeps};
-use re_auto::Meter;
-use re_steps::{LineSearch, Outcome, StepTable};
-use re_syntax::{ByteSet, Span};
+use re_auto::{Automaton, BuildFault, Meter, Mode, StateSet};
+use re_ends::EndPair;
+use re_steps::{LineSearch, Outcome, SetPair, StartPair, StepTable};
+use re_syntax::{ByteSet, Span, Tree};
 use std::alloc::{AllocError, Global};
 use std::marker::Model;
 use std::num::NonZeroUsize;
 
 /// A matcher for an expression that keeps the steps that it worked out. Contracts see it as the
 /// tree, whether the whole line has to be matched, the entries of its cache, and how many entries
-/// that may have.
+/// that may have. A line that its [`Prefilter`] settles takes no step. The cache's table is made for
+/// the first line that takes steps.
 #[derive(Drop)]
 pub struct Cached {
-    simulated: Simulated,
-    table: StepTable,
+    automaton: Automaton,
+    whole: bool,
+    prefilter: Prefilter,
+    sets: SetPair,
+    starts: StartPair,
+    back: EndPair,
+    table: Option<StepTable>,
+    most: NonZeroUsize,
     alloc: Global,
 }
 
 impl Model for Cached {
+    ghost use Rattle.std.specs.Prelude.{IfSome};
+    ghost use Rattle.std.specs.NonZero.{non_zero_usize_get};
+    ghost use Rattle.std.specs.Coded.{codes};
     ghost use Rattle.re_syntax.specs.Working.Trees.{expression_of};
     ghost use Rattle.re_syntax.specs.contracts.tree.Tree as e;
     ghost use Rattle.re_auto.specs.contracts.step.state_set.StateSet as s;
-    ghost use Rattle.std.specs.Coded.{codes};
-    ghost use Rattle.re_auto.specs.Working.StateSets.{IsMadeFor};
-    ghost use Rattle.re_steps.specs.Working.Rows.{cache_of};
-    ghost use Rattle.re_steps.specs.Working.Stages.{mode_for};
-    ghost use Rattle.re_match.specs.Working.CachedMatchers.{CachedMatcher};
-    ghost use Rattle.re_steps.specs.Working.Rows.{IsKnownFor};
+    ghost use Rattle.re_needle.specs.Working.Needles.{IsNeedleFor};
+    ghost use Rattle.re_steps.specs.Working.Simulations.{AreSetsFor, AreStartsFor};
+    ghost use Rattle.re_ends.specs.Working.EndPairs.{AreEndsFor};
+    ghost use Rattle.re_match.specs.Working.CachedMatchers.{CachedMatcher, IsTableFor, cache_in};
 
     ghost Value = { CachedMatcher };
 
@@ -49,64 +66,70 @@ impl Model for Cached {
 
     ghost view = { λ c.
         record {
-          tree = c.simulated.tree;
-          whole = c.simulated.whole;
-          cache = cache_of c.table;
-          most = c.table.pairs.most;
+          tree = c.automaton;
+          whole = c.whole;
+          cache = cache_in c.table;
+          most = non_zero_usize_get c.most;
         } };
 
-    ghost invariant = { λ c. IsMadeFor (expression_of c.simulated.tree) c.table.scratch ×
-        IsKnownFor (expression_of c.simulated.tree) (mode_for c.simulated.whole) c.table };
+    ghost invariant = { λ c. AreSetsFor (expression_of c.automaton) c.sets ×
+        AreStartsFor (expression_of c.automaton) c.starts
+        × IsNeedleFor (expression_of c.automaton) c.prefilter.needle
+        × AreEndsFor (expression_of c.automaton) c.back
+        × IfSome c.table
+        (IsTableFor (expression_of c.automaton) c.whole (non_zero_usize_get c.most)) };
 }
 
 impl Cached {
-    /// The matcher with an empty cache of at most `most` entries. If the allocation for the cache
-    /// fails, the matcher is returned as it was.
-    pub fn over(
+    /// A matcher for the tree, with an empty cache that gets at most `most` entries. All that searches
+    /// need is allocated here, but for the cache's table. The errors are `TooLarge`, exactly if the
+    /// expression has more than 4,096 positions once its intervals are written out, and `Memory`.
+    pub fn new(
         alloc: Global,
-        simulated: Simulated,
+        tree: Tree,
+        whole: bool,
         most: NonZeroUsize,
-    ) -> Result<Cached, Simulated>
-        ensures tree { IfOk result (λ c. (c.tree ≡ simulated.tree) × (c.whole ≡ simulated.whole)) }
-        ensures most { IfOk result (λ c. c.most ≡ non_zero_usize_get most) }
-        ensures empty { IfOk result (λ c. c.cache.entries ≡ []) }
-        ensures same { IfErr result (λ s. s ≡ simulated) }
+    ) -> Result<Cached, BuildFault>
+        ensures made { IfOk result (λ c. c ≡ record {
+          tree = tree;
+          whole = whole;
+          cache = no_cache;
+          most = non_zero_usize_get most;
+        }) }
+        ensures few { IfOk result (λ _. positions (expression_of tree) ≤ most_positions) }
+        ensures refused { IfErr result (IsRefused (positions (expression_of tree))) }
     {
-        let Ok(table) = StepTable::new(alloc, simulated.automaton(), most) else {
-            return Err(simulated);
+        let prefilter = Prefilter::of(alloc, &tree);
+        let automaton = match Automaton::build(alloc, tree) {
+            Ok(automaton) => automaton,
+            Err(fault) => {
+                drop(prefilter);
+                return Err(fault);
+            }
+        };
+        let Ok(prefilter) = prefilter else {
+            drop(automaton);
+            return Err(BuildFault::Memory);
+        };
+        let (sets, starts, back) = match pairs_for(alloc, &automaton) {
+            Ok(pairs) => pairs,
+            Err(fault) => {
+                drop(automaton);
+                drop(prefilter);
+                return Err(fault);
+            }
         };
         Ok(Cached {
-            simulated,
-            table,
+            automaton,
+            whole,
+            prefilter,
+            sets,
+            starts,
+            back,
+            table: None,
+            most,
             alloc,
         })
-    }
-
-    /// The same in a box. If an allocation fails, the matcher is returned without a cache.
-    pub fn boxed(
-        alloc: Global,
-        simulated: Simulated,
-        most: NonZeroUsize,
-    ) -> Result<Box<Cached>, Simulated>
-        ensures tree { IfOk result
-            (λ c. (c.value.tree ≡ simulated.tree) × (c.value.whole ≡ simulated.whole)) }
-        ensures most { IfOk result (λ c. c.value.most ≡ non_zero_usize_get most) }
-        ensures empty { IfOk result (λ c. c.value.cache.entries ≡ []) }
-        ensures same { IfErr result (λ s. s ≡ simulated) }
-    {
-        let cached = Cached::over(alloc, simulated, most)?;
-        match Box::new(alloc, cached) {
-            Ok(cached) => Ok(cached),
-            Err(refused) => Err(refused.value.into_simulated()),
-        }
-    }
-
-    // The matcher without its cache.
-    fn into_simulated(self) -> Simulated
-        ensures { (result.tree ≡ self.tree) × (result.whole ≡ self.whole) }
-    {
-        let Cached { simulated, .. } = self;
-        simulated
     }
 
     /// How many entries the cache has.
@@ -114,14 +137,17 @@ impl Cached {
         ensures held { result ≡ length self.now.cache.entries }
         ensures few { result ≤ self.now.most }
     {
-        self.table.pairs.held()
+        match &self.table {
+            Some(table) => table.pairs.held(),
+            None => 0,
+        }
     }
 
     /// A string that every matched stretch has, if one is known.
     pub fn needed(&self) -> Option<&[u8]>
         ensures { IfSome result (λ text. IsNeeded text.now (expression_of self.now.tree)) }
     {
-        self.simulated.needed()
+        self.prefilter.text()
     }
 
     /// The first sets of a run that every matched stretch has; none if no run is known. The only
@@ -129,7 +155,54 @@ impl Cached {
     pub fn needed_sets(&self, alloc: Global) -> Result<Vec<ByteSet>, AllocError>
         ensures { IfOk result (λ sets. RunIsNeeded (map members sets.items) (expression_of self.now.tree)) }
     {
-        self.simulated.needed_sets(alloc)
+        self.prefilter.sets(alloc)
+    }
+
+    // The mode in which lines are searched.
+    #[inline(always)]
+    fn mode(&self) -> Mode
+        ensures { result ≡ mode_for self.now.whole }
+    {
+        if self.whole {
+            return Mode::Whole;
+        }
+        Mode::Search
+    }
+
+    // What one look over the line says of it.
+    #[inline(always)]
+    fn settled(&self, line: &[u8], meter: &mut Meter) -> Option<bool>
+        ensures settled { IfSome result
+            (λ reported. IsSettled (expression_of self.now.tree) self.now.whole line.now reported) }
+        ensures looked { LooksOver (expression_of self.now.tree) line.now meter.old meter.new }
+    {
+        self.prefilter.settled(line, self.whole, meter)
+    }
+
+    // Makes the cache's table, if there is none and memory for it is granted.
+    #[inline(always)]
+    fn ready_table(&mut self)
+        ensures readied { IsReadied self.old.cache self.new.cache }
+        ensures same { SameCached self.old self.new }
+    {
+        if self.table.is_some() {
+            return;
+        }
+        self.make_table();
+    }
+
+    // Makes an empty table, if memory for it is granted. It is a function of its own, since it would
+    // cost searches registers.
+    #[inline(never)]
+    fn make_table(&mut self)
+        requires { self.old.cache.entries ≡ [] }
+        ensures empty { self.new.cache.entries ≡ [] }
+        ensures same { SameCached self.old self.new }
+    {
+        let Ok(table) = StepTable::new(self.alloc, &self.automaton, self.most) else {
+            return;
+        };
+        self.table = Some(table);
     }
 
     // Whether the line is matched, by steps alone.
@@ -139,24 +212,122 @@ impl Cached {
             self.old.cache self.new.cache meter.old meter.new result }
         ensures same { SameCached self.old self.new }
     {
+        self.ready_table();
+        let mode = self.mode();
+        let Some(table) = &mut self.table else {
+            return self.sets.search(&self.automaton, mode, line, meter);
+        };
         let asked = LineSearch {
             alloc: self.alloc,
-            automaton: self.simulated.automaton(),
-            mode: self.simulated.mode(),
+            automaton: &self.automaton,
+            mode,
             line,
         };
-        if !self.table.is_ready(&asked) {
-            return self.simulated.step_over(line, meter);
+        if !table.is_ready(&asked) {
+            return self.sets.search(&self.automaton, mode, line, meter);
         }
-        match self.table.search(&asked, meter) {
+        match table.search(&asked, meter) {
             Outcome::Reported(reported) => reported,
             Outcome::GaveUp(place) => {
-                self.table.give_up();
-                self.simulated
-                    .finish(&self.table.scratch, line, place, meter)
+                table.give_up();
+                finish(&mut self.sets, &asked, &table.scratch, place, meter)
             }
         }
     }
+
+    // Whether the line is matched, without the cache.
+    fn is_match_afresh(&mut self, line: &[u8], meter: &mut Meter) -> bool
+        ensures reported { IsTrue result ↔
+            Matches (expression_of self.old.tree) line.now self.old.whole }
+        ensures steps { AddsAtMost (length line.now + 1) meter.old meter.new }
+        ensures same { self.new ≡ self.old }
+    {
+        if let Some(reported) = self.settled(line, meter) {
+            return reported;
+        }
+        let mode = self.mode();
+        self.sets.search(&self.automaton, mode, line, meter)
+    }
+
+    // The matched part if the whole line has to be matched.
+    fn whole_line(&mut self, line: &[u8], from: usize, meter: &mut Meter) -> Option<Span>
+        requires within { from ≤ length line.now }
+        requires whole { self.old.whole ≡ true }
+        ensures reported { FindsPart (expression_of self.old.tree ∷ []) line.now true from result }
+        ensures same { self.new ≡ self.old }
+        ensures steps { AddsAtMost (length line.now - from + 1) meter.old meter.new }
+    {
+        if from > 0 || line.is_empty() || !self.is_match_afresh(line, meter) {
+            return None;
+        }
+        Some(Span {
+            start: 0,
+            end: line.len(),
+        })
+    }
+
+    // The next part if it need not be the whole line.
+    fn part(&mut self, line: &[u8], from: usize, meter: &mut Meter) -> Option<Span>
+        requires { from ≤ length line.now }
+        ensures reported { FindsPart (expression_of self.old.tree ∷ []) line.now false from result }
+        ensures same { self.new ≡ self.old }
+        ensures steps { AddsAtMost (length line.now - from + 1) meter.old meter.new }
+    {
+        match self.prefilter.part(&self.automaton, line, from, meter) {
+            NextPart::Known(found) => found,
+            NextPart::Later(start) => self.starts.find(&self.automaton, line, start, meter),
+        }
+    }
+
+    // Gives each place the greatest end of the matched stretches that begin there, in a pass back
+    // over the line.
+    fn put_ends(&mut self, line: &[u8], ends: &mut [usize], meter: &mut Meter)
+        requires { length ends.old ≡ length line.now }
+        ensures added { AddsEnds (FoundPast (expression_of self.old.tree ∷ []) line.now false)
+            line.now ends.old ends.new }
+        ensures same { self.new ≡ self.old }
+        ensures counted { meter.new ≡ many_built (length line.now) meter.old }
+    {
+        self.back.add_ends(&self.automaton, line, ends, meter);
+    }
+}
+
+// The sets, the starts and the ends for the automaton. The only error is `Memory`.
+fn pairs_for(
+    alloc: Global,
+    automaton: &Automaton,
+) -> Result<(SetPair, StartPair, EndPair), BuildFault>
+    ensures made { IfOk result
+        (λ pairs. AreSetsFor (expression_of automaton.now) pairs.0
+        × AreStartsFor (expression_of automaton.now) pairs.1
+        × AreEndsFor (expression_of automaton.now) pairs.2) }
+    ensures refused { IfErr result (λ fault. fault ≡ Memory) }
+{
+    let sets = SetPair::new(alloc, automaton)?;
+    let starts = StartPair::new(alloc, automaton)?;
+    let Ok(back) = EndPair::new(alloc, automaton) else {
+        return Err(BuildFault::Memory);
+    };
+    Ok((sets, starts, back))
+}
+
+// The rest of a search, by steps alone, from a place where the search has this set.
+#[inline(never)]
+fn finish(
+    sets: &mut SetPair,
+    asked: &LineSearch,
+    set: &StateSet,
+    from: usize,
+    meter: &mut Meter,
+) -> bool
+    requires made { AreSetsFor (expression_of asked.now.automaton.now) sets.old }
+    requires set { IsMadeFor (expression_of asked.now.automaton.now) set.now }
+    requires within { from ≤ length asked.now.line.now }
+    ensures made { AreSetsFor (expression_of asked.now.automaton.now) sets.new }
+    ensures finishes { FinishesFrom (expression_of asked.now.automaton.now) asked.now.mode
+        asked.now.line.now from set.now meter.old meter.new result }
+{
+    sets.search_from(asked.automaton, asked.mode, set, asked.line, from, meter)
 }
 
 impl LineMatch for Cached {
@@ -177,7 +348,7 @@ impl LineMatch for Cached {
             self.old.cache self.new.cache meter.old meter.new result }
         ensures same { SameCached self.old self.new }
     {
-        if let Some(reported) = self.simulated.settled(line, meter) {
+        if let Some(reported) = self.settled(line, meter) {
             return reported;
         }
         self.searched(line, meter)
@@ -200,7 +371,10 @@ impl LineMatch for Cached {
         ensures steps { AddsAtMost (length line.now - from + 1) meter.old meter.new }
         ensures same { self.new ≡ self.old }
     {
-        self.simulated.find(line, from, meter)
+        if self.whole {
+            return self.whole_line(line, from, meter);
+        }
+        self.part(line, from, meter)
     }
 
     fn add_ends(&mut self, line: &[u8], ends: &mut [usize], spare: &mut [usize], meter: &mut Meter)
@@ -213,7 +387,12 @@ impl LineMatch for Cached {
         ensures steps { AddsAtMost (length line.now + 1) meter.old meter.new }
         ensures same { self.new ≡ self.old }
     {
-        self.simulated.add_ends(line, ends, spare, meter);
+        if self.whole {
+            let matched = self.is_match_afresh(line, meter);
+            add_line(matched, line, ends);
+            return;
+        }
+        self.put_ends(line, ends, meter);
     }
 
     fn next_matched(&mut self, block: &[u8], meter: &mut Meter) -> Option<Span> {
@@ -232,7 +411,7 @@ impl Sweeps for Cached {
 
     #[inline(always)]
     fn sweep(&self, block: &[u8], meter: &mut Meter) -> Sweep {
-        self.simulated.sweep(block, meter)
+        self.prefilter.sweep(block, self.whole, meter)
     }
 
     #[inline(always)]

@@ -1,7 +1,7 @@
 //! The end of a whole line as a part, and what a search for a part answers for.
 ghost use Rattle.std.specs.Prelude.{◌≡◌, ℕ, ◌+◌, ◌-◌, ◌≤◌, ◌<◌, IsTrue, IfSome, length};
 ghost use Rattle.re_ends.specs.Working.GreatestEnds.{AddsEnds};
-ghost use Rattle.re_match.specs.Working.Literals.{part_cost};
+ghost use Rattle.re_match.specs.Working.Strings.{part_cost};
 
 use re_syntax::Span;
 

@@ -3,19 +3,17 @@
 #![tactic(auto)]
 
 mod cached;
-mod fixed;
-mod fixed_set;
 mod front_ends;
 mod line_match;
 mod prefilter;
 mod scan_backoff;
-mod simulated;
+mod string_set;
+mod strings;
 mod sweeps;
 
 pub use cached::Cached;
-pub use fixed::Fixed;
-pub use fixed_set::FixedSet;
 pub use line_match::LineMatch;
 pub use scan_backoff::ScanBackoff;
-pub use simulated::Simulated;
+pub use string_set::StringSet;
+pub use strings::{Look, Strings};
 pub use sweeps::{Stop, Sweep};

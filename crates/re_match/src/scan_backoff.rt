@@ -3,9 +3,9 @@
 use re_needle::LookCost;
 use std::cell::Cell;
 
-/// How well looks ahead have paid so far. After a look that passed too little to pay, lines are
-/// searched without one: at first one line, then twice the number each time, up to a limit that the
-/// cost sets.
+/// When to look ahead, by how well earlier looks have paid. After a look that passed too few bytes to
+/// pay, one line is searched without a look. Each further look that does not pay doubles the number of
+/// such lines, up to a limit that the cost of a look sets. One that pays sets the number back to one.
 #[derive(Drop)]
 pub struct ScanBackoff {
     cost: LookCost,
@@ -14,7 +14,7 @@ pub struct ScanBackoff {
 }
 
 impl ScanBackoff {
-    /// None was made yet.
+    /// No look was made yet.
     pub fn new(cost: LookCost) -> ScanBackoff {
         ScanBackoff {
             cost,

@@ -21,7 +21,7 @@ ghost use Rattle.re_match.specs.Working.Same.{SameMatcher};
 use crate::matcher::Matcher;
 use memchr::memchr;
 use re_auto::Meter;
-use re_match::{FixedSet, LineMatch, ScanBackoff, Sweep};
+use re_match::{LineMatch, ScanBackoff, StringSet, Sweep};
 use re_needle::{LookCost, SetFinder, first_line_with_sets};
 use re_syntax::ByteSet;
 use std::alloc::{AllocError, Global};
@@ -33,7 +33,7 @@ use std::marker::Model;
 #[derive(Drop)]
 pub enum Needed {
     /// One of these strings.
-    Strings(FixedSet),
+    Strings(StringSet),
     /// A run of sets of bytes. It is looked for in blocks alone.
     Run(SetFinder),
 }
@@ -226,7 +226,7 @@ pub fn needed_strings(alloc: Global, matchers: &[Matcher]) -> Result<Filter, All
     let Some(texts) = needed_lines(alloc, matchers)? else {
         return Ok(Filter::none());
     };
-    let strings = FixedSet::new(alloc, &texts, false, false)?;
+    let strings = StringSet::new(alloc, &texts, false)?;
     Ok(Filter::of(Needed::Strings(strings)))
 }
 

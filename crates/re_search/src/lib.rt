@@ -15,7 +15,7 @@ pub use filter::{Filter, needed_run, needed_strings};
 pub use matcher::Matcher;
 pub use plain::add_strings;
 pub use re_auto::Meter;
-pub use re_match::{Cached, Fixed, FixedSet, LineMatch, Simulated};
+pub use re_match::{Cached, LineMatch, Strings};
 pub use re_syntax::{Span, Syntax};
 pub use searchers::{Searchers, next_part};
 pub use several::parts;

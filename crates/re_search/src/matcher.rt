@@ -12,13 +12,14 @@ ghost use Rattle.re_search.specs.Reading.{IsRefusedFor};
 ghost use Rattle.re_search.specs.Working.Matchers.{matched_expression, wants_whole, is_fixed};
 ghost use Rattle.re_search.specs.Working.Matchers.{room_of, entries_of, CountsSteps};
 ghost use Rattle.re_match.specs.Working.Same.{SameMatcher};
+ghost use Rattle.re_match.specs.declared.strings.Look.TheVariants.{One};
 ghost use Rattle.re_auto.specs.Searches.{FindsPart};
 ghost use Rattle.re_meter.specs.Meters.{AddsAtMost};
 ghost use Rattle.re_ends.specs.Working.GreatestEnds.{AddsEnds, FoundPast};
 
 use crate::plain::string_of;
 use re_auto::Meter;
-use re_match::{Cached, Fixed, FixedSet, LineMatch, Simulated};
+use re_match::{Cached, LineMatch, Strings};
 use re_syntax::{
     ByteSet, FaultKind, MOST_POSITIONS, PatternFault, Span, Syntax, Tree, basic_positions,
     extended_positions, read_basic, read_extended, read_fixed,
@@ -30,12 +31,8 @@ use std::num::NonZeroUsize;
 /// pointer.
 #[derive(Drop)]
 pub enum Matcher {
-    /// Looks for a string.
-    Fixed(Fixed),
-    /// Looks for many strings at once.
-    FixedSet(Box<FixedSet>),
-    /// Steps an automaton.
-    Simulated(Box<Simulated>),
+    /// Looks for strings.
+    Strings(Strings),
     /// Steps an automaton, and keeps the steps between its sets of positions.
     Cached(Box<Cached>),
 }
@@ -45,7 +42,9 @@ impl Matcher {
     /// letter are alike (XCU grep, option `-i`), and with `whole` the whole line has to be matched
     /// (option `-x`). A text that is one string is looked for as it is; a fixed string that is not
     /// folded may be of any length. All other patterns get an automaton and a cache of at most
-    /// `states` entries, from 1 to 65,536. The cache is left out if its allocation fails.
+    /// `states` entries, from 1 to 65,536. The cache is allocated for the first line that takes
+    /// steps. A line is searched without it if its allocation fails, and the next such line tries
+    /// again.
     ///
     /// # Errors
     ///
@@ -95,9 +94,7 @@ impl Matcher {
         ensures { IfSome result (λ text. IsNeeded text.now (matched_expression self.now)) }
     {
         match self {
-            Matcher::Fixed(fixed) => fixed.needed(),
-            Matcher::FixedSet(_) => None,
-            Matcher::Simulated(simulated) => simulated.needed(),
+            Matcher::Strings(strings) => strings.needed(),
             Matcher::Cached(cached) => cached.needed(),
         }
     }
@@ -109,9 +106,7 @@ impl Matcher {
             (λ sets. RunIsNeeded (map members sets.items) (matched_expression self.now)) }
     {
         match self {
-            Matcher::Fixed(fixed) => fixed.needed_sets(alloc),
-            Matcher::FixedSet(_) => Ok(Vec::new(alloc)),
-            Matcher::Simulated(simulated) => simulated.needed_sets(alloc),
+            Matcher::Strings(strings) => strings.needed_sets(alloc),
             Matcher::Cached(cached) => cached.needed_sets(alloc),
         }
     }
@@ -134,18 +129,14 @@ impl LineMatch for Matcher {
         ensures same { SameMatcher matched_expression wants_whole room_of self.old self.new }
     {
         match self {
-            Matcher::Fixed(fixed) => fixed.is_match(line, meter),
-            Matcher::FixedSet(set) => set.is_match(line, meter),
-            Matcher::Simulated(simulated) => simulated.is_match(line, meter),
+            Matcher::Strings(strings) => strings.is_match(line, meter),
             Matcher::Cached(cached) => cached.is_match(line, meter),
         }
     }
 
     fn is_match_by_steps(&mut self, line: &[u8], meter: &mut Meter) -> bool {
         match self {
-            Matcher::Fixed(fixed) => fixed.is_match_by_steps(line, meter),
-            Matcher::FixedSet(set) => set.is_match_by_steps(line, meter),
-            Matcher::Simulated(simulated) => simulated.is_match_by_steps(line, meter),
+            Matcher::Strings(strings) => strings.is_match_by_steps(line, meter),
             Matcher::Cached(cached) => cached.is_match_by_steps(line, meter),
         }
     }
@@ -159,9 +150,7 @@ impl LineMatch for Matcher {
         ensures same { SameMatcher matched_expression wants_whole room_of self.old self.new }
     {
         match self {
-            Matcher::Fixed(fixed) => fixed.find(line, from, meter),
-            Matcher::FixedSet(set) => set.find(line, from, meter),
-            Matcher::Simulated(simulated) => simulated.find(line, from, meter),
+            Matcher::Strings(strings) => strings.find(line, from, meter),
             Matcher::Cached(cached) => cached.find(line, from, meter),
         }
     }
@@ -178,27 +167,21 @@ impl LineMatch for Matcher {
         ensures same { SameMatcher matched_expression wants_whole room_of self.old self.new }
     {
         match self {
-            Matcher::Fixed(fixed) => fixed.add_ends(line, ends, spare, meter),
-            Matcher::FixedSet(set) => set.add_ends(line, ends, spare, meter),
-            Matcher::Simulated(simulated) => simulated.add_ends(line, ends, spare, meter),
+            Matcher::Strings(strings) => strings.add_ends(line, ends, spare, meter),
             Matcher::Cached(cached) => cached.add_ends(line, ends, spare, meter),
         }
     }
 
     fn next_matched(&mut self, block: &[u8], meter: &mut Meter) -> Option<Span> {
         match self {
-            Matcher::Fixed(fixed) => fixed.next_matched(block, meter),
-            Matcher::FixedSet(set) => set.next_matched(block, meter),
-            Matcher::Simulated(simulated) => simulated.next_matched(block, meter),
+            Matcher::Strings(strings) => strings.next_matched(block, meter),
             Matcher::Cached(cached) => cached.next_matched(block, meter),
         }
     }
 
     fn count_matched(&mut self, block: &[u8], meter: &mut Meter) -> u64 {
         match self {
-            Matcher::Fixed(fixed) => fixed.count_lines(block, meter),
-            Matcher::FixedSet(set) => set.count_matched(block, meter),
-            Matcher::Simulated(simulated) => simulated.count_matched(block, meter),
+            Matcher::Strings(strings) => strings.count_lines(block, meter),
             Matcher::Cached(cached) => cached.count_matched(block, meter),
         }
     }
@@ -218,11 +201,11 @@ fn is_limited(syntax: Syntax, fold: bool) -> bool
 // The matcher that looks for the text as it is. Its one fault is `Memory`.
 fn fixed_matcher(alloc: Global, text: &[u8], whole: bool) -> Result<Matcher, PatternFault>
     ensures made { IfOk result
-        (λ m. m ≡ Matcher.Fixed (record { text = text.now; whole = whole })) }
+        (λ m. m ≡ Matcher.Strings (record { look = One text.now; whole = whole })) }
     ensures refused { IfErr result IsOutOfMemory }
 {
-    match Fixed::new(alloc, text, whole) {
-        Ok(fixed) => Ok(Matcher::Fixed(fixed)),
+    match Strings::one(alloc, text, whole) {
+        Ok(strings) => Ok(Matcher::Strings(strings)),
         Err(_) => Err(fault_at_first(FaultKind::Memory)),
     }
 }
@@ -271,30 +254,16 @@ fn stepping_matcher(
     ensures empty { IfOk result (λ m. entries_of m ≡ []) }
     ensures refused { IfErr result IsOutOfMemory }
 {
-    let Ok(simulated) = Simulated::new(alloc, tree, whole) else {
-        return Err(fault_at_first(FaultKind::Memory));
-    };
-    match with_cache(alloc, simulated, states) {
-        Ok(matcher) => Ok(matcher),
-        Err(_) => Err(fault_at_first(FaultKind::Memory)),
-    }
-}
-
-// The matcher with a cache of `states` entries, or without one if memory for it is refused.
-fn with_cache(alloc: Global, simulated: Simulated, states: usize) -> Result<Matcher, AllocError>
-    requires { 1 ≤ states }
-    ensures made { IfOk result (λ m.
-        (matched_expression m ≡ expression_of simulated.tree) × (wants_whole m ≡ simulated.whole)) }
-    ensures room { IfOk result (λ m. room_of m ≤ states) }
-    ensures empty { IfOk result (λ m. entries_of m ≡ []) }
-{
     let Some(most) = NonZeroUsize::new(states) else {
         unreachable!();
     };
-    match Cached::boxed(alloc, simulated, most) {
-        Ok(cached) => Ok(Matcher::Cached(cached)),
-        Err(simulated) => Ok(Matcher::Simulated(Box::new(alloc, simulated)?)),
-    }
+    let Ok(cached) = Cached::new(alloc, tree, whole, most) else {
+        return Err(fault_at_first(FaultKind::Memory));
+    };
+    let Ok(cached) = Box::new(alloc, cached) else {
+        return Err(fault_at_first(FaultKind::Memory));
+    };
+    Ok(Matcher::Cached(cached))
 }
 
 // The tree of the text's meaning. If it has too many positions, no tree is built, since it could be

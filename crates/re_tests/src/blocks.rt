@@ -8,10 +8,9 @@ ghost use Rattle.re_search.specs.Working.Matchers.{matched_expression, wants_who
 use crate::several::{assert_steps, block_of, ends_of};
 use re_auto::fresh_meter;
 use re_search::{
-    Filter, Fixed, FixedSet, LineMatch, Matcher, Searchers, Simulated, Syntax, needed_run,
-    needed_strings,
+    Filter, LineMatch, Matcher, Searchers, Strings, Syntax, needed_run, needed_strings,
 };
-use re_syntax::{read_extended, split_file};
+use re_syntax::split_file;
 use std::alloc::{AllocError, Global};
 use std::process::Abort;
 use std::test::Fail;
@@ -47,7 +46,7 @@ fn exact() -> &'static [Exact] {
 fn assert_exact(rt: &impl Abort, alloc: Global, row: &Exact) -> Result<(), Fail> {
     let (text, whole, lines, next, next_steps, count, count_steps) = *row;
     let block = block_of(alloc, lines)?;
-    let mut matcher = Fixed::new(alloc, text, whole)?;
+    let mut matcher = Strings::one(alloc, text, whole)?;
     let mut meter = fresh_meter();
     let found = matcher.next_matched(&block, &mut meter);
     assert_eq!(rt; ends_of(found), next, "{text:?} in {lines:?}");
@@ -110,30 +109,6 @@ fn assert_found<M: LineMatch>(
     Ok(())
 }
 
-// The matcher that steps an automaton.
-fn simulated(alloc: Global, row: &Row) -> Option<Simulated> {
-    let (text, whole, _, _, _) = *row;
-    let tree = read_extended(alloc, text).ok()?;
-    Simulated::new(alloc, tree, whole).ok()
-}
-
-fn assert_simulated(rt: &impl Abort, alloc: Global, row: &Row) -> Result<(), Fail> {
-    let matcher = simulated(alloc, row);
-    assert!(rt; matcher.is_some());
-    let Some(mut matcher) = matcher else {
-        return Ok(());
-    };
-    assert_found(rt, alloc, &mut matcher, row)
-}
-
-#[test]
-fn a_matcher_that_steps_finds_and_counts(rt: HostRuntime) -> Result<(), Fail> {
-    for row in rows() {
-        assert_simulated(&rt, rt.alloc(), row)?;
-    }
-    Ok(())
-}
-
 // The matcher of an expression, in a vector: a function that drops one by itself is dear to prove.
 fn made(alloc: Global, row: &Row) -> Result<Vec<Matcher>, Fail> {
     let (text, whole, _, _, _) = *row;
@@ -170,7 +145,7 @@ fn sets() -> &'static [Row] {
 fn a_set_of_texts_finds_and_counts(rt: HostRuntime) -> Result<(), Fail> {
     for row in sets() {
         let (texts, whole, _, _, _) = *row;
-        let mut matcher = FixedSet::new(rt.alloc(), texts, false, whole)?;
+        let mut matcher = Strings::any(rt.alloc(), texts, false, whole)?;
         assert_found(&rt, rt.alloc(), &mut matcher, row)?;
     }
     Ok(())

@@ -1,19 +1,19 @@
 //! Many strings at once.
 use crate::several::assert_steps;
 use re_auto::fresh_meter;
-use re_search::{FixedSet, LineMatch, Span};
+use re_search::{LineMatch, Span, Strings};
 use std::alloc::{AllocError, Global};
 use std::process::Abort;
 use std::test::Fail;
 
 // A set of the lines of a text.
-fn set_of(alloc: Global, texts: &[u8], whole: bool) -> Result<FixedSet, AllocError> {
-    FixedSet::new(alloc, texts, false, whole)
+fn set_of(alloc: Global, texts: &[u8], whole: bool) -> Result<Strings, AllocError> {
+    Strings::any(alloc, texts, false, whole)
 }
 
 // The part from a place on. Its search takes one step for each byte up to its end; if there is
 // none, one for each byte that is left, and one more.
-fn part_from(rt: &impl Abort, set: &mut FixedSet, line: &[u8], from: usize) -> Option<Span> {
+fn part_from(rt: &impl Abort, set: &mut Strings, line: &[u8], from: usize) -> Option<Span> {
     assert!(rt; from <= line.len());
     let mut meter = fresh_meter();
     let part = set.find(line, from, &mut meter);
@@ -30,7 +30,7 @@ fn part_from(rt: &impl Abort, set: &mut FixedSet, line: &[u8], from: usize) -> O
 fn parts_of(
     rt: &impl Abort,
     alloc: Global,
-    set: &mut FixedSet,
+    set: &mut Strings,
     line: &[u8],
 ) -> Result<Vec<(usize, usize)>, AllocError> {
     let mut found = Vec::new(alloc);
@@ -50,7 +50,7 @@ fn parts_of(
 fn assert_line(
     rt: &impl Abort,
     alloc: Global,
-    set: &mut FixedSet,
+    set: &mut Strings,
     line: &[u8],
     is_selected: bool,
     expected: &[(usize, usize)],

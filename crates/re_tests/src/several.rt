@@ -4,17 +4,17 @@ ghost use Rattle.re_search.specs.Searches.{AllAnswer};
 ghost use Rattle.re_search.specs.Working.Blocks.{IsBlock};
 
 use re_auto::{Meter, fresh_meter};
-use re_search::{Filter, Fixed, LineMatch, Searchers, Span, parts};
+use re_search::{Filter, LineMatch, Searchers, Span, Strings, parts};
 use std::alloc::{AllocError, Global};
 use std::process::Abort;
 use std::test::Fail;
 
-fn fixed(alloc: Global, texts: &[&[u8]], whole: bool) -> Result<Vec<Fixed>, AllocError>
-    ensures { IfOk result (λ v. AllAnswer whole (map ⟦<Fixed as LineMatch>⟧.whole v.items)) }
+fn fixed(alloc: Global, texts: &[&[u8]], whole: bool) -> Result<Vec<Strings>, AllocError>
+    ensures { IfOk result (λ v. AllAnswer whole (map ⟦<Strings as LineMatch>⟧.whole v.items)) }
 {
     let mut matchers = Vec::new(alloc);
     for text in texts {
-        matchers.push(Fixed::new(alloc, text, whole)?)?;
+        matchers.push(Strings::one(alloc, text, whole)?)?;
     }
     Ok(matchers)
 }
@@ -105,12 +105,12 @@ fn rows() -> &'static [Row] {
 // Whether some text matches the line.
 fn some_matches(
     alloc: Global,
-    matchers: &mut [Fixed],
+    matchers: &mut [Strings],
     whole: bool,
     line: &[u8],
     meter: &mut Meter,
 ) -> bool
-    requires { AllAnswer whole (map ⟦<Fixed as LineMatch>⟧.whole matchers.old) }
+    requires { AllAnswer whole (map ⟦<Strings as LineMatch>⟧.whole matchers.old) }
 {
     let none = Filter::none();
     Searchers::new(alloc, matchers, &none, whole).is_matched(line, meter)
@@ -168,7 +168,7 @@ fn searches() -> &'static [Search] {
 fn assert_search(rt: &impl Abort, alloc: Global, row: &Search) -> Result<(), Fail> {
     let (text, whole, line, from, expected, steps, passed) = *row;
     assert!(rt; from <= line.len(), "{line:?}");
-    let mut matcher = Fixed::new(alloc, text, whole)?;
+    let mut matcher = Strings::one(alloc, text, whole)?;
     let mut meter = fresh_meter();
     let found = matcher.find(line, from, &mut meter);
     assert_eq!(rt;

@@ -37,5 +37,5 @@ pub record IsJoined (options : Options) (strings : List Text) (matchers : List M
   pub one : Matcher
   pub alone : matchers ≡ one ∷ []
   pub expression : matched_expression one ≡
-      any_literal (record { texts = strings; fold = options.ignore_case; whole = options.line_regexp })
+      any_literal (record { texts = strings; fold = options.ignore_case })
   pub whole : wants_whole one ≡ options.line_regexp

@@ -1,9 +1,12 @@
 -- Matchers that keep the steps between sets of positions.
-use Rattle.std.specs.Prelude.{◌≡◌, ◌⊎◌, Bool, ℕ}
+use Rattle.std.specs.Prelude.{◌≡◌, ◌⊎◌, Bool, ℕ, Option, None, Some, []}
 use Rattle.re_syntax.specs.Bytes.{Text}
 use Rattle.re_syntax.specs.Expression.{Expression}
 use Rattle.re_auto.specs.Meters.{Steps}
+use Rattle.re_auto.specs.Working.StateSets.{IsMadeFor}
 use Rattle.re_steps.specs.Working.Stages.{Cache, Searches, mode_for}
+use Rattle.re_steps.specs.Working.Rows.{IsKnownFor, cache_of}
+use Rattle.re_steps.specs.declared.table.StepTable.{StepTable}
 use Rattle.re_needle.specs.Working.Needles.{IsSettled}
 use Rattle.re_match.specs.Working.Sweeps.{LooksOver}
 use Rattle.re_syntax.specs.declared.tree.Tree.{Tree}
@@ -15,6 +18,20 @@ pub record CachedMatcher : Type 0 where
   pub whole : Bool
   pub cache : Cache
   pub most : ℕ
+
+-- the cache of a matcher that has no table yet
+abbrev pub no_cache : Cache
+no_cache = record { classes = []; stride = 0; sets = []; entries = [] }
+
+-- the cache in a table, if there is one
+abbrev pub cache_in : Option StepTable → Cache
+cache_in None = no_cache
+cache_in (Some table) = cache_of table
+
+-- what the table knows is right for the expression and the mode, and it may have so many entries
+abbrev pub IsTableFor : Expression → Bool → ℕ → StepTable → Type 0
+IsTableFor e whole most table =
+    IsMadeFor e table.scratch × IsKnownFor e (mode_for whole) table × (table.pairs.most ≡ most)
 
 -- the answer was known without a step
 pub record SaysAtOnce (e : Expression) (whole : Bool) (line : Text) (old new : Cache)

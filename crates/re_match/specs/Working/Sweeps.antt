@@ -1,4 +1,4 @@
--- ScanBackoff over lines and blocks: what they pass, where a sweep stops, and what is known of the line
+-- Looks over lines and blocks: what they pass, where a sweep stops, and what is known of the line
 -- there.
 use Rattle.std.specs.Prelude.{◌≡◌, ℕ, ◌+◌, ◌≤◌, ◌⊎◌, Bool, List, Option, min, length, slice_range}
 use Rattle.re_syntax.specs.Bytes.{Bytes, Text}

@@ -21,7 +21,7 @@ needed_more strings t matchers place m lt at needed before_it k d k_lt =
     ]
 
 -- a string that is needed is where the expression matches
-stands_matched : (line s : Text) (e : Expression) (texts : List Text) → IsNeeded s e → Any (λ t. t ≡ s) texts → (i j : ℕ) → j ≤ length line → Holds line e i j → Matches (any_literal (record { texts = texts; fold = false; whole = false })) line false
+stands_matched : (line s : Text) (e : Expression) (texts : List Text) → IsNeeded s e → Any (λ t. t ≡ s) texts → (i j : ℕ) → j ≤ length line → Holds line e i j → Matches (any_literal (record { texts = texts; fold = false })) line false
 stands_matched line s e texts needed is_text i j within h =
     let (k, low, high, o) : StandsBetween line s i j = needed line i j within h in
     let end : k + length s ≤ length line = omega (arith, high, within) in
@@ -30,13 +30,13 @@ stands_matched line s e texts needed is_text i j within h =
     (k, k + length s, end, stands_choice line k (k + length s) texts (omega arith) end (subst (λ x. Any (λ t. t ≡ x) texts) there is_text))
 
 -- texts are needed if each expression needs some of them
-pub texts_are_needed : (texts : List Text) (es : List Expression) → All (NeedsOneOf texts) es → AreNeeded (n.Strings (record { texts = texts; fold = false; whole = false })) es
+pub texts_are_needed : (texts : List Text) (es : List Expression) → All (NeedsOneOf texts) es → AreNeeded (n.Strings (record { texts = texts; fold = false })) es
 texts_are_needed texts es each line whole none some = none (matched whole some)
   where
-    string_of : (e : Expression) → NeedsOneOf texts e → (i j : ℕ) → j ≤ length line → Holds line e i j → Matches (any_literal (record { texts = texts; fold = false; whole = false })) line false
+    string_of : (e : Expression) → NeedsOneOf texts e → (i j : ℕ) → j ≤ length line → Holds line e i j → Matches (any_literal (record { texts = texts; fold = false })) line false
     string_of e n i j within h = stands_matched line n.1 e texts n.4 (n.0, n.1, n.2, n.3, refl) i j within h
 
-    matched : (whole : Bool) → SomeMatches es line whole → Matches (any_literal (record { texts = texts; fold = false; whole = false })) line false
+    matched : (whole : Bool) → SomeMatches es line whole → Matches (any_literal (record { texts = texts; fold = false })) line false
     matched false (p, e, lt, at, (i, j, within, h)) = string_of e (subst (NeedsOneOf texts) at (each p e lt)) i j within h
     matched true (p, e, lt, at, h) = string_of e (subst (NeedsOneOf texts) at (each p e lt)) 0 (length line) (omega arith) h
 

@@ -6,50 +6,36 @@ use Rattle.re_syntax.specs.Working.Trees.{expression_of}
 use Rattle.re_auto.specs.Meters.{Steps}
 use Rattle.re_search.specs.declared.matcher.Matcher.{Matcher}
 use Rattle.re_search.specs.declared.matcher.Matcher.TheVariants as m
-use Rattle.re_match.specs.Working.Literals.{literal_expression, any_literal, CountsLook}
+use Rattle.re_match.specs.Working.Strings.{matched_strings, CountsLook}
 use Rattle.re_match.specs.Working.CachedMatchers.{AnswersLine}
 
 -- the expression that a matcher looks for
 abbrev pub matched_expression : Matcher → Expression
-matched_expression (m.Fixed literal) = literal_expression literal
-matched_expression (m.FixedSet literals) = any_literal literals.value
-matched_expression (m.Simulated matcher) = expression_of matcher.value.tree
+matched_expression (m.Strings strings) = matched_strings strings
 matched_expression (m.Cached matcher) = expression_of matcher.value.tree
 
 -- whether the whole line has to be matched
 abbrev pub wants_whole : Matcher → Bool
-wants_whole (m.Fixed literal) = literal.whole
-wants_whole (m.FixedSet literals) = literals.value.whole
-wants_whole (m.Simulated matcher) = matcher.value.whole
+wants_whole (m.Strings strings) = strings.whole
 wants_whole (m.Cached matcher) = matcher.value.whole
 
 -- whether it looks for a string
 abbrev pub is_fixed : Matcher → Bool
-is_fixed (m.Fixed literal) = true
-is_fixed (m.FixedSet literals) = true
-is_fixed (m.Simulated matcher) = false
+is_fixed (m.Strings strings) = true
 is_fixed (m.Cached matcher) = false
 
 -- the entries of its cache, and how many it may have (none without a cache)
 abbrev pub entries_of : Matcher → List (ℕ × ℕ)
-entries_of (m.Fixed literal) = []
-entries_of (m.FixedSet literals) = []
-entries_of (m.Simulated matcher) = []
+entries_of (m.Strings strings) = []
 entries_of (m.Cached matcher) = matcher.value.cache.entries
 
 abbrev pub room_of : Matcher → ℕ
-room_of (m.Fixed literal) = 0
-room_of (m.FixedSet literals) = 0
-room_of (m.Simulated matcher) = 0
+room_of (m.Strings strings) = 0
 room_of (m.Cached matcher) = matcher.value.most
 
--- how the steps of a search are counted: for a string exactly, with a cache by what it knew
+-- how the steps of a search are counted: for strings exactly, with a cache by what it knew
 abbrev pub CountsSteps : Text → Matcher → Steps → Matcher → Steps → Bool → Type 0
-CountsSteps line (m.Fixed literal) before new after answer = CountsLook literal line (length line + 1) before after
-CountsSteps line (m.FixedSet literals) before new after answer = ⊤
-CountsSteps line (m.Simulated matcher) before new after answer = ⊤
+CountsSteps line (m.Strings strings) before new after answer = CountsLook strings line (length line + 1) before after
 CountsSteps line (m.Cached old) before (m.Cached new) after answer =
     AnswersLine (expression_of old.value.tree) old.value.whole line old.value.cache new.value.cache before after answer
-CountsSteps line (m.Cached old) before (m.Fixed new) after answer = ⊥
-CountsSteps line (m.Cached old) before (m.FixedSet new) after answer = ⊥
-CountsSteps line (m.Cached old) before (m.Simulated new) after answer = ⊥
+CountsSteps line (m.Cached old) before (m.Strings new) after answer = ⊥

@@ -1,24 +1,18 @@
-use Rattle.re_match.proofs.Prelude.{expression_of, IsSettled, LooksOver, mode_for, inl, inr, refl}
+use Rattle.re_match.proofs.Prelude.{expression_of, mode_for, inl, inr, refl}
 use Rattle.re_needle.proofs.lemmas.NeedleLaws.{settled_says}
 use Rattle.re_steps.proofs.lemmas.StageLaws.{searches_say, searches_steps}
 use Rattle.re_match.proofs.lemmas.LookLaws.{looks_over, looks_and_steps}
 use Rattle.re_match.proofs.cached.CachedLineMatch.is_match.Goals as goal
 
 pub returns-in-Some-clause-reported : goal.returns-in-Some-clause-reported
-returns-in-Some-clause-reported c =
-    let settled : IsSettled (expression_of c.args.self.now.tree) c.args.self.now.whole c.args.line.now c.in-Some.reported = rw (← c.self.view_is) c.in-Some.ensures.settled in
-    settled_says (expression_of c.args.self.now.tree) c.args.line.now c.args.self.now.whole c.in-Some.reported settled
+returns-in-Some-clause-reported c = settled_says (expression_of c.args.self.now.tree) c.args.line.now c.args.self.now.whole c.in-Some.reported c.in-Some.ensures.settled
 
 pub returns-in-Some-clause-steps : goal.returns-in-Some-clause-steps
-returns-in-Some-clause-steps c =
-    let looked : LooksOver (expression_of c.args.self.now.tree) c.args.line.now c.args.meter.now c.settled.new.meter = rw (← c.self.view_is) c.in-Some.ensures.looked in
-    looks_over (expression_of c.args.self.now.tree) c.args.line.now _ _ looked
+returns-in-Some-clause-steps c = looks_over (expression_of c.args.self.now.tree) c.args.line.now _ _ c.in-Some.ensures.looked
 
 pub returns-in-Some-clause-counted : goal.returns-in-Some-clause-counted
 returns-in-Some-clause-counted c =
-    let settled : IsSettled (expression_of c.args.self.now.tree) c.args.self.now.whole c.args.line.now c.in-Some.reported = rw (← c.self.view_is) c.in-Some.ensures.settled in
-    let looked : LooksOver (expression_of c.args.self.now.tree) c.args.line.now c.args.meter.now c.settled.new.meter = rw (← c.self.view_is) c.in-Some.ensures.looked in
-    record { looked = c.settled.new.meter; looks = looked; answers = inl (record { settled = settled; cache = refl; steps = refl }) }
+    record { looked = c.settled.new.meter; looks = c.in-Some.ensures.looked; answers = inl (record { settled = c.in-Some.ensures.settled; cache = refl; steps = refl }) }
 
 pub returns-clause-reported : goal.returns-clause-reported
 returns-clause-reported c =
@@ -26,11 +20,8 @@ returns-clause-reported c =
 
 pub returns-clause-steps : goal.returns-clause-steps
 returns-clause-steps c =
-    let looked : LooksOver (expression_of c.args.self.now.tree) c.args.line.now c.args.meter.now c.settled.new.meter = rw (← c.self.view_is) c.settled.ensures.looked in
-    looks_and_steps (expression_of c.args.self.now.tree) c.args.line.now _ _ _ looked
+    looks_and_steps (expression_of c.args.self.now.tree) c.args.line.now _ _ _ c.settled.ensures.looked
     (searches_steps (expression_of c.args.self.now.tree) c.args.line.now (mode_for c.args.self.now.whole) c.args.self.now.cache c.searched.new.self.cache c.settled.new.meter c.searched.new.meter c.searched.result c.searched.ensures.searches)
 
 pub returns-clause-counted : goal.returns-clause-counted
-returns-clause-counted c =
-    let looked : LooksOver (expression_of c.args.self.now.tree) c.args.line.now c.args.meter.now c.settled.new.meter = rw (← c.self.view_is) c.settled.ensures.looked in
-    record { looked = c.settled.new.meter; looks = looked; answers = inr c.searched.ensures.searches }
+returns-clause-counted c = record { looked = c.settled.new.meter; looks = c.settled.ensures.looked; answers = inr c.searched.ensures.searches }

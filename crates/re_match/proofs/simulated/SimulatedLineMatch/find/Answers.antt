@@ -1,7 +1,0 @@
-use Rattle.re_match.proofs.Prelude.{◌≡◌, false, sym, ap, ◌∙◌, TreeMatcher}
-use Rattle.re_match.proofs.simulated.SimulatedLineMatch.find.Goals as goal
-
-pub returns-clause-reported : goal.returns-clause-reported
-returns-clause-reported c =
-    let whole : c.args.self.now.whole ≡ false = ap (λ (m : TreeMatcher). m.whole) (sym c.self.view_is) ∙ c.if-self.false in
-    rw whole c.part.ensures.reported

@@ -1,5 +1,0 @@
-use Rattle.re_match.proofs.Prelude.{expression_of}
-use Rattle.re_match.proofs.simulated.SimulatedSweeps.sweep.Goals as goal
-
-pub returns-clause-passes : goal.returns-clause-passes
-returns-clause-passes c = rw (← c.self.view_is) (c.sweep.ensures.passes (expression_of c.self.inside.automaton) c.self.invariant.2)

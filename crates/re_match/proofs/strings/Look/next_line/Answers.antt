@@ -1,0 +1,25 @@
+use Rattle.re_match.proofs.Prelude.{false, Text, Matches, any_literal, lines_of, IsLineFrom}
+use Rattle.re_needle.proofs.lemmas.NextLines.{finds_literal, none_next, next_from}
+use Rattle.re_match.proofs.strings.Look.next_line.Goals as goal
+
+pub returns-in-One-clause-reported : goal.returns-in-One-clause-reported
+returns-in-One-clause-reported c = rw c.in-One.is (finds_literal c.in-One.finder (lines_of c.args.block.now) c.next_line_with.result c.next_line_with.ensures.reported)
+
+pub returns-in_err-end-clause-reported : goal.returns-in_err-end-clause-reported
+returns-in_err-end-clause-reported c =
+    let matched = λ (line : Text). Matches (any_literal c.in-Many.set.value) line false in
+    rw (c.from_residual.ensures, c.in-Many.is) (none_next matched c.args.block.now c.first_line-start.result.start c.requires.block (rw c.deref.ensures at c.first_line-start.ensures.passes) c.in_err-end.ensures)
+
+pub returns-in_err-end-clause-looked : goal.returns-in_err-end-clause-looked
+returns-in_err-end-clause-looked c = rw c.in-Many.is (rw c.deref.ensures at c.first_line-start.ensures.looked)
+
+pub returns-clause-reported : goal.returns-clause-reported
+returns-clause-reported c =
+    let matched = λ (line : Text). Matches (any_literal c.in-Many.set.value) line false in
+    let end = c.in_ok-end.end in
+    let cut : IsLineFrom c.args.block.now c.first_line-start.result.start end = c.in_ok-end.ensures in
+    let holds = c.first_line-start.ensures.found end cut in
+    rw c.in-Many.is (next_from matched c.args.block.now c.first_line-start.result.start end cut (rw c.deref.ensures at c.first_line-start.ensures.passes) (rw c.deref.ensures at holds))
+
+pub returns-clause-looked : goal.returns-clause-looked
+returns-clause-looked c = rw c.in-Many.is (rw c.deref.ensures at c.first_line-start.ensures.looked)

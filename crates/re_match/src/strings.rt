@@ -1,0 +1,414 @@
+//! Search for fixed strings (XCU grep, option `-F`).
+ghost use Rattle.std.specs.Prelude.{◌≡◌, ℕ, ◌+◌, ◌-◌, ◌<◌, ◌≤◌, ◌↔◌, [], ◌∷◌, false, true, IsTrue, IfOk};
+ghost use Rattle.std.specs.Prelude.{IfSome, Bool, ◌⊎◌, length, map};
+ghost use Rattle.re_syntax.specs.Bytes.{Text};
+ghost use Rattle.re_syntax.specs.Holds.{Matches};
+ghost use Rattle.re_syntax.specs.Working.Trees.{members};
+ghost use Rattle.re_syntax.specs.Lines.{lines_of};
+ghost use Rattle.re_meter.specs.Meters.{AddsAtMost, AddsUpTo, many_built, many_passed};
+ghost use Rattle.re_needle.specs.Working.Needles.{IsNeeded, RunIsNeeded};
+ghost use Rattle.re_needle.specs.Working.Blocks.{IsBlock, PassesUnmatched, CountsMatched};
+ghost use Rattle.re_needle.specs.Working.Blocks.{FindsMatched, next_cost};
+ghost use Rattle.re_match.specs.declared.strings.Look.TheVariants.{One};
+ghost use Rattle.re_match.specs.Working.Strings.{look_expression, matched_strings, IsPartOfLines};
+ghost use Rattle.re_match.specs.Working.Strings.{IsForSet, IsOnLines, LooksFor, CountsLook};
+ghost use Rattle.re_match.specs.Working.Strings.{LooksForPart, CountsPart};
+ghost use Rattle.re_match.specs.Working.Literals.{any_literal};
+ghost use Rattle.re_match.specs.Working.Same.{SameMatcher};
+ghost use Rattle.re_match.specs.Working.Sweeps.{StopsAt};
+ghost use Rattle.re_auto.specs.Searches.{FindsPart};
+ghost use Rattle.re_ends.specs.Working.GreatestEnds.{AddsEnds, FoundPast};
+
+use crate::front_ends::{add_line, bytes_to_part};
+use crate::line_match::LineMatch;
+use crate::scan_backoff::ScanBackoff;
+use crate::string_set::StringSet;
+use crate::sweeps::{Stop, Sweep, Sweeps, next_by_sweeps};
+use memchr::memmem::Finder;
+use re_auto::Meter;
+use re_needle::{
+    LookCost, bytes_to, count_by, find_text, first_line_with, has_no_newline, line_end,
+    next_line_with, sets_of, step_to_text,
+};
+use re_strings::add_occurrences;
+use re_syntax::{ByteSet, Span};
+use std::alloc::{AllocError, Global};
+use std::marker::Model;
+
+/// How strings are looked for.
+#[derive(Drop)]
+pub enum Look {
+    /// There is one.
+    One(Finder<'static>),
+    /// There are many, and one pass looks for all of them.
+    Many(Box<StringSet>),
+}
+
+impl Look {
+    // Whether the line is one of the strings.
+    fn is_line(&self, line: &[u8]) -> bool
+        ensures { IsTrue result ↔ Matches (look_expression self.now) line.now true }
+    {
+        match self {
+            Look::One(finder) => line == finder.needle(),
+            Look::Many(set) => set.is_line(line),
+        }
+    }
+
+    // Whether some string occurs in the line, which is looked over once.
+    fn stands_in(&self, line: &[u8], meter: &mut Meter) -> bool
+        ensures reported { IsTrue result ↔ Matches (look_expression self.now) line.now false }
+        ensures looked { LooksFor self.now line.now meter.old meter.new }
+    {
+        match self {
+            Look::One(finder) => find_text(finder, line, meter).is_some(),
+            Look::Many(set) => set.stands_in(line, meter),
+        }
+    }
+
+    // The same by steps.
+    fn stands_by_steps(&self, line: &[u8], meter: &mut Meter) -> bool
+        ensures reported { IsTrue result ↔ Matches (look_expression self.now) line.now false }
+        ensures steps { AddsUpTo (length line.now + 1) 0 meter.old meter.new }
+    {
+        match self {
+            Look::One(finder) => step_to_text(finder, line, meter).is_some(),
+            Look::Many(set) => set.stands_by_steps(line, meter),
+        }
+    }
+
+    // The first string at `from` or later, and of those that begin there the longest. An empty
+    // string makes no part.
+    fn occurrence(&self, line: &[u8], from: usize, meter: &mut Meter) -> Option<Span>
+        requires { from ≤ length line.now }
+        ensures reported { FindsPart (look_expression self.now ∷ []) line.now false from result }
+        ensures looked { LooksForPart self.now line.now from result meter.old meter.new }
+    {
+        let finder = match self {
+            Look::One(finder) => finder,
+            Look::Many(set) => return set.occurrence(line, from, meter),
+        };
+        let length = finder.needle().len();
+        if length == 0 {
+            return None;
+        }
+        let start = from + find_text(finder, &line[from..], meter)?;
+        let end = start + length;
+        Some(Span { start, end })
+    }
+
+    // Looks for the first line of a block that has some string.
+    fn first_line(&self, block: &[u8], meter: &mut Meter) -> Sweep
+        requires { IsBlock block.now }
+        ensures passes { (whole : Bool) → PassesUnmatched (look_expression self.now) whole block.now
+            result.start }
+        ensures stops { (whole : Bool) → StopsAt (look_expression self.now) whole block.now result }
+        ensures steps { AddsUpTo 0 result.reached meter.old meter.new }
+    {
+        match self {
+            Look::One(finder) => {
+                let swept = first_line_with(finder, block, meter);
+                Sweep::seen(block, swept)
+            }
+            Look::Many(set) => set.first_line(block, meter),
+        }
+    }
+
+    // The place of that line, where the strings can be on a line. The block is looked over once.
+    fn next_line(&self, block: &[u8], meter: &mut Meter) -> Option<Span>
+        requires block { IsBlock block.now }
+        requires one_line { IsOnLines self.now }
+        ensures reported { FindsMatched (look_expression self.now) false (lines_of block.now) result }
+        ensures within { IfSome result (λ at. (at.start ≤ at.end) × (at.end < length block.now)) }
+        ensures looked { LooksFor self.now block.now meter.old meter.new }
+        ensures steps { AddsUpTo 0 (next_cost block.now result) meter.old meter.new }
+    {
+        let set = match self {
+            Look::One(finder) => return next_line_with(finder, block, meter),
+            Look::Many(set) => set,
+        };
+        let start = set.first_line(block, meter).start;
+        let end = line_end(block, start)?;
+        Some(Span { start, end })
+    }
+
+    // Gives each place the greatest end of the strings that begin there.
+    fn put_ends(&self, line: &[u8], ends: &mut [usize], spare: &mut [usize])
+        requires ends { length ends.old ≡ length line.now }
+        requires spare { length spare.old ≡ length line.now }
+        ensures added { AddsEnds (FoundPast (look_expression self.now ∷ []) line.now false) line.now
+            ends.old ends.new }
+        ensures same_spare { length spare.new ≡ length spare.old }
+    {
+        match self {
+            Look::One(finder) => {
+                if finder.needle().is_empty() {
+                    return;
+                }
+                add_occurrences(finder.needle(), line, ends, spare);
+            }
+            Look::Many(set) => set.put_ends(line, ends),
+        }
+    }
+}
+
+/// A matcher for fixed strings. Contracts see them, and whether the whole line has to be one of them.
+#[derive(Drop)]
+pub struct Strings {
+    look: Look,
+    whole: bool,
+    backoff: ScanBackoff,
+}
+
+impl Model for Strings {
+    ghost use Rattle.re_match.specs.Working.Strings.{StringMatcher};
+
+    ghost Value = { StringMatcher };
+
+    ghost view = { λ s. record { look = s.look; whole = s.whole } };
+}
+
+impl Strings {
+    /// A matcher for the text, in which no byte is special. The only error is that an allocation
+    /// failed.
+    pub fn one(alloc: Global, text: &[u8], whole: bool) -> Result<Strings, AllocError>
+        ensures { IfOk result (λ s. s ≡ record { look = One text.now; whole = whole }) }
+    {
+        let finder = Finder::new(text).into_owned(alloc)?;
+        Ok(Strings::by(Look::One(finder), whole))
+    }
+
+    /// A matcher for the lines of `texts`, in which no byte is special. With `fold` both cases of each
+    /// letter are alike. The errors are those of [`StringSet::new`].
+    pub fn any(alloc: Global, texts: &[u8], fold: bool, whole: bool) -> Result<Strings, AllocError>
+        ensures strings { IfOk result
+            (λ s. IsForSet s.look (record { texts = lines_of texts.now; fold = fold })) }
+        ensures expression { IfOk result (λ s. matched_strings s ≡
+            any_literal (record { texts = lines_of texts.now; fold = fold })) }
+        ensures whole { IfOk result (λ s. s.whole ≡ whole) }
+    {
+        let set = Box::new(alloc, StringSet::new(alloc, texts, fold)?)?;
+        Ok(Strings::by(Look::Many(set), whole))
+    }
+
+    // Its strings are looked for so.
+    fn by(look: Look, whole: bool) -> Strings
+        ensures { result ≡ record { look = look; whole = whole } }
+    {
+        Strings {
+            look,
+            whole,
+            backoff: ScanBackoff::new(LookCost::High),
+        }
+    }
+
+    /// The string, if there is one, which is not empty.
+    pub fn needed(&self) -> Option<&[u8]>
+        ensures { IfSome result (λ text. IsNeeded text.now (matched_strings self.now)) }
+    {
+        match &self.look {
+            Look::One(finder) if !finder.needle().is_empty() => Some(finder.needle()),
+            _ => None,
+        }
+    }
+
+    /// The sets of the first bytes of the string, if there is one, one byte each. The only error is
+    /// that an allocation failed.
+    pub fn needed_sets(&self, alloc: Global) -> Result<Vec<ByteSet>, AllocError>
+        ensures { IfOk result
+            (λ sets. RunIsNeeded (map members sets.items) (matched_strings self.now)) }
+    {
+        match &self.look {
+            Look::One(finder) => {
+                let sets = sets_of(alloc, finder.needle())?;
+                Ok(sets)
+            }
+            Look::Many(_) => Ok(Vec::new(alloc)),
+        }
+    }
+
+    /// How many lines of a block of whole lines are matched, like [`LineMatch::count_matched`]. Where
+    /// it is enough that a line has one string, each byte is passed at most once.
+    pub fn count_lines(&mut self, block: &[u8], meter: &mut Meter) -> u64
+        requires { IsBlock block.now }
+        ensures reported { CountsMatched (matched_strings self.old) self.old.whole
+            (lines_of block.now) result }
+        ensures same { SameMatcher matched_strings (λ s. s.whole) (λ s. 0) self.old self.new }
+        ensures steps { AddsAtMost (length block.now) meter.old meter.new }
+        ensures counted { (text : Text) → self.old.look ≡ One text → IsPartOfLines self.old →
+            1 ≤ length text →
+            meter.new ≡ many_built (length block.now) (many_passed (length block.now) meter.old) }
+    {
+        if self.is_part() {
+            if let Look::One(finder) = &self.look {
+                if !finder.needle().is_empty() {
+                    let count = count_by(finder, block, meter);
+                    meter.add_built(block.len() as u64);
+                    return count;
+                }
+            }
+        }
+        self.count_matched(block, meter)
+    }
+
+    // The matched part if the whole line has to be a string.
+    fn whole_line(&self, line: &[u8], from: usize) -> Option<Span>
+        ensures { FindsPart (matched_strings self.now ∷ []) line.now true from result }
+    {
+        if from > 0 || line.is_empty() || !self.look.is_line(line) {
+            return None;
+        }
+        Some(Span {
+            start: 0,
+            end: line.len(),
+        })
+    }
+
+    // Whether each line that has a string is matched, and a line can have it.
+    fn is_part(&self) -> bool
+        ensures { IsTrue result ↔ IsPartOfLines self.now }
+    {
+        if self.whole {
+            return false;
+        }
+        match &self.look {
+            Look::One(finder) => has_no_newline(finder.needle()),
+            Look::Many(_) => true,
+        }
+    }
+
+    // Whether it is worth while to look ahead in a block now. One string is always looked for.
+    fn should_scan(&self) -> bool {
+        matches!(&self.look, Look::One(_)) || self.backoff.should_scan()
+    }
+
+    // The next part.
+    fn part(&self, line: &[u8], from: usize, meter: &mut Meter) -> Option<Span>
+        requires { from ≤ length line.now }
+        ensures reported { FindsPart (matched_strings self.now ∷ []) line.now self.now.whole from result }
+        ensures within { IfSome result
+            (λ part. (from ≤ part.end) × (part.end ≤ length line.now)) }
+        ensures looked { ((self.now.whole ≡ true) × (meter.new ≡ meter.old))
+            ⊎ LooksForPart self.now.look line.now from result meter.old meter.new }
+    {
+        if self.whole {
+            return self.whole_line(line, from);
+        }
+        self.look.occurrence(line, from, meter)
+    }
+}
+
+impl LineMatch for Strings {
+    ghost use Rattle.re_match.specs.Working.Strings.{matched_strings};
+
+    ghost expression = { λ s. matched_strings s };
+
+    ghost whole = { λ s. s.whole };
+
+    ghost room = { λ s. 0 };
+
+    #[inline(always)]
+    fn is_match(&mut self, line: &[u8], meter: &mut Meter) -> bool
+        ensures reported { IsTrue result ↔ Matches (matched_strings self.old) line.now self.old.whole }
+        ensures steps { AddsAtMost (length line.now + 1) meter.old meter.new }
+        ensures same { self.new ≡ self.old }
+        ensures counted { CountsLook self.old line.now (length line.now + 1) meter.old meter.new }
+    {
+        if self.whole {
+            meter.add_built(line.len() as u64 + 1);
+            return self.look.is_line(line);
+        }
+        let found = self.look.stands_in(line, meter);
+        meter.add_built(line.len() as u64 + 1);
+        found
+    }
+
+    fn is_match_by_steps(&mut self, line: &[u8], meter: &mut Meter) -> bool
+        ensures reported { IsTrue result ↔ Matches (matched_strings self.old) line.now self.old.whole }
+        ensures steps { AddsUpTo (length line.now + 1) 0 meter.old meter.new }
+        ensures same { self.new ≡ self.old }
+    {
+        if self.whole {
+            meter.add_built(line.len() as u64 + 1);
+            return self.look.is_line(line);
+        }
+        self.look.stands_by_steps(line, meter)
+    }
+
+    fn find(&mut self, line: &[u8], from: usize, meter: &mut Meter) -> Option<Span>
+        requires { from ≤ length line.now }
+        ensures reported { FindsPart (matched_strings self.old ∷ []) line.now self.old.whole from result }
+        ensures steps { AddsAtMost (length line.now - from + 1) meter.old meter.new }
+        ensures same { self.new ≡ self.old }
+        ensures counted { CountsPart self.old line.now from result meter.old meter.new }
+    {
+        let found = self.part(line, from, meter);
+        meter.add_built(bytes_to_part(line, from, found));
+        found
+    }
+
+    fn add_ends(&mut self, line: &[u8], ends: &mut [usize], spare: &mut [usize], meter: &mut Meter)
+        requires ends { length ends.old ≡ length line.now }
+        requires spare { length spare.old ≡ length line.now }
+        ensures added { AddsEnds (FoundPast (matched_strings self.old ∷ []) line.now self.old.whole)
+            line.now ends.old ends.new }
+        ensures same_spare { length spare.new ≡ length spare.old }
+        ensures steps { AddsAtMost (length line.now + 1) meter.old meter.new }
+        ensures same { self.new ≡ self.old }
+    {
+        meter.add_built(line.len() as u64 + 1);
+        if self.whole {
+            add_line(self.look.is_line(line), line, ends);
+            return;
+        }
+        self.look.put_ends(line, ends, spare);
+    }
+
+    fn next_matched(&mut self, block: &[u8], meter: &mut Meter) -> Option<Span>
+        requires { IsBlock block.now }
+        ensures reported { FindsMatched (matched_strings self.old) self.old.whole (lines_of block.now)
+            result }
+        ensures within { IfSome result
+            (λ at. (at.start ≤ at.end) × (at.end < length block.now)) }
+        ensures same { SameMatcher matched_strings (λ s. s.whole) (λ s. 0) self.old self.new }
+        ensures steps { AddsAtMost (next_cost block.now result) meter.old meter.new }
+        ensures counted { IsPartOfLines self.old →
+            CountsLook self.old block.now (next_cost block.now result) meter.old meter.new }
+    {
+        if !self.is_part() {
+            return next_by_sweeps(self, block, meter);
+        }
+        let found = self.look.next_line(block, meter);
+        meter.add_built(bytes_to(block, found));
+        found
+    }
+}
+
+impl Sweeps for Strings {
+    ghost use Rattle.re_match.specs.Working.Strings.{matched_strings};
+
+    ghost expression = { λ s. matched_strings s };
+
+    ghost whole = { λ s. s.whole };
+
+    ghost room = { λ s. 0 };
+
+    fn sweep(&self, block: &[u8], meter: &mut Meter) -> Sweep {
+        if !self.should_scan() {
+            return Sweep::none();
+        }
+        let sweep = self.look.first_line(block, meter);
+        self.backoff.note(sweep.start);
+        meter.add_built(sweep.start as u64);
+        sweep
+    }
+
+    #[inline(always)]
+    fn search_after(&mut self, stop: Stop, line: &[u8], meter: &mut Meter) -> bool {
+        match stop {
+            Stop::Unseen => self.is_match(line, meter),
+            Stop::Seen => self.is_match_by_steps(line, meter),
+            Stop::Matched => true,
+        }
+    }
+}
