@@ -16,13 +16,13 @@ CRATES = REPOSITORY / "crates"
 MAKES_METERS = {"re_meter", "re_auto"}
 """The crate whose function `fresh_meter` makes meters, and the one that passes it on."""
 
-MATCHING = {"re_needle", "re_strings", "re_steps", "re_match"}
+MATCHING = {"re_runs", "re_needle", "re_strings", "re_steps", "re_match"}
 """The crates below `re_search` whose functions search bytes."""
 
 SEARCH = {*MATCHING, "re_ends", "re_search"}
 """The crates that search, and count the work of their callers."""
 
-DEFINITIONS = {("grep_io", "re_needle"), ("line_chunks", "re_needle"), ("grep_session", "re_needle"),
+DEFINITIONS = {("grep_io", "re_runs"), ("line_chunks", "re_runs"), ("grep_session", "re_runs"),
                ("grep_core", "re_meter"), ("grep_session", "re_meter"), ("grep_cmd", "re_meter")}
 """Crates that list one of these for its definitions, and name none of its functions in code."""
 
@@ -43,13 +43,13 @@ QUICK = re.compile(r"\bmem(?:r?chr[23]?|mem)\b|\bstd::simd\b|\bFinder\b")
 """What goes over bytes quickly: a search of the toolchain's `memchr`, or a vector."""
 
 MAY_BE_QUICK = {
-    "counted for each look": {"re_needle/text_finder.rt", "re_needle/run_finder.rt"},
-    "looks ask these, and what sets are made of": {"re_needle/alike.rt", "re_needle/lanes.rt", "re_needle/nibbles.rt",
-                                                   "re_needle/probes.rt"},
-    "makes what looks for a needle": {"re_needle/needle.rt", "re_needle/survey.rt", "re_match/strings.rt"},
+    "counted for each look": {"re_runs/text_finder.rt", "re_runs/run_finder.rt"},
+    "looks ask these, and what sets are made of": {"re_runs/alike.rt", "re_runs/lanes.rt", "re_runs/nibbles.rt",
+                                                   "re_runs/probes.rt"},
+    "makes what looks for a needle": {"re_needle/needle.rt", "re_runs/survey.rt", "re_match/strings.rt"},
     "bytes without a stretch on its way, each a step": {"re_auto/beginnings.rt"},
     "the children of a node, each byte a step or passed": {"re_strings/trie.rt"},
-    "splits lines": {"re_needle/newline.rt", "re_needle/block.rt", "grep_io/input/newlines.rt", "grep_io/input/window.rt",
+    "splits lines": {"re_runs/newline.rt", "re_runs/block.rt", "grep_io/input/newlines.rt", "grep_io/input/window.rt",
                      "grep_io/devices/byte_buffer.rt"},
     "looks at patterns, not at lines": {"re_search/filter.rt", "re_search/plain.rt"},
 }

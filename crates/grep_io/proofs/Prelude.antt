@@ -13,7 +13,7 @@ pub use Rattle.grep_io.specs.Written.{GoesOut, StopsWithin, Writes}
 pub use Rattle.grep_io.specs.declared.input.lines.Stage.{Stage}
 pub use Rattle.grep_io.specs.declared.input.lines.Stage.TheVariants.{Ended, Failed, Open}
 pub use Rattle.memchr.specs.Find.{NoneAfter, Nowhere, Passes, is_byte, places, places_between}
-pub use Rattle.re_needle.specs.Working.Blocks.{IsBlock, PassesAll}
+pub use Rattle.re_runs.specs.Working.Blocks.{IsBlock, PassesAll}
 pub use Rattle.re_syntax.specs.Bytes.{Text}
 pub use Rattle.re_syntax.specs.Lines.{HasNoNewline, newline, terminated}
 unfoldable pub use Rattle.re_syntax.specs.Lines.{ended_lines_of, lines_of}

@@ -37,7 +37,7 @@ pub use Rattle.grep_utility.specs.Working.Numbers.{digit_of}
 unfoldable pub use Rattle.grep_utility.specs.Working.Operands.{StandsAt}
 pub use Rattle.grep_utility.specs.Working.Prepared.{HasNumber, IsDue, IsPrepared, due_text}
 pub use Rattle.grep_utility.specs.Working.Returned.{HasReturned}
-pub use Rattle.grep_utility.specs.Working.ServingMatchers.{AreReadAs, IsJoined, ServeFor}
+pub use Rattle.grep_utility.specs.Working.ServingMatchers.{AreGrouped, AreReadAs, IsJoined, ServeFor}
 pub use Rattle.grep_utility.specs.Working.Tokens.{AreUsedUp, drafted, token_of, tokens_from, tokens_left, words_left}
 pub use Rattle.grep_utility.specs.Working.Worked.{BrokenFollows, RowFollows, broken_messages, broken_output, broken_text, broken_words, row_messages, row_output, row_text, row_words}
 pub use Rattle.grep_utility.specs.declared.patterns.FileRead.TheVariants.{Broken, Whole}
@@ -71,7 +71,7 @@ pub use Rattle.re_syntax.specs.declared.fault.FaultKind.{FaultKind}
 pub use Rattle.re_syntax.specs.declared.fault.PatternFault.{PatternFault}
 pub use Rattle.re_syntax.specs.declared.syntax.Syntax.{Syntax}
 pub use Rattle.re_syntax.specs.declared.syntax.Syntax.TheVariants.{Basic}
-pub use Rattle.std.proofs.Common.{All, Any, Bool, Bor, Err, IfOk, IfSome, IsTrue, IsUtf8, List, MatchBool, MatchResult, None, Ok, Option, Result, Some, [], add-one, ap, append-nil, append_assoc, arith, bytes_eq, codes, decimal, drop, drop-cons, encode_utf8, encode_utf8_all, false, get_or, if◌then◌else◌, inl, inr, is_some, le-ltb, length, length-append, lt-ltb, ltb-false, ltb-true, map, min, nat_eq, nat_le, nat_lt, option_map, refl, rules, slice_get, subst, suc, sym, take, take-append-drop, take_all, true, zero, ℕ, ⊎_elim, ◌&&◌, ◌*◌, ◌++◌, ◌+◌, ◌-◌, ◌<◌, ◌^◌, ◌||◌, ◌↔◌, ◌∙◌, ◌∷◌, ◌≡◌, ◌≢◌, ◌≤◌, ◌⊎◌}
+pub use Rattle.std.proofs.Common.{All, Any, Bool, Bor, Err, IfSome, IsTrue, IsUtf8, List, MatchBool, MatchResult, None, Ok, Option, Result, Some, [], add-one, ap, append-nil, append_assoc, arith, bytes_eq, codes, decimal, drop, drop-cons, encode_utf8, encode_utf8_all, false, get_or, if◌then◌else◌, inl, inr, is_some, le-ltb, length, length-append, lt-ltb, ltb-false, ltb-true, map, min, nat_eq, nat_le, nat_lt, option_map, refl, rules, slice_get, subst, suc, sym, take, take-append-drop, take_all, true, zero, ℕ, ⊎_elim, ◌&&◌, ◌*◌, ◌++◌, ◌+◌, ◌-◌, ◌<◌, ◌^◌, ◌||◌, ◌↔◌, ◌∙◌, ◌∷◌, ◌≡◌, ◌≢◌, ◌≤◌, ◌⊎◌}
 pub use Rattle.std.proofs.KnownBytes.{Appends-nil}
 pub use Rattle.std.proofs.lemmas.Bool.{and_from, and_parts, cond-false, cond-true, false_from_ne_true, false≢true}
 pub use Rattle.std.proofs.lemmas.Iterator.Consumers.{YieldsList-from_first, nth_from_yields_List}

@@ -8,6 +8,7 @@ pub mod OperandLemmas
 pub mod ReportingLemmas
 pub mod CommandLemmas
 pub mod ServingLemmas
+pub mod GroupLemmas
 pub mod KnownLemmas
 pub mod FullLemmas
 pub mod WorkedLemmas

@@ -3,6 +3,7 @@
 
 mod command;
 mod files;
+mod joined;
 mod laws;
 mod matchers;
 mod message_texts;

@@ -13,10 +13,11 @@ use std::alloc::{AllocError, Global};
 // How many entries all caches may have together, where each has no less than the least.
 const ALL_STATES: usize = 65_536;
 
-// How many entries the cache of a matcher may have at least, and at most.
+// How many entries the cache of a matcher may have at least.
 const LEAST_STATES: usize = 256;
 
-const MOST_STATES: usize = 16_384;
+/// How many entries it may have at most.
+pub const MOST_STATES: usize = 16_384;
 
 /// How many entries the cache of a matcher may have, for this number of patterns.
 fn states_for(patterns: usize) -> usize

@@ -1,4 +1,4 @@
-//! The matchers of a search: one for all strings together, or one for each pattern.
+//! The matchers of a search: for all patterns together, or one for each.
 ghost use Rattle.std.specs.Prelude.{◌≡◌, ◌+◌, ◌^◌, ◌<◌, ◌≤◌, ◌⊎◌, [], ◌∷◌, nat_lt, IsTrue, IfOk, IfErr, IfSome};
 ghost use Rattle.std.specs.Prelude.{length, map};
 ghost use Rattle.std.specs.Option.{ForSome};
@@ -12,16 +12,17 @@ ghost use Rattle.grep_core.specs.Matchers.{IsFirstRefused};
 ghost use Rattle.grep_core.specs.Working.MatcherLists.{AreMatchers};
 ghost use Rattle.grep_utility.specs.Working.ServingMatchers.{ServeFor, IsJoined, AreReadAs};
 
+use crate::joined::joined_matchers;
 use crate::matchers::matchers_of;
 use grep_core::Options;
-use re_search::{Filter, Matcher, Strings, add_strings, needed_run, needed_strings};
+use re_search::{Filter, Matcher, Strings, add_strings, needed_strings};
 use re_syntax::{FaultKind, MOST_POSITIONS, PatternFault, Syntax, split_file};
 use std::alloc::{AllocError, Global};
 
-/// How many patterns may be looked for one after another; one pass for more of them is quicker.
-const FEW: usize = 7;
+/// How many strings one automaton is quick for, whose needle is a choice of as many runs.
+const FEW: usize = 8;
 
-/// From how many bytes on each string is one pass for several quicker than one for each.
+/// From how many bytes on each string is one pass for several quicker than an automaton.
 const LONG: usize = 5;
 
 /// How many bytes the patterns may have that one pass looks for. They have at most one beginning
@@ -38,9 +39,9 @@ pub struct OwnedSearchers {
     pub needed: Filter,
 }
 
-/// The matchers of a search for the patterns, which are the lines of `texts`: one for each; or one
-/// for all, where each is read as strings, they are many, or the strings are long or looked for as
-/// parts, and `texts` has less than 2^32 - 1 bytes.
+/// The matchers of a search for the patterns, which are the lines of `texts`: one for all that are read as
+/// strings, where that is quicker; one for each, where they are more than eight and each needs a string; else
+/// one automaton for as many as have 4,096 positions together.
 ///
 /// # Errors
 ///
@@ -53,7 +54,44 @@ pub fn searchers_of(
 ) -> Result<OwnedSearchers, (usize, PatternFault)>
     ensures ok { IfOk result
         (λ s. ServeFor syntax options.now (lines_of texts.now) s.matchers.items) }
-    ensures separate { 2 ^ 32 ≤ length texts.now + 1 → IfOk result
+    ensures needed { IfOk result
+        (λ s.
+        ForSome s.needed (λ strings. AreNeeded strings (map matched_expression s.matchers.items))) }
+    ensures err { IfErr result (λ refused. IsOutOfMemory refused.1
+        ⊎ IsFirstRefused syntax options.now.ignore_case (lines_of texts.now) refused.0 refused.1) }
+{
+    let needed = Filter::none();
+    if let Some(strings) = strings_of(alloc, texts, syntax, options) {
+        let Ok(matchers) = joined(alloc, &strings, options) else {
+            let kind = FaultKind::Memory;
+            return Err((0, PatternFault { kind, at: 0 }));
+        };
+        return Ok(OwnedSearchers { matchers, needed });
+    }
+    if has_more_than(FEW, texts) {
+        let each = searchers_of_each(alloc, texts, syntax, options)?;
+        if !each.needed.is_empty() {
+            return Ok(each);
+        }
+    }
+    if has_more_than(1, texts) {
+        if let Some(matchers) = joined_matchers(alloc, texts, syntax, options) {
+            return Ok(OwnedSearchers { matchers, needed });
+        }
+    }
+    // A refused pattern is reported from here.
+    let matchers = matchers_of(alloc, texts, syntax, options)?;
+    Ok(OwnedSearchers { matchers, needed })
+}
+
+/// A matcher for each pattern, and strings that all of them need, if they are known.
+fn searchers_of_each(
+    alloc: Global,
+    texts: &[u8],
+    syntax: Syntax,
+    options: &Options,
+) -> Result<OwnedSearchers, (usize, PatternFault)>
+    ensures ok { IfOk result
         (λ s. AreMatchers syntax options.now (lines_of texts.now) s.matchers.items) }
     ensures needed { IfOk result
         (λ s.
@@ -61,21 +99,13 @@ pub fn searchers_of(
     ensures err { IfErr result (λ refused. IsOutOfMemory refused.1
         ⊎ IsFirstRefused syntax options.now.ignore_case (lines_of texts.now) refused.0 refused.1) }
 {
-    if let Some(strings) = strings_of(alloc, texts, syntax, options) {
-        let Ok(matchers) = joined(alloc, &strings, options) else {
-            let kind = FaultKind::Memory;
-            return Err((0, PatternFault { kind, at: 0 }));
-        };
-        let needed = Filter::none();
-        return Ok(OwnedSearchers { matchers, needed });
-    }
-    match matchers_of(alloc, texts, syntax, options) {
-        Ok(matchers) => {
-            let needed = needed_by(alloc, &matchers);
-            Ok(OwnedSearchers { matchers, needed })
-        }
-        Err(refused) => Err(refused),
-    }
+    let matchers = matchers_of(alloc, texts, syntax, options)?;
+    // Without memory for the filter the search does without one.
+    let needed = match needed_strings(alloc, &matchers) {
+        Ok(filter) => filter,
+        Err(_) => Filter::none(),
+    };
+    Ok(OwnedSearchers { matchers, needed })
 }
 
 /// Whether there are more patterns than this, which are the lines of `texts`.
@@ -85,8 +115,8 @@ pub fn has_more_than(most: usize, texts: &[u8]) -> bool
     split_file(texts).nth(most).is_some()
 }
 
-/// The strings that the patterns are read as, each followed by a newline, where one pass for all of
-/// them is quicker than a matcher for each pattern. `None`: unknown, or out of memory.
+/// The strings that the patterns are read as, each followed by a newline, where one pass for all of them is
+/// quicker than an automaton. `None`: unknown, or out of memory.
 fn strings_of(alloc: Global, texts: &[u8], syntax: Syntax, options: &Options) -> Option<Vec<u8>>
     ensures few { IfSome result (λ _. length texts.now + 1 < 2 ^ 32) }
     ensures some { IfSome result (λ _. 1 ≤ length (lines_of texts.now)) }
@@ -99,7 +129,7 @@ fn strings_of(alloc: Global, texts: &[u8], syntax: Syntax, options: &Options) ->
         return None;
     }
     let strings = read_strings(alloc, texts, syntax, options.ignore_case)?;
-    if !are_quicker(texts, &strings, options.only_matching) {
+    if !are_quicker(&strings, options.only_matching) {
         return None;
     }
     Some(strings)
@@ -126,16 +156,15 @@ fn read_strings(alloc: Global, texts: &[u8], syntax: Syntax, fold: bool) -> Opti
     Some(strings)
 }
 
-/// Whether one pass for the strings is quicker than a matcher for each pattern: the patterns are many,
-/// or the strings are several, and long ones or looked for as parts.
-fn are_quicker(texts: &[u8], strings: &[u8], as_parts: bool) -> bool {
-    if has_more_than(FEW, texts) {
-        return true;
-    }
+/// Whether one pass for the strings is quicker than an automaton: they are several, and many, long or looked
+/// for as parts.
+fn are_quicker(strings: &[u8], as_parts: bool) -> bool {
     if !has_more_than(1, strings) {
         return false;
     }
-    (as_parts && has_more_than(1, texts)) || !split_file(strings).any(|string| string.len() < LONG)
+    as_parts
+        || has_more_than(FEW, strings)
+        || !split_file(strings).any(|string| string.len() < LONG)
 }
 
 /// How many bytes the strings of a pattern may have.
@@ -156,24 +185,4 @@ fn joined(alloc: Global, texts: &[u8], options: &Options) -> Result<Vec<Matcher>
     let mut matchers = Vec::new(alloc);
     matchers.push(Matcher::Strings(strings))?;
     Ok(matchers)
-}
-
-/// What several matchers need: a run of sets if they are few, strings if they are many. There is no
-/// filter for one matcher, if one of them isn't known to need anything, or if an allocation fails.
-fn needed_by(alloc: Global, matchers: &[Matcher]) -> Filter
-    ensures { ForSome result (λ strings. AreNeeded strings (map matched_expression matchers.now)) }
-{
-    if matchers.len() < 2 {
-        return Filter::none();
-    }
-    let needed = if matchers.len() <= FEW {
-        needed_run(alloc, matchers)
-    } else {
-        needed_strings(alloc, matchers)
-    };
-    match needed {
-        Ok(filter) => filter,
-        // An allocation failed. The search does without a filter.
-        Err(_) => Filter::none(),
-    }
 }

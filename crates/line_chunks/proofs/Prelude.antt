@@ -6,7 +6,7 @@ pub use Rattle.line_chunks.specs.Working.Places.{IsPlace}
 pub use Rattle.line_chunks.specs.Working.Sums.{AreSummed, IsSummedTo, chunks_of}
 pub use Rattle.line_chunks.specs.declared.entries.Entry.{Entry}
 pub use Rattle.line_finds.specs.Working.Finds.{AreBelow, Finds, FoundIn, finds_at, no_finds, numbers_at, paired_before, without}
-pub use Rattle.re_needle.specs.Working.Blocks.{IsBlock}
+pub use Rattle.re_runs.specs.Working.Blocks.{IsBlock}
 pub use Rattle.re_syntax.specs.Bytes.{Text}
 pub use Rattle.re_syntax.specs.Lines.{HasNoNewline, newline, terminated}
 unfoldable pub use Rattle.re_syntax.specs.Lines.{lines_of}

@@ -3,7 +3,7 @@ ghost use Rattle.std.specs.Prelude.{◌≡◌, ℕ, ◌+◌, ◌-◌, ◌^◌, �
 ghost use Rattle.std.specs.Prelude.{IfOk, OnErr, map, slice_range};
 ghost use Rattle.std.specs.List.{remove_range};
 ghost use Rattle.re_syntax.specs.Lines.{HasNoNewline, lines_of, terminated};
-ghost use Rattle.re_needle.specs.Working.Blocks.{IsBlock};
+ghost use Rattle.re_runs.specs.Working.Blocks.{IsBlock};
 
 use std::alloc::{AllocError, Global};
 use std::marker::Model;

@@ -1,6 +1,5 @@
 pub mod OneText
 pub mod LiteralLaws
-pub mod NeededSets
 pub mod SetFolded
 pub mod SetMatches
 pub mod SetBlocks

@@ -2,5 +2,6 @@ pub mod Same
 pub mod Literals
 pub mod Strings
 pub mod CachedMatchers
+pub mod Prefilters
 pub mod NextParts
 pub mod Sweeps

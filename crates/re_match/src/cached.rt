@@ -3,14 +3,14 @@
 ghost use Rattle.std.specs.Prelude.{◌≡◌, ℕ, ◌+◌, ◌-◌, ◌<◌, ◌≤◌, ◌↔◌, [], ◌∷◌, true, false, IsTrue, IfOk};
 ghost use Rattle.std.specs.Prelude.{IfErr, IfSome, length, map};
 ghost use Rattle.std.specs.NonZero.{non_zero_usize_get};
-ghost use Rattle.re_syntax.specs.Working.Trees.{expression_of, members};
+ghost use Rattle.re_syntax.specs.Working.Trees.{expression_of};
 ghost use Rattle.re_syntax.specs.Holds.{Matches, positions};
 ghost use Rattle.re_syntax.specs.Profile.{most_positions};
 ghost use Rattle.re_auto.specs.declared.build.BuildFault.TheVariants.{Memory};
 ghost use Rattle.re_auto.specs.Working.Tables.{IsRefused};
 ghost use Rattle.re_auto.specs.Working.StateSets.{IsMadeFor};
 ghost use Rattle.re_auto.specs.Searches.{FindsPart};
-ghost use Rattle.re_needle.specs.Working.Needles.{IsNeeded, RunIsNeeded, IsSettled};
+ghost use Rattle.re_needle.specs.Working.Needles.{IsNeeded, IsSettled};
 ghost use Rattle.re_meter.specs.Meters.{AddsAtMost, AddsUpTo, many_built};
 ghost use Rattle.re_steps.specs.Working.Simulations.{AreSetsFor, AreStartsFor};
 ghost use Rattle.re_steps.specs.Working.Stages.{Cache, Searches, FinishesFrom, IsReadied, mode_for};
@@ -21,13 +21,14 @@ ghost use Rattle.re_match.specs.Working.Sweeps.{LooksOver};
 
 use crate::front_ends::add_line;
 use crate::line_match::LineMatch;
-use crate::prefilter::{NextPart, Prefilter};
+use crate::prefilter::Prefilter;
 use crate::sweeps::{Stop, Sweep, Sweeps, next_by_sweeps};
+use crate::tries::NextPart;
 use re_auto::{Automaton, BuildFault, Meter, Mode, StateSet};
 use re_ends::EndPair;
 use re_steps::{LineSearch, Outcome, SetPair, StartPair, StepTable};
-use re_syntax::{ByteSet, Span, Tree};
-use std::alloc::{AllocError, Global};
+use re_syntax::{Span, Tree};
+use std::alloc::Global;
 use std::marker::Model;
 use std::num::NonZeroUsize;
 
@@ -55,7 +56,7 @@ impl Model for Cached {
     ghost use Rattle.re_syntax.specs.Working.Trees.{expression_of};
     ghost use Rattle.re_syntax.specs.contracts.tree.Tree as e;
     ghost use Rattle.re_auto.specs.contracts.step.state_set.StateSet as s;
-    ghost use Rattle.re_needle.specs.Working.Needles.{IsNeedleFor};
+    ghost use Rattle.re_match.specs.Working.Prefilters.{IsPrefilterFor};
     ghost use Rattle.re_steps.specs.Working.Simulations.{AreSetsFor, AreStartsFor};
     ghost use Rattle.re_ends.specs.Working.EndPairs.{AreEndsFor};
     ghost use Rattle.re_match.specs.Working.CachedMatchers.{CachedMatcher, IsTableFor, cache_in};
@@ -74,7 +75,7 @@ impl Model for Cached {
 
     ghost invariant = { λ c. AreSetsFor (expression_of c.automaton) c.sets ×
         AreStartsFor (expression_of c.automaton) c.starts
-        × IsNeedleFor (expression_of c.automaton) c.prefilter.needle
+        × IsPrefilterFor (expression_of c.automaton) c.prefilter
         × AreEndsFor (expression_of c.automaton) c.back
         × IfSome c.table
         (IsTableFor (expression_of c.automaton) c.whole (non_zero_usize_get c.most)) };
@@ -148,14 +149,6 @@ impl Cached {
         ensures { IfSome result (λ text. IsNeeded text.now (expression_of self.now.tree)) }
     {
         self.prefilter.text()
-    }
-
-    /// The first sets of a run that every matched stretch has; none if no run is known. The only
-    /// error is that an allocation failed.
-    pub fn needed_sets(&self, alloc: Global) -> Result<Vec<ByteSet>, AllocError>
-        ensures { IfOk result (λ sets. RunIsNeeded (map members sets.items) (expression_of self.now.tree)) }
-    {
-        self.prefilter.sets(alloc)
     }
 
     // The mode in which lines are searched.

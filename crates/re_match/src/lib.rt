@@ -10,6 +10,7 @@ mod scan_backoff;
 mod string_set;
 mod strings;
 mod sweeps;
+mod tries;
 
 pub use cached::Cached;
 pub use line_match::LineMatch;

@@ -5,8 +5,8 @@ ghost use Rattle.re_syntax.specs.Holds.{Matches};
 ghost use Rattle.re_syntax.specs.Lines.{lines_of};
 ghost use Rattle.re_auto.specs.Searches.{FindsPart, AddsAtMost};
 ghost use Rattle.re_meter.specs.Meters.{AddsUpTo};
-ghost use Rattle.re_needle.specs.Working.Blocks.{IsBlock, CountsMatched};
-ghost use Rattle.re_needle.specs.Working.Blocks.{FindsMatched, next_cost};
+ghost use Rattle.re_runs.specs.Working.Blocks.{IsBlock, CountsMatched};
+ghost use Rattle.re_runs.specs.Working.Blocks.{FindsMatched, next_cost};
 ghost use Rattle.re_ends.specs.Working.GreatestEnds.{AddsEnds, FoundPast};
 ghost use Rattle.re_match.specs.Working.Same.{SameMatcher};
 

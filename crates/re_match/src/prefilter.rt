@@ -2,53 +2,50 @@
 ghost use Rattle.std.specs.Prelude.{◌≡◌, ℕ, ◌+◌, ◌≤◌, IfOk, IfSome, IsTrue, Some, length, map};
 ghost use Rattle.std.specs.Prelude.{slice_range};
 ghost use Rattle.re_syntax.specs.Expression.{Expression};
-ghost use Rattle.re_syntax.specs.Working.Trees.{expression_of, members};
+ghost use Rattle.re_syntax.specs.Working.Trees.{expression_of};
 ghost use Rattle.re_syntax.specs.Lines.{HasNoNewline};
 ghost use Rattle.re_meter.specs.Meters.{AddsUpTo};
-ghost use Rattle.re_needle.specs.Working.Needles.{IsNeeded, IsNeedleOf, IsNeedleFor, RunIsNeeded};
-ghost use Rattle.re_needle.specs.Working.Needles.{run_of};
+ghost use Rattle.re_needle.specs.Working.Needles.{IsNeeded, IsNeedleFor};
+ghost use Rattle.re_runs.specs.Working.Finders.{runs_of};
 ghost use Rattle.re_needle.specs.Working.Needles.{IsSettled};
-ghost use Rattle.re_needle.specs.Working.Runs.{FindsRun};
+ghost use Rattle.re_runs.specs.Working.Runs.{FindsRun, IsLongestRun};
 ghost use Rattle.re_match.specs.Working.Sweeps.{StopsAt, LooksOver};
 ghost use Rattle.re_match.specs.Working.NextParts.{IsSaid};
-ghost use Rattle.re_needle.specs.Working.Blocks.{IsBlock, PassesUnmatched};
+ghost use Rattle.re_match.specs.Working.Prefilters.{IsPrefilterFor};
+ghost use Rattle.re_runs.specs.Working.Blocks.{IsBlock, PassesUnmatched};
 
 use crate::scan_backoff::ScanBackoff;
 use crate::sweeps::Sweep;
+use crate::tries::{NextPart, next_tried};
 use re_auto::{Automaton, Meter};
-use re_needle::{
-    LookCost, Needle, RunFinder, Swept, first_line_beginning_with, first_line_with_run,
-    has_no_newline,
-};
-use re_steps::{Trial, try_place};
+use re_needle::{LookCost, Needle, bytes_of};
+use re_runs::{RunFinder, Swept, first_line_beginning_with, first_line_with_run, has_no_newline};
 use re_syntax::{ByteSet, Span, Tree};
 use std::alloc::{AllocError, Global};
-
-/// What is known of the next part.
-#[derive(Clone, Copy, Drop)]
-pub enum NextPart {
-    /// It is this one, or there is none.
-    Known(Option<Span>),
-    /// It begins at this place or later, if there is one.
-    Later(usize),
-}
 
 /// What each match of an expression contains, if that is known. It is looked for in lines, and in
 /// blocks where such looks pay.
 #[derive(Drop)]
 pub struct Prefilter {
     needle: Option<Needle>,
+    // Bytes, among which are all of each match.
+    bytes: ByteSet,
     backoff: ScanBackoff,
 }
 
 impl Prefilter {
     /// What each match of the tree contains. The only error is that an allocation failed.
     pub fn of(alloc: Global, tree: &Tree) -> Result<Prefilter, AllocError>
-        ensures { IfOk result (λ p. IsNeedleFor (expression_of tree.now) p.needle) }
+        ensures { IfOk result (IsPrefilterFor (expression_of tree.now)) }
     {
         let needle = Needle::of(alloc, tree)?;
+        let bytes = bytes_of(tree);
         let backoff = ScanBackoff::new(look_cost(&needle));
-        Ok(Prefilter { needle, backoff })
+        Ok(Prefilter {
+            needle,
+            bytes,
+            backoff,
+        })
     }
 
     /// A string that every matched stretch has, if one is known.
@@ -62,21 +59,6 @@ impl Prefilter {
                 Some(text)
             }
             None => None,
-        }
-    }
-
-    /// The first sets of a run that every matched stretch has; none if no run is known. The only
-    /// error is that an allocation failed.
-    pub fn sets(&self, alloc: Global) -> Result<Vec<ByteSet>, AllocError>
-        ensures { (e : Expression) → IsNeedleFor e self.now.needle →
-            IfOk result (λ sets. RunIsNeeded (map members sets.items) e) }
-    {
-        match &self.needle {
-            Some(needle) => {
-                let sets = needle.finder.sets(alloc)?;
-                Ok(sets)
-            }
-            None => Ok(Vec::new(alloc)),
         }
     }
 
@@ -133,8 +115,8 @@ impl Prefilter {
         Sweep::seen(block, swept)
     }
 
-    /// What is known of the next part of the line, where the whole line need not be matched. If each
-    /// match begins with the needle, the needle's places are tried one after another.
+    /// What is known of the next part of the line, where the whole line need not be matched. If the
+    /// needle is not all there is, places before its places are tried one after another.
     #[inline(always)]
     pub fn part(
         &self,
@@ -144,23 +126,22 @@ impl Prefilter {
         meter: &mut Meter,
     ) -> NextPart
         requires within { from ≤ length line.now }
-        requires needle { IsNeedleFor (expression_of automaton.now) self.now.needle }
+        requires right { IsPrefilterFor (expression_of automaton.now) self.now }
         ensures { IsSaid (expression_of automaton.now) line.now from meter.old meter.new result }
     {
         let Some(needle) = &self.needle else {
             return NextPart::Later(from);
         };
-        if needle.is_first && !needle.is_all {
-            return first_tried(needle, automaton, line, from, meter);
+        if !needle.is_all {
+            return next_tried(needle, &self.bytes, automaton, line, from, meter);
         }
         let Some(place) = needle.finder.find(&line[from..], meter) else {
             return NextPart::Known(None);
         };
-        if !needle.is_all {
-            return NextPart::Later(from);
-        }
         let start = from + place;
-        let end = start + needle.finder.len();
+        let Some(end) = needle.finder.longest_end(line, start) else {
+            return NextPart::Later(from);
+        };
         NextPart::Known(Some(Span { start, end }))
     }
 
@@ -185,46 +166,20 @@ impl Prefilter {
     }
 }
 
-// What is known of the next part if each match begins with the needle: its places are tried in turn,
-// until a part is found or a try stays open. A try gets as many steps as bytes were passed before it,
-// and one more.
-fn first_tried(
-    needle: &Needle,
-    automaton: &Automaton,
-    line: &[u8],
-    from: usize,
-    meter: &mut Meter,
-) -> NextPart
-    requires within { from ≤ length line.now }
-    requires needle { IsNeedleOf (expression_of automaton.now) needle.now }
-    requires first { IsTrue needle.now.is_first }
-    ensures { IsSaid (expression_of automaton.now) line.now from meter.old meter.new result }
-{
-    let mut place = from;
-    'places: while place < line.len() {
-        let Some(passed) = needle.finder.find(&line[place..], meter) else {
-            return NextPart::Known(None);
-        };
-        let start = place + passed;
-        match try_place(automaton, line, start, passed + 1, meter) {
-            Trial::Ends(end) => return NextPart::Known(Some(Span { start, end })),
-            Trial::Fails => place = start + 1,
-            Trial::Open => return NextPart::Later(start),
-        }
-    }
-    NextPart::Known(None)
-}
-
 // Whether the run that a look found is in one line. A run of sets may go over a newline.
 fn has_run(finder: &RunFinder, block: &[u8], swept: Swept) -> bool
-    requires { FindsRun block.now (run_of finder.now) swept.place }
-    ensures { IsTrue result → (at : ℕ) × (swept.place ≡ Some at)
-        × HasNoNewline (slice_range block.now at (at + length (run_of finder.now))) }
+    requires { FindsRun block.now (runs_of finder.now) swept.place }
+    ensures { IsTrue result → (at end : ℕ) × (swept.place ≡ Some at)
+        × IsLongestRun block.now (runs_of finder.now) at end
+        × HasNoNewline (slice_range block.now at end) }
 {
     let Some(at) = swept.place else {
         return false;
     };
-    has_no_newline(&block[at..at + finder.len()])
+    let Some(end) = finder.longest_end(block, at) else {
+        return false;
+    };
+    has_no_newline(&block[at..end])
 }
 
 // What it costs to look for the needle.

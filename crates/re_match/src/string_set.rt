@@ -11,12 +11,12 @@ ghost use Rattle.re_match.specs.Working.Sweeps.{StopsAt};
 ghost use Rattle.re_match.specs.declared.sweeps.Stop.TheVariants.{Matched};
 ghost use Rattle.re_strings.specs.Working.Keys.{keys};
 ghost use Rattle.re_auto.specs.Searches.{FindsPart};
-ghost use Rattle.re_needle.specs.Working.Blocks.{IsBlock, IsLineFrom, PassesUnmatched};
+ghost use Rattle.re_runs.specs.Working.Blocks.{IsBlock, IsLineFrom, PassesUnmatched};
 ghost use Rattle.re_ends.specs.Working.GreatestEnds.{AddsEnds, FoundPast};
 
 use crate::sweeps::Sweep;
 use re_auto::Meter;
-use re_needle::line_start;
+use re_runs::line_start;
 use re_strings::{AhoCorasick, table_of};
 use re_syntax::{Span, split_file};
 use std::alloc::{AllocError, Global};

@@ -1,14 +1,13 @@
 //! Search for fixed strings (XCU grep, option `-F`).
 ghost use Rattle.std.specs.Prelude.{◌≡◌, ℕ, ◌+◌, ◌-◌, ◌<◌, ◌≤◌, ◌↔◌, [], ◌∷◌, false, true, IsTrue, IfOk};
-ghost use Rattle.std.specs.Prelude.{IfSome, Bool, ◌⊎◌, length, map};
+ghost use Rattle.std.specs.Prelude.{IfSome, Bool, ◌⊎◌, length};
 ghost use Rattle.re_syntax.specs.Bytes.{Text};
 ghost use Rattle.re_syntax.specs.Holds.{Matches};
-ghost use Rattle.re_syntax.specs.Working.Trees.{members};
 ghost use Rattle.re_syntax.specs.Lines.{lines_of};
 ghost use Rattle.re_meter.specs.Meters.{AddsAtMost, AddsUpTo, many_built, many_passed};
-ghost use Rattle.re_needle.specs.Working.Needles.{IsNeeded, RunIsNeeded};
-ghost use Rattle.re_needle.specs.Working.Blocks.{IsBlock, PassesUnmatched, CountsMatched};
-ghost use Rattle.re_needle.specs.Working.Blocks.{FindsMatched, next_cost};
+ghost use Rattle.re_needle.specs.Working.Needles.{IsNeeded};
+ghost use Rattle.re_runs.specs.Working.Blocks.{IsBlock, PassesUnmatched, CountsMatched};
+ghost use Rattle.re_runs.specs.Working.Blocks.{FindsMatched, next_cost};
 ghost use Rattle.re_match.specs.declared.strings.Look.TheVariants.{One};
 ghost use Rattle.re_match.specs.Working.Strings.{look_expression, matched_strings, IsPartOfLines};
 ghost use Rattle.re_match.specs.Working.Strings.{IsForSet, IsOnLines, LooksFor, CountsLook};
@@ -26,12 +25,13 @@ use crate::string_set::StringSet;
 use crate::sweeps::{Stop, Sweep, Sweeps, next_by_sweeps};
 use memchr::memmem::Finder;
 use re_auto::Meter;
-use re_needle::{
-    LookCost, bytes_to, count_by, find_text, first_line_with, has_no_newline, line_end,
-    next_line_with, sets_of, step_to_text,
+use re_needle::LookCost;
+use re_runs::{
+    bytes_to, count_by, find_text, first_line_with, has_no_newline, line_end, next_line_with,
+    step_to_text,
 };
 use re_strings::add_occurrences;
-use re_syntax::{ByteSet, Span};
+use re_syntax::Span;
 use std::alloc::{AllocError, Global};
 use std::marker::Model;
 
@@ -209,21 +209,6 @@ impl Strings {
         match &self.look {
             Look::One(finder) if !finder.needle().is_empty() => Some(finder.needle()),
             _ => None,
-        }
-    }
-
-    /// The sets of the first bytes of the string, if there is one, one byte each. The only error is
-    /// that an allocation failed.
-    pub fn needed_sets(&self, alloc: Global) -> Result<Vec<ByteSet>, AllocError>
-        ensures { IfOk result
-            (λ sets. RunIsNeeded (map members sets.items) (matched_strings self.now)) }
-    {
-        match &self.look {
-            Look::One(finder) => {
-                let sets = sets_of(alloc, finder.needle())?;
-                Ok(sets)
-            }
-            Look::Many(_) => Ok(Vec::new(alloc)),
         }
     }
 

@@ -6,14 +6,14 @@ ghost use Rattle.re_syntax.specs.Holds.{Matches};
 ghost use Rattle.re_syntax.specs.Lines.{lines_of};
 ghost use Rattle.re_meter.specs.Meters.{AddsAtMost, AddsUpTo};
 ghost use Rattle.re_match.specs.declared.sweeps.Stop.TheVariants.{Unseen, Seen, Matched};
-ghost use Rattle.re_needle.specs.Working.Runs.{look_cost};
+ghost use Rattle.re_runs.specs.Working.Runs.{look_cost};
 ghost use Rattle.re_match.specs.Working.Same.{SameMatcher};
 ghost use Rattle.re_match.specs.Working.Sweeps.{StopsAt, left_for};
-ghost use Rattle.re_needle.specs.Working.Blocks.{IsBlock, PassesUnmatched};
-ghost use Rattle.re_needle.specs.Working.Blocks.{FindsMatched, next_cost};
+ghost use Rattle.re_runs.specs.Working.Blocks.{IsBlock, PassesUnmatched};
+ghost use Rattle.re_runs.specs.Working.Blocks.{FindsMatched, next_cost};
 
 use re_auto::Meter;
-use re_needle::{Swept, bytes_over, line_end};
+use re_runs::{Swept, bytes_over, line_end};
 use re_syntax::Span;
 
 /// What a sweep says of the line at which it stopped.

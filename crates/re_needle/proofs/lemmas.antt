@@ -1,13 +1,7 @@
-pub mod Occurrences
 pub mod NeededLaws
-pub mod RunLaws
+pub mod ByteLaws
 pub mod OutlineLaws
 pub mod ChoiceOutlines
 pub mod NeedleLaws
-pub mod BlockLemmas
-pub mod BegunLines
-pub mod CountedBlocks
-pub mod NextLines
-pub mod NibbleLanes
-pub mod NewlineLaws
-pub mod Looks
+pub mod BranchLaws
+pub mod NeededLines

@@ -1,4 +1,3 @@
-pub mod Runs
 pub mod Outlines
 pub mod Needles
-pub mod Blocks
+pub mod Branches

@@ -2,7 +2,7 @@
 ghost use Rattle.std.specs.Prelude.{◌≡◌, ◌≤◌, length};
 
 use crate::outline_item::OutlineItem;
-use crate::survey::{HALVED, Survey, rank_of};
+use re_runs::{HALVED, Survey, rank_of};
 
 // From how many bytes on a run is long. If one of two runs is long, the longer one is taken; else
 // one that is much rarer takes precedence over a longer one.

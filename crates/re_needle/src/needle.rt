@@ -3,18 +3,17 @@ ghost use Rattle.std.specs.Prelude.{◌≡◌, ◌≤◌, ◌++◌, List, Option
 ghost use Rattle.re_syntax.specs.Bytes.{Bytes, only};
 ghost use Rattle.re_syntax.specs.Expression.{Expression, byte};
 ghost use Rattle.re_syntax.specs.Working.Trees.{expression_of, members};
-ghost use Rattle.re_needle.specs.Working.Needles.{IsNeedleFor};
+ghost use Rattle.re_needle.specs.Working.Needles.{IsNeedleFor, IsRunNeedleFor};
 ghost use Rattle.re_needle.specs.Working.Outlines.{IsOutline, shown};
 
 use crate::choice::{Run, RunKind, best_run};
+use crate::choice_needle::choice_needle;
 use crate::cost::LookCost;
 use crate::leading_sets::leading_sets;
 use crate::outline::add_outline;
 use crate::outline_item::OutlineItem;
-use crate::run_finder::RunFinder;
-use crate::set_finder::SetFinder;
-use crate::survey::rank_of;
 use memchr::memmem::Finder;
+use re_runs::{RunFinder, SetFinder, rank_of};
 use re_syntax::{ByteSet, Tree};
 use std::alloc::{AllocError, Global};
 
@@ -25,54 +24,33 @@ const MANY_SETS: usize = 8;
 // table of ranks counts all bytes from 0xC0 on as common, too.
 const COMMON: u8 = 250;
 
-/// A run of bytes, or of sets of bytes, that every match of an expression contains.
+/// Runs of bytes, or of sets of bytes, one of which every match of an expression contains.
 #[derive(Drop)]
 pub struct Needle {
-    /// Looks for the run.
+    /// Looks for the runs.
     pub finder: RunFinder,
-    /// Whether every match begins with the run.
+    /// Whether every match begins with one.
     pub is_first: bool,
-    /// Whether the matches are exactly the places of the run.
+    /// Whether the matches are exactly the places of the runs.
     pub is_all: bool,
-    /// Whether the run is on most lines of some texts. Then it is looked for over blocks, as long
+    /// Whether they are on most lines of some texts. Then it is looked for over blocks, as long
     /// as lines are passed, and not in each line before a search by kept steps.
     pub is_common: bool,
 }
 
 impl Needle {
-    /// The run to look for, the first of these that every match needs, also in groups and in what
-    /// is repeated once or more: two or more single bytes; a run of small sets that is rare in most
-    /// texts or is all there is; one byte that is not common; a long run of sets of any size; a
-    /// common byte, or a small set that is half as common as a byte of most lines; any run of small
-    /// sets, be it of one. A choice has the sets that its branches begin with, and a set that is
-    /// repeated counts once for each time. `None` if there is none of these. The only error is that
-    /// an allocation failed.
+    /// The runs to look for: of a choice a run of each branch, if these are rare in most texts or
+    /// all there is; else the run of [`run_needle`]. The only error is that an allocation failed.
     pub fn of(alloc: Global, tree: &Tree) -> Result<Option<Needle>, AllocError>
         ensures { IfOk result (IsNeedleFor (expression_of tree.now)) }
     {
-        let mut marks = Vec::new(alloc);
-        add_outline(alloc, tree, &mut marks)?;
-        let bytes = best_run(&marks, RunKind::Bytes);
-        if let Some(needle) = text_needle(alloc, &marks, bytes.start, 2)? {
-            return Ok(Some(needle));
+        if let Tree::Alt(branches) = tree {
+            let found = choice_needle(alloc, branches)?;
+            if found.is_some() {
+                return Ok(found);
+            }
         }
-        let sets = best_run(&marks, RunKind::SmallSets);
-        if let Some(needle) = set_needle(alloc, &marks, sets.start, RunKind::SmallSets, 2, false)? {
-            return Ok(Some(needle));
-        }
-        let single = single_needle(alloc, &marks, bytes, sets)?;
-        if matches!(&single, Some(needle) if !needle.is_common) {
-            return Ok(single);
-        }
-        let wide = best_run(&marks, RunKind::Sets).start;
-        let found = set_needle(alloc, &marks, wide, RunKind::Sets, MANY_SETS, true)?;
-        if found.is_some() {
-            return Ok(found);
-        }
-        if single.is_some() {
-            return Ok(single);
-        }
-        set_needle(alloc, &marks, sets.start, RunKind::SmallSets, 1, true)
+        run_needle(alloc, tree)
     }
 
     /// What the search for it over a block costs.
@@ -82,6 +60,40 @@ impl Needle {
         }
         LookCost::Low
     }
+}
+
+/// The run to look for, the first of these that every match needs, also in groups and in what is
+/// repeated once or more: two or more single bytes; a run of small sets that is rare in most texts or
+/// is all there is; one byte that is not common; a long run of sets of any size; a common byte, or a
+/// small set that is half as common as a byte of most lines; any run of small sets, be it of one. A
+/// choice has the sets that its branches begin with, and a set that is repeated counts once for each
+/// time. `None` if there is none of these. The only error is that an allocation failed.
+pub fn run_needle(alloc: Global, tree: &Tree) -> Result<Option<Needle>, AllocError>
+    ensures { IfOk result (IsRunNeedleFor (expression_of tree.now)) }
+{
+    let mut marks = Vec::new(alloc);
+    add_outline(alloc, tree, &mut marks)?;
+    let bytes = best_run(&marks, RunKind::Bytes);
+    if let Some(needle) = text_needle(alloc, &marks, bytes.start, 2)? {
+        return Ok(Some(needle));
+    }
+    let sets = best_run(&marks, RunKind::SmallSets);
+    if let Some(needle) = set_needle(alloc, &marks, sets.start, RunKind::SmallSets, 2, false)? {
+        return Ok(Some(needle));
+    }
+    let single = single_needle(alloc, &marks, bytes, sets)?;
+    if matches!(&single, Some(needle) if !needle.is_common) {
+        return Ok(single);
+    }
+    let wide = best_run(&marks, RunKind::Sets).start;
+    let found = set_needle(alloc, &marks, wide, RunKind::Sets, MANY_SETS, true)?;
+    if found.is_some() {
+        return Ok(found);
+    }
+    if single.is_some() {
+        return Ok(single);
+    }
+    set_needle(alloc, &marks, sets.start, RunKind::SmallSets, 1, true)
 }
 
 // The needle of the single bytes from a mark on, if there are at least `least`.
@@ -94,7 +106,7 @@ fn text_needle(
     requires start { start ≤ length marks.now }
     requires some { 1 ≤ least }
     ensures { IfOk result
-        (λ found. (e : Expression) → IsOutline (map shown marks.now) e → IsNeedleFor e found) }
+        (λ found. (e : Expression) → IsOutline (map shown marks.now) e → IsRunNeedleFor e found) }
 {
     let bytes = leading_bytes(alloc, &marks[start..])?;
     if bytes.len() < least {
@@ -122,7 +134,7 @@ fn single_needle(
     requires bytes { bytes.start ≤ length marks.now }
     requires sets { sets.start ≤ length marks.now }
     ensures { IfOk result
-        (λ found. (e : Expression) → IsOutline (map shown marks.now) e → IsNeedleFor e found) }
+        (λ found. (e : Expression) → IsOutline (map shown marks.now) e → IsRunNeedleFor e found) }
 {
     if !sets.is_rarer(bytes) {
         return text_needle(alloc, marks, bytes.start, 1);
@@ -151,14 +163,16 @@ fn set_needle(
     requires start { start ≤ length marks.now }
     requires some { 1 ≤ least }
     ensures { IfOk result
-        (λ found. (e : Expression) → IsOutline (map shown marks.now) e → IsNeedleFor e found) }
+        (λ found. (e : Expression) → IsOutline (map shown marks.now) e → IsRunNeedleFor e found) }
 {
     let sets = leading_sets(alloc, &marks[start..], of)?;
     if sets.len() < least {
         return Ok(None);
     }
     let is_all = !is_common && sets.len() == marks.len();
-    let Some(finder) = SetFinder::new(sets) else {
+    let mut runs = Vec::new(alloc);
+    runs.push(sets)?;
+    let Some(finder) = SetFinder::new(alloc, runs)? else {
         return Ok(None);
     };
     if !is_common && !is_all && !finder.is_selective() {

@@ -127,8 +127,8 @@ fn add_turns(marks: &mut Vec<OutlineItem>, set: ByteSet, turns: u16) -> Result<(
     Ok(())
 }
 
-// Joins the sets place by place, as far as both lists have one.
-fn join(front: &mut Vec<ByteSet>, sets: &[ByteSet])
+/// Joins the sets place by place, as far as both lists have one.
+pub fn join(front: &mut Vec<ByteSet>, sets: &[ByteSet])
     ensures { AreJoined (map members front.old.items) (map members sets.now)
         (map members front.new.items) }
 {

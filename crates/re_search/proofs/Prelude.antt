@@ -2,19 +2,18 @@
 pub use Rattle.memchr.specs.Find.{IsFirstByte, is_byte}
 pub use Rattle.re_auto.specs.Searches.{AllAnswer, DecidesMatchOfAll, FindsPart, FindsPartOfAll, SameMatchers, SomeMatches, searches_for}
 pub use Rattle.re_ends.specs.Working.GreatestEnds.{AddsEnds, FoundPast}
-pub use Rattle.re_match.specs.Working.Literals.{any_literal}
+pub use Rattle.re_match.specs.Working.Literals.{Literals, any_literal}
 pub use Rattle.re_match.specs.Working.Same.{SameMatcher}
 pub use Rattle.re_match.specs.declared.sweeps.Stop.{Stop}
 pub use Rattle.re_match.specs.declared.sweeps.Stop.TheVariants.{Matched, Seen, Unseen}
 pub use Rattle.re_match.specs.declared.sweeps.Sweep.{Sweep}
 pub use Rattle.re_meter.specs.Meters.{Adds, AddsUpTo, CountsAtMost, counted, refused_more, with_refusal}
-pub use Rattle.re_needle.specs.Working.Blocks.{CountsMatched, FindsMatched, IsLineFrom}
-pub use Rattle.re_needle.specs.Working.Needles.{IsNeeded, RunIsNeeded, StandsBetween}
-pub use Rattle.re_needle.specs.Working.Runs.{set_at}
+pub use Rattle.re_runs.specs.Working.Blocks.{CountsMatched, FindsMatched, IsLineFrom}
+pub use Rattle.re_needle.specs.Working.Needles.{IsNeeded, StandsBetween}
 pub use Rattle.re_search.specs.Reading.{IsNotSpelled, IsReadable, IsRefusedFor}
 pub use Rattle.re_search.specs.Working.Blocks.{CountsMatchedByAll, StopsNear, left_for_all}
 pub use Rattle.re_search.specs.Working.Courses.{AreAnswers, AreEnds, AreLimits, HasTaken, IsAnswer, IsKnownOf, IsReady, KeepsOthers, passes, passes_before, refusals}
-pub use Rattle.re_search.specs.Working.Filters.{AreNeeded, IsCoveredBy, NeedsOneOf, PassesByFilter}
+pub use Rattle.re_search.specs.Working.Filters.{AreNeeded, NeedsOneOf, PassesByFilter}
 pub use Rattle.re_search.specs.Working.Matchers.{matched_expression}
 pub use Rattle.re_search.specs.Working.Searchers.{SameSearchers, expressions_by, sought_by}
 pub use Rattle.re_search.specs.Working.Sought.{FindsSought, IsSought, PassesUnsought, Sought}
@@ -22,11 +21,10 @@ pub use Rattle.re_search.specs.Working.Strings.{AddsEach, AddsStrings, string_ex
 pub use Rattle.re_search.specs.declared.course.Course.{Course}
 pub use Rattle.re_search.specs.declared.course.Known.{Known}
 pub use Rattle.re_search.specs.declared.course.Known.TheVariants.{Ends, Nothing, Refused}
-pub use Rattle.re_search.specs.declared.filter.Needed.{Needed}
 pub use Rattle.re_search.specs.declared.kept.PartAnswer.{PartAnswer}
 pub use Rattle.re_search.specs.declared.matcher.Matcher.{Matcher}
 pub use Rattle.re_search.specs.declared.searchers.Searchers.{Searchers}
-pub use Rattle.re_syntax.specs.Bytes.{Bytes, Text, nothing, union}
+pub use Rattle.re_syntax.specs.Bytes.{Text}
 pub use Rattle.re_syntax.specs.Expression.{Expression, alt, alt_more, alt_none, begin, byte, cat, cat_more, cat_none, choice, empty, end, none_of, one_of, repeat, sequence}
 pub use Rattle.re_syntax.specs.Holds.{Holds, Matches, copies, folded, positions}
 pub use Rattle.re_syntax.specs.Lines.{HasNoNewline, newline, terminated}
@@ -35,18 +33,17 @@ pub use Rattle.re_syntax.specs.Parts.{IsFound, IsPart}
 pub use Rattle.re_syntax.specs.Profile.{most_positions}
 pub use Rattle.re_syntax.specs.Spelled.{IsMeant, IsSpelled, as_fixed, has_limit}
 pub use Rattle.re_syntax.specs.Working.Counted.{HasPositions}
-pub use Rattle.re_syntax.specs.Working.Trees.{expression_of, members}
-pub use Rattle.re_syntax.specs.declared.bytes.ByteSet.{ByteSet}
+pub use Rattle.re_syntax.specs.Working.Trees.{expression_of}
 pub use Rattle.re_syntax.specs.declared.fault.FaultKind.TheVariants.{TooLarge}
 pub use Rattle.re_syntax.specs.declared.fault.PatternFault.{PatternFault}
 pub use Rattle.re_syntax.specs.declared.span.Span.{Span}
 pub use Rattle.re_syntax.specs.declared.syntax.Syntax.{Syntax}
 pub use Rattle.re_syntax.specs.declared.syntax.Syntax.TheVariants.{Basic, Extended, Fixed}
 pub use Rattle.re_syntax.specs.declared.tree.Tree.{the_lemmas}
-pub use Rattle.std.proofs.Common.{All, Any, Bool, IfSome, IsTrue, List, None, Option, Some, [], add-one, ap, append-nil, append_assoc, arith, drop, drop-drop, eq-eqb, false, get_or, if◌then◌else◌, inl, inr, is_some, length, length-append, length-drop, lt-ltb, map, min, mul-le-mul_left, mul-le-mul_right, nat_lt, refl, replicate, rules, set, slice_index, slice_range, slice_set, subst, sym, take, take-suc, take_all, true, true≢false, ℕ, ◌*◌, ◌++◌, ◌+◌, ◌-◌, ◌<◌, ◌^◌, ◌||◌, ◌↔◌, ◌∙◌, ◌∷◌, ◌≡◌, ◌≢◌, ◌≤◌, ◌⊎◌}
-pub use Rattle.std.proofs.Math.Seq.{get_or-append_seam, map-set_same}
-pub use Rattle.std.proofs.lemmas.Bool.{cases_lt, false≢true, or_left, or_right}
-pub use Rattle.std.proofs.lemmas.List.{get_or-map, get_or-replicate, get_or_append_left, get_or_default, get_or_past, length-map, length-replicate, map-append, take_rest, with_items_is}
+pub use Rattle.std.proofs.Common.{All, Any, Bool, IfSome, IsTrue, List, None, Option, Some, [], add-one, ap, append-nil, append_assoc, arith, drop, drop-drop, eq-eqb, false, get_or, if◌then◌else◌, inl, inr, is_some, length, length-append, length-drop, lt-ltb, map, min, mul-le-mul_left, mul-le-mul_right, nat_lt, refl, replicate, rules, set, slice_index, slice_range, slice_set, subst, sym, take, take-suc, take_all, true, true≢false, ℕ, ◌*◌, ◌++◌, ◌+◌, ◌-◌, ◌<◌, ◌^◌, ◌↔◌, ◌∙◌, ◌∷◌, ◌≡◌, ◌≢◌, ◌≤◌, ◌⊎◌}
+pub use Rattle.std.proofs.Math.Seq.{map-set_same}
+pub use Rattle.std.proofs.lemmas.Bool.{cases_lt, false≢true}
+pub use Rattle.std.proofs.lemmas.List.{get_or-map, get_or-replicate, get_or_default, get_or_past, length-map, length-replicate, map-append, take_rest, with_items_is}
 pub use Rattle.std.proofs.lemmas.List.Elements.{All-append, All-cons, All-from_get_or, All-head, All-map, All-nil, All-push, All-tail}
 pub use Rattle.std.proofs.lemmas.Option.{IfSome_then}
 pub use Rattle.std.proofs.lemmas.Result.{IfErr-weaker, IfOk-weaker}

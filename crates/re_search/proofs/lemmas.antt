@@ -1,7 +1,7 @@
 -- what the crates above use of the crates below
-pub use Rattle.re_needle.proofs.lemmas.BlockLemmas
-pub use Rattle.re_needle.proofs.lemmas.CountedBlocks
-pub use Rattle.re_needle.proofs.lemmas.NextLines
+pub use Rattle.re_runs.proofs.lemmas.BlockLemmas
+pub use Rattle.re_runs.proofs.lemmas.CountedBlocks
+pub use Rattle.re_runs.proofs.lemmas.NextLines
 pub use Rattle.re_match.proofs.lemmas.LiteralLaws
 pub mod PartOfBoth
 pub mod WithPartsMatchers
@@ -10,7 +10,6 @@ pub mod KeptMatchers
 pub mod OneMatcher
 pub mod SearchedBlocks
 pub mod FilterLaws
-pub mod RunFilters
 pub mod PlainLaws
 pub mod KeptAnswers
 pub mod CourseLaws

@@ -8,13 +8,11 @@ ghost use Rattle.re_syntax.specs.Holds.{Matches};
 ghost use Rattle.re_syntax.specs.Lines.{lines_of, newline, HasNoNewline};
 ghost use Rattle.re_auto.specs.Searches.{AllAnswer, SameMatchers, DecidesMatchOfAll};
 ghost use Rattle.re_meter.specs.Meters.{AddsUpTo};
-ghost use Rattle.re_needle.specs.Working.Blocks.{IsBlock, PassesAll};
+ghost use Rattle.re_runs.specs.Working.Blocks.{IsBlock, PassesAll};
 ghost use Rattle.re_search.specs.Working.Blocks.{StopsNear};
 ghost use Rattle.re_search.specs.Working.Filters.{AreNeeded, NeedsOneOf, PassesByFilter, LacksAll};
-ghost use Rattle.re_search.specs.Working.Filters.{IsCoveredBy};
-ghost use Rattle.re_search.specs.declared.filter.Needed.{Needed};
-ghost use Rattle.re_syntax.specs.Working.Trees.{members};
-ghost use Rattle.re_needle.specs.Working.Needles.{IsNeeded, RunIsNeeded};
+ghost use Rattle.re_match.specs.Working.Literals.{Literals};
+ghost use Rattle.re_needle.specs.Working.Needles.{IsNeeded};
 ghost use Rattle.re_search.specs.Working.Matchers.{matched_expression};
 ghost use Rattle.re_match.specs.Working.Same.{SameMatcher};
 
@@ -22,55 +20,27 @@ use crate::matcher::Matcher;
 use memchr::memchr;
 use re_auto::Meter;
 use re_match::{LineMatch, ScanBackoff, StringSet, Sweep};
-use re_needle::{LookCost, SetFinder, first_line_with_sets};
-use re_syntax::ByteSet;
+use re_needle::LookCost;
 use std::alloc::{AllocError, Global};
 use std::cell::Cell;
 use std::marker::Model;
 
-/// What is looked for before several matchers are asked. A line that has nothing of it is matched by
-/// none of them.
-#[derive(Drop)]
-pub enum Needed {
-    /// One of these strings.
-    Strings(StringSet),
-    /// A run of sets of bytes. It is looked for in blocks alone.
-    Run(SetFinder),
-}
-
-impl Needed {
-    // Looks for the first line of a block of whole lines that has some of it.
-    fn first_line(&self, block: &[u8], meter: &mut Meter) -> Sweep
-        requires { IsBlock block.now }
-        ensures passes { PassesAll (LacksAll self.now) block.now result.start }
-        ensures stops { StopsNear block.now result }
-        ensures steps { AddsUpTo 0 result.reached meter.old meter.new }
-    {
-        match self {
-            Needed::Strings(strings) => strings.first_line(block, meter),
-            Needed::Run(finder) => {
-                let swept = first_line_with_sets(finder, block, meter);
-                Sweep::seen(block, swept)
-            }
-        }
-    }
-}
-
-/// What several matchers need, if that is known. Contracts see it as that.
+/// Strings, one of which every line has that some of several matchers match, if they are known.
+/// Contracts see them.
 // Lines one after another often match the same pattern, so the matcher that matched last and those
 // after it are asked first.
 #[derive(Drop)]
 pub struct Filter {
-    needed: Option<Needed>,
+    needed: Option<StringSet>,
     likely: Cell<usize>,
     backoff: ScanBackoff,
 }
 
 impl Model for Filter {
     ghost use Rattle.std.specs.Prelude.{Option};
-    ghost use Rattle.re_search.specs.declared.filter.Needed.{Needed};
+    ghost use Rattle.re_match.specs.Working.Literals.{Literals};
 
-    ghost Value = { Option Needed };
+    ghost Value = { Option Literals };
 
     ghost view = { λ f. f.needed };
 }
@@ -87,8 +57,8 @@ impl Filter {
         }
     }
 
-    // They need this.
-    fn of(needed: Needed) -> Filter
+    // They need one of these.
+    fn of(needed: StringSet) -> Filter
         ensures { result ≡ Some needed }
     {
         Filter {
@@ -98,27 +68,22 @@ impl Filter {
         }
     }
 
-    // Whether nothing is known.
-    pub(crate) fn is_empty(&self) -> bool
+    /// Whether nothing is known.
+    pub fn is_empty(&self) -> bool
         ensures { IsTrue result ↔ self.now ≡ None }
     {
         self.needed.is_none()
     }
 
-    // Whether strings are known, which are looked for in single lines too.
-    pub(crate) fn has_strings(&self) -> bool {
-        matches!(&self.needed, Some(Needed::Strings(_)))
-    }
-
     // Whether no string occurs in the line, which is looked over once. If so, it counts a step for each
     // of its bytes and one more; else none, since the matchers are asked then.
     pub(crate) fn rules_out(&self, line: &[u8], meter: &mut Meter) -> bool
-        ensures reported { IsTrue result → (needed : Needed) × (self.now ≡ Some needed)
-            × LacksAll needed line.now }
+        ensures reported { IsTrue result → (strings : Literals) × (self.now ≡ Some strings)
+            × LacksAll strings line.now }
         ensures steps { AddsUpTo (length line.now + 1) (length line.now) meter.old meter.new }
         ensures none { result ≡ false → AddsUpTo 0 (length line.now) meter.old meter.new }
     {
-        let Some(Needed::Strings(strings)) = &self.needed else {
+        let Some(strings) = &self.needed else {
             return false;
         };
         if strings.stands_in(line, meter) {
@@ -128,21 +93,21 @@ impl Filter {
         true
     }
 
-    // Passes the lines of a block of whole lines before the first with something that is needed, if
-    // that is known, and it is worth while to look ahead now.
+    // Passes the lines of a block of whole lines before the first with a needed string, if some are
+    // known, and it is worth while to look ahead now.
     pub(crate) fn sweep(&self, block: &[u8], meter: &mut Meter) -> Sweep
         requires { IsBlock block.now }
         ensures passes { PassesByFilter self.now block.now result.start }
         ensures stops { StopsNear block.now result }
         ensures steps { AddsUpTo result.start result.reached meter.old meter.new }
     {
-        let Some(needed) = &self.needed else {
+        let Some(strings) = &self.needed else {
             return Sweep::none();
         };
         if !self.backoff.should_scan() {
             return Sweep::none();
         }
-        let sweep = needed.first_line(block, meter);
+        let sweep = strings.first_line(block, meter);
         self.backoff.note(sweep.start);
         meter.add_built(sweep.start as u64);
         sweep
@@ -227,53 +192,7 @@ pub fn needed_strings(alloc: Global, matchers: &[Matcher]) -> Result<Filter, All
         return Ok(Filter::none());
     };
     let strings = StringSet::new(alloc, &texts, false)?;
-    Ok(Filter::of(Needed::Strings(strings)))
-}
-
-/// A run of sets of bytes that every matched line has. There is none if a matcher is not known to
-/// need a run, or if such runs are common. The only error is that an allocation failed.
-pub fn needed_run(alloc: Global, matchers: &[Matcher]) -> Result<Filter, AllocError>
-    ensures { IfOk result
-        (λ filter. ForSome filter (λ needed. AreNeeded needed (map matched_expression matchers.now))) }
-{
-    let sets = joined_sets(alloc, matchers)?;
-    let Some(finder) = SetFinder::new(sets) else {
-        return Ok(Filter::none());
-    };
-    if !finder.is_selective() {
-        return Ok(Filter::none());
-    }
-    Ok(Filter::of(Needed::Run(finder)))
-}
-
-// At each place the bytes of all matchers' runs, up to the end of the shortest.
-fn joined_sets(alloc: Global, matchers: &[Matcher]) -> Result<Vec<ByteSet>, AllocError>
-    ensures { IfOk result
-        (λ sets. All (RunIsNeeded (map members sets.items)) (map matched_expression matchers.now)) }
-{
-    let mut sets = match matchers.first() {
-        Some(first) => first.needed_sets(alloc)?,
-        None => Vec::new(alloc),
-    };
-    'matchers: for place in 1..matchers.len() {
-        let own = matchers[place].needed_sets(alloc)?;
-        sets = united(alloc, &sets, &own)?;
-    }
-    Ok(sets)
-}
-
-// At each place the bytes of both runs, up to the end of the shorter.
-fn united(alloc: Global, one: &[ByteSet], other: &[ByteSet]) -> Result<Vec<ByteSet>, AllocError>
-    ensures one { IfOk result
-        (λ sets. IsCoveredBy (map members one.now) (map members sets.items)) }
-    ensures other { IfOk result
-        (λ sets. IsCoveredBy (map members other.now) (map members sets.items)) }
-{
-    let mut sets = Vec::new(alloc);
-    'places: for place in 0..one.len().min(other.len()) {
-        sets.push(one[place].union(other[place]))?;
-    }
-    Ok(sets)
+    Ok(Filter::of(strings))
 }
 
 // One needed string for each matcher, each followed by a newline. `None` if a matcher is not known

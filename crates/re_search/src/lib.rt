@@ -2,6 +2,7 @@
 //! above use of one matcher is passed on.
 #![tactic(auto)]
 
+mod choice;
 mod course;
 mod filter;
 mod kept;
@@ -10,8 +11,9 @@ mod plain;
 mod searchers;
 mod several;
 
+pub use choice::Choice;
 pub use course::Course;
-pub use filter::{Filter, needed_run, needed_strings};
+pub use filter::{Filter, needed_strings};
 pub use matcher::Matcher;
 pub use plain::add_strings;
 pub use re_auto::Meter;

@@ -1,12 +1,12 @@
 //! Matchers made from the texts of patterns.
 ghost use Rattle.std.specs.Prelude.{◌≡◌, ◌+◌, ◌-◌, ◌<◌, ◌≤◌, ◌↔◌, ◌⊎◌, [], ◌∷◌, true, false, IsTrue};
 ghost use Rattle.std.specs.Prelude.{IfOk, IfErr, IfSome, length, map};
-ghost use Rattle.re_syntax.specs.Working.Trees.{expression_of, members};
+ghost use Rattle.re_syntax.specs.Working.Trees.{expression_of};
 ghost use Rattle.re_syntax.specs.Holds.{Matches, positions};
 ghost use Rattle.re_syntax.specs.Working.Counted.{HasPositions};
 ghost use Rattle.re_syntax.specs.Profile.{most_positions, most_states};
 ghost use Rattle.re_syntax.specs.Spelled.{IsSpelled, IsMeant, has_limit};
-ghost use Rattle.re_needle.specs.Working.Needles.{IsNeeded, RunIsNeeded};
+ghost use Rattle.re_needle.specs.Working.Needles.{IsNeeded};
 ghost use Rattle.re_search.specs.Reading.{IsSmallFor, IsReadable, IsOutOfMemory, IsNotSpelled};
 ghost use Rattle.re_search.specs.Reading.{IsRefusedFor};
 ghost use Rattle.re_search.specs.Working.Matchers.{matched_expression, wants_whole, is_fixed};
@@ -21,10 +21,10 @@ use crate::plain::string_of;
 use re_auto::Meter;
 use re_match::{Cached, LineMatch, Strings};
 use re_syntax::{
-    ByteSet, FaultKind, MOST_POSITIONS, PatternFault, Span, Syntax, Tree, basic_positions,
+    FaultKind, MOST_POSITIONS, PatternFault, Span, Syntax, Tree, basic_positions,
     extended_positions, read_basic, read_extended, read_fixed,
 };
-use std::alloc::{AllocError, Global};
+use std::alloc::Global;
 use std::num::NonZeroUsize;
 
 /// A matcher of any kind. The large ones are boxed, so that a matcher is moved and dropped as a
@@ -96,18 +96,6 @@ impl Matcher {
         match self {
             Matcher::Strings(strings) => strings.needed(),
             Matcher::Cached(cached) => cached.needed(),
-        }
-    }
-
-    /// The first sets of a run that every matched stretch has; none if no run is known. The only
-    /// error is that an allocation failed.
-    pub fn needed_sets(&self, alloc: Global) -> Result<Vec<ByteSet>, AllocError>
-        ensures { IfOk result
-            (λ sets. RunIsNeeded (map members sets.items) (matched_expression self.now)) }
-    {
-        match self {
-            Matcher::Strings(strings) => strings.needed_sets(alloc),
-            Matcher::Cached(cached) => cached.needed_sets(alloc),
         }
     }
 }
@@ -239,8 +227,8 @@ fn small_matcher(
     stepping_matcher(alloc, tree, whole, states)
 }
 
-// The matcher that steps the automaton of a tree that is not too large. Its one fault is `Memory`.
-fn stepping_matcher(
+/// The matcher that steps the automaton of a tree that is not too large. Its one fault is `Memory`.
+pub(crate) fn stepping_matcher(
     alloc: Global,
     tree: Tree,
     whole: bool,
@@ -275,17 +263,40 @@ fn meant_tree(alloc: Global, text: &[u8], syntax: Syntax, fold: bool) -> Result<
     ensures refused { IfErr result
         (λ fault. IsOutOfMemory fault ⊎ IsRefusedFor syntax fold text.now fault) }
 {
-    let count = match spelled_positions(text, syntax) {
-        Ok(count) => count,
-        Err(fault) => return Err(fault),
-    };
-    if count > MOST_POSITIONS {
+    checked_positions(text, syntax, fold)?;
+    built_tree(alloc, text, syntax, fold)
+}
+
+/// How many positions the text has, as a pattern. They are at most 4,096 if their number is limited.
+pub(crate) fn checked_positions(
+    text: &[u8],
+    syntax: Syntax,
+    fold: bool,
+) -> Result<usize, PatternFault>
+    ensures counted { IfOk result (HasPositions syntax text.now) }
+    ensures small { IfOk result (λ count. IsTrue (has_limit syntax fold) → count ≤ most_positions) }
+    ensures refused { IfErr result
+        (λ fault. IsOutOfMemory fault ⊎ IsRefusedFor syntax fold text.now fault) }
+{
+    let count = spelled_positions(text, syntax)?;
+    if count > MOST_POSITIONS && is_limited(syntax, fold) {
         return Err(fault_at_first(FaultKind::TooLarge));
     }
-    let tree = match spelled_tree(alloc, text, syntax) {
-        Ok(tree) => tree,
-        Err(fault) => return Err(fault),
-    };
+    Ok(count)
+}
+
+/// The tree of the text's meaning.
+pub(crate) fn built_tree(
+    alloc: Global,
+    text: &[u8],
+    syntax: Syntax,
+    fold: bool,
+) -> Result<Tree, PatternFault>
+    ensures meant { IfOk result (λ tree. IsMeant syntax fold text.now (expression_of tree)) }
+    ensures refused { IfErr result
+        (λ fault. IsOutOfMemory fault ⊎ IsRefusedFor syntax fold text.now fault) }
+{
+    let tree = spelled_tree(alloc, text, syntax)?;
     if fold {
         return Ok(re_syntax::fold(tree));
     }
@@ -318,8 +329,8 @@ pub(crate) fn spelled_tree(alloc: Global, text: &[u8], syntax: Syntax) -> Result
     }
 }
 
-// A fault of the whole text, reported at its first place.
-fn fault_at_first(kind: FaultKind) -> PatternFault
+/// A fault of the whole text, reported at its first place.
+pub(crate) fn fault_at_first(kind: FaultKind) -> PatternFault
     ensures { result ≡ record { kind = kind; at = 0 } }
 {
     PatternFault { kind, at: 0 }

@@ -7,9 +7,7 @@ ghost use Rattle.re_search.specs.Working.Matchers.{matched_expression, wants_who
 
 use crate::several::{assert_steps, block_of, ends_of};
 use re_auto::fresh_meter;
-use re_search::{
-    Filter, LineMatch, Matcher, Searchers, Strings, Syntax, needed_run, needed_strings,
-};
+use re_search::{Choice, Filter, LineMatch, Matcher, Searchers, Strings, Syntax, needed_strings};
 use re_syntax::split_file;
 use std::alloc::{AllocError, Global};
 use std::process::Abort;
@@ -259,18 +257,23 @@ fn assert_together(rt: &impl Abort, alloc: Global, row: &Together) -> Result<(),
     assert_asked(rt, alloc, &mut matchers, &none, row)
 }
 
-// Before the matchers a run is looked for that all need.
-fn assert_with_run(rt: &impl Abort, alloc: Global, row: &Together) -> Result<(), Fail> {
-    let mut matchers = all_made(alloc, row.0)?;
-    let needed = needed_run(alloc, &matchers)?;
-    assert_asked(rt, alloc, &mut matchers, &needed, row)
+// One automaton is stepped for all.
+fn assert_joined(rt: &impl Abort, alloc: Global, row: &Together) -> Result<(), Fail> {
+    let mut choice = Choice::new(alloc);
+    for text in split_file(row.0) {
+        assert!(rt; choice.add(alloc, text, Syntax::Extended, false)?);
+    }
+    let matcher = choice.into_matcher(alloc, false, 64)?;
+    let mut matchers = Vec::new(alloc);
+    matchers.push(matcher)?;
+    assert_asked(rt, alloc, &mut matchers, &Filter::none(), row)
 }
 
 #[test]
 fn searchers_find_and_count_together(rt: HostRuntime) -> Result<(), Fail> {
     for row in together() {
         assert_together(&rt, rt.alloc(), row)?;
-        assert_with_run(&rt, rt.alloc(), row)?;
+        assert_joined(&rt, rt.alloc(), row)?;
     }
     Ok(())
 }

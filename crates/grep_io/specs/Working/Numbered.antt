@@ -3,7 +3,7 @@ use Rattle.std.specs.Prelude.{◌≡◌, ℕ, ◌+◌, ◌≤◌, Bool, true, fa
 use Rattle.std.specs.Prelude.{Option, Result, Ok, Err}
 use Rattle.re_syntax.specs.Bytes.{Text}
 use Rattle.re_syntax.specs.Lines.{lines_of}
-use Rattle.re_needle.specs.Working.Blocks.{IsBlock}
+use Rattle.re_runs.specs.Working.Blocks.{IsBlock}
 use Rattle.grep_io.specs.declared.input.lines.ReadFault.{ReadFault}
 use Rattle.grep_io.specs.declared.input.lines.ReadFault.TheVariants.{Device, Memory}
 use Rattle.grep_io.specs.File.{Ending, whole, broken}

@@ -3,7 +3,7 @@ ghost use Rattle.std.specs.Prelude.{◌≡◌, ◌+◌, ◌≤◌, [], ◌++◌,
 ghost use Rattle.std.specs.Prelude.{IsTrue, false, length, take};
 ghost use Rattle.re_syntax.specs.Bytes.{Text};
 ghost use Rattle.re_syntax.specs.Lines.{lines_of};
-ghost use Rattle.re_needle.specs.Working.Blocks.{IsBlock};
+ghost use Rattle.re_runs.specs.Working.Blocks.{IsBlock};
 ghost use Rattle.grep_io.specs.Reading.{IsOneLineAndFew, most_lines};
 ghost use Rattle.grep_io.specs.Working.Held.{HasWholeLine};
 ghost use Rattle.grep_io.specs.Working.LineReader.{HandsOut, IsUsedUp, IsCutOff, RunsOutOfMemory};

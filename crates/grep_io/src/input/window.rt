@@ -4,7 +4,7 @@ ghost use Rattle.std.specs.Prelude.{OnErr, IfSome, MatchBool, length, take, drop
 ghost use Rattle.std.specs.Prelude.{slice_range, vec_len};
 ghost use Rattle.re_syntax.specs.Bytes.{Text};
 ghost use Rattle.re_syntax.specs.Lines.{newline, HasNoNewline};
-ghost use Rattle.re_needle.specs.Working.Blocks.{IsBlock, PassesAll};
+ghost use Rattle.re_runs.specs.Working.Blocks.{IsBlock, PassesAll};
 ghost use Rattle.grep_io.specs.Counted.{PullConsumes, Counts};
 ghost use Rattle.grep_io.specs.Working.Refilled.{Refilled};
 ghost use Rattle.grep_io.specs.Reading.{IsOneLineAndFew};
@@ -13,7 +13,7 @@ ghost use Rattle.grep_io.specs.Working.Held.{LastLineFits};
 
 use crate::devices::counted::CountedRead;
 use memchr::memrchr;
-use re_needle::first_newline;
+use re_runs::first_newline;
 use std::alloc::{AllocError, Global};
 use std::marker::Model;
 

@@ -40,7 +40,7 @@ choice_positions fold (t ∷ u ∷ ts) = all (t ∷ u ∷ ts)
     all (t ∷ ts) = omega (arith, literal_positions fold t, length-append t (newline ∷ terminated ts), all ts)
 
 module _ (line : Text) (i j : ℕ) where
-  abbrev Here : Expression → Type 0
+  abbrev pub Here : Expression → Type 0
   Here e = Holds line e i j
 
   -- a choice holds where some branch does
@@ -50,23 +50,23 @@ module _ (line : Text) (i j : ℕ) where
   choice_holds (e ∷ f ∷ es) some = alt-holds line i j (e ∷ f ∷ es)
 
   -- some of two lists is some of the one or of the other
-  of_either : (ds es : List Expression) → Any Here (ds ++ es) → Any Here ds ⊎ Any Here es
+  pub of_either : (ds es : List Expression) → Any Here (ds ++ es) → Any Here ds ⊎ Any Here es
   of_either [] es a = inr a
   of_either (d ∷ ds) es a = elim (Any-cases Here d (ds ++ es) a) [
     | inl h ↦ inl (Any-first Here d ds h)
     | inr later ↦ elim (of_either ds es later) [ inl h ↦ inl (Any-later Here d ds h) | inr h ↦ inr h ]
   ]
 
-  of_first : (ds es : List Expression) → Any Here ds → Any Here (ds ++ es)
+  pub of_first : (ds es : List Expression) → Any Here ds → Any Here (ds ++ es)
   of_first [] es a = absurd (Any-none Here a)
   of_first (d ∷ ds) es a = elim (Any-cases Here d ds a) [ inl h ↦ Any-first Here d (ds ++ es) h | inr later ↦ Any-later Here d (ds ++ es) (of_first ds es later) ]
 
-  of_second : (ds es : List Expression) → Any Here es → Any Here (ds ++ es)
+  pub of_second : (ds es : List Expression) → Any Here es → Any Here (ds ++ es)
   of_second [] es a = a
   of_second (d ∷ ds) es a = Any-later Here d (ds ++ es) (of_second ds es a)
 
 -- more expressions after others of the same choice
-more_choices : (ds es fs : List Expression) (m : Expression) → IsSameChoice ds es → 1 ≤ length fs → m ≡ choice fs → IsSameChoice (ds ++ fs) (es ++ m ∷ [])
+pub more_choices : (ds es fs : List Expression) (m : Expression) → IsSameChoice ds es → 1 ≤ length fs → m ≡ choice fs → IsSameChoice (ds ++ fs) (es ++ m ∷ [])
 more_choices ds es fs m same some is line i j = (to, back)
   where
     to : Any (Here line i j) (ds ++ fs) → Any (Here line i j) (es ++ m ∷ [])
@@ -87,7 +87,7 @@ more_choices ds es fs m same some is line i j = (to, back)
 pub none_read : (syntax : Syntax) (fold : Bool) → AreReadAs syntax fold [] []
 none_read syntax fold = record { es = []; meant = tt; same = λ line i j. (λ a. a, λ a. a); readable = λ i d lt. absurd (omega (arith, lt)) }
 
-meant_more : (syntax : Syntax) (fold : Bool) (texts : List Text) (es : List Expression) (t : Text) (e : Expression) → AllZip (λ t e. IsMeant syntax fold t e) texts es → IsMeant syntax fold t e
+pub meant_more : (syntax : Syntax) (fold : Bool) (texts : List Text) (es : List Expression) (t : Text) (e : Expression) → AllZip (λ t e. IsMeant syntax fold t e) texts es → IsMeant syntax fold t e
     → AllZip (λ t e. IsMeant syntax fold t e) (texts ++ t ∷ []) (es ++ e ∷ [])
 meant_more syntax fold [] [] t e all is = (is, tt)
 meant_more syntax fold [] (f ∷ es) t e all is = absurd all
@@ -110,7 +110,7 @@ next_read syntax fold done strings text old new read adds small =
       readable = All-push (IsReadable syntax fold) done text read.readable (m, spelled, λ limited. omega (arith, ap positions is, choice_positions fold added, small limited));
     }
 
-as_many : (syntax : Syntax) (fold : Bool) (texts : List Text) (es : List Expression) → AllZip (λ t e. IsMeant syntax fold t e) texts es → length es ≡ length texts
+pub as_many : (syntax : Syntax) (fold : Bool) (texts : List Text) (es : List Expression) → AllZip (λ t e. IsMeant syntax fold t e) texts es → length es ≡ length texts
 as_many syntax fold [] [] all = refl
 as_many syntax fold [] (e ∷ es) all = absurd all
 as_many syntax fold (t ∷ texts) [] all = absurd all

@@ -1,5 +1,5 @@
 -- The matchers that a search uses for the patterns of a request.
-use Rattle.std.specs.Prelude.{◌≡◌, ◌≤◌, Bool, List, [], ◌∷◌, length, map, All}
+use Rattle.std.specs.Prelude.{◌≡◌, ◌≤◌, ◌+◌, Bool, List, [], ◌∷◌, ◌++◌, length, map, All}
 use Rattle.std.specs.List.{AllZip}
 use Rattle.re_syntax.specs.declared.syntax.Syntax.{Syntax}
 use Rattle.re_syntax.specs.Bytes.{Text}
@@ -22,6 +22,17 @@ pub record ServeFor (syntax : Syntax) (options : Options) (texts : List Text)
   pub meant : AreMeant syntax options texts es
   pub same : IsSameChoice (map matched_expression matchers) es
   pub fewer : length (map matched_expression matchers) ≤ length es
+  pub wholes : AllAnswer options.line_regexp (map wants_whole matchers)
+  pub readable : All (IsReadable syntax options.ignore_case) texts
+
+-- matchers and a choice of expressions that no matcher has yet: together they are the same choice as
+-- what the patterns mean, and no more than these; each pattern is readable
+pub record AreGrouped (syntax : Syntax) (options : Options) (texts : List Text)
+    (matchers : List Matcher) (choice : List Expression) : Type 0 where
+  pub es : List Expression
+  pub meant : AreMeant syntax options texts es
+  pub same : IsSameChoice (map matched_expression matchers ++ choice) es
+  pub fewer : length matchers + length choice ≤ length es
   pub wholes : AllAnswer options.line_regexp (map wants_whole matchers)
   pub readable : All (IsReadable syntax options.ignore_case) texts
 

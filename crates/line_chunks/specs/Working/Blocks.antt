@@ -2,7 +2,7 @@
 use Rattle.std.specs.Prelude.{◌≡◌, ℕ, ◌+◌, ◌^◌, ◌≤◌, List, [], ◌∷◌, length}
 use Rattle.re_syntax.specs.Bytes.{Text}
 use Rattle.re_syntax.specs.Lines.{lines_of}
-use Rattle.re_needle.specs.Working.Blocks.{IsBlock}
+use Rattle.re_runs.specs.Working.Blocks.{IsBlock}
 
 -- where each of the lines begins, if the first begins at `from`
 abbrev pub starts_from : ℕ → List Text → List ℕ

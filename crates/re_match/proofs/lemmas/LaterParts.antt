@@ -1,15 +1,15 @@
 -- Parts that begin at a known place or later.
-use Rattle.re_match.proofs.Prelude.{ℕ, ◌+◌, ◌-◌, ◌<◌, ◌≤◌, inl, inr, subst, false, IsTrue, [], ◌∷◌, length, drop, Option, Some, None, arith, cases_eq, dec_le, Text, Expression, Holds, IsFound, IsPart, Span, FindsPart, Needle, FindsRun, IsNeedleOf, run_of, IsLongest, HasNone, BeginsLater}
+use Rattle.re_match.proofs.Prelude.{RunStandsAt, ◌≡◌, ◌∙◌, sym, false≢true, slice_index, Bytes, HasBytesOf, ℕ, ◌+◌, ◌-◌, ◌<◌, ◌≤◌, inl, inr, subst, false, IsTrue, [], ◌∷◌, length, drop, Option, Some, None, arith, cases_eq, dec_le, Text, Expression, Holds, IsFound, IsPart, Span, FindsPart, Needle, FindsRun, IsNeedleOf, runs_of, IsLongest, HasNone, BeginsLater}
 use Rattle.re_syntax.proofs.lemmas.Decisions.{Any-first}
 use Rattle.re_syntax.proofs.lemmas.SomeOfJoined.{Any-single}
-use Rattle.re_needle.proofs.lemmas.RunLaws.{run_rest, run_whole}
+use Rattle.re_runs.proofs.lemmas.RunLaws.{run_rest, run_whole, stands_within}
 
 module _ (e : Expression) (line : Text) (from : ℕ) where
   -- where each match begins with the needle, none begins before the needle's next place
-  pub later_by_needle : (needle : Needle) → IsNeedleOf e needle → IsTrue needle.is_first → (k : ℕ) → from ≤ length line → FindsRun (drop from line) (run_of needle.finder) (Some k) → BeginsLater e line from (from + k)
+  pub later_by_needle : (needle : Needle) → IsNeedleOf e needle → IsTrue needle.is_first → (k : ℕ) → from ≤ length line → FindsRun (drop from line) (runs_of needle.finder) (Some k) → BeginsLater e line from (from + k)
   later_by_needle needle of first k within (next, o) =
-      let there = run_whole (run_of needle.finder) line from k within o in
-      (omega arith, omega (arith, there.fits), not_before)
+      let there = run_whole (runs_of needle.finder) line from k within o in
+      (omega arith, stands_within line (runs_of needle.finder) (from + k) there, not_before)
     where
       not_before : (i j : ℕ) → IsFound (e ∷ []) line false from i j → from + k ≤ i
       not_before i j f =
@@ -18,14 +18,40 @@ module _ (e : Expression) (line : Text) (from : ℕ) where
           let high = next.high in
           elim (dec_le k (i - from)) [
             | yes h ↦ omega (arith, h, begins)
-            | no h ↦ absurd (next.before (i - from) (omega arith) (omega (arith, h)) (run_rest (run_of needle.finder) line from i begins stands))
+            | no h ↦ absurd (next.before (i - from) (omega arith) (omega (arith, h)) (run_rest (runs_of needle.finder) line from i begins stands))
+          ]
+
+  -- Where all bytes of a match are in a set, none begins before the bytes of the set that come directly
+  -- before the needle's next place.
+  pub later_by_bytes : (needle : Needle) → IsNeedleOf e needle → (set : Bytes) → HasBytesOf set e → ((x : ℕ) → slice_index line x < 256) → (k start : ℕ) → from ≤ length line
+      → FindsRun (drop from line) (runs_of needle.finder) (Some k) → from < start → start ≤ from + k → set (slice_index line (start - 1)) ≡ false → BeginsLater e line from start
+  later_by_bytes needle of set bytes small k start within (next, o) low high outside =
+      let there = run_whole (runs_of needle.finder) line from k within o in
+      (omega (arith, low), omega (arith, stands_within line (runs_of needle.finder) (from + k) there, high), not_before)
+    where
+      not_before : (i j : ℕ) → IsFound (e ∷ []) line false from i j → start ≤ i
+      not_before i j f =
+          let begins : from ≤ i = f.begins in
+          let holds = Any-single (λ x. Holds line x i j) e f.holds in
+          let (m, after, (n, run, lt, at, (there, inside))) = of.needed line i j f.on_line holds in
+          let some : 1 ≤ length run = subst (λ r. 1 ≤ length r) at (of.some n run lt) in
+          let stands : RunStandsAt line (runs_of needle.finder) m = (n, run, lt, at, there) in
+          let far = next.high in
+          elim (dec_le start i) [
+            | yes h ↦ h
+            | no h ↦ elim (dec_le k (m - from)) [
+              | yes late ↦ absurd (false≢true (sym outside ∙ bytes line small i j holds (start - 1) (omega (arith, h, low)) (omega (arith, late, inside, some, high, after, begins, low))))
+              | no early ↦ absurd (next.before (m - from) (omega arith) (omega (arith, early)) (run_rest (runs_of needle.finder) line from m (omega (arith, begins, after)) stands))
+            ]
           ]
 
   -- the needle has a byte there
-  pub needle_inside : (needle : Needle) → IsNeedleOf e needle → (k : ℕ) → from ≤ length line → FindsRun (drop from line) (run_of needle.finder) (Some k) → from + k < length line
+  pub needle_inside : (needle : Needle) → IsNeedleOf e needle → (k : ℕ) → from ≤ length line → FindsRun (drop from line) (runs_of needle.finder) (Some k) → from + k < length line
   needle_inside needle of k within (next, o) =
-      let there = run_whole (run_of needle.finder) line from k within o in
-      let some = of.some in omega (arith, there.fits, some)
+      let there = run_whole (runs_of needle.finder) line from k within o in
+      let (n, run, lt, at, is) = there in
+      let some : 1 ≤ length run = subst (λ r. 1 ≤ length r) at (of.some n run lt) in
+      omega (arith, is.fits, some)
 
   -- the next part from that later place on is the next part
   pub later_part : (start : ℕ) (found : Option Span) → BeginsLater e line from start → FindsPart (e ∷ []) line false start found → FindsPart (e ∷ []) line false from found

@@ -3,7 +3,7 @@ use Rattle.re_match.proofs.Prelude.{◌≡◌, ℕ, ◌+◌, ◌-◌, ◌<◌, �
 use Rattle.re_syntax.proofs.lemmas.Decisions.{Any-first}
 use Rattle.re_syntax.proofs.lemmas.FixedStrings.{stands-holds, holds-stands, stands-matches, matches-stands}
 use Rattle.re_syntax.proofs.lemmas.SomeOfJoined.{Any-single}
-use Rattle.re_needle.proofs.lemmas.Occurrences.{occurs-stands, stands-occurs}
+use Rattle.re_runs.proofs.lemmas.Occurrences.{occurs-stands, stands-occurs}
 
 -- the place after a text at a place
 place_after : (line text : Text) (i j : ℕ) → i < j → j ≤ length line → drop i line ≡ text ++ drop j line → j ≡ i + length text

@@ -1,6 +1,6 @@
 -- Lines of a block that have none of many strings.
 use Rattle.re_match.proofs.Prelude.{ℕ, Bool, true, false, length, get_or, arith, ◌≡◌, suc, ◌+◌, ◌≤◌, List, [], ◌∷◌, ◌++◌, map, take, drop, Some, None, sym, ap, ◌∙◌, subst, length-append, Text, Expression, PassesUnmatched, IsBlock, PassesAll, ⊤, Matches, IsString, Occurs, EndsFirst, Literals, any_literal, key, keys, false≢true, length-map, map-append, take-append-le}
-use Rattle.re_needle.proofs.lemmas.BlockLemmas.{passes_free_block, passes_free_front}
+use Rattle.re_runs.proofs.lemmas.BlockLemmas.{passes_free_block, passes_free_front}
 use Rattle.re_match.proofs.lemmas.SetMatches.{occurs_decides}
 
 -- ---- parts of longer texts

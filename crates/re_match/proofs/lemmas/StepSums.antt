@@ -1,9 +1,10 @@
 -- Steps after steps.
-use Rattle.re_match.proofs.Prelude.{◌≡◌, ℕ, ◌+◌, ◌-◌, ◌≤◌, Option, length, drop, length-drop, arith, Text, AddsUpTo, many_passed, look_cost}
-use Rattle.re_needle.proofs.lemmas.Looks.{look_within}
+use Rattle.re_match.proofs.Prelude.{sym, subst, ◌≡◌, ℕ, ◌+◌, ◌-◌, ◌≤◌, Option, length, drop, length-drop, arith, Text, AddsUpTo, many_passed, look_cost}
+use Rattle.re_runs.proofs.lemmas.Looks.{look_within}
 use Rattle.re_auto.specs.Meters.{Steps}
 use Rattle.re_auto.specs.Searches.{AddsAtMost}
-use Rattle.re_meter.proofs.lemmas.Adding.{adds_both as both, adds_within as within, adds_passed, only_passed}
+use Rattle.re_meter.proofs.lemmas.Adding.{adds_both as both, adds_within as within, adds_passed, only_passed, built_adds}
+use Rattle.re_meter.specs.Meters.{many_built}
 
 -- steps after steps
 pub adds_both : (first next : ℕ) (old mid new : Steps) → AddsAtMost first old mid → AddsAtMost next mid new → AddsAtMost (first + next) old new
@@ -23,16 +24,20 @@ look_adds steps line from found old new is =
     let few : look_cost (drop from line) found ≤ length line - from + 1 = omega (arith, look_within (drop from line) found, length-drop from line) in
     within 0 steps (length line - from + 1) (length line - from + 1) old new (omega arith) (omega arith) (only_passed (length line - from + 1) (look_cost (drop from line) found) old new few is)
 
--- a look from a place on, and then steps
-pub look_and_steps : (steps bytes next most_steps most_bytes : ℕ) (line : Text) (place : ℕ) (found : Option ℕ) (old mid looked new : Steps) → steps + next ≤ most_steps → bytes + look_cost (drop place line) found ≤ most_bytes
-    → AddsUpTo steps bytes old mid → looked ≡ many_passed (look_cost (drop place line) found) mid → AddsUpTo next 0 looked new → AddsUpTo most_steps most_bytes old new
-look_and_steps steps bytes next most_steps most_bytes line place found old mid looked new few fits a is b =
-    let cost = look_cost (drop place line) found in
-    let none : bytes + cost + 0 ≤ most_bytes = omega (arith, fits) in
-    within (steps + next) most_steps (bytes + cost + 0) most_bytes old new few none (both steps next (bytes + cost) 0 old looked new (adds_passed steps bytes (bytes + cost) cost old mid looked (omega arith) a is) b)
+-- a look, and then steps of one kind
+pub look_and_built : (cost looks most_steps most_bytes : ℕ) (old mid new : Steps) → looks ≤ most_steps → cost ≤ most_bytes → mid ≡ many_passed cost old → new ≡ many_built looks mid → AddsUpTo most_steps most_bytes old new
+look_and_built cost looks most_steps most_bytes old mid new few fits is counted =
+    let none : most_bytes + 0 ≤ most_bytes = omega arith in
+    let no_more : 0 + looks ≤ most_steps = omega (arith, few) in
+    within (0 + looks) most_steps (most_bytes + 0) most_bytes old new no_more none
+    (both 0 looks most_bytes 0 old mid new (only_passed most_bytes cost old mid fits is) (subst (AddsUpTo looks 0 mid) (sym counted) (built_adds looks 0 mid)))
 
--- a look from a place on alone
-pub look_more : (steps bytes most_steps most_bytes : ℕ) (line : Text) (place : ℕ) (found : Option ℕ) (old mid new : Steps) → steps ≤ most_steps → bytes + look_cost (drop place line) found ≤ most_bytes
-    → AddsUpTo steps bytes old mid → new ≡ many_passed (look_cost (drop place line) found) mid → AddsUpTo most_steps most_bytes old new
-look_more steps bytes most_steps most_bytes line place found old mid new few fits a is =
-    within steps most_steps most_bytes most_bytes old new few (omega arith) (adds_passed steps bytes most_bytes (look_cost (drop place line) found) old mid new fits a is)
+-- two looks
+pub looks_twice : (cost more most : ℕ) (old mid new : Steps) → cost + more ≤ most → mid ≡ many_passed cost old → new ≡ many_passed more mid → AddsUpTo 0 most old new
+looks_twice cost more most old mid new fits is counted = adds_passed 0 cost most more old mid new fits (only_passed cost cost old mid (omega arith) is) counted
+
+-- both kinds after both kinds
+pub adds_on : (first next first_bytes next_bytes most_steps most_bytes : ℕ) (old mid new : Steps) → first + next ≤ most_steps → first_bytes + next_bytes ≤ most_bytes
+    → AddsUpTo first first_bytes old mid → AddsUpTo next next_bytes mid new → AddsUpTo most_steps most_bytes old new
+adds_on first next first_bytes next_bytes most_steps most_bytes old mid new few fits a b =
+    within (first + next) most_steps (first_bytes + next_bytes) most_bytes old new few fits (both first next first_bytes next_bytes old mid new a b)

@@ -1,9 +1,11 @@
 -- What a look over a block says of the line in which it stopped.
-use Rattle.re_match.proofs.Prelude.{◌≡◌, ◌∙◌, ℕ, ◌+◌, ◌-◌, ◌<◌, ◌≤◌, ◌++◌, ◌∷◌, inr, Bool, true, false, List, Some, length, take, drop, get_or, slice_range, slice_index, sym, ap, subst, refl, arith, length-take, length-drop, IsTrue, Bytes, Text, Expression, Matches, newline, HasNoNewline, AddsUpTo, IsLineFrom, StopsInLine, PassesUnmatched, IsJustRun, RunStandsAt, look_cost, set_at, Swept, Sweep, Stop, Unseen, Seen, Matched, StopsAt, left_for, dec_le, get_or-drop, get_or-take, get_or-append-add, drop-drop}
+use Rattle.re_match.proofs.Prelude.{◌≡◌, ◌∙◌, ℕ, ◌+◌, ◌-◌, ◌<◌, ◌≤◌, ◌++◌, ◌∷◌, inr, List, Bool, true, false, Some, length, take, drop, get_or, slice_range, slice_index, sym, ap, subst, refl, arith, length-take, length-drop, IsTrue, Text, Expression, Matches, newline, HasNoNewline, AddsUpTo, IsLineFrom, StopsInLine, PassesUnmatched, IsJustRun, Runs, look_cost, set_at, Swept, Sweep, Stop, Unseen, Seen, Matched, StopsAt, left_for, dec_le, get_or-drop, get_or-take, get_or-append-add, drop-drop}
+use Rattle.re_syntax.specs.Bytes.{Bytes}
+use Rattle.re_runs.specs.Working.Runs.{IsLongestRun, IsNoWider, RunIsAt}
 use Rattle.re_meter.specs.Meters.{Steps, AddsAtMost}
 use Rattle.re_meter.proofs.lemmas.Adding.{adds_within, adds_both}
-use Rattle.re_needle.proofs.lemmas.BlockLemmas.{passed_within}
-use Rattle.re_needle.proofs.lemmas.Looks.{look_within}
+use Rattle.re_runs.proofs.lemmas.BlockLemmas.{passed_within}
+use Rattle.re_runs.proofs.lemmas.Looks.{look_within}
 use Rattle.re_needle.proofs.lemmas.NeedleLaws.{settled_says}
 
 -- a look that stopped in a line says that it may be matched
@@ -22,7 +24,7 @@ stops_seen e whole block swept stops = record {
     another same = cc
 
 -- a run without a newline that was found in the block is in the line in which the look stopped
-module _ (block : Text) (run : List Bytes) (start at end : ℕ) (stands : RunStandsAt block run at) (some : 1 ≤ length run) (low : start ≤ at) (near : look_cost block (Some at) ≤ end + 1) (free : HasNoNewline (slice_range block at (at + length run))) (cut : IsLineFrom block start end) where
+module _ (block : Text) (run : List Bytes) (start at end : ℕ) (there : RunIsAt block at run) (some : 1 ≤ length run) (low : start ≤ at) (near : look_cost block (Some at) ≤ end + 1) (free : HasNoNewline (slice_range block at (at + length run))) (cut : IsLineFrom block start end) where
   abbrev pub line : Text
   line = slice_range block start end
 
@@ -30,7 +32,7 @@ module _ (block : Text) (run : List Bytes) (start at end : ℕ) (stands : RunSta
   in_line = elim (dec_le (at + length run) end) [
     | yes fits ↦ fits
     | no far ↦
-        (let fits = stands.fits in
+        (let fits = there.fits in
         let here : at ≤ end = omega (arith, near, fits, some) in
         let piece = slice_range block at (at + length run) in
         let long : length piece ≡ length run = omega (arith, length-take (at + length run - at) (drop at block), length-drop at block, fits) in
@@ -47,8 +49,8 @@ module _ (block : Text) (run : List Bytes) (start at end : ℕ) (stands : RunSta
           sym (ap (λ n. get_or block n 0) place) ∙ sym (get_or-drop start block (length (slice_range block start end) + 0) 0)
           ∙ ap (λ l. get_or l (length (slice_range block start end) + 0) 0) cut.3 ∙ get_or-append-add (slice_range block start end) (newline ∷ drop (end + 1) block) 0 0
 
-  stands_in_line : RunStandsAt line run (at - start)
-  stands_in_line = record {
+  is_in_line : RunIsAt line (at - start) run
+  is_in_line = record {
     fits =
         let long : length line ≡ end - start = omega (arith, length-take (end - start) (drop start block), length-drop start block, cut.1) in
         omega (arith, in_line, low, long, cut.0);
@@ -56,21 +58,22 @@ module _ (block : Text) (run : List Bytes) (start at end : ℕ) (stands : RunSta
         let within : at - start + j < end - start = omega (arith, in_line, low, below) in
         let back : start + (at - start + j) ≡ at + j = omega (arith, low) in
         let same : slice_index line (at - start + j) ≡ slice_index block (at + j) = get_or-take (end - start) (drop start block) (at - start + j) 0 within ∙ get_or-drop start block (at - start + j) 0 ∙ ap (λ n. get_or block n 0) back in
-        subst (λ b. IsTrue (set_at run j b)) (sym same) (stands.takes j below);
+        subst (λ b. IsTrue (set_at run j b)) (sym same) (there.takes j below);
   }
 
-  -- so it is matched, if the expression holds where the run is
-  pub matched_there : (e : Expression) → IsJustRun run e → Matches e line false
-  matched_there e is = (settled_says e line false true (inr (inr (record { run = run; is = is; any = refl; place = at - start; stands = stands_in_line; yes = refl })))).0 refl
-
--- a look that stopped in a line says that it is matched
-pub stops_matched : (e : Expression) (run : List Bytes) (block : Text) (swept : Swept) (at : ℕ) → IsJustRun run e → 1 ≤ length run → swept.place ≡ Some at → RunStandsAt block run at → swept.start ≤ at
-    → HasNoNewline (slice_range block at (at + length run)) → StopsInLine block swept → StopsAt e false block (record { start = swept.start; reached = look_cost block swept.place; stop = Matched })
-stops_matched e run block swept at is some place stands low free stops = record {
+-- a look that stopped in a line says that it is matched, if the expression holds where one of the runs is
+pub stops_matched : (e : Expression) (runs : Runs) (block : Text) (swept : Swept) (at last : ℕ) → IsJustRun runs e → IsNoWider 1 runs → swept.place ≡ Some at → IsLongestRun block runs at last → swept.start ≤ at
+    → HasNoNewline (slice_range block at last) → StopsInLine block swept → StopsAt e false block (record { start = swept.start; reached = look_cost block swept.place; stop = Matched })
+stops_matched e runs block swept at last is wide place longest low free stops = record {
   within = look_within block swept.place;
   near = stops;
   unseen = λ no. absurd (other no);
-  matched = λ _ end cut. matched_there block run swept.start at end stands some low (subst (λ p. look_cost block p ≤ end + 1) place (stops end cut)) free cut e is;
+  matched = λ _ end cut.
+      let (n, run, lt, here, (there, same)) = longest.ends in
+      let some : 1 ≤ length run = subst (λ r. 1 ≤ length r) here (wide n run lt) in
+      let near = subst (λ p. look_cost block p ≤ end + 1) place (stops end cut) in
+      let in_line = is_in_line block run swept.start at end there some low near (subst (λ l. HasNoNewline (slice_range block at l)) same free) cut in
+      (settled_says e (slice_range block swept.start end) false true (inr (inr (record { runs = runs; is = is; any = refl; place = at - swept.start; stands = (n, run, lt, here, in_line); yes = refl })))).0 refl;
 }
   where
     other : Matched ≡ Unseen → ⊥

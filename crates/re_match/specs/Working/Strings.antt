@@ -5,7 +5,7 @@ use Rattle.re_syntax.specs.Expression.{Expression, byte, sequence}
 use Rattle.re_syntax.specs.declared.span.Span.{Span}
 use Rattle.re_syntax.specs.Lines.{HasNoNewline}
 use Rattle.re_meter.specs.Meters.{Steps, many_built}
-use Rattle.re_needle.specs.Working.Blocks.{LooksOnce}
+use Rattle.re_runs.specs.Working.Blocks.{LooksOnce}
 use Rattle.re_match.specs.declared.strings.Look.{Look}
 use Rattle.re_match.specs.declared.strings.Look.TheVariants.{One, Many}
 use Rattle.re_match.specs.Working.Literals.{Literals, any_literal, LooksForAny, ReachesPart}

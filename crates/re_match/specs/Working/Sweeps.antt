@@ -1,13 +1,13 @@
 -- Looks over lines and blocks: what they pass, where a sweep stops, and what is known of the line
 -- there.
-use Rattle.std.specs.Prelude.{◌≡◌, ℕ, ◌+◌, ◌≤◌, ◌⊎◌, Bool, List, Option, min, length, slice_range}
-use Rattle.re_syntax.specs.Bytes.{Bytes, Text}
+use Rattle.std.specs.Prelude.{◌≡◌, ℕ, ◌+◌, ◌≤◌, ◌⊎◌, Bool, Option, min, length, slice_range}
+use Rattle.re_syntax.specs.Bytes.{Text}
 use Rattle.re_syntax.specs.Expression.{Expression}
 use Rattle.re_syntax.specs.Holds.{Matches}
 use Rattle.re_meter.specs.Meters.{Steps, many_passed}
-use Rattle.re_needle.specs.Working.Blocks.{IsLineFrom}
+use Rattle.re_runs.specs.Working.Blocks.{IsLineFrom}
 use Rattle.re_needle.specs.Working.Needles.{RunIsNeeded, RunBegins}
-use Rattle.re_needle.specs.Working.Runs.{FindsRun, look_cost}
+use Rattle.re_runs.specs.Working.Runs.{Runs, FindsRun, longest_of, look_cost}
 use Rattle.re_match.specs.declared.sweeps.Stop.{Stop}
 use Rattle.re_match.specs.declared.sweeps.Stop.TheVariants.{Unseen, Seen, Matched}
 use Rattle.re_match.specs.declared.sweeps.Sweep.{Sweep}
@@ -29,19 +29,19 @@ left_for Matched most = 0
 
 -- ---- looks over a line
 
--- a run that the expression needs was looked for, from the line's first byte on
+-- runs that the expression needs were looked for, from the line's first byte on
 pub record LooksForNeeded (e : Expression) (line : Text) (old new : Steps) : Type 0 where
-  pub run : List Bytes
-  pub needed : RunIsNeeded run e
+  pub runs : Runs
+  pub needed : RunIsNeeded runs e
   pub found : Option ℕ
-  pub finds : FindsRun line run found
+  pub finds : FindsRun line runs found
   pub passed : new ≡ many_passed (look_cost line found) old
 
--- the line's beginning was compared with a run that each match begins with
+-- the line's beginning was compared with runs, with one of which each match begins
 pub record LooksAtFirst (e : Expression) (line : Text) (old new : Steps) : Type 0 where
-  pub run : List Bytes
-  pub begins : RunBegins run e
-  pub passed : new ≡ many_passed (min (length run) (length line)) old
+  pub runs : Runs
+  pub begins : RunBegins runs e
+  pub passed : new ≡ many_passed (min (longest_of runs) (length line)) old
 
 -- the line was looked over once, or not at all
 abbrev pub LooksOver : Expression → Text → Steps → Steps → Type 0

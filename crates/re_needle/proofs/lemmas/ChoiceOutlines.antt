@@ -55,10 +55,10 @@ joined_lead one both line i j few more l =
     }
 
 pub joined_first : (one other both : List Bytes) (e : Expression) → AreJoined one other both → BeginsWith one e → BeginsWith both e
-joined_first one other both e joined begins = λ line i j h. joined_lead one both line i j joined.few.0 joined.first (begins line i j h)
+joined_first one other both e joined begins = λ line i j h. joined_lead one both line i j (omega (arith, joined.long)) joined.first (begins line i j h)
 
 pub joined_second : (one other both : List Bytes) (e : Expression) → AreJoined one other both → BeginsWith other e → BeginsWith both e
-joined_second one other both e joined begins = λ line i j h. joined_lead other both line i j joined.few.1 joined.second (begins line i j h)
+joined_second one other both e joined begins = λ line i j h. joined_lead other both line i j (omega (arith, joined.long)) joined.second (begins line i j h)
 
 -- ---- sets that are joined place by place
 

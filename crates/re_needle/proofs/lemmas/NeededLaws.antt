@@ -2,7 +2,7 @@
 use Rattle.re_needle.proofs.Prelude.{◌≡◌, ℕ, ◌+◌, ◌≤◌, List, [], ◌∷◌, ◌++◌, length, map, drop, refl, sym, subst, arith, append-nil, Text, Expression, byte, cat, sequence, Holds, StandsBetween, IsNeeded}
 use Rattle.re_syntax.proofs.lemmas.FixedStrings.{cat-sequence, sequence-cat, holds-stands}
 use Rattle.re_syntax.proofs.lemmas.HoldsDecided.{Holds-le}
-use Rattle.re_needle.proofs.lemmas.Occurrences.{stands-occurs}
+use Rattle.re_runs.proofs.lemmas.Occurrences.{stands-occurs}
 
 -- a sequence of two lists of members is cut between them
 pub cat_cut : (line : Text) (xs ys : List Expression) (i j : ℕ) → Holds line (cat (xs ++ ys)) i j → (k : ℕ) × Holds line (cat xs) i k × Holds line (cat ys) k j

@@ -1,8 +1,10 @@
 -- Outlines of expressions, and the runs of sets that they make needed.
-use Rattle.re_needle.proofs.Prelude.{◌≡◌, ℕ, zero, suc, ◌+◌, ◌-◌, ◌<◌, ◌≤◌, IsTrue, List, [], ◌∷◌, ◌++◌, length, map, take, drop, get_or, replicate, slice_index, Option, None, Some, Result, Ok, Err, IfOk, refl, sym, ap, ◌∙◌, subst, arith, append_assoc, length-append, length-drop, take-append-drop, length-map, append-nil, map-append, take_more, replicate_more, get_or_from_slice_get, slice_get-get_or, Bytes, Text, Expression, one_of, cat, repeat, expression_of, members, Holds, Turns, ByteSet, Tree, OutlineItem, RunStandsAt, set_at, shown, MarkFits, Fits, AreSetMarks, IsOutline, AddsOutline, AddsTurns, RunIsNeeded, RunBegins, IsJustRun}
+use Rattle.re_needle.proofs.Prelude.{◌≡◌, ℕ, zero, suc, ◌+◌, ◌-◌, ◌<◌, ◌≤◌, IsTrue, List, [], ◌∷◌, ◌++◌, length, map, take, drop, get_or, replicate, slice_index, Option, None, Some, Result, Ok, Err, IfOk, refl, sym, ap, ◌∙◌, subst, arith, append_assoc, length-append, length-drop, take-append-drop, length-map, append-nil, map-append, take_more, replicate_more, get_or_from_slice_get, slice_get-get_or, Bytes, Text, Expression, one_of, cat, repeat, expression_of, members, Holds, Turns, ByteSet, Tree, OutlineItem, one_run, RunIsAt, All, set_at, shown, MarkFits, Fits, AreSetMarks, IsOutline, AddsOutline, AddsTurns, RunIsNeeded, RunBegins, IsJustRun}
 use Rattle.re_syntax.proofs.lemmas.HoldsDecided.{Holds-le, Turns-le}
 use Rattle.re_needle.specs.declared.outline_item.OutlineItem.TheVariants as m
+use Rattle.re_syntax.proofs.lemmas.Decisions.{Any-first}
 use Rattle.re_needle.proofs.lemmas.NeededLaws.{cat_cut}
+use Rattle.re_runs.proofs.lemmas.RunLaws.{one_stands}
 
 -- ---- marks one after another
 
@@ -32,42 +34,40 @@ all_sets (s ∷ run) = (tt, all_sets run)
 
 -- ---- a run of sets, and where it is
 
-one_more : (s : Bytes) (run : List Bytes) (line : Text) (i : ℕ) → IsTrue (s (slice_index line i)) → RunStandsAt line run (i + 1) → RunStandsAt line (s ∷ run) i
-one_more s run line i has o =
-    let fits : i + 1 + length run ≤ length line = o.fits in
-    record { fits = omega (arith, fits); takes = taken }
-  where
-    taken : (j : ℕ) → j < length (s ∷ run) → IsTrue (set_at (s ∷ run) j (slice_index line (i + j)))
-    taken zero below = let place : i ≡ i + 0 = omega arith in subst (λ n. IsTrue (s (slice_index line n))) place has
-    taken (suc j) below =
-        let place : i + 1 + j ≡ i + suc j = omega arith in
-        subst (λ n. IsTrue (set_at run j (slice_index line n))) place (o.takes j (omega (arith, below)))
+abbrev TakesSets : Text → ℕ → List Bytes → Type 0
+TakesSets line k run = (j : ℕ) → j < length run → IsTrue (set_at run j (slice_index line (k + j)))
 
-sets_stand : (line : Text) (run : List Bytes) (i j : ℕ) → j ≤ length line → Fits line (map Some run) i j → RunStandsAt line run i × (j ≡ i + length run)
-sets_stand line [] i j within same = (record { fits = omega (arith, same, within); takes = λ k below. absurd (omega (arith, below)) }, omega (arith, same))
-sets_stand line (s ∷ run) i j within (k, (b, at, has, next), later) =
-    let rest = sets_stand line run k j within later in
+one_more : (s : Bytes) (run : List Bytes) (line : Text) (i : ℕ) → IsTrue (s (slice_index line i)) → TakesSets line (i + 1) run → TakesSets line i (s ∷ run)
+one_more s run line i has takes zero below = let place : i ≡ i + 0 = omega arith in subst (λ n. IsTrue (s (slice_index line n))) place has
+one_more s run line i has takes (suc j) below =
+    let place : i + 1 + j ≡ i + suc j = omega arith in
+    subst (λ n. IsTrue (set_at run j (slice_index line n))) place (takes j (omega (arith, below)))
+
+taken : (line : Text) (run : List Bytes) (i j : ℕ) → Fits line (map Some run) i j → TakesSets line i run × (j ≡ i + length run)
+taken line [] i j same = (λ k below. absurd (omega (arith, below)), omega (arith, same))
+taken line (s ∷ run) i j (k, (b, at, has, next), later) =
+    let rest = taken line run k j later in
     let beyond : j ≡ k + length run = rest.1 in
     let here : slice_index line i ≡ b = get_or_from_slice_get line i b 0 at in
-    (one_more s run line i (subst (λ x. IsTrue (s x)) (sym here) has) (subst (λ n. RunStandsAt line run n) next rest.0), omega (arith, beyond, next))
+    (one_more s run line i (subst (λ x. IsTrue (s x)) (sym here) has) (subst (λ n. TakesSets line n run) next rest.0), omega (arith, beyond, next))
 
-one_less : (s : Bytes) (run : List Bytes) (line : Text) (i : ℕ) → RunStandsAt line (s ∷ run) i → RunStandsAt line run (i + 1)
-one_less s run line i o =
-    let fits : i + suc (length run) ≤ length line = o.fits in record {
-      fits = omega (arith, fits);
-      takes = λ j below.
-          let place : i + suc j ≡ i + 1 + j = omega arith in
-          subst (λ n. IsTrue (set_at run j (slice_index line n))) place (o.takes (suc j) (omega (arith, below)));
-    }
+sets_stand : (line : Text) (run : List Bytes) (i j : ℕ) → j ≤ length line → Fits line (map Some run) i j → RunIsAt line i run × (j ≡ i + length run)
+sets_stand line run i j within fits =
+    let (takes, end) = taken line run i j fits in
+    (record { fits = omega (arith, end, within); takes = takes }, end)
 
-stands_fit : (line : Text) (run : List Bytes) (i : ℕ) → RunStandsAt line run i → Fits line (map Some run) i (i + length run)
-stands_fit line [] i o = let same : i ≡ i + 0 = omega arith in same
-stands_fit line (s ∷ run) i o =
-    let fits : i + suc (length run) ≤ length line = o.fits in
+take_fit : (line : Text) (run : List Bytes) (i : ℕ) → i + length run ≤ length line → TakesSets line i run → Fits line (map Some run) i (i + length run)
+take_fit line [] i fits takes = let same : i ≡ i + 0 = omega arith in same
+take_fit line (s ∷ run) i fits takes =
     let place : i + 0 ≡ i = omega arith in
     let end : i + 1 + length run ≡ i + suc (length run) = omega arith in
-    let has : IsTrue (s (slice_index line i)) = subst (λ n. IsTrue (s (slice_index line n))) place (o.takes 0 (omega arith)) in
-    (i + 1, (slice_index line i, slice_get-get_or line i 0 (omega (arith, fits)), has, refl), subst (λ n. Fits line (map Some run) (i + 1) n) end (stands_fit line run (i + 1) (one_less s run line i o)))
+    let has : IsTrue (s (slice_index line i)) = subst (λ n. IsTrue (s (slice_index line n))) place (takes 0 (omega arith)) in
+    let later : TakesSets line (i + 1) run =
+    λ j below. let next : i + suc j ≡ i + 1 + j = omega arith in subst (λ n. IsTrue (set_at run j (slice_index line n))) next (takes (suc j) (omega (arith, below))) in
+    (i + 1, (slice_index line i, slice_get-get_or line i 0 (omega (arith, fits)), has, refl), subst (λ n. Fits line (map Some run) (i + 1) n) end (take_fit line run (i + 1) (omega (arith, fits)) later))
+
+stands_fit : (line : Text) (run : List Bytes) (i : ℕ) → RunIsAt line i run → Fits line (map Some run) i (i + length run)
+stands_fit line run i is = take_fit line run i is.fits is.takes
 
 -- ---- outlines of parts and of wholes
 
@@ -198,7 +198,7 @@ module _ (marks : List (Option Bytes)) (e : Expression) (outline : IsOutline mar
   cut = sym (take-append-drop start marks) ∙ ap (λ l. take start marks ++ l) stands
 
   -- sets that are neighbours in the outline are needed
-  pub run_needed : RunIsNeeded run e
+  pub run_needed : RunIsNeeded (one_run run) e
   run_needed line i j within h =
       let (k, before, later) = fits_cut line (take start marks) (map Some run ++ rest) i j (subst (λ l. Fits line l i j) cut (outline.fits line i j h)) in
       let (n, here, beyond) = fits_cut line (map Some run) rest k j later in
@@ -206,23 +206,24 @@ module _ (marks : List (Option Bytes)) (e : Expression) (outline : IsOutline mar
       let high : n ≤ j = fits_le line rest n j beyond in
       let found = sets_stand line run k n (omega (arith, high, within)) here in
       let end : n ≡ k + length run = found.1 in
-      (k, low, omega (arith, end, high), found.0)
+      let near : k + length run ≤ j = omega (arith, end, high) in
+      (k, low, Any-first (λ r. RunIsAt line k r × (k + length r ≤ j)) run [] (found.0, near))
 
   -- and where they are the first sets each match begins with them
-  pub run_begins : start ≡ 0 → RunBegins run e
+  pub run_begins : start ≡ 0 → RunBegins (one_run run) e
   run_begins first line i j within h =
       let is : marks ≡ map Some run ++ rest = subst (λ n. drop n marks ≡ map Some run ++ rest) first stands in
       let (n, here, beyond) = fits_cut line (map Some run) rest i j (subst (λ l. Fits line l i j) is (outline.fits line i j h)) in
-      (sets_stand line run i n (omega (arith, fits_le line rest n j beyond, within)) here).0
+      one_stands run line i (sets_stand line run i n (omega (arith, fits_le line rest n j beyond, within)) here).0
 
   lengths : length marks - start ≡ length run + length rest
   lengths = sym (length-drop start marks) ∙ ap length stands ∙ length-append (map Some run) rest ∙ ap (λ n. n + length rest) (length-map run Some)
 
   -- where they are all of it, the expression holds exactly where they are
-  pub just_run : 1 ≤ length run → length run ≡ length marks → IsJustRun run e
+  pub just_run : 1 ≤ length run → length run ≡ length marks → IsJustRun (one_run run) e
   just_run some all = record {
-    stands = λ line i j within h. sets_stand line run i j within (subst (λ l. Fits line l i j) is (outline.fits line i j h));
-    holds = λ line k o. outline.holds (subst AreSetMarks (sym is) (all_sets run)) line k (k + length run) (subst (λ l. Fits line l k (k + length run)) (sym is) (stands_fit line run k o));
+    stands = λ line i j within h. Any-first (λ r. RunIsAt line i r × (j ≡ i + length r)) run [] (sets_stand line run i j within (subst (λ l. Fits line l i j) is (outline.fits line i j h)));
+    holds = holds;
   }
     where
       first : start ≡ 0
@@ -234,6 +235,10 @@ module _ (marks : List (Option Bytes)) (e : Expression) (outline : IsOutline mar
 
       is : marks ≡ map Some run
       is = subst (λ n. drop n marks ≡ map Some run ++ rest) first stands ∙ nothing_more rest (omega (arith, lengths, some, all))
+
+      holds : (line : Text) (k : ℕ) → All (λ r. RunIsAt line k r → Holds line e k (k + length r)) (one_run run)
+      holds line k zero d lt there = outline.holds (subst AreSetMarks (sym is) (all_sets run)) line k (k + length run) (subst (λ l. Fits line l k (k + length run)) (sym is) (stands_fit line run k there))
+      holds line k (suc n) d lt there = absurd (omega (arith, lt))
 
 -- what is added to no mark
 pub outline_alone : (old new : List OutlineItem) (e : Expression) → old ≡ [] → AddsOutline old e new → IsOutline (map shown new) e

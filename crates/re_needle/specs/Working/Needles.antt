@@ -1,14 +1,12 @@
--- Strings, and runs of sets of bytes, that each stretch on which an expression holds contains.
-use Rattle.std.specs.Prelude.{◌≡◌, ℕ, ◌+◌, ◌≤◌, IsTrue, IfSome, List, Option, length, map, ◌⊎◌, Bool, true, false}
-use Rattle.re_syntax.specs.Bytes.{Bytes, Text, only}
+-- Strings, and choices of runs of sets, that each stretch on which an expression holds contains.
+use Rattle.std.specs.Prelude.{◌≡◌, ℕ, ◌+◌, ◌<◌, ◌≤◌, slice_index, IsTrue, IfSome, All, Any, List, Option, length, ◌⊎◌, Bool, true, false}
+use Rattle.re_syntax.specs.Bytes.{Bytes, Text}
 use Rattle.re_syntax.specs.Expression.{Expression}
 use Rattle.re_syntax.specs.Holds.{Holds}
-use Rattle.re_syntax.specs.Working.Trees.{members}
 use Rattle.memchr.specs.Find.{OccursAt}
 use Rattle.re_needle.specs.declared.needle.Needle.{Needle}
-use Rattle.re_needle.specs.declared.run_finder.RunFinder.{RunFinder}
-use Rattle.re_needle.specs.declared.run_finder.RunFinder.TheVariants as r
-use Rattle.re_needle.specs.Working.Runs.{RunStandsAt, LacksRun, BeginsWithout}
+use Rattle.re_runs.specs.Working.Runs.{Runs, one_run, IsNoWider, RunIsAt, RunStandsAt, LacksRun, BeginsWithout}
+use Rattle.re_runs.specs.Working.Finders.{runs_of}
 
 -- the text is in the line between the places i and j
 abbrev pub StandsBetween : Text → Text → ℕ → ℕ → Type 0
@@ -19,64 +17,72 @@ abbrev pub IsNeeded : Text → Expression → Type 0
 IsNeeded text e =
     (line : Text) (i j : ℕ) → j ≤ length line → Holds line e i j → StandsBetween line text i j
 
--- the same for a run of sets
-abbrev pub RunStandsBetween : Text → List Bytes → ℕ → ℕ → Type 0
-RunStandsBetween line run i j = (k : ℕ) × (i ≤ k) × (k + length run ≤ j) × RunStandsAt line run k
+-- the same for a choice of runs
+abbrev pub RunStandsBetween : Text → Runs → ℕ → ℕ → Type 0
+RunStandsBetween line runs i j =
+    (k : ℕ) × (i ≤ k) × Any (λ run. RunIsAt line k run × (k + length run ≤ j)) runs
 
-abbrev pub RunIsNeeded : List Bytes → Expression → Type 0
-RunIsNeeded run e =
-    (line : Text) (i j : ℕ) → j ≤ length line → Holds line e i j → RunStandsBetween line run i j
+abbrev pub RunIsNeeded : Runs → Expression → Type 0
+RunIsNeeded runs e =
+    (line : Text) (i j : ℕ) → j ≤ length line → Holds line e i j → RunStandsBetween line runs i j
 
--- the expression holds exactly where the run is
-pub record IsJustRun (run : List Bytes) (e : Expression) : Type 0 where
+-- the expression holds exactly where one of the runs is
+pub record IsJustRun (runs : Runs) (e : Expression) : Type 0 where
   pub stands : (line : Text) (i j : ℕ) → j ≤ length line → Holds line e i j →
-      RunStandsAt line run i × (j ≡ i + length run)
-  pub holds : (line : Text) (k : ℕ) → RunStandsAt line run k → Holds line e k (k + length run)
+      Any (λ run. RunIsAt line i run × (j ≡ i + length run)) runs
+  pub holds : (line : Text) (k : ℕ) →
+      All (λ run. RunIsAt line k run → Holds line e k (k + length run)) runs
 
--- each stretch on which the expression holds begins with the run
-abbrev pub RunBegins : List Bytes → Expression → Type 0
-RunBegins run e =
-    (line : Text) (i j : ℕ) → j ≤ length line → Holds line e i j → RunStandsAt line run i
+-- each stretch on which the expression holds begins with one of the runs
+abbrev pub RunBegins : Runs → Expression → Type 0
+RunBegins runs e =
+    (line : Text) (i j : ℕ) → j ≤ length line → Holds line e i j → RunStandsAt line runs i
 
--- the run that is looked for: for a string the sets of its single bytes
-abbrev pub run_of : RunFinder → List Bytes
-run_of (r.Text text) = map only text
-run_of (r.Sets sets) = map members sets
+-- each byte of each stretch on which the expression holds is in the set
+abbrev pub HasBytesOf : Bytes → Expression → Type 0
+HasBytesOf set e =
+    (line : Text) → ((x : ℕ) → slice_index line x < 256) → (i j : ℕ) → Holds line e i j →
+    (k : ℕ) → i ≤ k → k < j → IsTrue (set (slice_index line k))
 
--- The expression needs the run. If the needle says that it is first, each match begins with it. If
--- the needle says that it is all, the expression holds exactly where it is.
+-- The expression needs one of the runs. If the needle says that they are first, each match begins with
+-- one. If the needle says that they are all, the expression holds exactly where one is.
 pub record IsNeedleOf (e : Expression) (needle : Needle) : Type 0 where
-  pub needed : RunIsNeeded (run_of needle.finder) e
-  pub some : 1 ≤ length (run_of needle.finder)
-  pub first : IsTrue needle.is_first → RunBegins (run_of needle.finder) e
-  pub all : IsTrue needle.is_all → IsJustRun (run_of needle.finder) e
+  pub needed : RunIsNeeded (runs_of needle.finder) e
+  pub some : IsNoWider 1 (runs_of needle.finder)
+  pub first : IsTrue needle.is_first → RunBegins (runs_of needle.finder) e
+  pub all : IsTrue needle.is_all → IsJustRun (runs_of needle.finder) e
 
 -- the same for a needle, if there is one
 abbrev pub IsNeedleFor : Expression → Option Needle → Type 0
 IsNeedleFor e needle = IfSome needle (λ n. IsNeedleOf e n)
 
+-- and it looks for one run
+abbrev pub IsRunNeedleFor : Expression → Option Needle → Type 0
+IsRunNeedleFor e needle =
+    IfSome needle (λ n. IsNeedleOf e n × (run : List Bytes) × (runs_of n.finder ≡ one_run run))
+
 -- a search has its answer without a step: the line lacks a run of sets that every match has in it;
 -- or it has to be matched as a whole, and does not begin with a run that every match begins with;
 -- or it has the run that is all that matches
 pub record LacksNeeded (e : Expression) (line : Text) (answer : Bool) : Type 0 where
-  pub run : List Bytes
-  pub needed : RunIsNeeded run e
-  pub absent : LacksRun run line
+  pub runs : Runs
+  pub needed : RunIsNeeded runs e
+  pub absent : LacksRun runs line
   pub no : answer ≡ false
 
 pub record LacksFirst (e : Expression) (whole : Bool) (line : Text) (answer : Bool) : Type 0 where
-  pub run : List Bytes
-  pub begins : RunBegins run e
+  pub runs : Runs
+  pub begins : RunBegins runs e
   pub all : whole ≡ true
-  pub absent : BeginsWithout run line
+  pub absent : BeginsWithout runs line
   pub no : answer ≡ false
 
 pub record HasAll (e : Expression) (whole : Bool) (line : Text) (answer : Bool) : Type 0 where
-  pub run : List Bytes
-  pub is : IsJustRun run e
+  pub runs : Runs
+  pub is : IsJustRun runs e
   pub any : whole ≡ false
   pub place : ℕ
-  pub stands : RunStandsAt line run place
+  pub stands : RunStandsAt line runs place
   pub yes : answer ≡ true
 
 abbrev pub IsSettled : Expression → Bool → Text → Bool → Type 0

@@ -1,13 +1,13 @@
 -- Outlines of expressions: sets of bytes one after another, with stretches between them that may be
 -- anything.
-use Rattle.std.specs.Prelude.{◌≡◌, ℕ, ◌+◌, ◌<◌, ◌≤◌, ⊤, IsTrue, List, [], ◌∷◌, ◌++◌, length, map, replicate, slice_get, Option, None, Some}
+use Rattle.std.specs.Prelude.{◌≡◌, ℕ, ◌+◌, ◌<◌, ◌≤◌, ⊤, IsTrue, List, [], ◌∷◌, ◌++◌, length, map, min, replicate, slice_get, Option, None, Some}
 use Rattle.re_syntax.specs.Bytes.{Bytes, Text}
 use Rattle.re_syntax.specs.Expression.{Expression, one_of}
 use Rattle.re_syntax.specs.Holds.{Holds}
 use Rattle.re_syntax.specs.Working.Trees.{members}
 use Rattle.re_needle.specs.declared.outline_item.OutlineItem.{OutlineItem}
 use Rattle.re_needle.specs.declared.outline_item.OutlineItem.TheVariants as m
-use Rattle.re_needle.specs.Working.Runs.{set_at}
+use Rattle.re_runs.specs.Working.Runs.{set_at}
 
 -- a mark of an outline: a set, or any stretch
 abbrev pub shown : OutlineItem → Option Bytes
@@ -62,6 +62,6 @@ BeginsWith sets e = (line : Text) (i j : ℕ) → Holds line e i j → Leads set
 
 -- each set of the third list has all bytes of the sets at its place in the first two
 pub record AreJoined (one other both : List Bytes) : Type 0 where
-  pub few : (length both ≤ length one) × (length both ≤ length other)
+  pub long : length both ≡ min (length one) (length other)
   pub first : (k x : ℕ) → k < length both → IsTrue (set_at one k x) → IsTrue (set_at both k x)
   pub second : (k x : ℕ) → k < length both → IsTrue (set_at other k x) → IsTrue (set_at both k x)

@@ -1,10 +1,9 @@
 -- Strings that several expressions need.
-use Rattle.re_search.proofs.Prelude.{◌≡◌, ℕ, ◌+◌, ◌<◌, ◌≤◌, inl, inr, Bool, true, false, List, [], ◌∷◌, ◌++◌, Any, All, length, take, drop, get_or, refl, sym, ap, subst, ◌∙◌, arith, ForSome, Option, Some, None, PassesUnsought, Text, Expression, Holds, Matches, Matcher, AreNeeded, NeedsOneOf, PassesByFilter, any_literal, Needed, IsNeeded, StandsBetween, matched_expression, SomeMatches, cases_lt, get_or_default, drop-drop}
-use Rattle.re_needle.proofs.lemmas.BlockLemmas.{passes_none}
+use Rattle.re_search.proofs.Prelude.{◌≡◌, ℕ, ◌+◌, ◌<◌, ◌≤◌, inl, inr, Bool, true, false, List, [], ◌∷◌, ◌++◌, Any, All, length, take, drop, get_or, refl, sym, ap, subst, ◌∙◌, arith, ForSome, Option, Some, None, PassesUnsought, Text, Expression, Holds, Matches, Matcher, AreNeeded, NeedsOneOf, PassesByFilter, Literals, any_literal, IsNeeded, StandsBetween, matched_expression, SomeMatches, cases_lt, get_or_default, drop-drop}
+use Rattle.re_runs.proofs.lemmas.BlockLemmas.{passes_none}
 use Rattle.re_syntax.proofs.lemmas.Decisions.{Any-first}
-use Rattle.re_search.specs.declared.filter.Needed.TheVariants as n
 use Rattle.re_syntax.proofs.lemmas.SomeOfJoined.{Any-left, Any-right}
-use Rattle.re_needle.proofs.lemmas.Occurrences.{occurs-stands}
+use Rattle.re_runs.proofs.lemmas.Occurrences.{occurs-stands}
 use Rattle.re_match.proofs.lemmas.SetMatches.{text_between, stands_choice}
 
 -- one matcher more has its string
@@ -30,7 +29,7 @@ stands_matched line s e texts needed is_text i j within h =
     (k, k + length s, end, stands_choice line k (k + length s) texts (omega arith) end (subst (λ x. Any (λ t. t ≡ x) texts) there is_text))
 
 -- texts are needed if each expression needs some of them
-pub texts_are_needed : (texts : List Text) (es : List Expression) → All (NeedsOneOf texts) es → AreNeeded (n.Strings (record { texts = texts; fold = false })) es
+pub texts_are_needed : (texts : List Text) (es : List Expression) → All (NeedsOneOf texts) es → AreNeeded (record { texts = texts; fold = false }) es
 texts_are_needed texts es each line whole none some = none (matched whole some)
   where
     string_of : (e : Expression) → NeedsOneOf texts e → (i j : ℕ) → j ≤ length line → Holds line e i j → Matches (any_literal (record { texts = texts; fold = false })) line false
@@ -41,6 +40,6 @@ texts_are_needed texts es each line whole none some = none (matched whole some)
     matched true (p, e, lt, at, h) = string_of e (subst (NeedsOneOf texts) at (each p e lt)) 0 (length line) (omega arith) h
 
 -- lines without the strings of a filter are matched by none of the expressions that need them
-pub filter_passes : (filter : Option Needed) (es : List Expression) (whole : Bool) (block : Text) (count : ℕ) → ForSome filter (λ strings. AreNeeded strings es) → PassesByFilter filter block count → PassesUnsought (record { expressions = es; whole = whole }) block count
+pub filter_passes : (filter : Option Literals) (es : List Expression) (whole : Bool) (block : Text) (count : ℕ) → ForSome filter (λ strings. AreNeeded strings es) → PassesByFilter filter block count → PassesUnsought (record { expressions = es; whole = whole }) block count
 filter_passes None es whole block count needed none = subst (PassesUnsought (record { expressions = es; whole = whole }) block) (sym none) (passes_none (λ line. ¬ SomeMatches es line whole) block)
 filter_passes (Some strings) es whole block count needed (lines, rest, free, none, is, counted) = (lines, rest, free, λ i d below some. needed strings refl (get_or lines i d) whole (none i d below) some, is, counted)

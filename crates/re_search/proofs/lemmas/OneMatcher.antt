@@ -2,8 +2,8 @@
 use Rattle.re_search.proofs.Prelude.{◌≡◌, List, [], ◌∷◌, length, map, get_or, ap, arith, ℕ, Bool, sym, subst, Option, All-head, Text, Expression, Matches, AllAnswer, SomeMatches, CountsMatched, FindsMatched, CountsMatchedByAll, Span, IsSought, FindsSought}
 use Rattle.re_syntax.proofs.lemmas.Decisions.{Any-first}
 use Rattle.re_syntax.proofs.lemmas.SomeOfJoined.{Any-single}
-use Rattle.re_needle.proofs.lemmas.CountedBlocks.{counts_same}
-use Rattle.re_needle.proofs.lemmas.NextLines.{finds_same}
+use Rattle.re_runs.proofs.lemmas.CountedBlocks.{counts_same}
+use Rattle.re_runs.proofs.lemmas.NextLines.{finds_same}
 
 -- a list of one
 pub only_one : {A B : Type 0} (f : A → B) (xs : List A) (x : A) → length xs ≡ 1 → get_or xs 0 x ≡ x → map f xs ≡ f x ∷ []

@@ -1,5 +1,5 @@
 -- What the text of a pattern means, and why it is refused.
-use Rattle.re_search.proofs.Prelude.{◌≡◌, ℕ, ◌*◌, ◌<◌, ◌^◌, [], ◌∷◌, length, IsTrue, Bool, true, false, true≢false, inl, inr, map, refl, sym, ap, ◌∙◌, ◌≤◌, arith, if◌then◌else◌, PatternFault, Syntax, Basic, Extended, Fixed, Text, HasPositions, TooLarge, Expression, empty, one_of, none_of, begin, end, cat_none, cat_more, alt_none, alt_more, repeat, byte, cat, sequence, folded, copies, positions, most_positions, IsMeant, as_fixed, has_limit, IsReadable, IsNotSpelled, IsRefusedFor}
+use Rattle.re_search.proofs.Prelude.{◌≡◌, ℕ, ◌+◌, ◌*◌, ◌<◌, ◌^◌, List, [], ◌∷◌, ◌++◌, length, IsTrue, Bool, true, false, true≢false, inl, inr, map, refl, sym, ap, ◌∙◌, ◌≤◌, arith, if◌then◌else◌, PatternFault, Syntax, Basic, Extended, Fixed, Text, HasPositions, TooLarge, Expression, empty, one_of, none_of, begin, end, cat_none, cat_more, alt_none, alt_more, repeat, byte, cat, alt, sequence, folded, copies, positions, most_positions, IsMeant, as_fixed, has_limit, IsReadable, IsNotSpelled, IsRefusedFor}
 use Rattle.re_syntax.proofs.lemmas.SpelledUnique.{spells_one}
 
 -- a string that is not folded means the sequence of its bytes
@@ -55,6 +55,24 @@ pub few_meant : (syntax : Syntax) (fold : Bool) (text : Text) (count : ℕ) (e :
 few_meant syntax fold text count e has few m =
     let same = spells_one text syntax m.0 has.expression m.1 has.spelled in
     omega (arith, few, has.counted, ap positions m.2, meant_positions fold m.0, ap positions same)
+
+-- few positions are counted exactly
+pub count_meant : (syntax : Syntax) (fold : Bool) (text : Text) (count : ℕ) (e : Expression) → HasPositions syntax text count → count ≤ most_positions → IsMeant syntax fold text e → positions e ≡ count
+count_meant syntax fold text count e has few m =
+    let same = spells_one text syntax m.0 has.expression m.1 has.spelled in
+    omega (arith, few, has.counted, ap positions m.2, meant_positions fold m.0, ap positions same)
+
+-- a text with these positions means an expression with as many, or more
+pub counted_meaning : (syntax : Syntax) (fold : Bool) (text : Text) (count : ℕ) → HasPositions syntax text count → (e : Expression) × IsMeant syntax fold text e × (count ≤ positions e)
+counted_meaning syntax fold text count has =
+    let e : Expression = if fold then folded has.expression else has.expression in
+    (e, (has.expression, has.spelled, refl), omega (arith, has.counted, meant_positions fold has.expression))
+
+-- ---- of a choice
+
+pub choice_positions : (es : List Expression) (e : Expression) → positions (alt (es ++ e ∷ [])) ≡ positions (alt es) + positions e
+choice_positions [] e = omega arith
+choice_positions (d ∷ es) e = omega (arith, choice_positions es e)
 
 -- the positions of a fixed string are its bytes
 positions_bytes : (t : Text) → positions (cat (map byte t)) ≡ length t

@@ -6,9 +6,9 @@ use Rattle.re_auto.specs.Searches.{AllAnswer, SomeMatches}
 use Rattle.re_match.specs.declared.sweeps.Sweep.{Sweep}
 use Rattle.re_match.specs.declared.sweeps.Stop.{Stop}
 use Rattle.re_match.specs.declared.sweeps.Stop.TheVariants.{Unseen, Seen, Matched}
-pub use Rattle.re_needle.specs.Working.Blocks.{IsBlock, Lacks, LineBegins, IsLineFrom, PassesAll, PassesUnmatched}
-pub use Rattle.re_needle.specs.Working.Blocks.{StandsIn, HoldsOfMany, CountsMatched, IsNext, FindsNext, FindsMatched}
-pub use Rattle.re_needle.specs.Working.Blocks.{next_cost}
+pub use Rattle.re_runs.specs.Working.Blocks.{IsBlock, Lacks, LineBegins, IsLineFrom, PassesAll, PassesUnmatched}
+pub use Rattle.re_runs.specs.Working.Blocks.{StandsIn, HoldsOfMany, CountsMatched, IsNext, FindsNext, FindsMatched}
+pub use Rattle.re_runs.specs.Working.Blocks.{next_cost}
 
 -- `count` are matched by some expression, by the answer that all matchers give
 abbrev pub CountsMatchedByAll : List Expression → List Bool → List Text → ℕ → Type 0

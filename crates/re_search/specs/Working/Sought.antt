@@ -4,7 +4,7 @@ use Rattle.re_syntax.specs.Bytes.{Text}
 use Rattle.re_syntax.specs.Expression.{Expression}
 use Rattle.re_syntax.specs.declared.span.Span.{Span}
 use Rattle.re_auto.specs.Searches.{SomeMatches}
-use Rattle.re_needle.specs.Working.Blocks.{PassesAll, FindsNext, HoldsOfMany}
+use Rattle.re_runs.specs.Working.Blocks.{PassesAll, FindsNext, HoldsOfMany}
 
 -- the expressions, and whether the whole line has to be matched
 pub record Sought : Type 0 where

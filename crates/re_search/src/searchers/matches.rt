@@ -5,7 +5,7 @@ ghost use Rattle.re_syntax.specs.Lines.{lines_of};
 ghost use Rattle.re_auto.specs.Searches.{AddsAtMost, AllAnswer};
 ghost use Rattle.re_search.specs.Working.Searchers.{SameSearchers, asks_whole, expressions_by};
 ghost use Rattle.re_search.specs.Working.Searchers.{sought_by};
-ghost use Rattle.re_needle.specs.Working.Blocks.{IsBlock, next_cost};
+ghost use Rattle.re_runs.specs.Working.Blocks.{IsBlock, next_cost};
 ghost use Rattle.re_search.specs.Working.Blocks.{left_for_all};
 ghost use Rattle.re_meter.specs.Meters.{AddsUpTo};
 ghost use Rattle.re_search.specs.Working.Sought.{IsSought, FindsSought, CountsSought};
@@ -16,7 +16,7 @@ use crate::searchers::Searchers;
 use crate::several::is_matched;
 use re_auto::Meter;
 use re_match::{LineMatch, Stop};
-use re_needle::line_end;
+use re_runs::line_end;
 use re_syntax::Span;
 use std::alloc::Global;
 
@@ -56,7 +56,7 @@ impl<'a, 'f, M: LineMatch> Searchers<'a, 'f, M> {
         if self.matchers.len() == 0 {
             return false;
         }
-        if !self.filter.has_strings() {
+        if self.filter.is_empty() {
             return is_matched(self.matchers, line, meter);
         }
         if self.filter.rules_out(line, meter) {

@@ -1,5 +1,5 @@
 use Rattle.grep_session.proofs.Prelude.{◌+◌, ◌≤◌, length, map, Some, sym, ap, subst, ◌∙◌, arith, refl, length-map, Matches, Text, terminated, AddsAtMost, line_text, IsNextLine}
-use Rattle.re_needle.proofs.lemmas.NextLines.{block_lines}
+use Rattle.re_runs.proofs.lemmas.NextLines.{block_lines}
 use Rattle.re_meter.proofs.lemmas.Adding.{adds_both, adds_within, adds_none}
 use Rattle.grep_session.proofs.lemmas.ColumnLoops.{column_none, column_next, column_done}
 use Rattle.grep_session.proofs.lemmas.NextLineLemmas.{none_from, next_there, place_fits, bytes_up_to, bytes_within, bytes_rest}

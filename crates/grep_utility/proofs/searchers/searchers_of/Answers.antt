@@ -6,6 +6,3 @@ pub returns-in-Some-clause-ok : goal.returns-in-Some-clause-ok
 returns-in-Some-clause-ok c =
     let strings = lines_of c.in-Some.strings.items in
     joined_serves c.args.syntax c.args.options.now (lines_of c.args.texts.now) strings c.in-Ok.matchers.items c.in-Some.ensures.read c.in-Some.ensures.some (rw c.deref.ensures.value at c.in-Ok.ensures)
-
-pub returns-in-Ok-matchers_of-clause-needed : goal.returns-in-Ok-matchers_of-clause-needed
-returns-in-Ok-matchers_of-clause-needed c = rw c.deref-in-Ok-matchers_of.ensures.value at c.needed_by-needed.ensures

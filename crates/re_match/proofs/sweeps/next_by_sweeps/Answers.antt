@@ -1,5 +1,5 @@
 use Rattle.re_match.proofs.Prelude.{◌+◌, drop, refl, arith, false≢true, take_rest, Text, Matches, PassesUnmatched}
-use Rattle.re_needle.proofs.lemmas.NextLines.{block_after, passed_on, none_next, next_from, passed_from, long}
+use Rattle.re_runs.proofs.lemmas.NextLines.{block_after, passed_on, none_next, next_from, passed_from, long}
 use Rattle.re_match.proofs.lemmas.SweptLines.{matched_at, turn_adds, last_sweep}
 use Rattle.re_match.proofs.lemmas.SameLaws.{same_twice}
 use Rattle.re_match.proofs.sweeps.next_by_sweeps.Goals as goal

@@ -1,5 +1,5 @@
-use Rattle.re_needle.proofs.Prelude.{◌≡◌, ◌≤◌, ◌++◌, IsTrue, length, map, drop, nat_eq, Some, not, sym, ap, ◌∙◌, arith, eqb-true, false≢true, take_rest, drop-map, length-map, members, shown}
-use Rattle.re_needle.specs.declared.run_finder.RunFinder.TheVariants as r
+use Rattle.re_needle.proofs.Prelude.{◌≡◌, ◌≤◌, ◌++◌, ◌∷◌, [], IsTrue, length, map, drop, nat_eq, Some, not, sym, ap, ◌∙◌, arith, eqb-true, false≢true, take_rest, drop-map, length-map, members, members_of, shown}
+use Rattle.re_runs.specs.declared.run_finder.RunFinder.TheVariants as r
 use Rattle.re_needle.proofs.lemmas.NeedleLaws.{run_is_needle}
 use Rattle.re_needle.proofs.needle.set_needle.Goals.{then-not-is_common, else-not-is_common}
 use Rattle.re_needle.proofs.needle.set_needle.Goals as goal
@@ -16,5 +16,8 @@ returns c =
       | else-not-is_common w ↦ absurd (false≢true (sym (ap not w.if-not-is_common.false) ∙ sym w.is_all-is ∙ reported))
     ] in
     let first : IsTrue (nat_eq c.args.start 0) → c.args.start ≡ 0 = λ reported. eqb-true c.args.start 0 reported in
-    rw c.in-Some.ensures
-    (run_is_needle (map shown marks) (r.Sets sets) (nat_eq c.args.start 0) c.if-not-is_common.is_all c.args.is_common run.0 c.args.start stands some first all)
+    let finder = c.in-Some.finder in
+    let choice = rw c.in-Some.is at c.in_ok-finder.ensures.runs in
+    let items : c.push.new.self.items ≡ c.in_ok-sets.sets ∷ [] = c.in_ok-push.ensures.items ∙ ap (λ l. l ++ c.in_ok-sets.sets ∷ []) c.new-runs.ensures.items in
+    let one = ap members_of (choice ∙ ap (map (λ run. run.items)) items) in
+    run_is_needle (map shown marks) (r.Sets finder) (nat_eq c.args.start 0) c.if-not-is_common.is_all c.args.is_common (map members sets) run.0 c.args.start one stands some first all

@@ -1,5 +1,5 @@
-use Rattle.re_needle.proofs.Prelude.{◌≡◌, ◌≤◌, ◌++◌, IsTrue, length, map, drop, nat_eq, Some, ◌∙◌, arith, eqb-true, take_rest, drop-map, length-map, only, shown}
-use Rattle.re_needle.specs.declared.run_finder.RunFinder.TheVariants as r
+use Rattle.re_needle.proofs.Prelude.{◌≡◌, ◌≤◌, ◌++◌, IsTrue, length, map, drop, nat_eq, Some, refl, ◌∙◌, arith, eqb-true, take_rest, drop-map, length-map, only, shown}
+use Rattle.re_runs.specs.declared.run_finder.RunFinder.TheVariants as r
 use Rattle.re_needle.proofs.lemmas.NeedleLaws.{run_is_needle}
 use Rattle.re_needle.proofs.needle.text_needle.Goals as goal
 
@@ -14,4 +14,4 @@ returns c =
     λ reported. omega (arith, eqb-true c.len-2.result (length marks) reported, c.len-2.ensures, length-map bytes only, length-map marks shown) in
     let first : IsTrue (nat_eq c.args.start 0) → c.args.start ≡ 0 = λ reported. eqb-true c.args.start 0 reported in
     rw (c.in_ok-finder.ensures, c.new.ensures, c.deref-2.ensures.value)
-    (run_is_needle (map shown marks) (r.Text bytes) (nat_eq c.args.start 0) (nat_eq c.len-2.result (length marks)) c.if-not-is_all.is_common run.0 c.args.start stands some first all)
+    (run_is_needle (map shown marks) (r.Text bytes) (nat_eq c.args.start 0) (nat_eq c.len-2.result (length marks)) c.if-not-is_all.is_common (map only bytes) run.0 c.args.start refl stands some first all)

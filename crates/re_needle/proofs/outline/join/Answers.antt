@@ -1,6 +1,6 @@
 use Rattle.re_needle.proofs.Prelude.{◌≡◌, ℕ, ◌<◌, ◌≤◌, IsTrue, List, length, map, take, get_or, refl, sym, ap, ◌∙◌, subst, arith, take-map, nothing, members, ByteSet, set_at, set, or_left, or_right, length-map, length-set, length-take, map-set, get_or-take}
 use Rattle.std.proofs.lemmas.List.{get_or-map}
-use Rattle.re_needle.proofs.lemmas.RunLaws.{its_members}
+use Rattle.re_runs.proofs.lemmas.RunLaws.{its_members}
 use Rattle.re_needle.proofs.lemmas.ChoiceOutlines.{first_more, second_more}
 use Rattle.re_needle.proofs.outline.join.Goals as goal
 
@@ -16,7 +16,7 @@ places-init c =
     let short : length c.truncate.new.self.items ≤ n = omega (arith, ap length cut, length-take n old) in
     record {
       same_len = refl;
-      few = (omega (arith, ap length cut, length-take n old), short);
+      long = omega (arith, ap length cut, length-take n old);
       first = λ j x below has. subst (λ s. IsTrue (s x)) (sym (ap (λ l. set_at (map members l) j) cut ∙ taken old n j (omega (arith, below, short)))) has;
       second = λ j x below has. absurd (omega (arith, below));
     }
@@ -33,13 +33,13 @@ places-preserved c =
     let within : k < length items = omega (arith, c.places-test.true, s.same_len, c.len-k-end.ensures) in
     let lt : k < length both = omega (arith, within, length-map items members) in
     let held : set_at both k ≡ members c.index.result.now = its_members items k c.index.result.now within c.index.ensures in
-    let theirs : set_at (map members sets) k ≡ members (get_or sets k record { low = 0; high = 0 }) = get_or-map members sets k record { low = 0; high = 0 } nothing (omega (arith, within, s.few.1)) in
+    let theirs : set_at (map members sets) k ≡ members (get_or sets k record { low = 0; high = 0 }) = get_or-map members sets k record { low = 0; high = 0 } nothing (omega (arith, within, s.long)) in
     let own : (y : ℕ) → IsTrue (set_at both k y) → IsTrue (u y) = λ y h. subst (λ f. IsTrue (f y)) (sym c.union.ensures) (or_left _ _ (subst (λ f. IsTrue (f y)) held h)) in
     let other : (y : ℕ) → IsTrue (set_at (map members sets) k y) → IsTrue (u y) = λ y h. subst (λ f. IsTrue (f y)) (sym c.union.ensures) (or_right _ _ (subst (λ f. IsTrue (f y)) theirs h)) in
     let long : length (set items k c.union.result) ≡ length items = length-set items k c.union.result in
     record {
       same_len = long ∙ s.same_len;
-      few = (omega (arith, long, s.few.0), omega (arith, long, s.few.1));
+      long = omega (arith, long, s.long);
       first = λ j x below has.
           subst (λ l. IsTrue (set_at l j x)) (sym grown)
           (first_more (map members c.args.front.now.items) both k u lt own (λ m y b h. s.first m y (omega (arith, b, length-map items members)) h) j x (omega (arith, below, length-map items members, long)) has);

@@ -1,5 +1,5 @@
 use Rattle.re_match.proofs.Prelude.{◌+◌, ◌-◌, ◌≤◌, length, drop, arith, length-drop, take_rest, Text, Matches}
-use Rattle.re_needle.proofs.lemmas.NextLines.{CountsTo, counts_next, counts_all}
+use Rattle.re_runs.proofs.lemmas.NextLines.{CountsTo, counts_next, counts_all}
 use Rattle.re_match.proofs.lemmas.StepSums.{adds_both, adds_within}
 use Rattle.re_match.proofs.lemmas.SameLaws.{same_twice}
 use Rattle.re_match.proofs.line_match.LineMatch.count_matched.Goals as goal

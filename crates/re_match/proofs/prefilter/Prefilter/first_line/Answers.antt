@@ -1,6 +1,6 @@
-use Rattle.re_match.proofs.Prelude.{◌≤◌, subst, IfSome, run_of, FindsRun}
-use Rattle.re_needle.proofs.lemmas.BlockLemmas.{passes_unmatched_run}
-use Rattle.re_needle.proofs.lemmas.BegunLines.{passes_unmatched_begun}
+use Rattle.re_match.proofs.Prelude.{◌≤◌, subst, IfSome, runs_of}
+use Rattle.re_needle.proofs.lemmas.NeededLines.{passes_unmatched_run}
+use Rattle.re_needle.proofs.lemmas.NeededLines.{passes_unmatched_begun}
 use Rattle.re_match.proofs.lemmas.SweptLines.{stops_seen, stops_matched}
 use Rattle.re_match.proofs.prefilter.Prefilter.first_line.Goals as goal
 
@@ -11,7 +11,7 @@ pub returns-then-needle-clause-passes : goal.returns-then-needle-clause-passes
 returns-then-needle-clause-passes c = λ e is.
     let needle = rw c.in-Some.is at is in
     rw (c.seen.ensures, c.if-whole.true)
-    (passes_unmatched_begun e (run_of c.in-Some.needle.finder) (needle.first c.if-needle.true) c.args.block.now c.first_line_beginning_with-swept.result.start c.first_line_beginning_with-swept.ensures.passes)
+    (passes_unmatched_begun e (runs_of c.in-Some.needle.finder) (needle.first c.if-needle.true) c.args.block.now c.first_line_beginning_with-swept.result.start c.first_line_beginning_with-swept.ensures.passes)
 
 pub returns-then-needle-clause-stops : goal.returns-then-needle-clause-stops
 returns-then-needle-clause-stops c = λ e is. rw c.seen.ensures (stops_seen e c.args.whole c.args.block.now c.first_line_beginning_with-swept.result c.first_line_beginning_with-swept.ensures.stops)
@@ -19,22 +19,21 @@ returns-then-needle-clause-stops c = λ e is. rw c.seen.ensures (stops_seen e c.
 pub returns-then-has_run-clause-passes : goal.returns-then-has_run-clause-passes
 returns-then-has_run-clause-passes c = λ e is.
     let needle = rw c.in-Some.is at is in
-    rw c.matched.ensures (passes_unmatched_run e (run_of c.in-Some.needle.finder) c.args.whole needle.needed c.args.block.now c.first_line_with_run-swept.result.start c.first_line_with_run-swept.ensures.passes)
+    rw c.matched.ensures (passes_unmatched_run e (runs_of c.in-Some.needle.finder) c.args.whole needle.needed c.args.block.now c.first_line_with_run-swept.result.start c.first_line_with_run-swept.ensures.passes)
 
 pub returns-then-has_run-clause-stops : goal.returns-then-has_run-clause-stops
 returns-then-has_run-clause-stops c = λ e is.
     let needle = rw c.in-Some.is at is in
     let swept = c.first_line_with_run-swept.result in
-    let run = run_of c.in-Some.needle.finder in
-    let (at, place, free) = c.has_run.ensures c.if-has_run.true in
-    let found = subst (FindsRun c.args.block.now run) place c.first_line_with_run-swept.ensures.found in
+    let run = runs_of c.in-Some.needle.finder in
+    let (at, last, place, longest, free) = c.has_run.ensures c.if-has_run.true in
     let low = subst (λ p. IfSome p (λ k. swept.start ≤ k)) place c.first_line_with_run-swept.ensures.low in
-    rw (c.matched.ensures, c.if-not-whole.true) (stops_matched e run c.args.block.now swept at (needle.all c.if-needle-2.true) needle.some place found.1 low free c.first_line_with_run-swept.ensures.stops)
+    rw (c.matched.ensures, c.if-not-whole.true) (stops_matched e run c.args.block.now swept at last (needle.all c.if-needle-2.true) needle.some place longest low free c.first_line_with_run-swept.ensures.stops)
 
 pub returns-clause-passes : goal.returns-clause-passes
 returns-clause-passes c = λ e is.
     let needle = rw c.in-Some.is at is in
-    rw c.seen-2.ensures (passes_unmatched_run e (run_of c.in-Some.needle.finder) c.args.whole needle.needed c.args.block.now c.first_line_with_run-swept.result.start c.first_line_with_run-swept.ensures.passes)
+    rw c.seen-2.ensures (passes_unmatched_run e (runs_of c.in-Some.needle.finder) c.args.whole needle.needed c.args.block.now c.first_line_with_run-swept.result.start c.first_line_with_run-swept.ensures.passes)
 
 pub returns-clause-stops : goal.returns-clause-stops
 returns-clause-stops c = λ e is. rw c.seen-2.ensures (stops_seen e c.args.whole c.args.block.now c.first_line_with_run-swept.result c.first_line_with_run-swept.ensures.stops)

@@ -1,6 +1,6 @@
 use Rattle.re_match.proofs.Prelude.{map, byte, sequence, any_literal}
 use Rattle.re_needle.proofs.lemmas.NeededLaws.{sequence_needed}
-use Rattle.re_needle.proofs.lemmas.BlockLemmas.{passes_unmatched}
+use Rattle.re_needle.proofs.lemmas.NeededLines.{passes_unmatched}
 use Rattle.re_match.proofs.lemmas.SetBlocks.{passes_whole_too}
 use Rattle.re_match.proofs.strings.Look.first_line.Goals as goal
 

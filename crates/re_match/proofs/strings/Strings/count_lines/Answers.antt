@@ -1,5 +1,5 @@
 use Rattle.re_match.proofs.Prelude.{lines_of, IsPartOfLines}
-use Rattle.re_needle.proofs.lemmas.CountedBlocks.{counts_literal}
+use Rattle.re_needle.proofs.lemmas.NeededLines.{counts_literal}
 use Rattle.re_match.proofs.strings.Strings.count_lines.Goals as goal
 
 pub returns-then-not-is_empty-clause-reported : goal.returns-then-not-is_empty-clause-reported

@@ -1,7 +1,7 @@
 use Rattle.re_search.proofs.Prelude.{◌≡◌, ◌+◌, None, Some, length, map, drop, get_or, slice_set, refl, ap, subst, arith, length-drop, take_rest, get_or_default, lines_of, expressions_by, sought_by, Sought, IsSought, FindsSought, SameMatchers}
 use Rattle.re_search.proofs.lemmas.KeptMatchers.{none_asked, one_kept, asked_over, same_sought}
 use Rattle.re_search.proofs.lemmas.OneMatcher.{only_one, counts_of_one}
-use Rattle.re_needle.proofs.lemmas.NextLines.{CountsTo, counts_next, counts_all}
+use Rattle.re_runs.proofs.lemmas.NextLines.{CountsTo, counts_next, counts_all}
 use Rattle.re_search.proofs.lemmas.SearchedBlocks.{adds_on_by}
 use Rattle.re_search.proofs.searchers.Searchers.count_matched.Goals as goal
 

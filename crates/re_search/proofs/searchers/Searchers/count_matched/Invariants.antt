@@ -1,6 +1,6 @@
 use Rattle.re_search.proofs.Prelude.{◌*◌, ◌-◌, length, SameSearchers, expressions_by, sought_by, IsSought}
 use Rattle.re_auto.specs.Searches.{AddsAtMost}
-use Rattle.re_needle.proofs.lemmas.NextLines.{CountsTo}
+use Rattle.re_runs.proofs.lemmas.NextLines.{CountsTo}
 use Rattle.re_search.proofs.searchers.Searchers.count_matched.Given as goal
 
 -- the lines before the rest were counted

@@ -1,8 +1,8 @@
 use Rattle.re_search.proofs.Prelude.{◌≡◌, ◌+◌, ◌≤◌, length, drop, refl, ap, subst, arith, slice_range, false≢true, take_rest, length-map, expressions_by, sought_by, Sought, IsSought, PassesUnsought}
-use Rattle.re_needle.proofs.lemmas.BlockLemmas.{passed_within}
+use Rattle.re_runs.proofs.lemmas.BlockLemmas.{passed_within}
 use Rattle.re_search.proofs.lemmas.KeptMatchers.{asked_over, same_sought}
 use Rattle.re_search.proofs.lemmas.FilterLaws.{filter_passes}
-use Rattle.re_needle.proofs.lemmas.NextLines.{block_after, passed_on, none_next, next_from, passed_from, long}
+use Rattle.re_runs.proofs.lemmas.NextLines.{block_after, passed_on, none_next, next_from, passed_from, long}
 use Rattle.re_search.proofs.lemmas.SearchedBlocks.{turn_adds, last_sweep}
 use Rattle.re_search.proofs.searchers.Searchers.next_by_sweeps.Goals as goal
 

@@ -1,6 +1,0 @@
-use Rattle.re_needle.proofs.Prelude.{subst, false≢true, HasNoNewline}
-use Rattle.re_needle.proofs.lemmas.CountedBlocks.{has_one}
-use Rattle.re_needle.proofs.block.has_no_newline.Goals as goal
-
-pub returns-in-Some : goal.returns-in-Some
-returns-in-Some c = ((λ e. absurd (false≢true e)), (λ h. absurd (has_one _ _ (subst HasNoNewline c.in-Some.ensures.some.1 h))))

@@ -1,5 +1,0 @@
-use Rattle.re_needle.proofs.lemmas.NibbleLanes.{lesser_lanes}
-use Rattle.re_needle.proofs.lanes.lesser.Goals as goal
-
-pub returns : goal.returns
-returns c = lesser_lanes c.args.a c.args.b c.fits-a.0 c.fits-b.0

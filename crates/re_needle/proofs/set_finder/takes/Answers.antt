@@ -1,6 +1,0 @@
-use Rattle.re_needle.proofs.Prelude.{sym, ap, ◌∙◌, Bytes, nothing, members}
-use Rattle.std.proofs.lemmas.List.{get_or-map}
-use Rattle.re_needle.proofs.set_finder.takes.Goals as goal
-
-pub returns : goal.returns
-returns c = c.has.ensures ∙ ap (λ (s : Bytes). s c.args.byte) (sym (get_or-map members c.args.sets.now c.args.j _ nothing c.requires))

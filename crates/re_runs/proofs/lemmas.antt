@@ -1,0 +1,9 @@
+pub mod Occurrences
+pub mod RunLaws
+pub mod BlockLemmas
+pub mod BegunLines
+pub mod CountedBlocks
+pub mod NextLines
+pub mod NibbleLanes
+pub mod NewlineLaws
+pub mod Looks

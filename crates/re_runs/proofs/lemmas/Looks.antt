@@ -1,0 +1,36 @@
+-- Where a look over a block stops, and what it passed.
+use Rattle.re_runs.proofs.Prelude.{◌≡◌, ◌∙◌, ℕ, ◌+◌, ◌-◌, ◌<◌, ◌≤◌, ◌++◌, ◌∷◌, Option, None, Some, length, take, drop, get_or, slice_range, sym, ap, arith, length-take, length-drop, dec_le, get_or-drop, get_or-take, get_or-append-add, Text, newline, HasNoNewline, IsLineFrom, look_cost}
+
+-- a place without a newline between it and the line's beginning is in the line, or at its newline
+pub place_in_line : (block : Text) (start at end : ℕ) → at ≤ length block → start ≤ at → HasNoNewline (drop start (take at block)) → IsLineFrom block start end → at ≤ end
+place_in_line block start at end fits low none cut = elim (dec_le at end) [
+  | yes near ↦ near
+  | no far ↦
+      (let line = slice_range block start end in
+      let more = drop (end + 1) block in
+      let long : length line ≡ end - start = omega (arith, length-take (end - start) (drop start block), length-drop start block, cut.1) in
+      let inside : start + length line < at = omega (arith, far, long, cut.0) in
+      let short : length line < length (drop start (take at block)) = omega (arith, length-drop start (take at block), length-take at block, fits, inside) in
+      let end_is : length line ≡ length line + 0 = omega arith in
+      let byte : get_or (drop start (take at block)) (length line) 0 ≡ newline =
+      get_or-drop start (take at block) (length line) 0 ∙ get_or-take at block (start + length line) 0 inside ∙ sym (get_or-drop start block (length line) 0) ∙ ap (λ l. get_or l (length line) 0) cut.3
+      ∙ ap (λ n. get_or (line ++ newline ∷ more) n 0) end_is ∙ get_or-append-add line (newline ∷ more) 0 0 in
+      absurd (none (length line) 0 short byte))
+]
+
+-- a look that stopped there passed no byte beyond the line's newline
+pub look_in_line : (block : Text) (start at end : ℕ) → at ≤ length block → start ≤ at → HasNoNewline (drop start (take at block)) → IsLineFrom block start end → look_cost block (Some at) ≤ end + 1
+look_in_line block start at end fits low none cut = let near = place_in_line block start at end fits low none cut in omega (arith, near)
+
+-- there is no line after the block's end
+pub none_after : (block : Text) (start end n : ℕ) → start ≡ length block → IsLineFrom block start end → n ≤ end + 1
+none_after block start end n last cut = absurd (omega (arith, last, cut.0, cut.1))
+
+-- no look passes more than there is
+pub look_within : (line : Text) (found : Option ℕ) → look_cost line found ≤ length line
+look_within line None = omega arith
+look_within line (Some k) = omega arith
+
+-- a look that stopped at the line's beginning passed no byte beyond its newline
+pub look_at_begin : (block : Text) (at end : ℕ) → IsLineFrom block at end → look_cost block (Some at) ≤ end + 1
+look_at_begin block at end cut = let low = cut.0 in omega (arith, low)

@@ -1,0 +1,2 @@
+-- the terms of contracts: of this crate as a library, and of its private functions
+pub mod Working

@@ -1,0 +1,11 @@
+-- The runs that a finder looks for.
+use Rattle.std.specs.Prelude.{map}
+use Rattle.re_syntax.specs.Bytes.{only}
+use Rattle.re_runs.specs.declared.run_finder.RunFinder.{RunFinder}
+use Rattle.re_runs.specs.declared.run_finder.RunFinder.TheVariants as r
+use Rattle.re_runs.specs.Working.Runs.{Runs, one_run, members_of}
+
+-- the runs that are looked for: for a string the one of its single bytes
+abbrev pub runs_of : RunFinder → Runs
+runs_of (r.Text text) = one_run (map only text)
+runs_of (r.Sets runs) = members_of runs

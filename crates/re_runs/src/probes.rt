@@ -1,0 +1,189 @@
+//! Tests of the bytes after a place, for 32 places at once.
+ghost use Rattle.std.specs.Prelude.{◌≡◌, ◌+◌, ◌<◌, ◌≤◌, ℕ, IfSome, length, slice_index};
+ghost use Rattle.std.specs.Int.{bit_at};
+ghost use Rattle.memchr.specs.Find.{Nowhere};
+ghost use Rattle.memchr.specs.Lanes.{HasLanes};
+ghost use Rattle.re_runs.specs.Working.Runs.{AllPass, AreProbesOf, HaveRoom, IsNoWider, IsProbeOf, PassesAt};
+ghost use Rattle.re_runs.specs.Working.Runs.{bits_of, mark_of, meet, sets_of_each};
+
+use crate::alike::Alike;
+use crate::lanes::{both, lesser, nonzero};
+use crate::nibbles::Nibbles;
+use re_syntax::ByteSet;
+use std::simd::prelude::*;
+
+/// Two tests for the byte at this distance after a place.
+#[derive(Clone, Copy, Drop)]
+pub struct Probe {
+    /// The distance.
+    pub at: usize,
+    /// The test by look-ups.
+    pub nibbles: Nibbles,
+    /// The test of bits.
+    pub alike: Alike,
+}
+
+impl Probe {
+    /// The tests for the sets that the runs have at this distance; `None` if that is not below `width`.
+    pub fn of(runs: &[Vec<ByteSet>], width: usize, at: usize) -> Option<Probe>
+        requires { IsNoWider width (sets_of_each runs.now) }
+        ensures { IfSome result (λ probe. IsProbeOf probe width (sets_of_each runs.now)) }
+    {
+        if at >= width {
+            return None;
+        }
+        if runs.len() > 1 {
+            let nibbles = Nibbles::of_each(runs, at)?;
+            let alike = Alike::any();
+            return Some(Probe { at, nibbles, alike });
+        }
+        let set = runs.first()?.get(at)?;
+        let nibbles = Nibbles::of(set)?;
+        let alike = Alike::of(set)?;
+        Some(Probe { at, nibbles, alike })
+    }
+
+    // The tests at this distance, or these if there are none.
+    fn or_at(self, runs: &[Vec<ByteSet>], width: usize, at: Option<&usize>) -> Probe
+        requires wide { IsNoWider width (sets_of_each runs.now) }
+        requires own { IsProbeOf self width (sets_of_each runs.now) }
+        ensures { IsProbeOf result width (sets_of_each runs.now) }
+    {
+        let Some(at) = at else {
+            return self;
+        };
+        match Probe::of(runs, width, *at) {
+            Some(probe) => probe,
+            None => self,
+        }
+    }
+
+    // What is not 0 for those of 32 places after which the byte passes by look-ups.
+    #[inline(always)]
+    fn looked_up(&self, line: &[u8], place: usize) -> u8x32
+        requires { place + 32 + self.now.at ≤ length line.now }
+        ensures { HasLanes result
+            (λ k. bits_of self.now.nibbles (slice_index line.now (place + k + self.now.at))) }
+    {
+        self.nibbles.lanes(line, place + self.at)
+    }
+
+    // The same by bits.
+    #[inline(always)]
+    fn bit_tested(&self, line: &[u8], place: usize) -> u8x32
+        requires { place + 32 + self.now.at ≤ length line.now }
+        ensures { HasLanes result
+            (λ k. mark_of self.now.alike (slice_index line.now (place + k + self.now.at))) }
+    {
+        self.alike.lanes(line, place + self.at)
+    }
+}
+
+/// Four probes; some may be the same.
+#[derive(Clone, Copy, Drop)]
+pub struct Probes {
+    /// The first, which the fewest bytes pass.
+    pub first: Probe,
+    /// The second.
+    pub second: Probe,
+    /// The third.
+    pub third: Probe,
+    /// The fourth.
+    pub fourth: Probe,
+}
+
+impl Probes {
+    /// The tests at the first four of these distances; `None` if there is none.
+    pub fn of(runs: &[Vec<ByteSet>], width: usize, places: &[usize]) -> Option<Probes>
+        requires { IsNoWider width (sets_of_each runs.now) }
+        ensures { IfSome result (λ probes. AreProbesOf probes width (sets_of_each runs.now)) }
+    {
+        let first = Probe::of(runs, width, *places.first()?)?;
+        let second = first.or_at(runs, width, places.get(1));
+        let third = second.or_at(runs, width, places.get(2));
+        let fourth = third.or_at(runs, width, places.get(3));
+        Some(Probes {
+            first,
+            second,
+            third,
+            fourth,
+        })
+    }
+
+    /// Goes on from `from` by 32 places until some of 32 are marked, or fewer than 32 are left
+    /// before `past`. Returns where these 32 begin, and their marks.
+    // The loop calls nothing, so the tables stay in registers.
+    #[inline(never)]
+    pub fn next_marks<const COUNT: usize, const BITS: bool, const EACH: bool>(
+        &self,
+        line: &[u8],
+        from: usize,
+        past: usize,
+    ) -> (usize, u64)
+        requires some { from + 32 ≤ past }
+        requires room { HaveRoom self.now line.now past }
+        ensures on { (from ≤ result.0) × (result.0 + 32 ≤ past) }
+        ensures passed { Nowhere (AllPass EACH self.now line.now) from result.0 }
+        ensures each { (k : ℕ) → k < 32 → AllPass EACH self.now line.now (result.0 + k)
+            → bit_at result.1 k ≡ 1 }
+        ensures within { (k : ℕ) → bit_at result.1 k ≡ 1 → k < 32 }
+    {
+        let mut at = from;
+        let mut marks = self.marks::<COUNT, BITS, EACH>(line, at);
+        'quiet: while marks == 0 && 64 <= past - at {
+            at += 32;
+            marks = self.marks::<COUNT, BITS, EACH>(line, at);
+        }
+        (at, marks)
+    }
+
+    /// A mark for each of 32 places where the tests are passed: two tests or all, and two alone if they
+    /// are tests of bits. Of several runs, `EACH`, one has to pass all.
+    #[inline(always)]
+    pub fn marks<const COUNT: usize, const BITS: bool, const EACH: bool>(
+        &self,
+        line: &[u8],
+        place: usize,
+    ) -> u64
+        requires { HaveRoom self.now line.now (place + 32) }
+        ensures each { (k : ℕ) → k < 32 → AllPass EACH self.now line.now (place + k)
+            → bit_at result k ≡ 1 }
+        ensures within { (k : ℕ) → bit_at result k ≡ 1 → k < 32 }
+    {
+        if BITS {
+            return self.bit_marks(line, place);
+        }
+        let first = self.first.looked_up(line, place);
+        let second = self.second.looked_up(line, place);
+        let two = met::<EACH>(first, second);
+        if COUNT == 2 {
+            return nonzero(two);
+        }
+        let third = self.third.looked_up(line, place);
+        let fourth = self.fourth.looked_up(line, place);
+        nonzero(met::<EACH>(two, met::<EACH>(third, fourth)))
+    }
+
+    // A mark for each of 32 places where the first two tests of bits are passed.
+    #[inline(always)]
+    fn bit_marks(&self, line: &[u8], place: usize) -> u64
+        requires { HaveRoom self.now line.now (place + 32) }
+        ensures each { (k : ℕ) → k < 32 → PassesAt self.now.first line.now (place + k)
+            → PassesAt self.now.second line.now (place + k) → bit_at result k ≡ 1 }
+        ensures within { (k : ℕ) → bit_at result k ≡ 1 → k < 32 }
+    {
+        nonzero(both(
+            self.first.bit_tested(line, place),
+            self.second.bit_tested(line, place),
+        ))
+    }
+}
+
+// What is not 0 where neither of two vectors is 0, or, for each of several runs, where they have a bit in
+// common.
+#[inline(always)]
+fn met<const EACH: bool>(a: u8x32, b: u8x32) -> u8x32
+    ensures { HasLanes result (λ k. meet EACH (slice_index a k) (slice_index b k)) }
+{
+    if EACH { both(a, b) } else { lesser(a, b) }
+}

@@ -1,0 +1,280 @@
+//! Search for runs of small sets of bytes.
+ghost use Rattle.std.specs.Prelude.{◌≡◌, ℕ, ◌+◌, ◌<◌, ◌≤◌, ◌↔◌, ◌∷◌, [], List, IsTrue, IfOk, IfSome, MatchOption, length, map};
+ghost use Rattle.std.specs.Int.{bit_at};
+ghost use Rattle.memchr.specs.Find.{IsFirst};
+ghost use Rattle.memchr.specs.Lanes.{Marks};
+ghost use Rattle.re_syntax.specs.Working.Trees.{members};
+ghost use Rattle.re_syntax.specs.declared.bytes.ByteSet.{ByteSet};
+ghost use Rattle.re_runs.specs.Working.Runs.{AllPass, AreProbesOf, FindsRun, HaveRoom, IsLongestRun, IsNoWider, RunStandsAt};
+ghost use Rattle.re_runs.specs.Working.Runs.{longest_of, look_cost, members_of, sets_of_each};
+ghost use Rattle.re_meter.specs.Meters.{many_passed};
+
+use crate::lanes::{lowest, without};
+use crate::probes::Probes;
+use crate::rare_places::{rare_places, stops_at};
+use crate::runs::{longest, longest_end, shortest, take_some};
+use crate::survey::share_with;
+use crate::text_finder::bytes_over;
+use re_meter::Meter;
+use re_syntax::ByteSet;
+use std::alloc::{AllocError, Global};
+use std::marker::Model;
+
+// Probes are passed rarely if they are passed at no more than about this number of places in 65,536
+// bytes of most texts.
+const MOST_STOPS: u64 = 256;
+
+// Which tests are tried at 32 places at once.
+#[derive(Clone, Copy, Drop)]
+enum Plan {
+    // The first two, by bits.
+    TwoBits,
+    // The first two, by look-ups.
+    Two,
+    // All four, by look-ups.
+    Four,
+}
+
+/// Looks for the first of several runs of sets, one byte of each set in turn: for bytes of the rarest
+/// sets at 32 places at once, and where these are it compares the others. Contracts see the runs.
+#[derive(Drop)]
+pub struct SetFinder {
+    runs: Vec<Vec<ByteSet>>,
+    // How many sets the shortest run has.
+    width: usize,
+    longest: usize,
+    plan: Plan,
+    probes: Probes,
+    // Tests of sets for which the plan's tests aren't right; `None` if there are none.
+    others: Option<Probes>,
+    is_selective: bool,
+}
+
+impl Model for SetFinder {
+    ghost use Rattle.std.specs.Prelude.{◌≡◌, List, IfSome, map};
+    ghost use Rattle.re_syntax.specs.declared.bytes.ByteSet.{ByteSet};
+    ghost use Rattle.re_runs.specs.Working.Runs.{AreProbesOf, IsNoWider, longest_of, sets_of_each};
+
+    ghost Value = { List (List ByteSet) };
+
+    ghost view = { λ f. map (λ run. run.items) f.runs.items };
+
+    ghost invariant = { λ f. record {
+      wide : IsNoWider f.width (sets_of_each f.runs.items);
+      longest : f.longest ≡ longest_of (sets_of_each f.runs.items);
+      first : AreProbesOf f.probes f.width (sets_of_each f.runs.items);
+      others : IfSome f.others (λ others. AreProbesOf others f.width (sets_of_each f.runs.items));
+    } };
+}
+
+impl SetFinder {
+    /// The search for one of these runs; `None` if there is none, or one has no set. The only error is
+    /// that an allocation failed.
+    pub fn new(alloc: Global, runs: Vec<Vec<ByteSet>>) -> Result<Option<SetFinder>, AllocError>
+        ensures runs { IfOk result
+            (λ found. IfSome found (λ f. f ≡ map (λ run. run.items) runs.items)) }
+        ensures some { IfOk result (λ found. IfSome found (λ f. IsNoWider 1 (members_of f))) }
+    {
+        let width = shortest(&runs);
+        let longest = longest(&runs);
+        let places = rare_places(alloc, &runs, width)?;
+        let Some(probes) = Probes::of(&runs, width, &places) else {
+            return Ok(None);
+        };
+        let plan = plan_of(&runs, &places, &probes);
+        let others = Probes::of(
+            &runs,
+            width,
+            &places[tested(plan, &probes).min(places.len())..],
+        );
+        let is_selective = stops_at(&runs, first_of(&places, 4)) <= MOST_STOPS;
+        Ok(Some(SetFinder {
+            runs,
+            width,
+            longest,
+            plan,
+            probes,
+            others,
+            is_selective,
+        }))
+    }
+
+    /// Whether such runs are so rare in most texts that it is worth while to look for them first.
+    pub fn is_selective(&self) -> bool {
+        self.is_selective
+    }
+
+    /// The first run; no set if there is none.
+    pub fn first_run(&self) -> &[ByteSet]
+        ensures { (run : List ByteSet) → self.now ≡ run ∷ [] → result.now ≡ run }
+    {
+        match self.runs.first() {
+            Some(run) => run,
+            None => &[],
+        }
+    }
+
+    /// How many sets the longest run has.
+    pub fn longest(&self) -> usize
+        ensures { result ≡ longest_of (members_of self.now) }
+    {
+        self.longest
+    }
+
+    /// The first place of the line where a run is. The bytes up to there are passed; all if none is
+    /// anywhere.
+    pub fn find(&self, line: &[u8], meter: &mut Meter) -> Option<usize>
+        ensures found { FindsRun line.now (members_of self.now) result }
+        ensures counted { meter.new ≡ many_passed (look_cost line.now result) meter.old }
+    {
+        let found = self.first_place(line);
+        meter.add_passed(bytes_over(line, found));
+        found
+    }
+
+    // The first place of the line where a run is.
+    #[inline(always)]
+    fn first_place(&self, line: &[u8]) -> Option<usize>
+        ensures found { FindsRun line.now (members_of self.now) result }
+        ensures within { IfSome result (λ place. place ≤ length line.now) }
+    {
+        if self.runs.len() > 1 {
+            return match self.plan {
+                Plan::TwoBits | Plan::Two => self.find_by::<2, false, true>(line),
+                Plan::Four => self.find_by::<4, false, true>(line),
+            };
+        }
+        match self.plan {
+            Plan::TwoBits => self.find_by::<2, true, false>(line),
+            Plan::Two => self.find_by::<2, false, false>(line),
+            Plan::Four => self.find_by::<4, false, false>(line),
+        }
+    }
+
+    /// Whether the line begins with a run.
+    pub fn begins(&self, line: &[u8]) -> bool
+        ensures { IsTrue result ↔ RunStandsAt line.now (members_of self.now) 0 }
+    {
+        self.stands_at(line, 0)
+    }
+
+    /// Where the longest of the runs ends that are in the line at the place; `None` if none is.
+    pub fn longest_end(&self, line: &[u8], place: usize) -> Option<usize>
+        requires { place ≤ length line.now }
+        ensures { MatchOption result (¬ RunStandsAt line.now (members_of self.now) place)
+            (IsLongestRun line.now (members_of self.now) place) }
+    {
+        longest_end(&self.runs, line, place)
+    }
+
+    // Whether a run is in the line at the place.
+    #[inline(always)]
+    fn stands_at(&self, line: &[u8], place: usize) -> bool
+        requires { place ≤ length line.now }
+        ensures { IsTrue result ↔ RunStandsAt line.now (members_of self.now) place }
+    {
+        take_some(&self.runs, line, place)
+    }
+
+    // The same by this number of tests, of bits or by look-ups, that one of several runs, `EACH`, has to
+    // pass: 32 places at once, and the last ones one by one.
+    #[inline(always)]
+    fn find_by<const COUNT: usize, const BITS: bool, const EACH: bool>(
+        &self,
+        line: &[u8],
+    ) -> Option<usize>
+        requires { IsTrue EACH → 2 ≤ length self.now }
+        ensures { FindsRun line.now (members_of self.now) result }
+    {
+        if line.len() < self.width {
+            return None;
+        }
+        let end = line.len() - self.width + 1;
+        let mut start = 0;
+        'runs: while 32 <= end - start {
+            let (at, marks) = self
+                .probes
+                .next_marks::<COUNT, BITS, EACH>(line, start, end);
+            let left = narrowed::<EACH>(&self.others, line, at, marks);
+            if let Some(place) = self.first_marked(line, at, left) {
+                return Some(place);
+            }
+            start = at + 32;
+        }
+        'places: for place in start..end {
+            if self.stands_at(line, place) {
+                return Some(place);
+            }
+        }
+        None
+    }
+
+    // The first marked one of 32 places where a run is.
+    #[inline(always)]
+    fn first_marked(&self, line: &[u8], start: usize, marks: u64) -> Option<usize>
+        requires within { start + 32 ≤ length line.now }
+        requires marks { Marks (RunStandsAt line.now (members_of self.now)) start (start + 32)
+            marks }
+        ensures { IsFirst (RunStandsAt line.now (members_of self.now)) start (start + 32) result }
+    {
+        let mut left = marks;
+        'marks: while left != 0 {
+            let bit = lowest(left);
+            if self.stands_at(line, start + bit) {
+                return Some(start + bit);
+            }
+            left = without(left, bit);
+        }
+        None
+    }
+}
+
+// The marks of those of 32 places where the other tests are passed too, if there are others.
+#[inline(always)]
+fn narrowed<const EACH: bool>(others: &Option<Probes>, line: &[u8], at: usize, marks: u64) -> u64
+    requires { IfSome others.now (λ probes. HaveRoom probes line.now (at + 32)) }
+    ensures each { (k : ℕ) → k < 32 → bit_at marks k ≡ 1
+        → IfSome others.now (λ probes. AllPass EACH probes line.now (at + k)) → bit_at result k ≡ 1 }
+    ensures within { (k : ℕ) → bit_at result k ≡ 1 → bit_at marks k ≡ 1 }
+{
+    match others {
+        Some(probes) => marks & probes.marks::<4, false, EACH>(line, at),
+        None => marks,
+    }
+}
+
+// Which tests are tried. Two tests of bits are the cheapest. They do for two letters, and where few places
+// of most texts pass. Two look-ups do where few pass them, and where there are no more.
+fn plan_of(runs: &[Vec<ByteSet>], places: &[usize], probes: &Probes) -> Plan {
+    let first = probes.first.alike;
+    let second = probes.second.alike;
+    let bit_stops = share_with(first).saturating_mul(share_with(second)) >> 16;
+    if are_letters(probes) || bit_stops <= MOST_STOPS {
+        return Plan::TwoBits;
+    }
+    if places.len() <= 2 || stops_at(runs, first_of(places, 2)) <= MOST_STOPS {
+        return Plan::Two;
+    }
+    Plan::Four
+}
+
+// Whether the first two tests of bits are right for their sets, as they are for the cases of letters.
+fn are_letters(probes: &Probes) -> bool {
+    probes.first.alike.are_nearly_all() && probes.second.alike.are_nearly_all()
+}
+
+// How many of the rarest sets the tests of the plan are right for.
+fn tested(plan: Plan, probes: &Probes) -> usize {
+    match plan {
+        Plan::TwoBits if !are_letters(probes) => 0,
+        Plan::TwoBits | Plan::Two => 2,
+        Plan::Four => 4,
+    }
+}
+
+// The first places, `most` at most.
+fn first_of(places: &[usize], most: usize) -> &[usize]
+    ensures { length result.now ≤ length places.now }
+{
+    &places[..most.min(places.len())]
+}
