@@ -85,12 +85,12 @@ try 0 -C 100 -v -x 'a*' long letters short
 # automata of 65, of 640 and of thousands of positions
 try 1 -c -E '[a-c]{64}b' long
 try 1 -n -i -E '([a-c]{4}|[b-d]{6}){64}x' long short
-try 0 -c -E '(a|b){255}{8}' long
+# the second pattern needs an automaton of its own
+try 0 -c -E -e '(a|b){255}{8}' -e '[ab]{20}c' long
 try 0 -o -x -E '((.{0,15}a){16}){15}|b' short
 try 2 -E '((.{0,15}a){16}){17}' short
-# patterns that share an automaton, and those that need two
+# patterns that share an automaton
 try 0 -E -o -n -e 'a|b' -e 'a+b' parts
-try 0 -E -c -e '(a|b){255}{8}' -e '[a-c]{255}{9}' -e b long
 # many strings, one of them long
 try 0 -F -c -e "$(head -c 5000 /dev/zero | tr '\0' a)" -f strings long
 echo "$runs runs with an allocation refused: each ended as it has to"
