@@ -190,18 +190,30 @@ impl SetFinder {
             return None;
         }
         let end = line.len() - self.width + 1;
+        if end < 32 {
+            return self.first_of_few(line, end);
+        }
         let mut start = 0;
-        'runs: while 32 <= end - start {
-            let (at, marks) = self
-                .probes
-                .next_marks::<COUNT, BITS, EACH>(line, start, end);
+        'runs: while start < end {
+            // The last places are tried with some before them once more.
+            let from = start.min(end - 32);
+            let (at, marks) = self.probes.next_marks::<COUNT, BITS, EACH>(line, from, end);
             let left = narrowed::<EACH>(&self.others, line, at, marks);
             if let Some(place) = self.first_marked(line, at, left) {
                 return Some(place);
             }
             start = at + 32;
         }
-        'places: for place in start..end {
+        None
+    }
+
+    // The first of the places where a run is, tried one by one. No run is from `end` on.
+    fn first_of_few(&self, line: &[u8], end: usize) -> Option<usize>
+        requires within { end ≤ length line.now }
+        requires none { (k : ℕ) → end ≤ k → RunStandsAt line.now (members_of self.now) k → ⊥ }
+        ensures { FindsRun line.now (members_of self.now) result }
+    {
+        'places: for place in 0..end {
             if self.stands_at(line, place) {
                 return Some(place);
             }

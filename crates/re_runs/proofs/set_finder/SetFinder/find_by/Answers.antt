@@ -1,5 +1,5 @@
 use Rattle.re_runs.proofs.Prelude.{rules, ℕ, ◌+◌, ◌<◌, ◌≤◌, sym, subst, slice_index, arith, false≢true, members_of, IsNoWider, RunStandsAt}
-use Rattle.re_runs.proofs.lemmas.RunLaws.{marks_stand, nowhere_on, nowhere_at, nowhere_stands, finds_none, finds_some, found_pass, others_passed, seen_runs}
+use Rattle.re_runs.proofs.lemmas.RunLaws.{marks_stand, no_room, nowhere_on, nowhere_stands, finds_none, finds_some, found_pass, others_passed, seen_runs}
 use Rattle.re_runs.proofs.set_finder.SetFinder.find_by.Goals as goal
 
 pub first_marked-requires-clause-marks : goal.first_marked-requires-clause-marks
@@ -18,7 +18,9 @@ returns-in-Some g c =
     let pass = found_pass c.args.self.now c.self.inside.runs.items c.self.inside.width _ c.self.inside.probes c.self.view_is c.self.invariant.wide c.self.invariant.first c.requires line small in
     let some : 1 ≤ c.self.inside.width = omega (arith, c.self.invariant.first.first.within) in
     let at = c.next_marks-at.result.0 in
-    let before = nowhere_on (RunStandsAt line runs) c.runs.start at c.runs.invariant.1 (nowhere_stands runs line _ c.self.inside.probes c.runs.start at pass c.next_marks-at.ensures.passed) in
+    let from = c.min-from.result in
+    let low : from ≤ c.runs.start = omega (arith, c.min-from.ensures) in
+    let before = nowhere_on (RunStandsAt line runs) from at (λ k zero lt o. c.runs.invariant.1 k zero (omega (arith, lt, low)) o) (nowhere_stands runs line _ c.self.inside.probes from at pass c.next_marks-at.ensures.passed) in
     finds_some runs line at (at + 32) c.in-Some.place (omega (arith, c.next_marks-at.ensures.on.1, some)) before c.in-Some.ensures
 
 pub runs-preserved : goal.runs-preserved
@@ -28,11 +30,15 @@ runs-preserved g c =
     let small : (x : ℕ) → slice_index line x < 256 = search rules in
     let pass = found_pass c.args.self.now c.self.inside.runs.items c.self.inside.width _ c.self.inside.probes c.self.view_is c.self.invariant.wide c.self.invariant.first c.requires line small in
     let at = c.next_marks-at.result.0 in
-    let before = nowhere_on (RunStandsAt line runs) c.runs.start at c.runs.invariant.1 (nowhere_stands runs line _ c.self.inside.probes c.runs.start at pass c.next_marks-at.ensures.passed) in
+    let from = c.min-from.result in
+    let low : from ≤ c.runs.start = omega (arith, c.min-from.ensures) in
+    let before = nowhere_on (RunStandsAt line runs) from at (λ k zero lt o. c.runs.invariant.1 k zero (omega (arith, lt, low)) o) (nowhere_stands runs line _ c.self.inside.probes from at pass c.next_marks-at.ensures.passed) in
     (c.next_marks-at.ensures.on.1, nowhere_on (RunStandsAt line runs) at (at + 32) before c.in_default.ensures)
 
-pub places-preserved : goal.places-preserved
-places-preserved g c = nowhere_at (RunStandsAt c.args.line.now (members_of c.args.self.now)) c.places.place c.places.invariant (λ o. false≢true (c.if-stands_at.ensures.1 o))
+pub first_of_few-requires-clause-none : goal.first_of_few-requires-clause-none
+first_of_few-requires-clause-none g c k past =
+    let wide = subst (IsNoWider c.self.inside.width) (sym (seen_runs c.args.self.now c.self.inside.runs.items c.self.view_is)) c.self.invariant.wide in
+    no_room (members_of c.args.self.now) c.self.inside.width wide c.args.line.now k (omega (arith, past, c.if-line-self.false))
 
 pub returns-then-line-self : goal.returns-then-line-self
 returns-then-line-self g c =
@@ -42,4 +48,4 @@ returns-then-line-self g c =
 pub returns : goal.returns
 returns g c =
     let wide = subst (IsNoWider c.self.inside.width) (sym (seen_runs c.args.self.now c.self.inside.runs.items c.self.view_is)) c.self.invariant.wide in
-    finds_none (members_of c.args.self.now) c.self.inside.width wide c.args.line.now c.places.place (omega (arith, c.places-test.false, c.if-line-self.false)) c.places.invariant
+    finds_none (members_of c.args.self.now) c.self.inside.width wide c.args.line.now c.runs.start (omega (arith, c.runs-test.false, c.if-line-self.false)) c.runs.invariant.1

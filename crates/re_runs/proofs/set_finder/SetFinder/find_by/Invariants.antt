@@ -6,6 +6,3 @@ invariant-runs g l = (l.start ≤ l.end) × Nowhere (RunStandsAt l.line (members
 
 abbrev pub decreases-runs : goal.decreases-runs
 decreases-runs g l = l.end - l.start
-
-abbrev pub invariant-places : goal.invariant-places
-invariant-places g l = Nowhere (RunStandsAt l.line (members_of l.self)) 0 l.place
