@@ -75,10 +75,9 @@ impl Groups {
             syntax,
             options,
         } = *reading;
-        match self.choice.add(alloc, text, syntax, options.ignore_case) {
-            Ok(added) => Some(added),
-            Err(_) => None,
-        }
+        self.choice
+            .add(alloc, text, syntax, options.ignore_case)
+            .ok()
     }
 
     // Gives the patterns of the choice their matcher. The next pattern begins another choice.
@@ -106,10 +105,7 @@ impl Groups {
             (λ _. self.new.matchers.items ≡ self.old.matchers.items ++ matcher ∷ []) }
         ensures same { self.new.choice ≡ self.old.choice }
     {
-        match self.matchers.push(matcher) {
-            Ok(()) => Some(()),
-            Err(_) => None,
-        }
+        self.matchers.push(matcher).ok()
     }
 }
 

@@ -129,7 +129,7 @@ fn strings_of(alloc: Global, texts: &[u8], syntax: Syntax, options: &Options) ->
         return None;
     }
     let strings = read_strings(alloc, texts, syntax, options.ignore_case)?;
-    if !are_quicker(&strings, options.only_matching) {
+    if !are_quicker(&strings, options) {
         return None;
     }
     Some(strings)
@@ -156,15 +156,15 @@ fn read_strings(alloc: Global, texts: &[u8], syntax: Syntax, fold: bool) -> Opti
     Some(strings)
 }
 
-/// Whether one pass for the strings is quicker than an automaton: they are several, and many, long or looked
-/// for as parts.
-fn are_quicker(strings: &[u8], as_parts: bool) -> bool {
+/// Whether one pass for the strings is quicker than an automaton: they are several, and many, looked for as
+/// parts, or long and in one case.
+fn are_quicker(strings: &[u8], options: &Options) -> bool {
     if !has_more_than(1, strings) {
         return false;
     }
-    as_parts
+    options.only_matching
         || has_more_than(FEW, strings)
-        || !split_file(strings).any(|string| string.len() < LONG)
+        || !options.ignore_case && !split_file(strings).any(|string| string.len() < LONG)
 }
 
 /// How many bytes the strings of a pattern may have.

@@ -15,7 +15,7 @@ ghost use Rattle.re_match.specs.Working.Prefilters.{IsPrefilterFor};
 ghost use Rattle.re_runs.specs.Working.Blocks.{IsBlock, PassesUnmatched};
 
 use crate::scan_backoff::ScanBackoff;
-use crate::sweeps::Sweep;
+use crate::sweeps::{Stop, Sweep};
 use crate::tries::{NextPart, next_tried};
 use re_auto::{Automaton, Meter};
 use re_needle::{LookCost, Needle, bytes_of};
@@ -63,7 +63,7 @@ impl Prefilter {
     }
 
     /// Whether the line is matched, if one look over it says so. A run that is common is looked for
-    /// over blocks alone.
+    /// over blocks alone, and so is one that most lines had of late, unless it is all there is.
     #[inline(always)]
     pub fn settled(&self, line: &[u8], whole: bool, meter: &mut Meter) -> Option<bool>
         ensures settled { (e : Expression) → IsNeedleFor e self.now.needle →
@@ -80,7 +80,7 @@ impl Prefilter {
             }
             return Some(false);
         }
-        if needle.is_common {
+        if needle.is_common || !needle.is_all && self.backoff.rests() {
             return None;
         }
         if needle.finder.find(line, meter).is_none() {
@@ -106,13 +106,13 @@ impl Prefilter {
         };
         if whole && needle.is_first {
             let swept = first_line_beginning_with(&needle.finder, block, meter);
-            return Sweep::seen(block, swept);
+            return Sweep::of(block, swept, Stop::Seen);
         }
         let swept = first_line_with_run(&needle.finder, block, meter);
         if needle.is_all && !whole && has_run(&needle.finder, block, swept) {
-            return Sweep::matched(block, swept);
+            return Sweep::of(block, swept, Stop::Matched);
         }
-        Sweep::seen(block, swept)
+        Sweep::of(block, swept, Stop::Seen)
     }
 
     /// What is known of the next part of the line, where the whole line need not be matched. If the

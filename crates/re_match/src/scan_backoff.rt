@@ -34,6 +34,12 @@ impl ScanBackoff {
         false
     }
 
+    /// Whether lines are searched without a look now.
+    #[inline(always)]
+    pub fn rests(&self) -> bool {
+        self.rest.get() > 0
+    }
+
     /// A look passed `bytes` bytes.
     #[inline(always)]
     pub fn note(&self, bytes: usize) {

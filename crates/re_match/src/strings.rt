@@ -108,7 +108,7 @@ impl Look {
         match self {
             Look::One(finder) => {
                 let swept = first_line_with(finder, block, meter);
-                Sweep::seen(block, swept)
+                Sweep::of(block, swept, Stop::Seen)
             }
             Look::Many(set) => set.first_line(block, meter),
         }

@@ -62,35 +62,19 @@ impl Sweep {
         }
     }
 
-    /// A look stopped in a line that may be matched.
-    pub fn seen(block: &[u8], swept: Swept) -> Sweep
+    /// A look stopped in a line of which it says this.
+    pub fn of(block: &[u8], swept: Swept, stop: Stop) -> Sweep
         requires { IfSome swept.place (λ at. at ≤ length block.now) }
         ensures { result ≡ record {
           start = swept.start;
           reached = look_cost block.now swept.place;
-          stop = Seen;
+          stop = stop;
         } }
     {
         Sweep {
             start: swept.start,
             reached: bytes_over(block, swept.place),
-            stop: Stop::Seen,
-        }
-    }
-
-    /// A look stopped in a line that is matched.
-    pub fn matched(block: &[u8], swept: Swept) -> Sweep
-        requires { IfSome swept.place (λ at. at ≤ length block.now) }
-        ensures { result ≡ record {
-          start = swept.start;
-          reached = look_cost block.now swept.place;
-          stop = Matched;
-        } }
-    {
-        Sweep {
-            start: swept.start,
-            reached: bytes_over(block, swept.place),
-            stop: Stop::Matched,
+            stop,
         }
     }
 }

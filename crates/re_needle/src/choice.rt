@@ -65,6 +65,11 @@ impl Run {
         }
     }
 
+    /// Whether it has all of these marks.
+    pub fn is_all(self, marks: &[OutlineItem]) -> bool {
+        self.length == marks.len()
+    }
+
     /// Whether a mark of it is half as common as the first of the other, which is on most lines.
     pub fn is_rarer(self, byte: Run) -> bool {
         byte.length > 0 && byte.rank >= OFTEN && self.rank.saturating_add(HALVED) <= byte.rank

@@ -14,12 +14,15 @@ use std::alloc::{AllocError, Global};
 // How many runs are looked for at once.
 const MOST_RUNS: usize = 8;
 
-/// The runs to look for: one of each branch, if there are at most eight branches. `None` if a branch
-/// isn't known to need a run, or if the runs are common and not all there is. The only error is that an
-/// allocation failed.
-pub fn choice_needle(alloc: Global, branches: &[Tree]) -> Result<Option<Needle>, AllocError>
-    ensures { IfOk result (IsNeedleFor (alt (map expression_of branches.now))) }
+/// The runs to look for of a choice: one of each branch, if there are at most eight branches. `None` if
+/// it is no choice, if a branch isn't known to need a run, or if the runs are common and not all there is.
+/// The only error is that an allocation failed.
+pub fn choice_needle(alloc: Global, tree: &Tree) -> Result<Option<Needle>, AllocError>
+    ensures { IfOk result (IsNeedleFor (expression_of tree.now)) }
 {
+    let Tree::Alt(branches) = tree else {
+        return Ok(None);
+    };
     if branches.len() > MOST_RUNS {
         return Ok(None);
     }
@@ -45,6 +48,25 @@ pub fn choice_needle(alloc: Global, branches: &[Tree]) -> Result<Option<Needle>,
         is_all: are_all,
         is_common: false,
     }))
+}
+
+/// The runs of the first choice among parts that follow one another whose runs are rare in most texts, and
+/// at fewer than `most` of 65,536 places. The only error is that an allocation failed.
+pub fn needle_inside(alloc: Global, tree: &Tree, most: u64) -> Result<Option<Needle>, AllocError>
+    ensures { IfOk result (IsNeedleFor (expression_of tree.now)) }
+{
+    let Tree::Cat(parts) = tree else {
+        return Ok(None);
+    };
+    'parts: for place in 0..parts.len() {
+        let Some(needle) = choice_needle(alloc, &parts[place])? else {
+            continue 'parts;
+        };
+        if needle.is_rare(most) {
+            return Ok(Some(needle.inside(place)));
+        }
+    }
+    Ok(None)
 }
 
 /// A run of each branch of a choice.

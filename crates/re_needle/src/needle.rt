@@ -1,5 +1,5 @@
 //! What every match of an expression contains.
-ghost use Rattle.std.specs.Prelude.{◌≡◌, ◌≤◌, ◌++◌, List, Option, Some, IfOk, IfSome, length, map};
+ghost use Rattle.std.specs.Prelude.{◌≡◌, ◌≤◌, ◌++◌, List, Option, Some, IfOk, IfSome, IsTrue, false, length, map};
 ghost use Rattle.re_syntax.specs.Bytes.{Bytes, only};
 ghost use Rattle.re_syntax.specs.Expression.{Expression, byte};
 ghost use Rattle.re_syntax.specs.Working.Trees.{expression_of, members};
@@ -7,7 +7,7 @@ ghost use Rattle.re_needle.specs.Working.Needles.{IsNeedleFor, IsRunNeedleFor};
 ghost use Rattle.re_needle.specs.Working.Outlines.{IsOutline, shown};
 
 use crate::choice::{Run, RunKind, best_run};
-use crate::choice_needle::choice_needle;
+use crate::choice_needle::{choice_needle, needle_inside};
 use crate::cost::LookCost;
 use crate::leading_sets::leading_sets;
 use crate::outline::add_outline;
@@ -40,17 +40,43 @@ pub struct Needle {
 
 impl Needle {
     /// The runs to look for: of a choice a run of each branch, if these are rare in most texts or
-    /// all there is; else the run of [`run_needle`]. The only error is that an allocation failed.
+    /// all there is; else the run of [`run_needle`], or the runs of a choice inside if these are rarer.
+    /// The only error is that an allocation failed.
     pub fn of(alloc: Global, tree: &Tree) -> Result<Option<Needle>, AllocError>
         ensures { IfOk result (IsNeedleFor (expression_of tree.now)) }
     {
-        if let Tree::Alt(branches) = tree {
-            let found = choice_needle(alloc, branches)?;
-            if found.is_some() {
-                return Ok(found);
-            }
+        let choice = choice_needle(alloc, tree)?;
+        if choice.is_some() {
+            return Ok(choice);
         }
-        run_needle(alloc, tree)
+        let run = run_needle(alloc, tree)?;
+        let inside = needle_inside(alloc, tree, stops_of(&run))?;
+        if inside.is_some() {
+            return Ok(inside);
+        }
+        Ok(run)
+    }
+
+    /// The same runs for parts that follow one another, of which the one at this place needs them.
+    pub fn inside(self, place: usize) -> Needle
+        ensures finder { result.finder ≡ self.finder }
+        ensures first { IsTrue result.is_first → IsTrue self.is_first × (place ≡ 0) }
+        ensures all { result.is_all ≡ false }
+    {
+        Needle {
+            finder: self.finder,
+            is_first: self.is_first && place == 0,
+            is_all: false,
+            is_common: self.is_common,
+        }
+    }
+
+    /// Whether the runs are rare in most texts, and at fewer than `most` of 65,536 places.
+    pub fn is_rare(&self, most: u64) -> bool {
+        match &self.finder {
+            RunFinder::Text(_) => false,
+            RunFinder::Sets(finder) => finder.is_selective() && finder.stops() < most,
+        }
     }
 
     /// What the search for it over a block costs.
@@ -62,24 +88,41 @@ impl Needle {
     }
 }
 
+// About how many of 65,536 places of most texts the needle stops at: none if it is a string, which is
+// looked for fast, and all if it is common or there is none.
+fn stops_of(needle: &Option<Needle>) -> u64 {
+    match needle {
+        Some(needle) if !needle.is_common => match &needle.finder {
+            RunFinder::Text(_) => 0,
+            RunFinder::Sets(finder) => finder.stops(),
+        },
+        _ => u64::MAX,
+    }
+}
+
 /// The run to look for, the first of these that every match needs, also in groups and in what is
-/// repeated once or more: two or more single bytes; a run of small sets that is rare in most texts or
-/// is all there is; one byte that is not common; a long run of sets of any size; a common byte, or a
-/// small set that is half as common as a byte of most lines; any run of small sets, be it of one. A
-/// choice has the sets that its branches begin with, and a set that is repeated counts once for each
-/// time. `None` if there is none of these. The only error is that an allocation failed.
+/// repeated once or more: two or more small sets that are all there is; two or more single bytes; a run of
+/// small sets that is rare in most texts; one byte that is not common; a long run of sets of any size; a
+/// common byte, or a small set that is half as common as a byte of most lines; any run of small sets, be
+/// it of one. A choice has the sets that its branches begin with, and a set that is repeated counts once
+/// for each time. `None` if there is none of these. The only error is that an allocation failed.
 pub fn run_needle(alloc: Global, tree: &Tree) -> Result<Option<Needle>, AllocError>
     ensures { IfOk result (IsRunNeedleFor (expression_of tree.now)) }
 {
     let mut marks = Vec::new(alloc);
     add_outline(alloc, tree, &mut marks)?;
     let bytes = best_run(&marks, RunKind::Bytes);
-    if let Some(needle) = text_needle(alloc, &marks, bytes.start, 2)? {
-        return Ok(Some(needle));
-    }
+    let text = text_needle(alloc, &marks, bytes.start, 2)?;
     let sets = best_run(&marks, RunKind::SmallSets);
-    if let Some(needle) = set_needle(alloc, &marks, sets.start, RunKind::SmallSets, 2, false)? {
-        return Ok(Some(needle));
+    if text.is_some() && (bytes.is_all(&marks) || !sets.is_all(&marks)) {
+        return Ok(text);
+    }
+    let found = set_needle(alloc, &marks, sets.start, RunKind::SmallSets, 2, false)?;
+    if found.is_some() {
+        return Ok(found);
+    }
+    if text.is_some() {
+        return Ok(text);
     }
     let single = single_needle(alloc, &marks, bytes, sets)?;
     if matches!(&single, Some(needle) if !needle.is_common) {

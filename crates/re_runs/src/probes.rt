@@ -137,8 +137,8 @@ impl Probes {
         (at, marks)
     }
 
-    /// A mark for each of 32 places where the tests are passed: two tests or all, and two alone if they
-    /// are tests of bits. Of several runs, `EACH`, one has to pass all.
+    /// A mark for each of 32 places where so many of the tests are passed, and two if they are tests of
+    /// bits. Of several runs, `EACH`, one has to pass all.
     #[inline(always)]
     pub fn marks<const COUNT: usize, const BITS: bool, const EACH: bool>(
         &self,
@@ -154,14 +154,18 @@ impl Probes {
             return self.bit_marks(line, place);
         }
         let first = self.first.looked_up(line, place);
-        let second = self.second.looked_up(line, place);
-        let two = met::<EACH>(first, second);
+        if COUNT == 1 {
+            return nonzero(first);
+        }
+        let two = met::<EACH>(first, self.second.looked_up(line, place));
         if COUNT == 2 {
             return nonzero(two);
         }
-        let third = self.third.looked_up(line, place);
-        let fourth = self.fourth.looked_up(line, place);
-        nonzero(met::<EACH>(two, met::<EACH>(third, fourth)))
+        let three = met::<EACH>(two, self.third.looked_up(line, place));
+        if COUNT == 3 {
+            return nonzero(three);
+        }
+        nonzero(met::<EACH>(three, self.fourth.looked_up(line, place)))
     }
 
     // A mark for each of 32 places where the first two tests of bits are passed.

@@ -24,15 +24,23 @@ use std::marker::Model;
 // bytes of most texts.
 const MOST_STOPS: u64 = 256;
 
+// So many places may pass where runs are compared without further tests.
+const MANY_STOPS: u64 = 1_024;
+
+// Runs of so few sets are compared sooner than further tests are made at 32 places.
+const FEW_SETS: usize = 4;
+
 // Which tests are tried at 32 places at once.
 #[derive(Clone, Copy, Drop)]
 enum Plan {
     // The first two, by bits.
     TwoBits,
+    // The only one, by look-ups.
+    One,
     // The first two, by look-ups.
     Two,
-    // All four, by look-ups.
-    Four,
+    // The first three, by look-ups.
+    Three,
 }
 
 /// Looks for the first of several runs of sets, one byte of each set in turn: for bytes of the rarest
@@ -47,7 +55,8 @@ pub struct SetFinder {
     probes: Probes,
     // Tests of sets for which the plan's tests aren't right; `None` if there are none.
     others: Option<Probes>,
-    is_selective: bool,
+    // About how many of 65,536 places of most texts have a run.
+    stops: u64,
 }
 
 impl Model for SetFinder {
@@ -81,13 +90,14 @@ impl SetFinder {
         let Some(probes) = Probes::of(&runs, width, &places) else {
             return Ok(None);
         };
-        let plan = plan_of(&runs, &places, &probes);
-        let others = Probes::of(
-            &runs,
-            width,
-            &places[tested(plan, &probes).min(places.len())..],
-        );
-        let is_selective = stops_at(&runs, first_of(&places, 4)) <= MOST_STOPS;
+        let plan = plan_of(&runs, &places, &probes, longest);
+        let tested = tested(plan, &probes).min(places.len());
+        let others = if longest > FEW_SETS {
+            Probes::of(&runs, width, &places[tested..])
+        } else {
+            None
+        };
+        let stops = stops_at(&runs, first_of(&places, 4));
         Ok(Some(SetFinder {
             runs,
             width,
@@ -95,13 +105,18 @@ impl SetFinder {
             plan,
             probes,
             others,
-            is_selective,
+            stops,
         }))
     }
 
     /// Whether such runs are so rare in most texts that it is worth while to look for them first.
     pub fn is_selective(&self) -> bool {
-        self.is_selective
+        self.stops <= MOST_STOPS
+    }
+
+    /// About how many of 65,536 places of most texts have a run, by its rarest sets.
+    pub fn stops(&self) -> u64 {
+        self.stops
     }
 
     /// The first run; no set if there is none.
@@ -140,14 +155,16 @@ impl SetFinder {
     {
         if self.runs.len() > 1 {
             return match self.plan {
+                Plan::One => self.find_by::<1, false, true>(line),
                 Plan::TwoBits | Plan::Two => self.find_by::<2, false, true>(line),
-                Plan::Four => self.find_by::<4, false, true>(line),
+                Plan::Three => self.find_by::<3, false, true>(line),
             };
         }
         match self.plan {
             Plan::TwoBits => self.find_by::<2, true, false>(line),
+            Plan::One => self.find_by::<1, false, false>(line),
             Plan::Two => self.find_by::<2, false, false>(line),
-            Plan::Four => self.find_by::<4, false, false>(line),
+            Plan::Three => self.find_by::<3, false, false>(line),
         }
     }
 
@@ -256,18 +273,26 @@ fn narrowed<const EACH: bool>(others: &Option<Probes>, line: &[u8], at: usize, m
 }
 
 // Which tests are tried. Two tests of bits are the cheapest. They do for two letters, and where few places
-// of most texts pass. Two look-ups do where few pass them, and where there are no more.
-fn plan_of(runs: &[Vec<ByteSet>], places: &[usize], probes: &Probes) -> Plan {
+// of most texts pass; so do two look-ups. More places may pass where runs are compared at once.
+fn plan_of(runs: &[Vec<ByteSet>], places: &[usize], probes: &Probes, longest: usize) -> Plan {
+    let most = if longest <= FEW_SETS {
+        MANY_STOPS
+    } else {
+        MOST_STOPS
+    };
     let first = probes.first.alike;
     let second = probes.second.alike;
     let bit_stops = share_with(first).saturating_mul(share_with(second)) >> 16;
-    if are_letters(probes) || bit_stops <= MOST_STOPS {
+    if are_letters(probes) || bit_stops <= most {
         return Plan::TwoBits;
     }
-    if places.len() <= 2 || stops_at(runs, first_of(places, 2)) <= MOST_STOPS {
+    if places.len() <= 1 {
+        return Plan::One;
+    }
+    if places.len() == 2 || stops_at(runs, first_of(places, 2)) <= most {
         return Plan::Two;
     }
-    Plan::Four
+    Plan::Three
 }
 
 // Whether the first two tests of bits are right for their sets, as they are for the cases of letters.
@@ -279,8 +304,9 @@ fn are_letters(probes: &Probes) -> bool {
 fn tested(plan: Plan, probes: &Probes) -> usize {
     match plan {
         Plan::TwoBits if !are_letters(probes) => 0,
+        Plan::One => 1,
         Plan::TwoBits | Plan::Two => 2,
-        Plan::Four => 4,
+        Plan::Three => 3,
     }
 }
 

@@ -10,6 +10,9 @@ const COMMONEST: u32 = 8_192;
 /// A byte that is this number of ranks lower is half as common.
 pub const HALVED: u8 = 10;
 
+// The least rank of a digit.
+const OF_DIGITS: u8 = 225;
+
 /// How common the bytes of a set are.
 #[derive(Clone, Copy, Drop)]
 pub struct Survey {
@@ -60,7 +63,12 @@ fn share_of(byte: u8) -> u32 {
     (share - share / u32::from(2 * HALVED) * u32::from(beyond % HALVED)).max(1)
 }
 
-/// How common the byte is in most texts, from 0 for the rarest to 255.
+/// How common the byte is in most texts, from 0 for the rarest to 255. Texts that are searched have more
+/// digits than those that `memchr`'s ranks are of.
 pub fn rank_of(byte: u8) -> u8 {
-    DefaultFrequencyRank.rank(byte)
+    let rank = DefaultFrequencyRank.rank(byte);
+    if byte.is_ascii_digit() {
+        return rank.max(OF_DIGITS);
+    }
+    rank
 }

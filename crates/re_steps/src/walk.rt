@@ -1,5 +1,5 @@
 //! Searches by the pairs that are held.
-ghost use Rattle.std.specs.Prelude.{◌≡◌, ℕ, ◌-◌, ◌*◌, ◌<◌, ◌≤◌, true, false, Some, IsTrue};
+ghost use Rattle.std.specs.Prelude.{◌≡◌, ℕ, ◌+◌, ◌-◌, ◌*◌, ◌<◌, ◌≤◌, true, false, Some, IsTrue};
 ghost use Rattle.std.specs.Prelude.{IfSome, IfNone, length, slice_get, slice_index};
 ghost use Rattle.re_auto.specs.declared.step.state_set.StateSet.{StateSet as Set};
 ghost use Rattle.re_meter.specs.Meters.{Steps, many_built};
@@ -144,7 +144,7 @@ impl StepTable {
         let mut row = from.row;
         let mut place = from.place;
         'places: while place < line.len() {
-            let cell = cells[row + classes[line[place] as usize] as usize];
+            let cell = cell_in(cells, row, classes[line[place] as usize] as usize);
             if cell < floor || cell >= LIMIT {
                 return Walk { place, row, cell };
             }
@@ -253,4 +253,15 @@ impl StepTable {
             row: 0,
         })
     }
+}
+
+// The cell of a row in a column. Where the column begins is known before the row is, so that a walk waits
+// for one load a byte, and not for a sum as well.
+#[inline(always)]
+fn cell_in(cells: &[u32], row: usize, column: usize) -> u32
+    requires { row + column < length cells.now }
+    ensures { result ≡ slice_index cells.now (row + column) }
+{
+    let rows = &cells[column..];
+    rows[row]
 }

@@ -1,7 +1,8 @@
 -- Needles, and what their places say of a line.
-use Rattle.re_needle.proofs.Prelude.{IsNoWider, RunIsAt, RunStandsAt, IsLongestRun, ◌≡◌, ℕ, ◌+◌, ◌-◌, ◌≤◌, ap, inl, Bool, false, IsTrue, List, [], ◌∷◌, ◌++◌, length, map, drop, Option, Some, None, refl, sym, subst, arith, true, inr, ◌∙◌, length-append, is_some, Bytes, Text, only, Expression, Holds, Matches, IsFound, IsPart, Needle, RunFinder, most_sets, front_of, FindsRun, IsNeeded, RunIsNeeded, IsNeedleOf, IsRunNeedleFor, RunBegins, IsJustRun, Runs, one_run, runs_of, IsSettled, LacksNeeded, IsOutline, ◌↔◌, false≢true, length-map, take-append-drop, dec_le}
+use Rattle.re_needle.proofs.Prelude.{RunStandsBetween, get_or, ◌<◌, cat, expression_of, Tree, IsNoWider, RunIsAt, RunStandsAt, IsLongestRun, ◌≡◌, ℕ, ◌+◌, ◌-◌, ◌≤◌, ap, inl, Bool, false, IsTrue, List, [], ◌∷◌, ◌++◌, length, map, drop, Option, Some, None, refl, sym, subst, arith, true, inr, ◌∙◌, length-append, is_some, Bytes, Text, only, Expression, Holds, Matches, IsFound, IsPart, Needle, RunFinder, most_sets, front_of, FindsRun, IsNeeded, RunIsNeeded, IsNeedleOf, IsRunNeedleFor, RunBegins, IsJustRun, Runs, one_run, runs_of, IsSettled, LacksNeeded, IsOutline, ◌↔◌, false≢true, length-map, take-append-drop, dec_le}
 use Rattle.re_syntax.proofs.lemmas.Decisions.{Any-first}
 use Rattle.re_syntax.proofs.lemmas.SomeOfJoined.{Any-single}
+use Rattle.re_syntax.proofs.lemmas.HoldsDecided.{Holds-le}
 use Rattle.re_needle.proofs.lemmas.OutlineLaws.{run_needed, run_begins, just_run}
 use Rattle.std.specs.Prelude.{Any, suc, zero}
 use Rattle.re_runs.proofs.lemmas.RunLaws.{some_run, one_stands, front_stands, run_rest, run_text, nowhere}
@@ -118,3 +119,32 @@ module _ (e : Expression) (line : Text) where
           let just = has.is in
           let own : RunIsAt line has.place run → Holds line e has.place (has.place + length run) = subst (λ r. RunIsAt line has.place r → Holds line e has.place (has.place + length r)) at (just.holds line has.place n run lt) in
           (has.place, has.place + length run, there.fits, own there)
+
+-- ---- a part of parts that follow one another
+
+module _ (line : Text) where
+  part_holds : (parts : List Tree) (n : ℕ) (part : Tree) → n < length parts → part ≡ get_or parts n part → (i j : ℕ) → Holds line (cat (map expression_of parts)) i j
+      → (k m : ℕ) × (i ≤ k) × (m ≤ j) × Holds line (expression_of part) k m × (n ≡ 0 → i ≡ k)
+  part_holds [] n part lt is i j h = absurd (omega (arith, lt))
+  part_holds (p ∷ parts) zero part lt is i j (k, here, later) =
+      (i, k, omega arith, Holds-le line (cat (map expression_of parts)) k j later, subst (λ p. Holds line (expression_of p) i k) (sym is) here, λ _. refl)
+  part_holds (p ∷ parts) (suc n) part lt is i j (k, first, later) =
+      let (a, b, low, high, here, _) = part_holds parts n part (omega (arith, lt)) is k j later in
+      let before : i ≤ k = Holds-le line (expression_of p) i k first in
+      (a, b, omega (arith, before, low), high, here, λ none. absurd (let no : ⊥ = omega (arith, none) in no))
+
+-- what a part needs, all of them need; and they begin with what the first begins with
+pub needle_of_part : (parts : List Tree) (n : ℕ) (part : Tree) (needle whole : Needle) → n < length parts → part ≡ get_or parts n part → IsNeedleOf (expression_of part) needle
+    → whole.finder ≡ needle.finder → (IsTrue whole.is_first → IsTrue needle.is_first × (n ≡ 0)) → whole.is_all ≡ false → IsNeedleOf (cat (map expression_of parts)) whole
+needle_of_part parts n part needle whole lt is of same first all = record {
+  needed = λ line i j within h.
+      let (k, m, low, high, here, _) = part_holds line parts n part lt is i j h in
+      let (at, from, there) = of.needed line k m (omega (arith, high, within)) here in
+      subst (λ f. RunStandsBetween line (runs_of f) i j) (sym same) (at, omega (arith, low, from), some_run (runs_of needle.finder) (λ run is. (is.0, omega (arith, is.1, high))) there);
+  some = subst (λ f. IsNoWider 1 (runs_of f)) (sym same) of.some;
+  first = λ reported line i j within h.
+      let (its, none) = first reported in
+      let (k, m, low, high, here, begins) = part_holds line parts n part lt is i j h in
+      subst (λ f. RunStandsAt line (runs_of f) i) (sym same) (subst (RunStandsAt line (runs_of needle.finder)) (sym (begins none)) (of.first its line k m (omega (arith, high, within)) here));
+  all = λ yes. absurd (false≢true (sym all ∙ yes));
+}

@@ -239,7 +239,3 @@ module _ (marks : List (Option Bytes)) (e : Expression) (outline : IsOutline mar
       holds : (line : Text) (k : ℕ) → All (λ r. RunIsAt line k r → Holds line e k (k + length r)) (one_run run)
       holds line k zero d lt there = outline.holds (subst AreSetMarks (sym is) (all_sets run)) line k (k + length run) (subst (λ l. Fits line l k (k + length run)) (sym is) (stands_fit line run k there))
       holds line k (suc n) d lt there = absurd (omega (arith, lt))
-
--- what is added to no mark
-pub outline_alone : (old new : List OutlineItem) (e : Expression) → old ≡ [] → AddsOutline old e new → IsOutline (map shown new) e
-outline_alone old new e none (more, same, outline) = subst (λ l. IsOutline (map shown l) e) (sym (same ∙ ap (λ l. l ++ more) none)) outline

@@ -1,5 +1,5 @@
 -- What operations on vectors of 32 bytes hold at each lane, beside those of memchr.
-use Rattle.re_runs.proofs.Prelude.{IsTrue, meet, bits_of, AllPass, Probes, bit_at-zero, bit_at_and, ◌≡◌, ◌≢◌, ◌↔◌, ℕ, ◌+◌, ◌*◌, ◌/◌, ◌%◌, ◌^◌, ◌<◌, List, Bool, true, false, not, cond, eqb, ltb, min, bit_and, length, get_or, slice_index, map, replicate, refl, sym, ap, subst, ◌∙◌, eq-eqb, arith, w8, bit_at, zip2, sel_l, mask_l, top, HasLanes, Text, Alike, Probe, HasBits, PassesAt, mark_of, ltb-true, ltb-false, eqb-true, eqb-false, get_or-zip2, get_or-replicate, length-zip2, length-swz_l, get_or-swz_l_below, swz_l, SwzOk, SwzOk-from_below, Each1-from_get_or, length-sel_l, get_or-sel_l, tops_compared, bitmask_splat, bit_mask_l}
+use Rattle.re_runs.proofs.Prelude.{false≢true, IsTrue, meet, bits_of, AllPass, Probes, bit_at-zero, bit_at_and, ◌≡◌, ◌≢◌, ◌↔◌, ℕ, ◌+◌, ◌*◌, ◌/◌, ◌%◌, ◌^◌, ◌<◌, List, Bool, true, false, not, cond, eqb, ltb, min, bit_and, length, get_or, slice_index, map, replicate, refl, sym, ap, subst, ◌∙◌, eq-eqb, arith, w8, bit_at, zip2, sel_l, mask_l, top, HasLanes, Text, Alike, Probe, HasBits, PassesAt, mark_of, ltb-true, ltb-false, eqb-true, eqb-false, get_or-zip2, get_or-replicate, length-zip2, length-swz_l, get_or-swz_l_below, swz_l, SwzOk, SwzOk-from_below, Each1-from_get_or, length-sel_l, get_or-sel_l, tops_compared, bitmask_splat, bit_mask_l}
 use Rattle.std.proofs.Math.ListN.{get_or-map}
 use Rattle.memchr.proofs.lemmas.LaneLemmas.{HasLanes-zip2, HasLanes-select}
 
@@ -110,37 +110,48 @@ meets_at : (a b bit : ℕ) → bit_at a bit ≡ 1 → bit_at b bit ≡ 1 → bit
 meets_at a b bit one other = omega (arith, one, other, bit_at_and a b bit)
 
 module _ (each : Bool) (line : Text) (place k : ℕ) (below : k < 32) where
-  -- the lane of two vectors of look-ups
-  met_lane : (one other : Probe) (v a b : List ℕ) → HasLanes v (λ i. meet each (get_or a i 0) (get_or b i 0))
-      → HasLanes a (λ i. bits_of one.nibbles (slice_index line (place + i + one.at)))
-      → HasLanes b (λ i. bits_of other.nibbles (slice_index line (place + i + other.at)))
-      → get_or v k 0 ≡ meet each (bits_of one.nibbles (slice_index line (place + k + one.at))) (bits_of other.nibbles (slice_index line (place + k + other.at)))
-  met_lane one other v a b met ha hb = met.each k below ∙ ap (λ x. meet each x (get_or b k 0)) (ha.each k below) ∙ ap (meet each (bits_of one.nibbles (slice_index line (place + k + one.at)))) (hb.each k below)
+  -- what a probe's look-up gives for the place
+  abbrev bits_at : Probe → ℕ
+  bits_at probe = bits_of probe.nibbles (slice_index line (place + k + probe.at))
 
-  pub two_met : (probes : Probes) (v a b : List ℕ) → HasLanes v (λ i. meet each (get_or a i 0) (get_or b i 0))
-      → HasLanes a (λ i. bits_of probes.first.nibbles (slice_index line (place + i + probes.first.at)))
-      → HasLanes b (λ i. bits_of probes.second.nibbles (slice_index line (place + i + probes.second.at)))
-      → AllPass each probes line (place + k) → get_or v k 0 ≢ 0
-  two_met probes v a b met ha hb all none =
-      meets each _ _ all.first.0 all.second.0 (λ yes. let (bit, one, two, _, _) = all.common yes in (bit, one, two)) (sym (met_lane probes.first probes.second v a b met ha hb) ∙ none)
+  -- and a vector of look-ups
+  abbrev AreBits : Probe → List ℕ → Type 0
+  AreBits probe a = HasLanes a (λ i. bits_of probe.nibbles (slice_index line (place + i + probe.at)))
 
-  pub four_met : (probes : Probes) (all v w a b c d : List ℕ) → HasLanes all (λ i. meet each (get_or v i 0) (get_or w i 0))
-      → HasLanes v (λ i. meet each (get_or a i 0) (get_or b i 0)) → HasLanes w (λ i. meet each (get_or c i 0) (get_or d i 0))
-      → HasLanes a (λ i. bits_of probes.first.nibbles (slice_index line (place + i + probes.first.at)))
-      → HasLanes b (λ i. bits_of probes.second.nibbles (slice_index line (place + i + probes.second.at)))
-      → HasLanes c (λ i. bits_of probes.third.nibbles (slice_index line (place + i + probes.third.at)))
-      → HasLanes d (λ i. bits_of probes.fourth.nibbles (slice_index line (place + i + probes.fourth.at)))
-      → AllPass each probes line (place + k) → get_or all k 0 ≢ 0
-  four_met probes all v w a b c d met hv hw ha hb hc hd pass none =
-      let left = met_lane probes.first probes.second v a b hv ha hb in
-      let right = met_lane probes.third probes.fourth w c d hw hc hd in
-      four each _ _ _ _ pass.first.0 pass.second.0 pass.third.0 pass.fourth.0 pass.common
-      (sym (met.each k below ∙ ap (λ x. meet each x (get_or w k 0)) left ∙ ap (meet each _) right) ∙ none)
-    where
-      four : (each : Bool) (a b c d : ℕ) → (a ≢ 0) → (b ≢ 0) → (c ≢ 0) → (d ≢ 0)
-          → (IsTrue each → (bit : ℕ) × (bit_at a bit ≡ 1) × (bit_at b bit ≡ 1) × (bit_at c bit ≡ 1) × (bit_at d bit ≡ 1))
-          → meet each (meet each a b) (meet each c d) ≢ 0
-      four true a b c d _ _ _ _ common none =
-          let (bit, one, two, three, more) = common refl in
-          none_set _ bit (meets_at (bit_and a b) (bit_and c d) bit (meets_at a b bit one two) (meets_at c d bit three more)) none
-      four false a b c d one two three more _ none = omega (arith, one, two, three, more, none)
+  -- a vector that met one of look-ups
+  abbrev AreMet : List ℕ → List ℕ → List ℕ → Type 0
+  AreMet v u a = HasLanes v (λ i. meet each (get_or u i 0) (get_or a i 0))
+
+  met_lane : (probe : Probe) (x : ℕ) (v u a : List ℕ) → get_or u k 0 ≡ x → AreMet v u a → AreBits probe a → get_or v k 0 ≡ meet each x (bits_at probe)
+  met_lane probe x v u a same met bits = met.each k below ∙ ap (λ y. meet each y (get_or a k 0)) same ∙ ap (meet each x) (bits.each k below)
+
+  module _ (probes : Probes) (all : AllPass each probes line (place + k)) where
+    pub one_met : (a : List ℕ) → AreBits probes.first a → get_or a k 0 ≢ 0
+    one_met a ha none = all.first.0 (sym (ha.each k below) ∙ none)
+
+    two_lane : (v a b : List ℕ) → AreMet v a b → AreBits probes.first a → AreBits probes.second b → get_or v k 0 ≡ meet each (bits_at probes.first) (bits_at probes.second)
+    two_lane v a b met ha hb = met_lane probes.second (bits_at probes.first) v a b (ha.each k below) met hb
+
+    pub two_met : (v a b : List ℕ) → AreMet v a b → AreBits probes.first a → AreBits probes.second b → get_or v k 0 ≢ 0
+    two_met v a b met ha hb none = meets each _ _ all.first.0 all.second.0 (λ yes. let (bit, one, two, _, _) = all.common yes in (bit, one, two)) (sym (two_lane v a b met ha hb) ∙ none)
+
+    three_lane : (w v a b c : List ℕ) → AreMet w v c → AreMet v a b → AreBits probes.first a → AreBits probes.second b → AreBits probes.third c
+        → get_or w k 0 ≡ meet each (meet each (bits_at probes.first) (bits_at probes.second)) (bits_at probes.third)
+    three_lane w v a b c more met ha hb hc = met_lane probes.third _ w v c (two_lane v a b met ha hb) more hc
+
+    -- a bit that several have in common, or none of them 0
+    three : (each : Bool) (a b c : ℕ) → (a ≢ 0) → (b ≢ 0) → (c ≢ 0) → (IsTrue each → (bit : ℕ) × (bit_at a bit ≡ 1) × (bit_at b bit ≡ 1) × (bit_at c bit ≡ 1))
+        → (meet each (meet each a b) c ≢ 0) × (IsTrue each → (bit : ℕ) → bit_at a bit ≡ 1 → bit_at b bit ≡ 1 → bit_at c bit ≡ 1 → bit_at (meet each (meet each a b) c) bit ≡ 1)
+    three true a b c _ _ _ common =
+        let (bit, one, two, third) = common refl in (none_set _ bit (meets_at (bit_and a b) c bit (meets_at a b bit one two) third), λ _ bit one two third. meets_at (bit_and a b) c bit (meets_at a b bit one two) third)
+    three false a b c one two third _ = (λ none. omega (arith, one, two, third, none), λ no. absurd (false≢true no))
+
+    pub three_met : (w v a b c : List ℕ) → AreMet w v c → AreMet v a b → AreBits probes.first a → AreBits probes.second b → AreBits probes.third c → get_or w k 0 ≢ 0
+    three_met w v a b c more met ha hb hc none =
+        (three each _ _ _ all.first.0 all.second.0 all.third.0 (λ yes. let (bit, one, two, third, _) = all.common yes in (bit, one, two, third))).0 (sym (three_lane w v a b c more met ha hb hc) ∙ none)
+
+    pub four_met : (u w v a b c d : List ℕ) → AreMet u w d → AreMet w v c → AreMet v a b
+        → AreBits probes.first a → AreBits probes.second b → AreBits probes.third c → AreBits probes.fourth d → get_or u k 0 ≢ 0
+    four_met u w v a b c d last more met ha hb hc hd none =
+        let (some, keeps) = three each _ _ _ all.first.0 all.second.0 all.third.0 (λ yes. let (bit, one, two, third, _) = all.common yes in (bit, one, two, third)) in
+        meets each _ _ some all.fourth.0 (λ yes. let (bit, one, two, third, fourth) = all.common yes in (bit, keeps yes bit one two third, fourth)) (sym (met_lane probes.fourth _ u w d (three_lane w v a b c more met ha hb hc) last hd) ∙ none)

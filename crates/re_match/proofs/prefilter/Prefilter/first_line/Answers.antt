@@ -4,22 +4,22 @@ use Rattle.re_needle.proofs.lemmas.NeededLines.{passes_unmatched_begun}
 use Rattle.re_match.proofs.lemmas.SweptLines.{stops_seen, stops_matched}
 use Rattle.re_match.proofs.prefilter.Prefilter.first_line.Goals as goal
 
-pub seen-requires : goal.seen-requires
-seen-requires c = c.first_line_beginning_with-swept.ensures.within
+pub of-requires : goal.of-requires
+of-requires c = c.first_line_beginning_with-swept.ensures.within
 
 pub returns-then-needle-clause-passes : goal.returns-then-needle-clause-passes
 returns-then-needle-clause-passes c = λ e is.
     let needle = rw c.in-Some.is at is in
-    rw (c.seen.ensures, c.if-whole.true)
+    rw (c.of.ensures, c.if-whole.true)
     (passes_unmatched_begun e (runs_of c.in-Some.needle.finder) (needle.first c.if-needle.true) c.args.block.now c.first_line_beginning_with-swept.result.start c.first_line_beginning_with-swept.ensures.passes)
 
 pub returns-then-needle-clause-stops : goal.returns-then-needle-clause-stops
-returns-then-needle-clause-stops c = λ e is. rw c.seen.ensures (stops_seen e c.args.whole c.args.block.now c.first_line_beginning_with-swept.result c.first_line_beginning_with-swept.ensures.stops)
+returns-then-needle-clause-stops c = λ e is. rw c.of.ensures (stops_seen e c.args.whole c.args.block.now c.first_line_beginning_with-swept.result c.first_line_beginning_with-swept.ensures.stops)
 
 pub returns-then-has_run-clause-passes : goal.returns-then-has_run-clause-passes
 returns-then-has_run-clause-passes c = λ e is.
     let needle = rw c.in-Some.is at is in
-    rw c.matched.ensures (passes_unmatched_run e (runs_of c.in-Some.needle.finder) c.args.whole needle.needed c.args.block.now c.first_line_with_run-swept.result.start c.first_line_with_run-swept.ensures.passes)
+    rw c.of-then-has_run.ensures (passes_unmatched_run e (runs_of c.in-Some.needle.finder) c.args.whole needle.needed c.args.block.now c.first_line_with_run-swept.result.start c.first_line_with_run-swept.ensures.passes)
 
 pub returns-then-has_run-clause-stops : goal.returns-then-has_run-clause-stops
 returns-then-has_run-clause-stops c = λ e is.
@@ -28,12 +28,12 @@ returns-then-has_run-clause-stops c = λ e is.
     let run = runs_of c.in-Some.needle.finder in
     let (at, last, place, longest, free) = c.has_run.ensures c.if-has_run.true in
     let low = subst (λ p. IfSome p (λ k. swept.start ≤ k)) place c.first_line_with_run-swept.ensures.low in
-    rw (c.matched.ensures, c.if-not-whole.true) (stops_matched e run c.args.block.now swept at last (needle.all c.if-needle-2.true) needle.some place longest low free c.first_line_with_run-swept.ensures.stops)
+    rw (c.of-then-has_run.ensures, c.if-not-whole.true) (stops_matched e run c.args.block.now swept at last (needle.all c.if-needle-2.true) needle.some place longest low free c.first_line_with_run-swept.ensures.stops)
 
 pub returns-clause-passes : goal.returns-clause-passes
 returns-clause-passes c = λ e is.
     let needle = rw c.in-Some.is at is in
-    rw c.seen-2.ensures (passes_unmatched_run e (runs_of c.in-Some.needle.finder) c.args.whole needle.needed c.args.block.now c.first_line_with_run-swept.result.start c.first_line_with_run-swept.ensures.passes)
+    rw c.of-2.ensures (passes_unmatched_run e (runs_of c.in-Some.needle.finder) c.args.whole needle.needed c.args.block.now c.first_line_with_run-swept.result.start c.first_line_with_run-swept.ensures.passes)
 
 pub returns-clause-stops : goal.returns-clause-stops
-returns-clause-stops c = λ e is. rw c.seen-2.ensures (stops_seen e c.args.whole c.args.block.now c.first_line_with_run-swept.result c.first_line_with_run-swept.ensures.stops)
+returns-clause-stops c = λ e is. rw c.of-2.ensures (stops_seen e c.args.whole c.args.block.now c.first_line_with_run-swept.result c.first_line_with_run-swept.ensures.stops)

@@ -1,4 +1,4 @@
-use Rattle.re_runs.proofs.Prelude.{rules, ℕ, ◌+◌, ◌<◌, ◌≤◌, sym, subst, slice_index, arith, false≢true, members_of, IsNoWider, RunStandsAt}
+use Rattle.re_runs.proofs.Prelude.{rules, ℕ, ◌+◌, ◌<◌, ◌≤◌, sym, subst, slice_index, arith, members_of, IsNoWider, RunStandsAt}
 use Rattle.re_runs.proofs.lemmas.RunLaws.{marks_stand, no_room, nowhere_on, nowhere_stands, finds_none, finds_some, found_pass, others_passed, seen_runs}
 use Rattle.re_runs.proofs.set_finder.SetFinder.find_by.Goals as goal
 

@@ -1,4 +1,4 @@
-use Rattle.re_runs.proofs.Prelude.{◌<◌, ◌≤◌, inl, inr, arith, cases_lt, refl, false≢true, members_of, RunStandsAt}
+use Rattle.re_runs.proofs.Prelude.{inl, inr, arith, cases_lt, refl, false≢true, members_of, RunStandsAt}
 use Rattle.re_runs.proofs.lemmas.RunLaws.{nowhere_at}
 use Rattle.re_runs.proofs.set_finder.SetFinder.first_of_few.Goals as goal
 

@@ -10,8 +10,7 @@ places-preserved c =
     let byte = slice_index line c.places.place in
     let small : byte < 256 = omega (arith, c.type_inv.line c.places.place) in
     let at = c.places.row in
-    let same : slice_index c.cells-cells.result.now (at + slice_index c.as_slice-classes.result.now byte) ≡ cell_at known.classes.items known.pairs.cells at byte =
-    rw (c.places.invariant.classes, c.places.invariant.cells) refl in
+    let same : c.cell_in-cell.result ≡ cell_at known.classes.items known.pairs.cells at byte = rw (c.places.invariant.classes, c.places.invariant.cells) at c.cell_in-cell.ensures in
     let row = c.places.invariant.row in
     let on = (c.requires.right.sound.reported_too at row.0 byte row.1 small).plain (omega (arith, same, c.if-cell-ge-LIMIT.false)) in
     record {
@@ -63,7 +62,7 @@ pub returns-clause-comes : goal.returns-clause-comes
 returns-clause-comes c = c.places.invariant.comes
 
 pub returns-then-cell-floor-clause-cell : goal.returns-then-cell-floor-clause-cell
-returns-then-cell-floor-clause-cell c = λ _. rw (c.places.invariant.classes, c.places.invariant.cells) refl
+returns-then-cell-floor-clause-cell c = λ _. rw (c.places.invariant.classes, c.places.invariant.cells) at c.cell_in-cell.ensures
 
 pub returns-clause-cell : goal.returns-clause-cell
 returns-clause-cell c = λ inside. let none : ⊥ = omega (arith, inside, c.places-test.false) in absurd none
