@@ -1,6 +1,7 @@
 """Cases of which crates can make a meter, and where bytes are looked at: `grep_core`, `grep_session`, `grep_live` and
 `grep_utility` count all their work on the meter that they are lent, since they can name nothing that makes another;
-and what goes over bytes quickly is named in few places, each of which counts. They run no program.
+what goes over bytes quickly is named in few places, each of which counts, and listed by their crates alone. They run no
+program.
 """
 
 from __future__ import annotations
@@ -25,6 +26,19 @@ SEARCH = {*MATCHING, "re_ends", "re_search"}
 DEFINITIONS = {("grep_io", "re_runs"), ("line_chunks", "re_runs"), ("grep_session", "re_runs"),
                ("grep_core", "re_meter"), ("grep_session", "re_meter"), ("grep_cmd", "re_meter")}
 """Crates that list one of these for its definitions, and name none of its functions in code."""
+
+FROM_TOOLCHAIN = {
+    "memchr": {"re_auto", "re_runs", "re_needle", "re_strings", "re_match", "re_search", "grep_io"},
+    "lru": {"re_steps"},
+    "indexmap": {"re_steps"},
+    "itoa": {"grep_core"},
+    "clap": {"occur"},
+    "thiserror": {"occur"},
+}
+"""The crates of the toolchain, and those that may list each. `memchr` goes over bytes: that is for the crates that
+count what it looks at, and for `grep_io`, which splits lines. The crates above ask these for searches: of what they
+looked at themselves no meter would know. No crate may list another one of the toolchain: `bstr` and `regex` search, too.
+"""
 
 NEWLINE = "first_newline"
 """A function of these that finds where a line ends, whatever is searched for."""
@@ -79,6 +93,13 @@ def misplaced(text: str) -> list[str]:
             for below in names if below in guarded and name not in may_list(below)]
 
 
+def foreign(text: str) -> list[str]:
+    """What crates of a crates.txt list of the toolchain and may not."""
+    crates = listed(text)
+    return [f"{name} lists {below}" for name, names in crates.items() if not name.endswith("_tests")
+            for below in names if below not in crates and name not in FROM_TOOLCHAIN.get(below, set())]
+
+
 def passed_on(text: str) -> list[str]:
     """What the head of a crate shows of that which makes a meter, or searches below it."""
     shown = re.findall(r"^\s*pub (?:use|mod|fn|type|const|struct) [^;{]*(?:\{[^}]*\})?", text, re.MULTILINE)
@@ -98,6 +119,11 @@ def crates_without_them(bench: Bench) -> Verdict:
     text = (REPOSITORY / "crates.txt").read_text(encoding="utf-8")
     unlisted = [f"crates.txt has no {name}" for name in sorted(SEARCH - set(listed(text)))]
     return judged(unlisted + misplaced(text))
+
+
+@case("Each crate lists of the toolchain what it may: `memchr` those alone that count its looks, or split lines.")
+def crates_of_toolchain(bench: Bench) -> Verdict:
+    return judged(foreign((REPOSITORY / "crates.txt").read_text(encoding="utf-8")))
 
 
 @case("re_search passes on nothing that makes a meter, and of the searches below it the matchers alone.")
