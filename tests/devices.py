@@ -116,12 +116,30 @@ def dangling_link(bench: Bench) -> Verdict:
     return Verdict(Answer(b"", b"grep: link: cannot open\n", 2), bench.ask("a", "link"))
 
 
-@case("More files than may be open at once are searched one after the other.")
-def many_files(bench: Bench) -> Verdict:
-    bench.write("f", TWO_LINES)
-    few_handles = partial(resource.setrlimit, resource.RLIMIT_NOFILE, (16, 16))
-    given = bench.ask("-c", "a", *["f"] * 100, preexec_fn=few_handles)
-    return Verdict(Answer(b"f:2\n" * 100), given)
+one_file_open = partial(resource.setrlimit, resource.RLIMIT_NOFILE, (4, 4))
+"""Leaves a process room for one open file beside its three streams."""
+
+
+@case("2,000 files are counted, listed, and searched for lines, while one may be open at once.")
+def files_in_turn(bench: Bench) -> Verdict:
+    names = [f"f{number}" for number in range(2000)]
+    for name in names:
+        bench.write(name, f"{name}\na\n".encode())
+    for option, row in ("-c", "{0}:1\n"), ("-l", "{0}\n"), ("-n", "{0}:1:{0}\n"):
+        wanted = Answer("".join(row.format(name) for name in names).encode())
+        given = bench.ask(option, "f", *names, preexec_fn=one_file_open)
+        if given != wanted:
+            break
+    return Verdict(wanted, given)
+
+
+@case("2,000 pattern files are read while one may be open at once.")
+def pattern_files_in_turn(bench: Bench) -> Verdict:
+    for number in range(2000):
+        bench.write(f"p{number}", b"a%d\n" % number)
+    bench.write("f", b"b0\na1999\nx\n")
+    named = [word for number in range(2000) for word in ("-f", f"p{number}")]
+    return Verdict(Answer(b"2:a1999\n"), bench.ask("-n", "-x", *named, "f", preexec_fn=one_file_open))
 
 
 # Reads that fail, come late or come in pieces
