@@ -379,6 +379,28 @@ too_long(
     b"show\nfile f 1\n", b"status 1\n")
 
 
+def counted_in_little_memory(name: str, command: str) -> None:
+    """A case of a command that counts far more lines than fit into memory, of which one is there."""
+
+    @case(name)
+    def judge(bench: Bench) -> Verdict:
+        wanted = Answer(b"ok\nrefused Truncated\n", b"", 1)
+        for digits in range(8, 21):
+            script = f"file f 0\n{command} 1{'0' * (digits - 1)}\na\n".encode()
+            given = bench.ask(stdin=script, preexec_fn=little_memory)
+            if given != wanted:
+                break
+        return Verdict(wanted, given)
+
+
+counted_in_little_memory(
+    "A file's count of 8 to 20 digits takes no room for lines that are not there.", "file g")
+counted_in_little_memory(
+    "A splice's count of 8 to 20 digits takes no room for lines that are not there.", "splice 0 0 0")
+counted_in_little_memory(
+    "A count of patterns of 8 to 20 digits takes no room for those that are not there.", "patterns")
+
+
 # What is kept of each pattern
 
 
