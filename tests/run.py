@@ -4,8 +4,8 @@ tests/devices.py and tests/occur_devices.py, the inputs that are the output of t
 the processes of tests/processes.py, the live and long inputs of tests/live.py, the hostile texts of
 tests/hostile.py, the failing calls of tests/failed_calls.py, `make install` in tests/install.py, what
 it completes in tests/completions.py, `make dist` and `make deb` in tests/packages.py, the pages of the
-repository in tests/pages.py, the walks of a page in tests/walks.py, and the crates in
-tests/meters.py.
+repository in tests/pages.py, the walks of a page in tests/walks.py, the crates in tests/meters.py, what
+they ask of the system in tests/system_calls.py, and the memory of many edits in tests/soak.py.
 
     tests/run.py GREP [OCCUR] [--only TEXT]
 
@@ -40,6 +40,8 @@ import processes
 import row
 import same_file
 import script
+import soak
+import system_calls
 import walks
 from program import Answer, Bench, Case, Skipped, Verdict
 
@@ -97,7 +99,7 @@ def all_cases() -> list[Case]:
     cases = [*row.cases(), *script.cases(), *devices.cases(), *live.cases(), *hostile.cases()]
     cases += [*same_file.cases(), *occur_devices.cases(), *processes.cases()]
     cases += [*failed_calls.cases(), *install.cases(), *completions.cases(), *packages.cases()]
-    cases += [*pages.cases(), *walks.cases(), *meters.cases()]
+    cases += [*pages.cases(), *walks.cases(), *meters.cases(), *system_calls.cases(), *soak.cases()]
     names = Counter(case.name for case in cases)
     if twice := [name for name, count in names.items() if count > 1]:
         raise row.BadRow(f"names that stand twice: {twice}")
