@@ -3,8 +3,6 @@
 #![tactic(auto)]
 
 #[cfg(test)]
-mod around;
-#[cfg(test)]
 mod commands;
 #[cfg(test)]
 mod devices;

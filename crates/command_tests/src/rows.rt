@@ -59,7 +59,7 @@ static OF_STRINGS: [Row<'static>; 8] = [
     ),
 ];
 
-static OF_FILES: [Row<'static>; 11] = [
+static OF_FILES: [Row<'static>; 12] = [
     (
         "-c a f nofile",
         b"",
@@ -77,6 +77,7 @@ static OF_FILES: [Row<'static>; 11] = [
     ("a -c f", b"", b"2\n", "", 0),
     ("-- -n f", b"", b"", "", 1),
     ("-s a nofile f", b"", b"f:a\nf:ba\n", "", 2),
+    ("-n -B 1 a k", b"", b"1-b\n2:a\n", "", 0),
 ];
 
 /// Rows over standard input.
