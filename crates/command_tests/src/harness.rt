@@ -103,14 +103,12 @@ pub fn read_by<'a>(file: MemoryFile<'a>, step: usize) -> MemoryFile<'a> {
 }
 
 /// The files that the rows name.
-pub fn folder() -> [MemoryFile<'static>; 6] {
+pub fn folder() -> [MemoryFile<'static>; 4] {
     [
         file("f", b"a\nba\n"),
         broken_file("g", b"ab\na"),
         file("h", b"aba\n"),
         file("k", b"b\na\n"),
-        file("empty", b""),
-        file("bc", b"b\nc"),
     ]
 }
 
