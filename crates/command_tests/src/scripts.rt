@@ -6,8 +6,6 @@ use std::alloc::Global;
 use std::process::Abort;
 use std::test::Fail;
 
-mod changes;
-
 /// How many states each pattern of a script may keep.
 const STATES: usize = 16;
 
@@ -54,28 +52,16 @@ fn assert_row(rt: &impl Abort, alloc: Global, row: Row) {
     }
 }
 
-static ROWS: [Row; 5] = [
+static ROWS: [Row; 3] = [
     // one command of each kind that is needed
     (SCRIPT, REPLIES, ScriptEnd::Clean),
-    // a file, a pattern, an edit, a refusal that leaves all as it was, and a count past the end
+    // what changed, and a page of the hits
     (
-        b"file f 2\nab\nc\npatterns 1\na\nshow\nsplice 0 1 1 1\nca\npatterns 1\n(\nsyntax extended\nshow\nsplice 0 18446744073709551615 1 0\n",
-        b"ok\nok\no ab\nstatus 0\nok\nok\nrefused Pattern 1 UnclosedGroup 0\no ab\no ca\nstatus 0\nrefused OutOfRange\n",
-        ScriptEnd::Refused,
+        b"file f 2\na\nb\npatterns 1\na\nchanges\npage 0 9\n",
+        b"ok\nok\nh 0 0 0 2 1\nr 0 - a\nstatus 0\nhits 1\np 0 0 - a\nstatus 0\n",
+        ScriptEnd::Clean,
     ),
-    // messages and the status with and without `-q` and `-s`, a prefix that is added and removed,
-    // and a command that is cut off
-    (
-        b"missing g\npatterns 1\na\nflag q on\nshow\nfile f 1\nxa\nshow\nflag s on\nflag q off\nshow\nclose 0\nshow\nFlag q on\npatterns 0\ndrop 1\nfile h 3\none\n",
-        b"ok\nok\nok\ne grep: g: cannot open\nstatus 2\nok\ne grep: g: cannot open\nstatus 0\nok\nok\no f:xa\nstatus 2\nok\no xa\nstatus 0\nrefused BadCommand\nrefused BadCommand\nrefused NoSuchPattern\nrefused Truncated\n",
-        ScriptEnd::Refused,
-    ),
-    // no memory is asked for by the greatest count, and a greater one is none
-    (
-        b"file f 18446744073709551615\na\nb\n",
-        b"refused Truncated\n",
-        ScriptEnd::Refused,
-    ),
+    // a number above the greatest
     (
         b"file f 18446744073709551616\n",
         b"refused BadCommand\n",
