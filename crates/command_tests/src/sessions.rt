@@ -3,7 +3,6 @@ mod caches;
 mod edits;
 mod given;
 mod harness;
-mod large;
 mod memory;
 mod watched;
 mod worked;

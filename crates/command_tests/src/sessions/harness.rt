@@ -27,8 +27,6 @@ pub const OUT_OF_RANGE: Answer = Err(EditFault::OutOfRange);
 
 pub const LINE_HAS_NEWLINE: Answer = Err(EditFault::LineHasNewline);
 
-pub const TOO_MANY_PATTERNS: Answer = Err(EditFault::TooManyPatterns);
-
 /// How many states each matcher of a session keeps.
 pub const STATES: usize = 16;
 
