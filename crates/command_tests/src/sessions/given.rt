@@ -1,7 +1,5 @@
-//! Lines that are given in chunks.
+//! Lines that are given one by one.
 use super::harness::{DONE, STATES, observed};
-use super::watched::{assert_changes, searching};
-use grep_core::Status;
 use grep_session::{NewLines, Session};
 use re_auto::fresh_meter;
 use re_syntax::split_file;
@@ -46,29 +44,4 @@ fn given_lines_are_searched(rt: HostRuntime) -> Result<(), Fail> {
     let now = observed(&rt, rt.alloc(), &session)?;
     assert_eq!(rt; now.output.as_slice(), b"ab\naa\nca\n".as_slice());
     Ok(())
-}
-
-/// Gives a watched session lines, and compares what is reported.
-fn assert_given(rt: &impl Abort, alloc: Global, live: &mut Session) -> Result<(), Fail> {
-    let mut meter = fresh_meter();
-    let lines = given(alloc, b"ab\nc\nca\n")?;
-    assert_eq!(rt; live.add_file(Vec::new(alloc), lines, &mut meter), DONE);
-    let reply = b"h 0 0 0 3 2\nr 0 - ab\nr 2 - ca\n";
-    assert_changes(rt, alloc, live, reply, Status::Selected);
-    let lines = given(alloc, b"d\naa\n")?;
-    assert_eq!(rt; live.splice(0, 1, 1, lines, &mut meter), DONE);
-    assert_changes(
-        rt,
-        alloc,
-        live,
-        b"h 0 1 1 2 1\nr 2 - aa\n",
-        Status::Selected,
-    );
-    Ok(())
-}
-
-#[test]
-fn given_lines_are_reported(rt: HostRuntime) -> Result<(), Fail> {
-    let mut live = searching(&rt, rt.alloc());
-    assert_given(&rt, rt.alloc(), &mut live)
 }

@@ -30,7 +30,7 @@ fn changes_of(
 }
 
 /// Compares what the session reports, and that it then reports nothing.
-pub fn assert_changes(
+fn assert_changes(
     rt: &impl Abort,
     alloc: Global,
     live: &mut Session,
@@ -69,7 +69,7 @@ fn assert_added(
 }
 
 /// A session with a pattern, and no file.
-pub fn searching(rt: &impl Abort, alloc: Global) -> Session {
+fn searching(rt: &impl Abort, alloc: Global) -> Session {
     let mut live = Session::new(alloc, STATES);
     assert_eq!(rt; live.add_patterns(b"a", &mut fresh_meter()), DONE);
     live
