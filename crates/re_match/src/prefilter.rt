@@ -156,7 +156,7 @@ impl Prefilter {
             StopsAt e whole block.now result }
         ensures steps { AddsUpTo result.start result.reached meter.old meter.new }
     {
-        if !self.backoff.should_scan() {
+        if block.is_empty() || !self.backoff.should_scan() {
             return Sweep::none();
         }
         let sweep = self.first_line(block, whole, meter);

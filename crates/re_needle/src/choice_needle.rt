@@ -58,6 +58,9 @@ pub fn needle_inside(alloc: Global, tree: &Tree, most: u64) -> Result<Option<Nee
     let Tree::Cat(parts) = tree else {
         return Ok(None);
     };
+    if most == 0 {
+        return Ok(None);
+    }
     'parts: for place in 0..parts.len() {
         let Some(needle) = choice_needle(alloc, &parts[place])? else {
             continue 'parts;
