@@ -194,7 +194,7 @@ impl SetFinder {
     }
 
     // The same by this number of tests, of bits or by look-ups, that one of several runs, `EACH`, has to
-    // pass: 32 places at once, and the last ones one by one.
+    // pass: 32 places at once, or one by one where there are fewer.
     #[inline(always)]
     fn find_by<const COUNT: usize, const BITS: bool, const EACH: bool>(
         &self,
@@ -208,7 +208,7 @@ impl SetFinder {
         }
         let end = line.len() - self.width + 1;
         if end < 32 {
-            return self.first_of_few(line, end);
+            return self.first_of_few(line);
         }
         let mut start = 0;
         'runs: while start < end {
@@ -224,14 +224,16 @@ impl SetFinder {
         None
     }
 
-    // The first of the places where a run is, tried one by one. No run is from `end` on.
-    fn first_of_few(&self, line: &[u8], end: usize) -> Option<usize>
-        requires within { end ≤ length line.now }
-        requires none { (k : ℕ) → end ≤ k → RunStandsAt line.now (members_of self.now) k → ⊥ }
+    // The first place where a run is, tried one by one: the byte of the rarest set first.
+    fn first_of_few(&self, line: &[u8]) -> Option<usize>
         ensures { FindsRun line.now (members_of self.now) result }
     {
-        'places: for place in 0..end {
-            if self.stands_at(line, place) {
+        let probe = &self.probes.first;
+        if line.len() < probe.at {
+            return None;
+        }
+        'places: for place in 0..line.len() - probe.at {
+            if probe.nibbles.bits(line[place + probe.at]) != 0 && self.stands_at(line, place) {
                 return Some(place);
             }
         }

@@ -1,5 +1,5 @@
 use Rattle.re_runs.proofs.Prelude.{rules, ℕ, ◌+◌, ◌<◌, ◌≤◌, sym, subst, slice_index, arith, members_of, IsNoWider, RunStandsAt}
-use Rattle.re_runs.proofs.lemmas.RunLaws.{marks_stand, no_room, nowhere_on, nowhere_stands, finds_none, finds_some, found_pass, others_passed, seen_runs}
+use Rattle.re_runs.proofs.lemmas.RunLaws.{marks_stand, nowhere_on, nowhere_stands, finds_none, finds_some, found_pass, others_passed, seen_runs}
 use Rattle.re_runs.proofs.set_finder.SetFinder.find_by.Goals as goal
 
 pub first_marked-requires-clause-marks : goal.first_marked-requires-clause-marks
@@ -34,11 +34,6 @@ runs-preserved g c =
     let low : from ≤ c.runs.start = omega (arith, c.min-from.ensures) in
     let before = nowhere_on (RunStandsAt line runs) from at (λ k zero lt o. c.runs.invariant.1 k zero (omega (arith, lt, low)) o) (nowhere_stands runs line _ c.self.inside.probes from at pass c.next_marks-at.ensures.passed) in
     (c.next_marks-at.ensures.on.1, nowhere_on (RunStandsAt line runs) at (at + 32) before c.in_default.ensures)
-
-pub first_of_few-requires-clause-none : goal.first_of_few-requires-clause-none
-first_of_few-requires-clause-none g c k past =
-    let wide = subst (IsNoWider c.self.inside.width) (sym (seen_runs c.args.self.now c.self.inside.runs.items c.self.view_is)) c.self.invariant.wide in
-    no_room (members_of c.args.self.now) c.self.inside.width wide c.args.line.now k (omega (arith, past, c.if-line-self.false))
 
 pub returns-then-line-self : goal.returns-then-line-self
 returns-then-line-self g c =
