@@ -28,7 +28,7 @@ DEFINITIONS = {("grep_io", "re_runs"), ("line_chunks", "re_runs"), ("grep_sessio
 """Crates that list one of these for its definitions, and name none of its functions in code."""
 
 FROM_TOOLCHAIN = {
-    "memchr": {"re_auto", "re_runs", "re_needle", "re_strings", "re_match", "re_search", "grep_io"},
+    "memchr": {"re_syntax", "re_auto", "re_runs", "re_needle", "re_strings", "re_match", "re_search", "grep_io"},
     "lru": {"re_steps"},
     "indexmap": {"re_steps"},
     "itoa": {"grep_core"},
@@ -36,8 +36,9 @@ FROM_TOOLCHAIN = {
     "thiserror": {"occur"},
 }
 """The crates of the toolchain, and those that may list each. `memchr` goes over bytes: that is for the crates that
-count what it looks at, and for `grep_io`, which splits lines. The crates above ask these for searches: of what they
-looked at themselves no meter would know. No crate may list another one of the toolchain: `bstr` and `regex` search, too.
+count what it looks at, and for `re_syntax` and `grep_io`, which split lines. The crates above ask these for searches:
+of what they looked at themselves no meter would know. No crate may list another one of the toolchain: `bstr` and
+`regex` search, too.
 """
 
 NEWLINE = "first_newline"
@@ -63,8 +64,8 @@ MAY_BE_QUICK = {
     "makes what looks for a needle": {"re_needle/needle.rt", "re_runs/survey.rt", "re_match/strings.rt"},
     "bytes without a stretch on its way, each a step": {"re_auto/beginnings.rt"},
     "the children of a node, each byte a step or passed": {"re_strings/trie.rt"},
-    "splits lines": {"re_runs/newline.rt", "re_runs/block.rt", "grep_io/input/newlines.rt", "grep_io/input/window.rt",
-                     "grep_io/devices/byte_buffer.rt"},
+    "splits lines": {"re_syntax/split.rt", "re_runs/newline.rt", "re_runs/block.rt", "grep_io/input/newlines.rt",
+                     "grep_io/input/window.rt", "grep_io/devices/byte_buffer.rt"},
     "looks at patterns, not at lines": {"re_search/filter.rt", "re_search/plain.rt"},
 }
 """The files that may name it, by the reason."""
