@@ -89,9 +89,9 @@ ENDS = (b"ok", b"refused", b"status")
 class Coprocess:
     """A running occur, as an editor has it."""
 
-    def __init__(self, occur: Path) -> None:
+    def __init__(self, occur: Path, *words: str) -> None:
         pipes = {"stdin": subprocess.PIPE, "stdout": subprocess.PIPE}
-        self.process = subprocess.Popen([occur], **pipes)
+        self.process = subprocess.Popen([occur, *words], **pipes)
 
     def ask(self, command: bytes) -> list[bytes]:
         """Sends a command with the lines that it counts, and answers the lines of the reply."""

@@ -5,7 +5,8 @@ the processes of tests/processes.py, the live and long inputs of tests/live.py, 
 tests/hostile.py, the failing calls of tests/failed_calls.py, `make install` in tests/install.py, what
 it completes in tests/completions.py, `make dist` and `make deb` in tests/packages.py, the pages of the
 repository in tests/pages.py, the walks of a page in tests/walks.py, the crates in tests/meters.py, what
-they ask of the system in tests/system_calls.py, and the memory of many edits in tests/soak.py.
+they ask of the system in tests/system_calls.py, where they answer that memory is out in
+tests/out_of_memory.py, and the memory of many edits in tests/soak.py.
 
     tests/run.py GREP [OCCUR] [--only TEXT]
 
@@ -34,6 +35,7 @@ import install
 import live
 import meters
 import occur_devices
+import out_of_memory
 import packages
 import pages
 import processes
@@ -99,7 +101,8 @@ def all_cases() -> list[Case]:
     cases = [*row.cases(), *script.cases(), *devices.cases(), *live.cases(), *hostile.cases()]
     cases += [*same_file.cases(), *occur_devices.cases(), *processes.cases()]
     cases += [*failed_calls.cases(), *install.cases(), *completions.cases(), *packages.cases()]
-    cases += [*pages.cases(), *walks.cases(), *meters.cases(), *system_calls.cases(), *soak.cases()]
+    cases += [*pages.cases(), *walks.cases(), *meters.cases(), *system_calls.cases(), *out_of_memory.cases()]
+    cases += soak.cases()
     names = Counter(case.name for case in cases)
     if twice := [name for name, count in names.items() if count > 1]:
         raise row.BadRow(f"names that stand twice: {twice}")

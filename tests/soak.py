@@ -1,9 +1,10 @@
-"""Cases of the memory of a session that stays as large as it is: edits, however many, take no more than some did. They
-need Linux.
+"""Cases of the memory of a session. One that stays as large as it is needs no more after any number of edits than after
+some; and `--states` says how much the caches may take. They need Linux.
 """
 
 from __future__ import annotations
 
+import random
 import threading
 from collections.abc import Callable, Iterator
 from contextlib import contextmanager
@@ -27,6 +28,9 @@ SETTINGS = (b"flag o on\n", b"flag v on\n", b"flag o off\n", b"flag v off\n")
 """The flags in which edits are made, beside none."""
 
 PATTERNS = [b"00[1-3]", b"9 a[a-d]*e"]
+
+MANY_STATES = (rb"a[ab]\{14\}$", bytes(random.Random(1).choices(b"ab", k=100_000)) + b"b" * 20)
+"""A pattern that has 2^14 states, and a line on which most of them are met."""
 
 SECONDS_OF_SOAK = 60
 """A session whose edits take longer has failed."""
@@ -207,3 +211,24 @@ for kind_name, kind_edits in KINDS.items():
            [kind_edits], 2_000, 20_000)
 soaked("A session needs no more memory after 100,000 edits of all kinds in turn than after 10,000.",
        list(KINDS.values()), 10_000, 100_000)
+
+
+def needed_with(occur: Path, states: int) -> int:
+    """How many KiB a session takes at most that may keep so many states, and meets many."""
+    running = Coprocess(occur, "--states", str(states))
+    watch = threading.Timer(SECONDS_OF_SOAK, running.process.kill)
+    watch.start()
+    try:
+        ask_all(running, [counted("patterns", [MANY_STATES[0]]), counted("file f", [MANY_STATES[1]])], False)
+        return memory(running)[1]
+    finally:
+        watch.cancel()
+        running.process.kill()
+        running.close()
+
+
+@case("A pattern keeps the states that `--states` allows, and no more: the memory of a session shows it.")
+def states_kept(bench: Bench) -> Verdict:
+    one, few, many = (needed_with(bench.program, states) for states in (1, 64, 65_536))
+    fits = few - one <= 512 and many - one >= 4096
+    return Verdict(Answer(), Answer(b"" if fits else f"1, 64 and 65,536 states take {one}, {few}, {many} KiB".encode()))
