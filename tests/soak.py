@@ -155,9 +155,9 @@ def memory(running: Coprocess) -> tuple[int, int]:
 
 
 @contextmanager
-def session(occur: Path) -> Iterator[Coprocess]:
-    """A session of two files and two patterns."""
-    running = Coprocess(occur)
+def session(occur: Path, *words: str) -> Iterator[Coprocess]:
+    """A session of two files and two patterns, of a program with these words."""
+    running = Coprocess(occur, *words)
     watch = threading.Timer(SECONDS_OF_SOAK, running.process.kill)
     watch.start()
     try:
@@ -214,17 +214,11 @@ soaked("A session needs no more memory after 100,000 edits of all kinds in turn 
 
 
 def needed_with(occur: Path, states: int) -> int:
-    """How many KiB a session takes at most that may keep so many states, and meets many."""
-    running = Coprocess(occur, "--states", str(states))
-    watch = threading.Timer(SECONDS_OF_SOAK, running.process.kill)
-    watch.start()
-    try:
-        ask_all(running, [counted("patterns", [MANY_STATES[0]]), counted("file f", [MANY_STATES[1]])], False)
+    """How many KiB a session takes at most whose patterns may keep so many states each, and one meets many."""
+    pattern, text = MANY_STATES
+    with session(occur, "--states", str(states)) as running:
+        ask_all(running, [counted("patterns", [pattern]), counted("file f", [text])], False)
         return memory(running)[1]
-    finally:
-        watch.cancel()
-        running.process.kill()
-        running.close()
 
 
 @case("A pattern keeps the states that `--states` allows, and no more: the memory of a session shows it.")
