@@ -28,7 +28,7 @@ MOST_WORDS = {
     "docs/GUARANTEES.md": 1_740,
     "docs/SPECIFICATION.md": 5_500,
     "docs/ARCHITECTURE.md": 3_350,
-    "docs/PROVING.md": 6_190,
+    "docs/PROVING.md": 6_170,
     "docs/DECISIONS.md": 4_940,
     "docs/PERFORMANCE.md": 1_500,
     "docs/CHANGING.md": 1_650,
