@@ -323,6 +323,15 @@ def reader_leaves(bench: Bench) -> Verdict:
     return Verdict(Answer(b"a line of sixteen\n", WRITE_ERROR, 2), given)
 
 
+@case("A reader that is gone ends grep at the next selected line, though the input stays open.")
+def reader_gone_before_more_input(bench: Bench) -> Verdict:
+    process = bench.start("b")
+    process.stdout.close()
+    os.write(process.stdin.fileno(), b"b\n")
+    messages = seen_within(process.stderr.fileno(), len(WRITE_ERROR))
+    return Verdict(Answer(b"", WRITE_ERROR, 2), Answer(b"", messages, finish(process).status))
+
+
 @case("Under `-q` a reader that is gone is not noticed.")
 def reader_gone_under_quiet(bench: Bench) -> Verdict:
     with pipe_without_reader() as pipe:
