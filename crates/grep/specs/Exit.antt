@@ -4,7 +4,7 @@ use Rattle.grep_core.specs.Buffer.{BufferedWriter, SendsAll, SendsSome, all_cont
 use Rattle.grep_core.specs.Meters.{Steps}
 use Rattle.grep_core.specs.Run.{Writer, writer, devices}
 use Rattle.grep_utility.specs.Bytes.{Text}
-use Rattle.grep_utility.specs.Command.{ReportsLines, CommandGives}
+use Rattle.grep_utility.specs.Command.{ReportsLines, CommandGives, SendsMessages}
 use Rattle.grep_utility.specs.Folder.{Folder}
 use Rattle.grep_utility.specs.Texts.{write_error}
 
@@ -16,17 +16,23 @@ abbrev pub ReportsWriteError : Writer → Writer → Type 0
 ReportsWriteError old new =
     MatchBool (nat_lt 0 old.failures) (new ≡ old) (ReportsLines old new (write_error ∷ []))
 
--- standard output, buffered; standard error; how often a file could not be opened or read; and the
--- steps that were counted
+-- standard output, buffered; standard error, and how many bytes of messages wait before it; how
+-- often a file could not be opened or read; and the steps that were counted
 pub record Streams (W : Type 0) : Type 0 where
   pub out : BufferedWriter W
   pub messages : Writer
+  pub waiting : ℕ
   pub source_failures : ℕ
   pub steps : Steps
 
-abbrev pub streams : {W : Type 0} → BufferedWriter W → Writer → ℕ → Steps → Streams W
-streams out messages failures steps =
-    record { out = out; messages = messages; source_failures = failures; steps = steps }
+abbrev pub streams : {W : Type 0} → BufferedWriter W → Writer → ℕ → ℕ → Steps → Streams W
+streams out messages waiting failures steps = record {
+  out = out;
+  messages = messages;
+  waiting = waiting;
+  source_failures = failures;
+  steps = steps;
+}
 
 module _ {W : Type 0} (contents : W → Option Text) (failures : W → ℕ) where
   -- if a write of the output failed before, nothing more is sent, and the status is the found one;
@@ -43,7 +49,8 @@ module _ {W : Type 0} (contents : W → Option Text) (failures : W → ℕ) wher
   abbrev pub read_so_far : BufferedWriter W → Writer
   read_so_far = writer (all_contents contents) (λ out. failures out.inner)
 
-  -- what the program does for its words: what the command does, and then how the program ends
+  -- what the program does for its words: what the command does, then how the output ends, and then
+  -- the messages
   pub record ProgramGives (folder : Folder) (returned_with : List (Option Text) → Type 0)
       (words : List Text) (old new : Streams W) (status : ℕ) : Type 0 where
     pub found : ℕ
@@ -53,4 +60,7 @@ module _ {W : Type 0} (contents : W → Option Text) (failures : W → ℕ) wher
         (devices (read_so_far old.out) old.messages old.source_failures old.steps)
         (devices (read_so_far out) messages new.source_failures new.steps)
         found words
-    pub ends : EndsAs out new.out messages new.messages found status
+    pub ended : ℕ
+    pub reported : Writer
+    pub ends : EndsAs out new.out messages reported found ended
+    pub sends : SendsMessages reported new.messages new.waiting ended status

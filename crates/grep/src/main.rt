@@ -13,13 +13,13 @@ ghost use Rattle.grep.specs.Exit.{ProgramGives, streams};
 use crate::disk::DiskFiles;
 use crate::exit::{finish, program};
 use grep_core::{Buffered, CountedWrite, Tally, WholeLines};
-use grep_utility::{Files, run_grep};
+use grep_utility::{Files, run_grep, send_messages};
 use re_auto::{Meter, fresh_meter};
 use std::alloc::Global;
 use std::process::ExitCode;
 
-/// Runs the command of these words, which follow the program's name, sends the output that is still
-/// buffered, and returns the exit status.
+/// Runs the command of these words, which follow the program's name, sends the output and the
+/// messages that are still buffered, and returns the exit status.
 fn run<F: Files, W: CountedWrite, M: CountedWrite>(
     alloc: Global,
     words: &[String],
@@ -30,14 +30,15 @@ fn run<F: Files, W: CountedWrite, M: CountedWrite>(
 ) -> u8
     ensures { ProgramGives W.contents W.failures (F.folder files.old)
         (Returns F.returned_readers files.old files.new) (texts_of words.now)
-        (streams out.old (writer M.contents M.failures messages.old) (F.failures files.old)
-        meter.old)
-        (streams out.new (writer M.contents M.failures messages.new) (F.failures files.new)
-        meter.new)
+        (streams out.old (writer M.contents M.failures messages.old) (M.waiting messages.old)
+        (F.failures files.old) meter.old)
+        (streams out.new (writer M.contents M.failures messages.new) (M.waiting messages.new)
+        (F.failures files.new) meter.new)
         result }
 {
     let found = run_grep(alloc, words, files, out, messages, meter);
-    finish(out, messages, found)
+    let ended = finish(out, messages, found);
+    send_messages(messages, ended)
 }
 
 /// Runs the command on the words and the devices of the system. Output is buffered, and sent before

@@ -101,28 +101,28 @@ pub record ArePresent (state : Watched) (view : View) : Type 0 where
 
 -- an editor began with a new session and no list, took these replies to some steps, and has these
 -- lists now
-pub record Took (steps : List Step) (replies : List Text) (state : Watched)
+pub record Took (states : ℕ) (steps : List Step) (replies : List Text) (state : Watched)
     (view : View) : Type 0 where
-  pub are_replies : Replies steps new_watched replies state
+  pub are_replies : Replies steps (new_watched states) replies state
   pub lists : ListsAfterAll steps replies [] view
 
 pub record EditorsFollow : Type 0 where
   -- an editor can take all replies to a script of fewer than 2^64 bytes
-  pub can : (script : File) (replies rest : List Text) → bytes_of script.lines < 2 ^ 64 →
-      (answers : AnswersScript script replies rest) →
-      (view : View) × Took answers.steps replies answers.after view
+  pub can : (states : ℕ) (script : File) (replies rest : List Text) → bytes_of script.lines < 2 ^ 64 →
+      (answers : AnswersScript states script replies rest) →
+      (view : View) × Took states answers.steps replies answers.after view
   -- the replies alone decide its lists, however it reads them
   pub one : (steps : List Step) (replies : List Text) (view a b : View) →
       ListsAfterAll steps replies view a → ListsAfterAll steps replies view b → a ≡ b
   -- it takes the replies to the first steps first, so that what follows is said of each time in a
   -- script
-  pub begin : (first later : List Step) (replies : List Text) (state : Watched) (view : View) →
-      Took (first ++ later) replies state view →
+  pub begin : (states : ℕ) (first later : List Step) (replies : List Text) (state : Watched) (view : View) →
+      Took states (first ++ later) replies state view →
       (front : List Text) × (rest : List Text) × (between : Watched) × (lists : View) ×
-      (replies ≡ front ++ rest) × Took first front between lists
+      (replies ≡ front ++ rest) × Took states first front between lists
   -- its lists follow
-  pub follow : (steps : List Step) (replies : List Text) (state : Watched) (view : View) →
-      Took steps replies state view → Follows state view
+  pub follow : (states : ℕ) (steps : List Step) (replies : List Text) (state : Watched) (view : View) →
+      Took states steps replies state view → Follows state view
   -- after the reply to `changes` they are the present hits
-  pub present : (steps : List Step) (replies : List Text) (state : Watched) (view : View) →
-      Took (steps ++ reports_changes ∷ []) replies state view → ArePresent state view
+  pub present : (states : ℕ) (steps : List Step) (replies : List Text) (state : Watched) (view : View) →
+      Took states (steps ++ reports_changes ∷ []) replies state view → ArePresent state view

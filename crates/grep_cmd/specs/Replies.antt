@@ -66,6 +66,7 @@ pub record IsAnswered (edit : Edit) (before after : Watched)
     (answer : Result (Unit {0}) EditFault) : Type 0 where
   pub gives : EditGives edit before.inputs after.inputs answer
   pub marks : MarksGiven edit before after.marks answer
+  pub same_states : after.states ≡ before.states
   pub named : NeedsNoMemory edit before.inputs → answer ≢ Err fault.Memory
 
 -- the reply to a step, and what it makes of the session
@@ -109,12 +110,12 @@ AllSearchAtMost (step ∷ steps) before replies after refusals most =
     (refusals ≡ mine + others) × (most ≡ own + rest)
 
 -- the commands of a script, answered so, took no more steps of search, and passed no more bytes, than
--- their edits cost
-pub record SearchesTouched (steps : List Step) (replies : List Text) (after : Watched)
+-- their edits cost; each pattern may keep so many states
+pub record SearchesTouched (states : ℕ) (steps : List Step) (replies : List Text) (after : Watched)
     (begun spent : StepCounts) : Type 0 where
   pub most : ℕ
   pub refusals : ℕ
-  pub is_most : AllSearchAtMost steps new_watched replies after refusals most
+  pub is_most : AllSearchAtMost steps (new_watched states) replies after refusals most
   pub few : Adds most most refusals begun spent
 
 -- ---- runs
@@ -124,12 +125,12 @@ abbrev pub end_for : List Text → ScriptEnd
 end_for replies = if list_any is_refusal replies then Refused else Clean
 
 -- the replies to the first steps of a script, whose lines are those of a file, with the lines
--- after them
-pub record AnswersScript (file : File) (replies rest : List Text) : Type 0 where
+-- after them; each pattern may keep so many states
+pub record AnswersScript (states : ℕ) (file : File) (replies rest : List Text) : Type 0 where
   pub steps : List Step
   pub are_steps : Steps file.ending file.lines steps rest
   pub after : Watched
-  pub are_replies : Replies steps new_watched replies after
+  pub are_replies : Replies steps (new_watched states) replies after
 
 -- a script that was read is a file: what its reader had left before and has now, and how often its
 -- reads had failed before and have now
@@ -166,15 +167,15 @@ IsCutShort rest = (rest ≡ []) ⊎ IsUnfinished rest
 -- `has_read lines` says that these lines of the script were read, and no more
 module _ {W : Type 0} (contents : W → Option Text) (failures : W → ℕ)
     (has_read : List Text → Type 0) (known left : Option Text) (failed_before failed : ℕ)
-    (begun spent : StepCounts) (old new : W) where
+    (states : ℕ) (begun spent : StepCounts) (old new : W) where
   -- all commands were answered
   pub record Ends (ending : ScriptEnd) : Type 0 where
     pub file : File
     pub reads : ReadsScript known left failed_before failed file
     pub is_whole : file.ending ≡ whole
     pub replies : List Text
-    pub answers : AnswersScript file replies []
-    pub work : SearchesTouched answers.steps replies answers.after begun spent
+    pub answers : AnswersScript states file replies []
+    pub work : SearchesTouched states answers.steps replies answers.after begun spent
     pub goes : GoesOut contents failures old new (written [] replies)
     pub ended : ending ≡ end_for replies
 
@@ -186,9 +187,9 @@ module _ {W : Type 0} (contents : W → Option Text) (failures : W → ℕ)
     pub is_broken : file.ending ≡ broken
     pub replies : List Text
     pub rest : List Text
-    pub answers : AnswersScript file replies rest
+    pub answers : AnswersScript states file replies rest
     pub cut_short : IsCutShort rest
-    pub work : SearchesTouched answers.steps replies answers.after begun spent
+    pub work : SearchesTouched states answers.steps replies answers.after begun spent
     pub goes : GoesOut contents failures old new (written [] replies)
 
   -- an allocation failed: the lines that were read are those of all commands that were answered,
@@ -200,13 +201,13 @@ module _ {W : Type 0} (contents : W → Option Text) (failures : W → ℕ)
     pub done : List Text
     pub rest : List Text
     pub is_file : file.lines ≡ done ++ rest
-    pub answers : AnswersScript file replies rest
+    pub answers : AnswersScript states file replies rest
     pub first : List Text
     pub others : List Text
     pub is_rest : rest ≡ first ++ others
     pub is_begun : IsBegun first
     pub were_read : has_read (done ++ first)
-    pub work : SearchesTouched answers.steps replies answers.after begun spent
+    pub work : SearchesTouched states answers.steps replies answers.after begun spent
     pub goes : GoesOut contents failures old new (written [] replies)
 
   -- a write failed: a beginning of the replies to the first commands was written
@@ -216,8 +217,8 @@ module _ {W : Type 0} (contents : W → Option Text) (failures : W → ℕ)
         ReadsScript known left failed_before failed file
     pub replies : List Text
     pub rest : List Text
-    pub answers : AnswersScript file replies rest
-    pub work : SearchesTouched answers.steps replies answers.after begun spent
+    pub answers : AnswersScript states file replies rest
+    pub work : SearchesTouched states answers.steps replies answers.after begun spent
     pub stops : StopsWithin contents failures old new (written [] replies)
 
   -- what a run of a script writes, counts and returns

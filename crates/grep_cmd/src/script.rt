@@ -83,7 +83,7 @@ pub fn run_script<R: CountedRead, W: CountedWrite>(
     requires few { states ≤ most_states }
     ensures gives { ScriptGives W.contents W.failures
         (GaveLines (R.remaining reader.old) (R.remaining reader.new)) (R.remaining reader.old)
-        (R.remaining reader.new) (R.failures reader.old) (R.failures reader.new) meter.old meter.new
+        (R.remaining reader.new) (R.failures reader.old) (R.failures reader.new) states meter.old meter.new
         writer.old writer.new result }
     ensures sent { result ≢ Err ScriptFault.Write → W.waiting writer.new ≡ 0 }
 {

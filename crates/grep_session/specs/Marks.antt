@@ -14,14 +14,16 @@ use Rattle.grep_session.specs.Edits.{DropPattern, SetFlag, SetSyntax, SetContext
 use Rattle.grep_session.specs.Edits.{no_inputs}
 use Rattle.grep_session.specs.declared.mark.Mark.{Mark}
 
--- what an editor sees of a session: its inputs, and a mark for each file
+-- what an editor sees of a session: its inputs, a mark for each file, and how many states each of
+-- its patterns may keep
 pub record Watched : Type 0 where
   pub inputs : Inputs
   pub marks : List Mark
+  pub states : ℕ
 
--- a new session
-abbrev pub new_watched : Watched
-new_watched = record { inputs = no_inputs; marks = [] }
+-- a new session, of which each pattern may keep so many states
+abbrev pub new_watched : ℕ → Watched
+new_watched states = record { inputs = no_inputs; marks = []; states = states }
 
 -- the mark of a file that was reported with this number of lines: all of them are untouched at its
 -- front, and all at its back

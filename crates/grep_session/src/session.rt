@@ -36,7 +36,8 @@ use std::alloc::Global;
 use std::marker::Model;
 
 /// Files and patterns, what the patterns find in the lines of the files, and a mark for each file. A
-/// contract sees the inputs of grep, which are syntax, options, patterns and files, and the marks.
+/// contract sees the inputs of grep, which are syntax, options, patterns and files, the marks, and how
+/// many states each pattern may keep.
 #[derive(Drop)]
 pub struct Session {
     alloc: Global,
@@ -67,7 +68,7 @@ impl Session {
     pub fn new(alloc: Global, states: usize) -> Session
         requires some { 1 ≤ states }
         requires few { states ≤ most_states }
-        ensures { result ≡ new_watched }
+        ensures { result ≡ new_watched states }
     {
         Session {
             alloc,
@@ -88,6 +89,7 @@ impl Session {
     /// `EditFault::NoSuchFile`.
     pub fn drop_file(&mut self, k: usize) -> Result<(), EditFault>
         ensures gives { EditGives (DropFile k) self.old.inputs self.new.inputs result }
+        ensures same_states { self.new.states ≡ self.old.states }
         ensures marks { MarksGiven (DropFile k) self.old self.new.marks result }
         ensures memory { NeedsNoMemory (DropFile k) self.old.inputs →
             IfErr result (λ fault. fault ≢ Memory) }
@@ -107,6 +109,7 @@ impl Session {
     /// `EditFault::Memory`.
     pub fn add_missing(&mut self, name: Vec<u8>) -> Result<(), EditFault>
         ensures gives { EditGives (AddMissing name.items) self.old.inputs self.new.inputs result }
+        ensures same_states { self.new.states ≡ self.old.states }
         ensures marks { MarksGiven (AddMissing name.items) self.old self.new.marks result }
         ensures memory { NeedsNoMemory (AddMissing name.items) self.old.inputs →
             IfErr result (λ fault. fault ≢ Memory) }
@@ -131,6 +134,7 @@ impl Session {
         meter: &mut Meter,
     ) -> Result<(), EditFault>
         ensures gives { EditGives (AddFile name.items lines) self.old.inputs self.new.inputs result }
+        ensures same_states { self.new.states ≡ self.old.states }
         ensures marks { MarksGiven (AddFile name.items lines) self.old self.new.marks result }
         ensures steps { TakesSteps (AddFile name.items lines) self.old.inputs meter.old meter.new }
         ensures memory { NeedsNoMemory (AddFile name.items lines) self.old.inputs →
@@ -167,6 +171,7 @@ impl Session {
         meter: &mut Meter,
     ) -> Result<(), EditFault>
         ensures gives { EditGives (Splice k start count lines) self.old.inputs self.new.inputs result }
+        ensures same_states { self.new.states ≡ self.old.states }
         ensures marks { MarksGiven (Splice k start count lines) self.old self.new.marks result }
         ensures steps { TakesSteps (Splice k start count lines) self.old.inputs meter.old meter.new }
         ensures memory { NeedsNoMemory (Splice k start count lines) self.old.inputs →
@@ -196,6 +201,7 @@ impl Session {
         meter: &mut Meter,
     ) -> Result<(), EditFault>
         ensures gives { ReadsAgain syntax options self.old.inputs self.new.inputs result }
+        ensures same_states { self.new.states ≡ self.old.states }
         ensures marks { LosesMarks self.old.marks self.new.marks result }
         ensures steps { (edit : Edit) →
             (AreReadable syntax options self.old.inputs →
@@ -239,6 +245,7 @@ impl Session {
     /// or `EditFault::Memory`.
     pub fn set_syntax(&mut self, syntax: Syntax, meter: &mut Meter) -> Result<(), EditFault>
         ensures gives { EditGives (SetSyntax syntax) self.old.inputs self.new.inputs result }
+        ensures same_states { self.new.states ≡ self.old.states }
         ensures marks { MarksGiven (SetSyntax syntax) self.old self.new.marks result }
         ensures steps { TakesSteps (SetSyntax syntax) self.old.inputs meter.old meter.new }
         ensures memory { NeedsNoMemory (SetSyntax syntax) self.old.inputs →
@@ -256,6 +263,7 @@ impl Session {
         requires same_case { options.ignore_case ≡ self.old.inputs.options.ignore_case }
         ensures gives { ReadsAgain self.old.inputs.syntax options self.old.inputs self.new.inputs
             result }
+        ensures same_states { self.new.states ≡ self.old.states }
         ensures marks { LosesMarks self.old.marks self.new.marks result }
         ensures steps { (edit : Edit) →
             Applies edit self.old.inputs (Ok (read_as self.old.inputs.syntax options self.old.inputs))
@@ -284,6 +292,7 @@ impl Session {
         requires same_case { options.ignore_case ≡ self.old.inputs.options.ignore_case }
         requires no_parts { IsTrue options.only_matching → IsTrue self.old.inputs.options.only_matching }
         ensures inputs { self.new.inputs ≡ read_as self.old.inputs.syntax options self.old.inputs }
+        ensures same_states { self.new.states ≡ self.old.states }
         ensures marks { self.new.marks ≡ self.old.marks }
     {
         self.options = options;
@@ -297,6 +306,7 @@ impl Session {
     /// of its letters are alike, by `-i` alone; or `EditFault::Memory`.
     pub fn set_flag(&mut self, flag: Flag, on: bool, meter: &mut Meter) -> Result<(), EditFault>
         ensures gives { EditGives (SetFlag flag on) self.old.inputs self.new.inputs result }
+        ensures same_states { self.new.states ≡ self.old.states }
         ensures marks { MarksGiven (SetFlag flag on) self.old self.new.marks result }
         ensures steps { TakesSteps (SetFlag flag on) self.old.inputs meter.old meter.new }
         ensures memory { NeedsNoMemory (SetFlag flag on) self.old.inputs →
@@ -329,6 +339,7 @@ impl Session {
     pub fn set_context(&mut self, context: Option<Context>)
         ensures gives { EditGives {T = Unit {0}} (SetContext context) self.old.inputs
             self.new.inputs (Ok tt) }
+        ensures same_states { self.new.states ≡ self.old.states }
         ensures marks { MarksGiven {T = Unit {0}} (SetContext context) self.old self.new.marks
             (Ok tt) }
     {
@@ -355,6 +366,7 @@ impl Session {
     /// text that is not a valid pattern, or `EditFault::Memory`.
     pub fn add_patterns(&mut self, list: &[u8], meter: &mut Meter) -> Result<(), EditFault>
         ensures gives { EditGives (AddPatterns list.now) self.old.inputs self.new.inputs result }
+        ensures same_states { self.new.states ≡ self.old.states }
         ensures marks { MarksGiven (AddPatterns list.now) self.old self.new.marks result }
         ensures steps { TakesSteps (AddPatterns list.now) self.old.inputs meter.old meter.new }
         ensures memory { NeedsNoMemory (AddPatterns list.now) self.old.inputs →
@@ -414,6 +426,7 @@ impl Session {
     /// `EditFault::NoSuchPattern`, or `EditFault::Memory`.
     pub fn drop_pattern(&mut self, p: usize, meter: &mut Meter) -> Result<(), EditFault>
         ensures gives { EditGives (DropPattern p) self.old.inputs self.new.inputs result }
+        ensures same_states { self.new.states ≡ self.old.states }
         ensures marks { MarksGiven (DropPattern p) self.old self.new.marks result }
         ensures steps { TakesSteps (DropPattern p) self.old.inputs meter.old meter.new }
         ensures memory { NeedsNoMemory (DropPattern p) self.old.inputs →
@@ -433,6 +446,7 @@ impl Session {
     fn drop_with_parts(&mut self, p: usize, meter: &mut Meter) -> Result<(), EditFault>
         requires within { p < length self.old.inputs.patterns }
         ensures gives { EditGives (DropPattern p) self.old.inputs self.new.inputs result }
+        ensures same_states { self.new.states ≡ self.old.states }
         ensures marks { MarksGiven (DropPattern p) self.old self.new.marks result }
         ensures steps { TakesSteps (DropPattern p) self.old.inputs meter.old meter.new }
     {
@@ -463,6 +477,7 @@ impl Session {
         requires no_parts { self.old.inputs.options.only_matching ≡ false }
         ensures inputs { self.new.inputs ≡
             with_patterns (remove self.old.inputs.patterns p) self.old.inputs }
+        ensures same_states { self.new.states ≡ self.old.states }
         ensures marks { self.new.marks ≡ map lost self.old.marks }
     {
         drop_column(&mut self.files, p);

@@ -24,12 +24,12 @@ pub use Rattle.grep_io.specs.declared.input.lines.ReadFault.{ReadFault}
 pub use Rattle.grep_io.specs.declared.input.lines.ReadFault.TheVariants.{Device}
 pub use Rattle.grep_io.specs.declared.input.lines.Stage.{Stage}
 pub use Rattle.grep_io.specs.declared.input.lines.Stage.TheVariants.{Ended, Failed, Open}
-pub use Rattle.grep_utility.specs.Command.{CommandGives, DoesForPatterns, DoesForRequest, EndsAfter, GivesUp, RefusesPattern, ReportsLines, SearchEnds, SearchesNamed, status_number}
+pub use Rattle.grep_utility.specs.Command.{CommandGives, DoesForPatterns, DoesForRequest, EndsAfter, GivesUp, RefusesPattern, ReportsLines, ReturnedAfter, SearchEnds, SearchesNamed, status_number}
 pub use Rattle.grep_utility.specs.Folder.{Folder, after_use, display_name, searched, source_named, sources_named}
 pub use Rattle.grep_utility.specs.Patterns.{FirstUnread, GivePatterns, GivesPatterns, folder_after, folder_after_all, patterns_by}
 pub use Rattle.grep_utility.specs.Texts.{out_of_memory, pattern_refused, too_many_patterns, usage_after, usage_texts}
 unfoldable pub use Rattle.grep_utility.specs.Texts.{fault_text, kind_name, usage}
-pub use Rattle.grep_utility.specs.Words.{AreRead, Asked, Draft, OrMemory, PatternsFrom, Token, Wanting, a_group, an_operand, asked, by_characters, ends_options, fault, given_source, group, list, most_around, no_numbers, nothing_asked, number_of, pieces, read, reads_on, texts_of, with_argument, with_piece}
+pub use Rattle.grep_utility.specs.Words.{AreRead, Asked, Draft, OrMemory, PatternsFrom, Token, Wanting, a_group, an_operand, asked, by_characters, ends_options, fault, file, given_source, group, list, most_around, no_numbers, nothing_asked, number_of, pieces, read, reads_on, texts_of, with_argument, with_piece}
 unfoldable pub use Rattle.grep_utility.specs.Words.{meaning_of, word_of}
 pub use Rattle.grep_utility.specs.Working.CollectedTexts.{Adds, AddsLines, AddsSource, ReadsFile, StopsFor}
 pub use Rattle.grep_utility.specs.Working.Known.{AllIsKnown, CountDecides, FailuresAre, IsKnown, Predicts, ReportsMemory, WordsDecide, Wrote, full_files, full_reading, in_full, unopened, unopened_by}
@@ -83,4 +83,3 @@ pub use Rattle.std.proofs.lemmas.Str.{chars-nil, chars_past_char, encodes-chars}
 pub use Rattle.std.specs.Bool.{⊤}
 pub use Rattle.std.specs.Io.KnownBytes.{Consumes}
 pub use Rattle.std.specs.List.{AllZip, list_all}
-pub use Rattle.std.specs.Option.{ForSome}

@@ -17,10 +17,10 @@ use Rattle.grep_core.specs.Run.{Writer, Devices, TakesAll, TakesFront, count_mor
 use Rattle.grep_utility.specs.Folder.{Folder, sources_named, searched}
 use Rattle.re_syntax.specs.Profile.{most_patterns}
 use Rattle.grep_core.specs.Matchers.{IsFirstRefused}
-use Rattle.grep_utility.specs.Patterns.{Unread, folder_after_all, GivePatterns, FirstUnread}
+use Rattle.grep_utility.specs.Patterns.{Unread, folder_after_all, GivePatterns, FirstUnread, OneReaderEach}
 use Rattle.grep_utility.specs.Texts.{usage_texts, out_of_memory, write_error, too_many_patterns}
 use Rattle.grep_utility.specs.Texts.{pattern_refused}
-use Rattle.grep_utility.specs.Words.{Asked, read}
+use Rattle.grep_utility.specs.Words.{Asked, PatternsFrom, read}
 
 -- the exit status (XCU grep, EXIT STATUS)
 abbrev pub status_number : Status → ℕ
@@ -32,6 +32,15 @@ status_number Error = 2
 abbrev pub ReportsLines : Writer → Writer → List Text → Type 0
 ReportsLines old new texts =
     TakesAll old new texts ⊎ (TakesFront old new texts × (new.failures ≡ one_more old.failures))
+
+-- how a program ends for which this status was found, where so many bytes of messages still wait: no
+-- more is sent if a message could not be written before; otherwise all messages are sent, with the
+-- same status, or a write fails and the status is 2
+abbrev pub SendsMessages : Writer → Writer → ℕ → ℕ → ℕ → Type 0
+SendsMessages old new waiting found status =
+    MatchBool (nat_lt 0 old.failures) ((new ≡ old) × (status ≡ found))
+    ((TakesAll old new [] × (waiting ≡ 0) × (status ≡ found))
+    ⊎ (TakesFront old new [] × (new.failures ≡ one_more old.failures) × (status ≡ 2)))
 
 -- the command ends with these messages and status 2; nothing more is written to the output, no step
 -- is counted, and the devices of files failed this number of times
@@ -82,17 +91,22 @@ module _ (asked : Asked) (folder : Folder) (texts : List Text)
       MatchBool (nat_lt most_patterns (length texts))
       (GivesUp old new (too_many_patterns ∷ []) 0 status) (RefusesPattern ⊎ SearchesNamed)
 
+-- the readers of pattern files were returned before these
+abbrev pub ReturnedAfter : List PatternsFrom → (List (Option Text) → Type 0) → List (Option Text) →
+    Type 0
+ReturnedAfter sources returned_with left =
+    (read : List (Option Text)) × OneReaderEach sources read × returned_with (read ++ left)
+
 module _ (folder : Folder) (returned_with : List (Option Text) → Type 0) (old new : Devices)
     (status : ℕ) where
-  -- the pattern files are read, up to the first that can't be; their readers are returned before
-  -- those of the files
+  -- the pattern files are read, each once, up to the first that can't be
   abbrev pub DoesForRequest : Asked → Type 0
   DoesForRequest asked =
       ((unread : Unread) × FirstUnread folder asked.sources unread ×
       GivesUp old new (unread.message ∷ []) unread.failures status)
-      ⊎ ((texts : List Text) × (read : List (Option Text)) × GivePatterns folder asked.sources texts
+      ⊎ ((texts : List Text) × GivePatterns folder asked.sources texts
       × DoesForPatterns asked (folder_after_all folder asked.sources) texts
-      (λ left. returned_with (read ++ left)) old new status)
+      (ReturnedAfter asked.sources returned_with) old new status)
 
   -- what the command does for its words, unless it is out of memory before the search
   abbrev pub DoesForWords : List Text → Type 0

@@ -1,5 +1,5 @@
 -- The patterns of a request (XCU grep, options `-e` and `-f`, and the operand pattern_list).
-use Rattle.std.specs.Prelude.{◌≡◌, ℕ, List, [], ◌∷◌, ◌++◌, ◌⊎◌, Result, Ok, Err}
+use Rattle.std.specs.Prelude.{◌≡◌, ℕ, List, [], ◌∷◌, ◌++◌, ◌⊎◌, Option, Result, Ok, Err}
 use Rattle.re_syntax.specs.Bytes.{Text}
 use Rattle.re_syntax.specs.Lines.{list_of}
 use Rattle.grep_core.specs.Files.{File, Ending, whole, missing, broken}
@@ -47,6 +47,15 @@ GivePatterns folder [] texts = texts ≡ []
 GivePatterns folder (source ∷ sources) texts =
     (first : List Text) × (rest : List Text) × GivesPatterns folder source (Ok first)
     × GivePatterns (folder_after folder source) sources rest × (texts ≡ first ++ rest)
+
+-- what the readers of these sources had left when they were returned: a pattern file, which is read
+-- once, has one reader, and a list has none
+abbrev pub OneReaderEach : List PatternsFrom → List (Option Text) → Type 0
+OneReaderEach [] left = left ≡ []
+OneReaderEach (list text ∷ sources) left = OneReaderEach sources left
+OneReaderEach (file name ∷ sources) left =
+    (rest : Option Text) × (others : List (Option Text)) × OneReaderEach sources others
+    × (left ≡ rest ∷ others)
 
 -- the first source that is not read, after some that are
 abbrev pub FirstUnread : Folder → List PatternsFrom → Unread → Type 0

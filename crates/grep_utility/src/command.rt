@@ -78,7 +78,7 @@ fn search_request<F: Files, W: CountedWrite, N: CountedWrite>(
 /// If a write to standard output fails, a beginning of the output was written, `grep: write error`
 /// is reported and the status is 2. If a message can't be written, the status is 2 and nothing more
 /// is reported. If an allocation fails, `grep: out of memory` is reported and the status is 2. No
-/// write is tried again, and neither device is flushed.
+/// write is tried again, and neither device is flushed at the end.
 ///
 /// The meter counts at most as many steps, and at most as many passed bytes, as one search of each
 /// line for each pattern costs. If parts are written, a line costs one more search for each of its

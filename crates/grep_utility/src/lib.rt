@@ -22,7 +22,7 @@ pub use command::run_grep;
 pub use files::Files;
 pub use laws::{broken_follows, failures_decide, row_follows, words_decide};
 pub use matchers::matchers_of;
-pub use message_texts::fail;
+pub use message_texts::{fail, send_messages};
 pub use number::read_number;
 pub use program::Program;
 pub use refusal::write_pattern_refused;

@@ -4,7 +4,7 @@ ghost use Rattle.re_search.specs.Meters.{Steps};
 ghost use Rattle.grep_core.specs.Row.{output_line};
 ghost use Rattle.grep_core.specs.Run.{Writer, writer, devices};
 ghost use Rattle.grep_core.specs.Written.{Writes};
-ghost use Rattle.grep_utility.specs.Command.{status_number, ReportsLines, EndsAfter};
+ghost use Rattle.grep_utility.specs.Command.{status_number, ReportsLines, SendsMessages, EndsAfter};
 ghost use Rattle.grep_utility.specs.Working.CollectedTexts.{reported_of_patterns};
 ghost use Rattle.grep_utility.specs.Working.Prepared.{HasNumber, due_text};
 ghost use Rattle.grep_utility.specs.Texts.{usage_texts};
@@ -36,6 +36,21 @@ pub fn fail<M: CountedWrite>(messages: &mut M, text: &[u8]) -> u8
 {
     report_line(messages, text);
     FAILED
+}
+
+/// Sends the messages that are still buffered, and returns the exit status: the one that was found,
+/// or 2 if they could not be sent. If a message could not be written before, nothing is sent.
+pub fn send_messages<M: CountedWrite>(messages: &mut M, found: u8) -> u8
+    ensures { SendsMessages (writer M.contents M.failures messages.old)
+        (writer M.contents M.failures messages.new) (M.waiting messages.new) found result }
+{
+    if messages.failures() > 0 {
+        return found;
+    }
+    match messages.flush() {
+        Ok(()) => found,
+        Err(WriteFault) => FAILED,
+    }
 }
 
 /// Reports words that are refused. A write that fails is not tried again.

@@ -1,12 +1,13 @@
 //! The patterns of a request (XCU grep, options `-e` and `-f`, and the operand pattern_list).
-ghost use Rattle.std.specs.Prelude.{◌≡◌, List, Option, [], ◌∷◌, ◌++◌, IfOk, IfErr, OnErr, Err, map};
+ghost use Rattle.std.specs.Prelude.{◌≡◌, List, Option, [], ◌∷◌, ◌++◌, IfOk, IfErr, OnErr, Ok, Err, map};
 ghost use Rattle.re_syntax.specs.Bytes.{Text};
 ghost use Rattle.re_syntax.specs.Lines.{newline, lines_of};
 ghost use Rattle.grep_io.specs.declared.input.lines.Stage.{Stage};
 ghost use Rattle.grep_core.specs.Sources.{Returns};
 ghost use Rattle.grep_utility.specs.Folder.{source_named, after_use};
 ghost use Rattle.grep_utility.specs.Patterns.{GivesPatterns, folder_after, folder_after_all, GivePatterns};
-ghost use Rattle.grep_utility.specs.Patterns.{FirstUnread};
+ghost use Rattle.grep_utility.specs.Patterns.{FirstUnread, OneReaderEach};
+ghost use Rattle.grep_utility.specs.declared.patterns.FileRead.{FileRead};
 ghost use Rattle.grep_utility.specs.Working.CollectedTexts.{AddsLines, ReadsFile, AddsSource, StopsFor};
 ghost use Rattle.grep_utility.specs.Words.{given_source};
 
@@ -98,7 +99,8 @@ fn add_pattern_file<F: Files>(
 ) -> Result<FileRead, AllocError>
     ensures used { F.folder files.new ≡ after_use (F.folder files.old) word.now }
     ensures same_loan { F.loan files.new ≡ F.loan files.old }
-    ensures back { (left : List (Option Text)) × Returns F.returned_readers files.old files.new left }
+    ensures back { result ≡ Ok FileRead.Whole →
+        (rest : Option Text) × Returns F.returned_readers files.old files.new (rest ∷ []) }
     ensures ok { IfOk result (λ read. ReadsFile (source_named (F.folder files.old) word.now)
         (F.failures files.old) (F.failures files.new) texts.old.items texts.new.items read) }
     ensures err { OnErr result (F.failures files.new ≡ F.failures files.old) }
@@ -124,7 +126,9 @@ fn add_source<'a, F: Files>(
 ) -> Result<(), PatternsFault<'a>>
     ensures used { F.folder files.new ≡ folder_after (F.folder files.old) (given_source source.now) }
     ensures same_loan { F.loan files.new ≡ F.loan files.old }
-    ensures back { (left : List (Option Text)) × Returns F.returned_readers files.old files.new left }
+    ensures back { IfOk result (λ _. (left : List (Option Text))
+        × OneReaderEach (given_source source.now ∷ []) left
+        × Returns F.returned_readers files.old files.new left) }
     ensures ok { IfOk result
         (λ _.
         AddsSource (F.folder files.old) (given_source source.now) texts.old.items texts.new.items) }
@@ -160,7 +164,9 @@ pub fn read_patterns<'a, F: Files>(
     sources: &'a [PatternSource],
 ) -> Result<Vec<u8>, PatternsFault<'a>>
     ensures same_loan { F.loan files.new ≡ F.loan files.old }
-    ensures back { (left : List (Option Text)) × Returns F.returned_readers files.old files.new left }
+    ensures back { IfOk result (λ _. (left : List (Option Text))
+        × OneReaderEach (map given_source sources.now) left
+        × Returns F.returned_readers files.old files.new left) }
     ensures used { IfOk result
         (λ _. F.folder files.new ≡ folder_after_all (F.folder files.old) (map given_source sources.now)) }
     ensures none_failed { IfOk result (λ _. F.failures files.new ≡ F.failures files.old) }

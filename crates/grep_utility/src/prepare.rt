@@ -6,6 +6,7 @@ ghost use Rattle.re_syntax.specs.Lines.{lines_of};
 ghost use Rattle.re_search.specs.Working.Filters.{AreNeeded};
 ghost use Rattle.re_search.specs.Working.Matchers.{matched_expression};
 ghost use Rattle.grep_core.specs.Sources.{Returns};
+ghost use Rattle.grep_utility.specs.Patterns.{OneReaderEach};
 ghost use Rattle.grep_utility.specs.Words.{asked};
 ghost use Rattle.grep_utility.specs.Working.Prepared.{IsPrepared, IsDue};
 
@@ -40,7 +41,9 @@ pub fn prepare<'a, F: Files>(
     files: &mut F,
 ) -> Result<OwnedSearchers, CommandFault<'a>>
     ensures same_loan { F.loan files.new ≡ F.loan files.old }
-    ensures back { (left : List (Option Text)) × Returns F.returned_readers files.old files.new left }
+    ensures back { IfOk result (λ _. (left : List (Option Text))
+        × OneReaderEach (asked task.now.request.now).sources left
+        × Returns F.returned_readers files.old files.new left) }
     ensures ok { IfOk result (λ searchers. IsPrepared (asked task.now.request.now) (F.folder files.old)
         (F.folder files.new) searchers.matchers.items) }
     ensures none_failed { IfOk result (λ _. F.failures files.new ≡ F.failures files.old) }

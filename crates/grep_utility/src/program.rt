@@ -1,5 +1,5 @@
 //! What a program does round its command: it reads its words, and reports its own faults.
-ghost use Rattle.std.specs.Prelude.{◌≡◌, [], ◌∷◌};
+ghost use Rattle.std.specs.Prelude.{◌≡◌, [], ◌∷◌, IfErr};
 ghost use Rattle.grep_core.specs.Output.{written};
 ghost use Rattle.grep_core.specs.Run.{writer};
 ghost use Rattle.grep_core.specs.Written.{Writes};
@@ -56,7 +56,9 @@ impl Program {
 
     /// The words of the process, the first of which is the program's name. Without them the error
     /// is the exit status, and standard error has the reason.
-    pub fn words(&self, rt: &HostRuntime) -> Result<Vec<String>, u8> {
+    pub fn words(&self, rt: &HostRuntime) -> Result<Vec<String>, u8>
+        ensures { IfErr result (λ status. status ≡ 2) }
+    {
         match process_words(rt) {
             Ok(words) => Ok(words),
             Err(error) if error.kind() == ErrorKind::InvalidData => {

@@ -7,7 +7,7 @@ use Rattle.grep_core.specs.Meters.{Steps}
 use Rattle.grep_core.specs.Run.{Writer}
 use Rattle.grep_cmd.specs.Bytes.{Text}
 use Rattle.grep_cmd.specs.Replies.{GaveLines, ScriptGives}
-use Rattle.grep_utility.specs.Command.{ReportsLines}
+use Rattle.grep_utility.specs.Command.{ReportsLines, SendsMessages}
 use Rattle.grep_cmd.specs.declared.script.ScriptEnd.{ScriptEnd}
 use Rattle.grep_cmd.specs.declared.script.ScriptEnd.TheVariants.{Clean, Refused}
 use Rattle.grep_cmd.specs.declared.script.ScriptFault.{ScriptFault}
@@ -39,33 +39,40 @@ EndsScript (Ok Refused) old new status = (status ≡ 1) × (new ≡ old)
 EndsScript (Err fault) old new status = (status ≡ 2) × ReportsLines old new (fault_text fault ∷ [])
 
 -- the script: the bytes that its reader has left, where they are known, and how often reads failed;
--- standard output, buffered; standard error; and the steps that were counted
+-- standard output, buffered; standard error, and how many bytes of messages wait before it; and the
+-- steps that were counted
 pub record Streams (W : Type 0) : Type 0 where
   pub script : Option Text
   pub script_failures : ℕ
   pub out : BufferedWriter W
   pub messages : Writer
+  pub waiting : ℕ
   pub steps : Steps
 
-abbrev pub streams : {W : Type 0} → Option Text → ℕ → BufferedWriter W → Writer → Steps → Streams W
-streams script failures out messages steps = record {
+abbrev pub streams : {W : Type 0} → Option Text → ℕ → BufferedWriter W → Writer → ℕ → Steps →
+    Streams W
+streams script failures out messages waiting steps = record {
   script = script;
   script_failures = failures;
   out = out;
   messages = messages;
+  waiting = waiting;
   steps = steps;
 }
 
-module _ {W : Type 0} (contents : W → Option Text) (failures waiting : W → ℕ) where
-  -- what the program does for a script: what a run of it does, and then how the program ends;
-  -- unless a write failed, all replies were sent
+module _ {W : Type 0} (contents : W → Option Text) (failures waiting : W → ℕ) (states : ℕ) where
+  -- what the program does for a script: what a run of it does, in which each pattern may keep so
+  -- many states, and then how the program ends; unless a write failed, all replies were sent
   pub record ProgramGives (old new : Streams W) (status : ℕ) : Type 0 where
     pub ended : Result ScriptEnd ScriptFault
     pub script : ScriptGives (all_contents contents) (λ out. failures out.inner)
         (GaveLines old.script new.script) old.script new.script old.script_failures
-        new.script_failures old.steps new.steps old.out new.out ended
+        new.script_failures states old.steps new.steps old.out new.out ended
     pub sent : ended ≢ Err Write → (new.out.waiting ≡ []) × (waiting new.out.inner ≡ 0)
-    pub ends : EndsScript ended old.messages new.messages status
+    pub reported : Writer
+    pub found : ℕ
+    pub ends : EndsScript ended old.messages reported found
+    pub sends : SendsMessages reported new.messages new.waiting found status
 
 -- refused words have status 2, those that ask for help status 0
 abbrev pub words_status : ErrorKind → ℕ

@@ -15,6 +15,7 @@ use crate::words::{OccurFault, ScriptRequest, occur_words};
 use clap::Error;
 use grep_cmd::{FAILED, ScriptFault, run_script};
 use grep_core::{Buffered, CountedRead, CountedWrite, Tally};
+use grep_utility::send_messages;
 use re_auto::{Meter, fresh_meter};
 use std::alloc::Global;
 use std::fs::{File, Metadata};
@@ -37,7 +38,8 @@ fn refuse_output(rt: &HostRuntime) -> u8 {
 }
 
 /// Runs the script from the reader with its replies on the writer, reports what kept it from its end,
-/// and returns the exit status. A write that fails is not tried again.
+/// sends the messages that are still buffered, and returns the exit status. A write that fails is
+/// not tried again.
 fn run_on_devices<R: CountedRead, W: CountedWrite, M: CountedWrite>(
     alloc: Global,
     reader: &mut R,
@@ -48,17 +50,16 @@ fn run_on_devices<R: CountedRead, W: CountedWrite, M: CountedWrite>(
 ) -> u8
     requires least { 1 ≤ states }
     requires most { states ≤ most_states }
-    ensures { ProgramGives W.contents W.failures W.waiting
+    ensures { ProgramGives W.contents W.failures W.waiting states
         (streams (R.remaining reader.old) (R.failures reader.old) out.old
-        (writer M.contents M.failures messages.old)
-        meter.old)
+        (writer M.contents M.failures messages.old) (M.waiting messages.old) meter.old)
         (streams (R.remaining reader.new) (R.failures reader.new) out.new
-        (writer M.contents M.failures messages.new)
-        meter.new)
+        (writer M.contents M.failures messages.new) (M.waiting messages.new) meter.new)
         result }
 {
     let ended = run_script(alloc, reader, out, states, meter);
-    end_script(messages, ended)
+    let found = end_script(messages, ended);
+    send_messages(messages, found)
 }
 
 /// Prints the help or the error when no script is run, and returns the exit status. If the help

@@ -7,5 +7,8 @@ returns g c = record {
   out = c.run_grep-found.new.out;
   messages = writer g.M.CountedWrite.contents g.M.CountedWrite.failures c.run_grep-found.new.messages;
   command = c.run_grep-found.ensures;
-  ends = c.finish.ensures;
+  ended = c.finish-ended.result;
+  reported = writer g.M.CountedWrite.contents g.M.CountedWrite.failures c.finish-ended.new.messages;
+  ends = c.finish-ended.ensures;
+  sends = c.send_messages.ensures;
 }

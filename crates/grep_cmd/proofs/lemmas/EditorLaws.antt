@@ -244,17 +244,17 @@ can_from (step ∷ steps) n before end replies view held w f (reply, between, re
     let later = can_from steps (n + brought step) between end rest here.0 (omega (arith, held, total)) (within_step n step before between reply w r) next more in
     (later.0, (reply, here.0, rest, e, is_one_reply step before between reply r, here.1, later.1))
 
-new_within : IsWithin 0 new_watched
-new_within = record { few = omega arith; files = All-nil (λ (file : File). bytes_of file.lines ≤ 0); marks = All-nil (λ (mark : Mark). (mark.front ≤ 0) × (mark.known ≤ 0)) }
+new_within : (states : ℕ) → IsWithin 0 (new_watched states)
+new_within states = record { few = omega arith; files = All-nil (λ (file : File). bytes_of file.lines ≤ 0); marks = All-nil (λ (mark : Mark). (mark.front ≤ 0) × (mark.known ≤ 0)) }
 
-can_take : (script : File) (replies rest : List Text) → bytes_of script.lines < 2 ^ 64 → (a : AnswersScript script replies rest) → (view : View) × Took a.steps replies a.after view
-can_take script replies rest few a =
-    let taken = can_from a.steps 0 new_watched a.after replies [] (omega (arith, few, steps_bring script.ending script.lines a.steps rest a.are_steps)) new_within (tt, tt) a.are_replies in
+can_take : (states : ℕ) (script : File) (replies rest : List Text) → bytes_of script.lines < 2 ^ 64 → (a : AnswersScript states script replies rest) → (view : View) × Took states a.steps replies a.after view
+can_take states script replies rest few a =
+    let taken = can_from a.steps 0 (new_watched states) a.after replies [] (omega (arith, few, steps_bring script.ending script.lines a.steps rest a.are_steps)) (new_within states) (tt, tt) a.are_replies in
     (taken.0, record { are_replies = a.are_replies; lists = taken.1 })
 
-begin_of : (first later : List Step) (replies : List Text) (state : Watched) (view : View) → Took (first ++ later) replies state view → (front : List Text) × (rest : List Text) × (between : Watched) × (lists : View) × (replies ≡ front ++ rest) × Took first front between lists
-begin_of first later replies state view t =
-    let (front, rest, between, lists, joined, are, made) = begin_from first later new_watched state replies [] view t.are_replies t.lists in
+begin_of : (states : ℕ) (first later : List Step) (replies : List Text) (state : Watched) (view : View) → Took states (first ++ later) replies state view → (front : List Text) × (rest : List Text) × (between : Watched) × (lists : View) × (replies ≡ front ++ rest) × Took states first front between lists
+begin_of states first later replies state view t =
+    let (front, rest, between, lists, joined, are, made) = begin_from first later (new_watched states) state replies [] view t.are_replies t.lists in
     (front, rest, between, lists, joined, record { are_replies = are; lists = made })
 
 pub editors_follow : EditorsFollow
@@ -262,6 +262,6 @@ editors_follow = record {
   can = can_take;
   one = all_one;
   begin = begin_of;
-  follow = (λ steps replies state view t. (follow_from steps new_watched state replies [] view (tt, tt) t.are_replies t.lists).1);
-  present = (λ steps replies state view t. present_from steps new_watched state replies [] view (tt, tt) t.are_replies t.lists);
+  follow = (λ states steps replies state view t. (follow_from steps (new_watched states) state replies [] view (tt, tt) t.are_replies t.lists).1);
+  present = (λ states steps replies state view t. present_from steps (new_watched states) state replies [] view (tt, tt) t.are_replies t.lists);
 }

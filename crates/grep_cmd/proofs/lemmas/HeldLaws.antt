@@ -144,8 +144,8 @@ within_after n edit old new (Ok done) w g m =
     let marks = marks_after n edit old new.marks w.marks m in
     record { few = files.0; files = files.1; marks = marks_wider n (n + brought (does edit)) (omega arith) new.marks marks }
 within_after n edit old new (Err fault) w g m =
-    let same : new ≡ old = λ i. record { inputs = refused_same (Unit {0}) edit old.inputs new.inputs fault g i; marks = m i } in
-    within_wider n (n + brought (does edit)) (omega arith) new (subst (IsWithin n) (sym same) w)
+    let same : new ≡ record old { states = new.states } = λ i. record { inputs = refused_same (Unit {0}) edit old.inputs new.inputs fault g i; marks = m i; states = new.states } in
+    within_wider n (n + brought (does edit)) (omega arith) new (subst (IsWithin n) (sym same) (record { few = w.few; files = w.files; marks = w.marks }))
 
 -- ---- the numbers of a change
 

@@ -17,7 +17,7 @@ script_of lines ending = record { name = []; lines = lines; ending = ending }
 line_then : (handed : List Text) (line : Text) (taken : List Text) → (handed ++ line ∷ []) ++ taken ≡ handed ++ line ∷ taken
 line_then handed line taken = append_assoc handed (line ∷ []) taken
 
-module _ {R W : Type 0} (remaining : R → Option Text) (failures : R → ℕ) (contents : W → Option Text) (write_failures : W → ℕ) (reader : R) (begun : StepCounts) (old : W) where
+module _ {R W : Type 0} (remaining : R → Option Text) (failures : R → ℕ) (contents : W → Option Text) (write_failures : W → ℕ) (reader : R) (states : ℕ) (begun : StepCounts) (old : W) where
   -- the lines of a reader, with their ending, are a script
   reads : (now : Numbered R) (lines : List Text) (ending : Ending) → StandsAs remaining failures reader now lines ending
       → ReadsScript (remaining reader) (remaining now.lines.reader) (failures reader) (failures now.lines.reader) (script_of lines ending)
@@ -53,7 +53,7 @@ module _ {R W : Type 0} (remaining : R → Option Text) (failures : R → ℕ) (
   stops_same a b c bytes first second = subst (StopsWithin contents write_failures a c) (append-nil bytes) (stops_later contents write_failures a b c bytes [] first second)
 
   -- no line was handed out
-  pub so_far_none : (now : Numbered R) → HasHanded remaining failures reader now [] → AnsweredSoFar remaining failures contents write_failures reader begun old now new_watched begun old Clean
+  pub so_far_none : (now : Numbered R) → HasHanded remaining failures reader now [] → AnsweredSoFar remaining failures contents write_failures reader states begun old now (new_watched states) begun old Clean
   so_far_none now h = record {
     handed = [];
     has_handed = h;
@@ -61,7 +61,7 @@ module _ {R W : Type 0} (remaining : R → Option Text) (failures : R → ℕ) (
     are_done = refl;
     replies = [];
     are_replies = (refl, refl);
-    work = work_none begun;
+    work = work_none states begun;
     goes = goes_nowhere contents write_failures old;
     ended = refl;
   }
@@ -69,11 +69,11 @@ module _ {R W : Type 0} (remaining : R → Option Text) (failures : R → ℕ) (
   -- what a run gives that read so far, counted so many steps, and wrote so much
   abbrev Gives : Numbered R → StepCounts → W → Result ScriptEnd ScriptFault → Type 0
   Gives next last new result =
-      ScriptGives contents write_failures (HasRead remaining failures reader next) (remaining reader) (remaining next.lines.reader) (failures reader) (failures next.lines.reader) begun last old new result
+      ScriptGives contents write_failures (HasRead remaining failures reader next) (remaining reader) (remaining next.lines.reader) (failures reader) (failures next.lines.reader) states begun last old new result
 
-  module _ (now : Numbered R) (inputs : Watched) (spent : StepCounts) (mid : W) (ending : ScriptEnd) (s : AnsweredSoFar remaining failures contents write_failures reader begun old now inputs spent mid ending) where
+  module _ (now : Numbered R) (inputs : Watched) (spent : StepCounts) (mid : W) (ending : ScriptEnd) (s : AnsweredSoFar remaining failures contents write_failures reader states begun old now inputs spent mid ending) where
     -- the steps so far, of a script that continues
-    answers_so_far : (file : File) (rest : List Text) → file.lines ≡ s.handed ++ rest → AnswersScript file s.replies rest
+    answers_so_far : (file : File) (rest : List Text) → file.lines ≡ s.handed ++ rest → AnswersScript states file s.replies rest
     answers_so_far file rest is = record {
       steps = s.steps;
       are_steps = rw is (done_alone file.ending s.handed rest s.steps s.are_done);
@@ -171,47 +171,47 @@ module _ {R W : Type 0} (remaining : R → Option Text) (failures : R → ℕ) (
       abbrev Wants : Type 0
       Wants = WantsLines remaining failures reader (s.handed ++ line ∷ []) line next spent last inputs after
 
-      works : (then : Watched) (reply : List Text) → (d : DoesStep remaining failures reader (s.handed ++ line ∷ []) line next spent last inputs then reply) → SearchesTouched (s.steps ++ d.step ∷ []) (s.replies ++ reply) then begun last
-      works then reply d = work_push s.steps d.step inputs then s.replies reply begun spent last d.refusals d.most s.work d.replies_to d.is_most d.few
+      works : (then : Watched) (reply : List Text) → (d : DoesStep remaining failures reader (s.handed ++ line ∷ []) line next spent last inputs then reply) → SearchesTouched states (s.steps ++ d.step ∷ []) (s.replies ++ reply) then begun last
+      works then reply d = work_push states s.steps d.step inputs then s.replies reply begun spent last d.refusals d.most s.work d.replies_to d.is_most d.few
 
       -- without a step
-      idles : last ≡ spent → SearchesTouched s.steps s.replies inputs begun last
-      idles idle = subst (SearchesTouched s.steps s.replies inputs begun) (sym idle) s.work
+      idles : last ≡ spent → SearchesTouched states s.steps s.replies inputs begun last
+      idles idle = subst (SearchesTouched states s.steps s.replies inputs begun) (sym idle) s.work
 
       -- it was answered
       answered : (reply : List Text) → Does reply → GoesOut contents write_failures sent new (written [] reply) → (end : ScriptEnd) → end ≡ end_for (s.replies ++ reply)
-          → AnsweredSoFar remaining failures contents write_failures reader begun old next after last new end
+          → AnsweredSoFar remaining failures contents write_failures reader states begun old next after last new end
       answered reply d goes end is = record {
         handed = s.handed ++ line ∷ d.taken;
         has_handed = subst (HasHanded remaining failures reader next) (line_then s.handed line d.taken) d.has_handed;
         steps = s.steps ++ d.step ∷ [];
         are_done = done_push s.handed s.steps line d.taken d.step s.are_done d.is_step;
         replies = s.replies ++ reply;
-        are_replies = replies_push s.steps d.step new_watched inputs after s.replies reply s.are_replies d.replies_to;
+        are_replies = replies_push s.steps d.step (new_watched states) inputs after s.replies reply s.are_replies d.replies_to;
         work = works after reply d;
         goes = goes_both old mid sent new s.replies reply s.goes flushed goes;
         ended = is;
       }
 
       pub so_far_accepted : (reply : List Text) → Does reply → GoesOut contents write_failures sent new (written [] reply) → list_any is_refusal reply ≡ false
-          → AnsweredSoFar remaining failures contents write_failures reader begun old next after last new ending
+          → AnsweredSoFar remaining failures contents write_failures reader states begun old next after last new ending
       so_far_accepted reply d goes none = answered reply d goes ending (s.ended ∙ sym (end_kept s.replies reply none))
 
       pub so_far_refused : (reply : List Text) → Does reply → GoesOut contents write_failures sent new (written [] reply) → list_any is_refusal reply ≡ true
-          → AnsweredSoFar remaining failures contents write_failures reader begun old next after last new Refused
+          → AnsweredSoFar remaining failures contents write_failures reader states begun old next after last new Refused
       so_far_refused reply d goes some = answered reply d goes Refused (sym (end_refused s.replies reply some))
 
       -- fewer lines follow than it counts
-      truncates : (file : File) → (w : Wants) → file.lines ≡ s.handed ++ line ∷ w.taken → file.ending ≡ whole → AnswersScript file (s.replies ++ truncated ∷ []) []
+      truncates : (file : File) → (w : Wants) → file.lines ≡ s.handed ++ line ∷ w.taken → file.ending ≡ whole → AnswersScript states file (s.replies ++ truncated ∷ []) []
       truncates file w is ends = record {
         steps = s.steps ++ is_truncated ∷ [];
         are_steps = rw is (done_steps file.ending s.handed (line ∷ w.taken) [] s.steps (is_truncated ∷ []) s.are_done (inr (ends, w.wants, refl, refl, refl)));
         after = inputs;
-        are_replies = replies_push s.steps is_truncated new_watched inputs inputs s.replies (truncated ∷ []) s.are_replies (refl, refl);
+        are_replies = replies_push s.steps is_truncated (new_watched states) inputs inputs s.replies (truncated ∷ []) s.are_replies (refl, refl);
       }
 
-      works_truncated : last ≡ spent → SearchesTouched (s.steps ++ is_truncated ∷ []) (s.replies ++ truncated ∷ []) inputs begun last
-      works_truncated idle = work_push s.steps is_truncated inputs inputs s.replies (truncated ∷ []) begun last last 0 0 (idles idle) (refl, refl) (refl, refl) (adds_none 0 0 last)
+      works_truncated : last ≡ spent → SearchesTouched states (s.steps ++ is_truncated ∷ []) (s.replies ++ truncated ∷ []) inputs begun last
+      works_truncated idle = work_push states s.steps is_truncated inputs inputs s.replies (truncated ∷ []) begun last last 0 0 (idles idle) (refl, refl) (refl, refl) (adds_none 0 0 last)
 
       reads_all : (taken : List Text) (kind : Ending) → StandsAs remaining failures reader next ((s.handed ++ line ∷ []) ++ taken) kind
           → ReadsScript (remaining reader) (remaining next.lines.reader) (failures reader) (failures next.lines.reader) (script_of (s.handed ++ line ∷ taken) kind)
@@ -268,7 +268,7 @@ module _ {R W : Type 0} (remaining : R → Option Text) (failures : R → ℕ) (
               steps = s.steps ++ d.step ∷ [];
               are_steps = rw b.2.1 (done_alone b.0.ending (s.handed ++ line ∷ d.taken) b.2.0 (s.steps ++ d.step ∷ []) (done_push s.handed s.steps line d.taken d.step s.are_done d.is_step));
               after = then;
-              are_replies = replies_push s.steps d.step new_watched inputs then s.replies reply s.are_replies d.replies_to;
+              are_replies = replies_push s.steps d.step (new_watched states) inputs then s.replies reply s.are_replies d.replies_to;
             };
             work = works then reply d;
             stops = stops_both old mid sent new s.replies reply s.goes flushed stops;
@@ -302,7 +302,7 @@ module _ {R W : Type 0} (remaining : R → Option Text) (failures : R → ℕ) (
 
 -- ---- the end
 
-module _ {W : Type 0} (contents : W → Option Text) (failures : W → ℕ) (has_read : List Text → Type 0) (known left : Option Text) (failed_before failed : ℕ) (begun spent : StepCounts) (old mid new : W) where
+module _ {W : Type 0} (contents : W → Option Text) (failures : W → ℕ) (has_read : List Text → Type 0) (known left : Option Text) (failed_before failed : ℕ) (states : ℕ) (begun spent : StepCounts) (old mid new : W) where
   goes_on_same : (bytes : Text) → GoesOut contents failures old mid bytes → GoesOut contents failures mid new [] → GoesOut contents failures old new bytes
   goes_on_same bytes first second = subst (GoesOut contents failures old new) (append-nil bytes) (goes_on contents failures old mid new bytes [] first second)
 
@@ -310,28 +310,28 @@ module _ {W : Type 0} (contents : W → Option Text) (failures : W → ℕ) (has
   stops_on_same bytes first second = subst (StopsWithin contents failures old new) (append-nil bytes) (stops_later contents failures old mid new bytes [] first second)
 
   -- what was buffered was sent after a run, or that failed
-  pub sends_after : (ended result : Result ScriptEnd ScriptFault) → ScriptGives contents failures has_read known left failed_before failed begun spent old mid ended → FlushesAfter contents failures mid new ended result
-      → ScriptGives contents failures has_read known left failed_before failed begun spent old new result
+  pub sends_after : (ended result : Result ScriptEnd ScriptFault) → ScriptGives contents failures has_read known left failed_before failed states begun spent old mid ended → FlushesAfter contents failures mid new ended result
+      → ScriptGives contents failures has_read known left failed_before failed states begun spent old new result
   sends_after (Ok end) result e (inl (sent, is)) =
-      subst (ScriptGives contents failures has_read known left failed_before failed begun spent old new) (sym is)
+      subst (ScriptGives contents failures has_read known left failed_before failed states begun spent old new) (sym is)
       (record { file = e.file; reads = e.reads; is_whole = e.is_whole; replies = e.replies; answers = e.answers; work = e.work; goes = goes_on_same (written [] e.replies) e.goes sent; ended = e.ended })
   sends_after (Ok end) result e (inr (stops, is)) =
-      subst (ScriptGives contents failures has_read known left failed_before failed begun spent old new) (sym is)
+      subst (ScriptGives contents failures has_read known left failed_before failed states begun spent old new) (sym is)
       (record { file = e.file; reads = inr e.reads; replies = e.replies; rest = []; answers = e.answers; work = e.work; stops = stops_on_same (written [] e.replies) e.goes stops })
   sends_after (Err Read) result e (inl (sent, is)) =
-      subst (ScriptGives contents failures has_read known left failed_before failed begun spent old new) (sym is)
+      subst (ScriptGives contents failures has_read known left failed_before failed states begun spent old new) (sym is)
       (record { file = e.file; reads = e.reads; is_broken = e.is_broken; replies = e.replies; rest = e.rest; answers = e.answers; cut_short = e.cut_short; work = e.work; goes = goes_on_same (written [] e.replies) e.goes sent })
   sends_after (Err Read) result e (inr (stops, is)) =
-      subst (ScriptGives contents failures has_read known left failed_before failed begun spent old new) (sym is)
+      subst (ScriptGives contents failures has_read known left failed_before failed states begun spent old new) (sym is)
       (record { file = e.file; reads = inr e.reads; replies = e.replies; rest = e.rest; answers = e.answers; work = e.work; stops = stops_on_same (written [] e.replies) e.goes stops })
   sends_after (Err Memory) result e (inl (sent, is)) =
-      subst (ScriptGives contents failures has_read known left failed_before failed begun spent old new) (sym is)
+      subst (ScriptGives contents failures has_read known left failed_before failed states begun spent old new) (sym is)
       (record { file = e.file; reads = e.reads; replies = e.replies; done = e.done; rest = e.rest; is_file = e.is_file; answers = e.answers; first = e.first; others = e.others; is_rest = e.is_rest; is_begun = e.is_begun; were_read = e.were_read; work = e.work; goes = goes_on_same (written [] e.replies) e.goes sent })
   sends_after (Err Memory) result e (inr (stops, is)) =
-      subst (ScriptGives contents failures has_read known left failed_before failed begun spent old new) (sym is)
+      subst (ScriptGives contents failures has_read known left failed_before failed states begun spent old new) (sym is)
       (record { file = e.file; reads = inl e.reads; replies = e.replies; rest = e.rest; answers = e.answers; work = e.work; stops = stops_on_same (written [] e.replies) e.goes stops })
   sends_after (Err Write) result e (same, is) =
-      subst (ScriptGives contents failures has_read known left failed_before failed begun spent old new) (sym is) (subst (λ w. StopsWriting contents failures has_read known left failed_before failed begun spent old w) (sym same) e)
+      subst (ScriptGives contents failures has_read known left failed_before failed states begun spent old new) (sym is) (subst (λ w. StopsWriting contents failures has_read known left failed_before failed states begun spent old w) (sym same) e)
 
 -- ---- what the reader gave
 
@@ -344,14 +344,14 @@ lines_handed Open given handed h = ap lines_of h.0 ∙ lines_of-terminated hande
 lines_handed Ended given handed h = h
 lines_handed Failed given handed h = absurd h
 
-module _ {R W : Type 0} (remaining : R → Option Text) (failures : R → ℕ) (contents : W → Option Text) (write_failures : W → ℕ) (reader : R) where
+module _ {R W : Type 0} (remaining : R → Option Text) (failures : R → ℕ) (contents : W → Option Text) (write_failures : W → ℕ) (reader : R) (states : ℕ) where
   gave : (now : Numbered R) (handed : List Text) → HasRead remaining failures reader now handed → GaveLines (remaining reader) (remaining now.lines.reader) handed
   gave now handed (h, few) = record { given = h.hands.given; are_lines = lines_handed now.lines.stage h.hands.given handed h.hands.are_handed; ahead = now.lines.ahead; gave = h.hands.gave; few = few }
 
   -- a run that handed out some lines is one whose reader gave them
   pub gives_by_reader : (now : Numbered R) (begun spent : StepCounts) (old new : W) (result : Result ScriptEnd ScriptFault)
-      → ScriptGives contents write_failures (HasRead remaining failures reader now) (remaining reader) (remaining now.lines.reader) (failures reader) (failures now.lines.reader) begun spent old new result
-      → ScriptGives contents write_failures (GaveLines (remaining reader) (remaining now.lines.reader)) (remaining reader) (remaining now.lines.reader) (failures reader) (failures now.lines.reader) begun spent old new result
+      → ScriptGives contents write_failures (HasRead remaining failures reader now) (remaining reader) (remaining now.lines.reader) (failures reader) (failures now.lines.reader) states begun spent old new result
+      → ScriptGives contents write_failures (GaveLines (remaining reader) (remaining now.lines.reader)) (remaining reader) (remaining now.lines.reader) (failures reader) (failures now.lines.reader) states begun spent old new result
   gives_by_reader now begun spent old new (Ok end) e =
       record { file = e.file; reads = e.reads; is_whole = e.is_whole; replies = e.replies; answers = e.answers; work = e.work; goes = e.goes; ended = e.ended }
   gives_by_reader now begun spent old new (Err Read) e =
@@ -362,11 +362,11 @@ module _ {R W : Type 0} (remaining : R → Option Text) (failures : R → ℕ) (
       record { file = e.file; reads = e.reads; replies = e.replies; rest = e.rest; answers = e.answers; work = e.work; stops = e.stops }
 
 -- no memory for a reader of lines
-pub runs_out_at_once : {R W : Type 0} (remaining : R → Option Text) (failures : R → ℕ) (contents : W → Option Text) (write_failures : W → ℕ) (reader : R) (steps : StepCounts) (out : W)
-    → ScriptGives contents write_failures (GaveLines (remaining reader) (remaining reader)) (remaining reader) (remaining reader) (failures reader) (failures reader) steps steps out out (Err Memory)
+pub runs_out_at_once : {R W : Type 0} (remaining : R → Option Text) (failures : R → ℕ) (contents : W → Option Text) (write_failures : W → ℕ) (reader : R) (states : ℕ) (steps : StepCounts) (out : W)
+    → ScriptGives contents write_failures (GaveLines (remaining reader) (remaining reader)) (remaining reader) (remaining reader) (failures reader) (failures reader) states steps steps out out (Err Memory)
 unfolding so_far_none
-runs_out_at_once {R} remaining failures contents write_failures reader steps out =
+runs_out_at_once {R} remaining failures contents write_failures reader states steps out =
     let now : Numbered R = record { lines = record { reader = reader; ahead = []; line = []; stage = Open }; number = 0 } in
     let none = has_handed_none remaining failures now refl refl refl in
-    gives_by_reader remaining failures contents write_failures reader now steps steps out out (Err Memory)
-    (runs_out remaining failures contents write_failures reader steps out now new_watched steps out Clean (so_far_none remaining failures contents write_failures reader steps out now none) now out [] tt none_in_nothing none (goes_nowhere contents write_failures out))
+    gives_by_reader remaining failures contents write_failures reader states now steps steps out out (Err Memory)
+    (runs_out remaining failures contents write_failures reader states steps out now (new_watched states) steps out Clean (so_far_none remaining failures contents write_failures reader states steps out now none) now out [] tt none_in_nothing none (goes_nowhere contents write_failures out))

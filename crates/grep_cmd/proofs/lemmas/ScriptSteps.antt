@@ -64,16 +64,16 @@ most_push (s ∷ steps) step before between after replies reply refusals mine mo
 )
 
 -- nothing was searched for no command
-pub work_none : (steps : StepCounts) → SearchesTouched [] [] new_watched steps steps
-work_none steps = record { most = 0; refusals = 0; is_most = (refl, refl, refl, refl); few = adds_none 0 0 steps }
+pub work_none : (states : ℕ) (steps : StepCounts) → SearchesTouched states [] [] (new_watched states) steps steps
+work_none states steps = record { most = 0; refusals = 0; is_most = (refl, refl, refl, refl); few = adds_none 0 0 steps }
 
 -- one more command searches no more than it costs
-pub work_push : (steps : List Step) (step : Step) (between after : Watched) (replies reply : List Text) (begun spent last : StepCounts) (mine own : ℕ) → SearchesTouched steps replies between begun spent
-    → RepliesTo step between reply after → SearchesAtMost step between.inputs mine own → Adds own own mine spent last → SearchesTouched (steps ++ step ∷ []) (replies ++ reply) after begun last
-work_push steps step between after replies reply begun spent last mine own w h cost few = record {
+pub work_push : (states : ℕ) (steps : List Step) (step : Step) (between after : Watched) (replies reply : List Text) (begun spent last : StepCounts) (mine own : ℕ) → SearchesTouched states steps replies between begun spent
+    → RepliesTo step between reply after → SearchesAtMost step between.inputs mine own → Adds own own mine spent last → SearchesTouched states (steps ++ step ∷ []) (replies ++ reply) after begun last
+work_push states steps step between after replies reply begun spent last mine own w h cost few = record {
   most = w.most + own;
   refusals = w.refusals + mine;
-  is_most = most_push steps step new_watched between after replies reply w.refusals mine w.most own w.is_most h cost;
+  is_most = most_push steps step (new_watched states) between after replies reply w.refusals mine w.most own w.is_most h cost;
   few = all_both w.most own w.most own w.refusals mine begun spent last w.few few;
 }
 

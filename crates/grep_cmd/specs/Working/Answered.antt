@@ -165,8 +165,8 @@ AreDone lines (step ∷ steps) =
     IsStep (line_command line) taken step × AreDone more steps
 
 module _ {R W : Type 0} (remaining : R → Option Text) (failures : R → ℕ)
-    (contents : W → Option Text) (write_failures : W → ℕ) (reader : R) (begun : StepCounts)
-    (old : W) where
+    (contents : W → Option Text) (write_failures : W → ℕ) (reader : R) (states : ℕ)
+    (begun : StepCounts) (old : W) where
   -- the lines handed out so far were answered
   pub record AnsweredSoFar (now : Numbered R) (watched : Watched) (spent : StepCounts) (new : W)
       (ending : ScriptEnd) : Type 0 where
@@ -175,7 +175,7 @@ module _ {R W : Type 0} (remaining : R → Option Text) (failures : R → ℕ)
     pub steps : List Step
     pub are_done : AreDone handed steps
     pub replies : List Text
-    pub are_replies : Replies steps new_watched replies watched
-    pub work : SearchesTouched steps replies watched begun spent
+    pub are_replies : Replies steps (new_watched states) replies watched
+    pub work : SearchesTouched states steps replies watched begun spent
     pub goes : GoesOut contents write_failures old new (written [] replies)
     pub ended : ending ≡ end_for replies

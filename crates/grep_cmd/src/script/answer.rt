@@ -32,6 +32,7 @@ use std::alloc::{AllocError, Global};
 /// Makes an edit for which the command line is enough.
 fn make_edit(session: &mut Session, edit: LineEdit, meter: &mut Meter) -> Result<(), EditFault>
     ensures gives { EditGives (line_meant edit) session.old.inputs session.new.inputs result }
+    ensures same_states { session.new.states ≡ session.old.states }
     ensures marks { MarksGiven (line_meant edit) session.old session.new.marks result }
     ensures steps { TakesSteps (line_meant edit) session.old.inputs meter.old meter.new }
     ensures memory { NeedsNoMemory (line_meant edit) session.old.inputs →
@@ -61,6 +62,7 @@ fn add_patterns(
         (λ answer.
         EditGives (AddPatterns (joined (map (λ l. l.items) lines.items))) session.old.inputs
         session.new.inputs answer) }
+    ensures same_states { IfOk result (λ _. session.new.states ≡ session.old.states) }
     ensures marks { IfOk result
         (λ answer.
         MarksGiven (AddPatterns (joined (map (λ l. l.items) lines.items))) session.old

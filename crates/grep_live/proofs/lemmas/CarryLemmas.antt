@@ -130,14 +130,14 @@ module _ (old : Watched) (fit : AreFit old.inputs.files old.marks) where
       (view : View) → Follows old view → AllThree (FollowsFile inputs) old.inputs.files old.marks view
   same_views inputs back same view h = three-weaker (FollowsFile old.inputs) (FollowsFile inputs) (same_file old.inputs inputs back same) old.inputs.files old.marks view h
 
-  left_added : (file : File) → IsLeft old (record { inputs = with_files (old.inputs.files ++ file ∷ []) old.inputs; marks = old.marks ++ new_mark ∷ [] }) (λ view. view ++ [] ∷ [])
+  left_added : (file : File) → IsLeft old (record { inputs = with_files (old.inputs.files ++ file ∷ []) old.inputs; marks = old.marks ++ new_mark ∷ []; states = old.states }) (λ view. view ++ [] ∷ [])
   left_added file =
       let inputs = with_files (old.inputs.files ++ file ∷ []) old.inputs in (
         fit_added old.inputs.files old.marks fit file,
         (λ view h. three-append (FollowsFile inputs) old.inputs.files old.marks view file new_mark [] (same_views inputs (λ es m. m) (λ es n l hits x. x) view h) (new_file inputs file)),
       )
 
-  left_dropped : (k : ℕ) → IsLeft old (record { inputs = with_files (remove old.inputs.files k) old.inputs; marks = remove old.marks k }) (λ view. remove view k)
+  left_dropped : (k : ℕ) → IsLeft old (record { inputs = with_files (remove old.inputs.files k) old.inputs; marks = remove old.marks k; states = old.states }) (λ view. remove view k)
   left_dropped k =
       let inputs = with_files (remove old.inputs.files k) old.inputs in (
         fit_dropped old.inputs.files old.marks fit k,
@@ -145,7 +145,7 @@ module _ (old : Watched) (fit : AreFit old.inputs.files old.marks) where
       )
 
   left_spliced : (k start count : ℕ) (come : List Text) → k < length old.inputs.files → start + count ≤ length (file_at old.inputs.files k).lines →
-      IsLeft old (record { inputs = with_files (spliced old.inputs.files k start count come) old.inputs; marks = slice_set old.marks k (touched start (length (file_at old.inputs.files k).lines - (start + count)) (mark_at old.marks k)) }) (λ view. view)
+      IsLeft old (record { inputs = with_files (spliced old.inputs.files k start count come) old.inputs; marks = slice_set old.marks k (touched start (length (file_at old.inputs.files k).lines - (start + count)) (mark_at old.marks k)); states = old.states }) (λ view. view)
   left_spliced k start count come inside within =
       let inputs = with_files (spliced old.inputs.files k start count come) old.inputs in
       let file = file_at old.inputs.files k in
@@ -158,14 +158,14 @@ module _ (old : Watched) (fit : AreFit old.inputs.files old.marks) where
         (λ view h. three-set (FollowsFile inputs) old.inputs.files old.marks view k new_file none new_mark_there new_mark (λ hits f. spliced_file inputs file mark hits come start count within fits f) (same_views inputs (λ es m. m) (λ es n l hits x. x) view h)),
       )
 
-  left_lost : (inputs : Inputs) → inputs.files ≡ old.inputs.files → IsLeft old (record { inputs = inputs; marks = map lost old.marks }) (λ view. view)
+  left_lost : (inputs : Inputs) → inputs.files ≡ old.inputs.files → IsLeft old (record { inputs = inputs; marks = map lost old.marks; states = old.states }) (λ view. view)
   left_lost inputs same = (
     fit_lose old.inputs.files inputs.files old.marks (map lost old.marks) same refl fit,
     (λ view h. subst (λ files. AllThree (FollowsFile inputs) files (map lost old.marks) view) (sym same) (three-map (FollowsFile old.inputs) (FollowsFile inputs) lost (lost_file old.inputs inputs) old.inputs.files old.marks view h)),
   )
 
   -- an option by which no list changes
-  left_option : (flag : Flag) (on : Bool) → IsLeft old (record { inputs = record old.inputs { options = with_option flag on old.inputs.options }; marks = marks_by_flag flag old.marks }) (λ view. view)
+  left_option : (flag : Flag) (on : Bool) → IsLeft old (record { inputs = record old.inputs { options = with_option flag on old.inputs.options }; marks = marks_by_flag flag old.marks; states = old.states }) (λ view. view)
   left_option Count on = (fit, same_views (record old.inputs { options = with_option Count on old.inputs.options }) (λ es m. m) (λ es n l hits x. x))
   left_option FilesWithMatches on = (fit, same_views (record old.inputs { options = with_option FilesWithMatches on old.inputs.options }) (λ es m. m) (λ es n l hits x. x))
   left_option LineNumber on = (fit, same_views (record old.inputs { options = with_option LineNumber on old.inputs.options }) (λ es m. m) (λ es n l hits x. x))
@@ -180,50 +180,50 @@ module _ (old : Watched) (fit : AreFit old.inputs.files old.marks) where
   left_same : IsLeft old old (λ view. view)
   left_same = (fit, (λ view h. h))
 
-  left_flag : (flag : Flag) (on : Bool) (marks : List Mark) → MarksAfter (SetFlag flag on) old marks → IsLeft old (record { inputs = record old.inputs { options = with_option flag on old.inputs.options }; marks = marks }) (λ view. view)
+  left_flag : (flag : Flag) (on : Bool) (marks : List Mark) → MarksAfter (SetFlag flag on) old marks → IsLeft old (record { inputs = record old.inputs { options = with_option flag on old.inputs.options }; marks = marks; states = old.states }) (λ view. view)
   left_flag flag on marks (inl (same, e)) =
       let options : with_option flag on old.inputs.options ≡ old.inputs.options = ap (λ b. with_option flag b old.inputs.options) (sym same) ∙ with_same flag old.inputs.options in
-      subst (λ (w : Watched). IsLeft old w (λ view. view)) (λ i. record { inputs = record old.inputs { options = sym options i }; marks = sym e i }) left_same
+      subst (λ (w : Watched). IsLeft old w (λ view. view)) (λ i. record { inputs = record old.inputs { options = sym options i }; marks = sym e i; states = old.states }) left_same
   left_flag flag on marks (inr (other, e)) =
-      subst (λ (m : List Mark). IsLeft old (record { inputs = record old.inputs { options = with_option flag on old.inputs.options }; marks = m }) (λ view. view)) (sym e) (left_option flag on)
+      subst (λ (m : List Mark). IsLeft old (record { inputs = record old.inputs { options = with_option flag on old.inputs.options }; marks = m; states = old.states }) (λ view. view)) (sym e) (left_option flag on)
 
-  left_syntax : (syntax : Syntax) (marks : List Mark) → MarksAfter (SetSyntax syntax) old marks → IsLeft old (record { inputs = record old.inputs { syntax = syntax }; marks = marks }) (λ view. view)
+  left_syntax : (syntax : Syntax) (marks : List Mark) → MarksAfter (SetSyntax syntax) old marks → IsLeft old (record { inputs = record old.inputs { syntax = syntax }; marks = marks; states = old.states }) (λ view. view)
   left_syntax syntax marks (inl (same, e)) =
-      subst (λ (w : Watched). IsLeft old w (λ view. view)) (λ i. record { inputs = record old.inputs { syntax = sym same i }; marks = sym e i }) left_same
+      subst (λ (w : Watched). IsLeft old w (λ view. view)) (λ i. record { inputs = record old.inputs { syntax = sym same i }; marks = sym e i; states = old.states }) left_same
   left_syntax syntax marks (inr (other, e)) =
-      subst (λ (m : List Mark). IsLeft old (record { inputs = record old.inputs { syntax = syntax }; marks = m }) (λ view. view)) (sym e) (left_lost (record old.inputs { syntax = syntax }) refl)
+      subst (λ (m : List Mark). IsLeft old (record { inputs = record old.inputs { syntax = syntax }; marks = m; states = old.states }) (λ view. view)) (sym e) (left_lost (record old.inputs { syntax = syntax }) refl)
 
   -- where inputs and marks are these
   as_these : (new these : Watched) (change : View → View) → new.inputs ≡ these.inputs → new.marks ≡ these.marks → IsLeft old these change → IsLeft old new change
-  as_these new these change i m left = subst (λ (w : Watched). IsLeft old w change) (λ j. record { inputs = sym i j; marks = sym m j }) left
+  as_these new these change i m left = subst (λ (w : Watched). IsLeft old w change) (λ j. record { inputs = sym i j; marks = sym m j; states = new.states }) left
 
   left_accepted : (edit : Edit) (new : Watched) → Applies edit old.inputs (Ok new.inputs) → MarksAfter edit old new.marks → IsLeft old new (view_after edit)
   left_accepted (AddFile name lines) new a m =
       let file = whole_file name lines in
-      as_these new (record { inputs = with_files (old.inputs.files ++ file ∷ []) old.inputs; marks = old.marks ++ new_mark ∷ [] }) (λ view. view ++ [] ∷ []) (added_file name lines old.inputs new.inputs a) m (left_added file)
+      as_these new (record { inputs = with_files (old.inputs.files ++ file ∷ []) old.inputs; marks = old.marks ++ new_mark ∷ []; states = old.states }) (λ view. view ++ [] ∷ []) (added_file name lines old.inputs new.inputs a) m (left_added file)
   left_accepted (AddMissing name) new a m =
       let file = missing_file name in
-      as_these new (record { inputs = with_files (old.inputs.files ++ file ∷ []) old.inputs; marks = old.marks ++ new_mark ∷ [] }) (λ view. view ++ [] ∷ []) (added_missing name old.inputs new.inputs a) m (left_added file)
+      as_these new (record { inputs = with_files (old.inputs.files ++ file ∷ []) old.inputs; marks = old.marks ++ new_mark ∷ []; states = old.states }) (λ view. view ++ [] ∷ []) (added_missing name old.inputs new.inputs a) m (left_added file)
   left_accepted (DropFile k) new a m =
-      as_these new (record { inputs = with_files (remove old.inputs.files k) old.inputs; marks = remove old.marks k }) (λ view. remove view k) (file_dropped k old.inputs new.inputs a) m (left_dropped k)
+      as_these new (record { inputs = with_files (remove old.inputs.files k) old.inputs; marks = remove old.marks k; states = old.states }) (λ view. remove view k) (file_dropped k old.inputs new.inputs a) m (left_dropped k)
   left_accepted (Splice k start count lines) new a m =
       let put = splice_accepted k start count lines old.inputs new.inputs a in
-      as_these new (record { inputs = with_files (spliced old.inputs.files k start count lines) old.inputs; marks = slice_set old.marks k (touched start (length (file_at old.inputs.files k).lines - (start + count)) (mark_at old.marks k)) }) (λ view. view) put.is m (left_spliced k start count lines put.inside put.within)
+      as_these new (record { inputs = with_files (spliced old.inputs.files k start count lines) old.inputs; marks = slice_set old.marks k (touched start (length (file_at old.inputs.files k).lines - (start + count)) (mark_at old.marks k)); states = old.states }) (λ view. view) put.is m (left_spliced k start count lines put.inside put.within)
   left_accepted (AddPatterns list) new a m =
       let inputs = with_patterns (old.inputs.patterns ++ list_of list) old.inputs in
-      as_these new (record { inputs = inputs; marks = map lost old.marks }) (λ view. view) (added_patterns list old.inputs new.inputs a) m (left_lost inputs refl)
+      as_these new (record { inputs = inputs; marks = map lost old.marks; states = old.states }) (λ view. view) (added_patterns list old.inputs new.inputs a) m (left_lost inputs refl)
   left_accepted (DropPattern p) new a m =
       let inputs = with_patterns (remove old.inputs.patterns p) old.inputs in
-      as_these new (record { inputs = inputs; marks = map lost old.marks }) (λ view. view) (dropped_pattern p old.inputs new.inputs a) m (left_lost inputs refl)
+      as_these new (record { inputs = inputs; marks = map lost old.marks; states = old.states }) (λ view. view) (dropped_pattern p old.inputs new.inputs a) m (left_lost inputs refl)
   left_accepted (SetFlag flag on) new a m =
       let inputs = record old.inputs { options = with_option flag on old.inputs.options } in
-      as_these new (record { inputs = inputs; marks = new.marks }) (λ view. view) (option_set flag on old.inputs new.inputs a) refl (left_flag flag on new.marks m)
+      as_these new (record { inputs = inputs; marks = new.marks; states = old.states }) (λ view. view) (option_set flag on old.inputs new.inputs a) refl (left_flag flag on new.marks m)
   left_accepted (SetSyntax syntax) new a m =
       let inputs = record old.inputs { syntax = syntax } in
-      as_these new (record { inputs = inputs; marks = new.marks }) (λ view. view) (syntax_set syntax old.inputs new.inputs a) refl (left_syntax syntax new.marks m)
+      as_these new (record { inputs = inputs; marks = new.marks; states = old.states }) (λ view. view) (syntax_set syntax old.inputs new.inputs a) refl (left_syntax syntax new.marks m)
   left_accepted (SetContext context) new a m =
       let inputs = with_context context old.inputs in
-      as_these new (record { inputs = inputs; marks = old.marks }) (λ view. view) (context_set context old.inputs new.inputs a) m
+      as_these new (record { inputs = inputs; marks = old.marks; states = old.states }) (λ view. view) (context_set context old.inputs new.inputs a) m
       (fit, same_views inputs (λ es m. m) (λ es n l hits x. x))
 
 -- a refused edit leaves the inputs

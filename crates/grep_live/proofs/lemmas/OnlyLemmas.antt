@@ -97,7 +97,7 @@ one_splice old new k start count lines es changes applies marked are =
     let new_file = record file { lines = splice file.lines start (start + count) lines } in
     let mark = touched start left (mark_at marks k) in
     let here : AllThree (IsChange es options) (set files k new_file) (set marks k mark) changes =
-    subst (λ (w : Watched). AllThree (IsChange es w.inputs.options) w.inputs.files w.marks changes) (λ i. record { inputs = put.is i; marks = marked i }) are in
+    subst (λ (w : Watched). AllThree (IsChange es w.inputs.options) w.inputs.files w.marks changes) (λ i. record { inputs = put.is i; marks = marked i; states = new.states }) are in
     let there = three-at (IsChange es options) (set files k new_file) (set marks k mark) changes k (file_at [] k) new_mark (change_at [] k) (omega (arith, put.inside, length-set files k new_file)) here in
     let is_file : get_or (set files k new_file) k (file_at [] k) ≡ new_file = get_or-set_same files k new_file (file_at [] k) put.inside in
     let is_mark : get_or (set marks k mark) k new_mark ≡ touched start left (whole_mark (length file.lines)) =

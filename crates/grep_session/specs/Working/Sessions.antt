@@ -1,4 +1,5 @@
--- A session as contracts see it: the inputs that its edits have left, and the marks.
+-- A session as contracts see it: the inputs that its edits have left, the marks, and the number of
+-- states.
 use Rattle.std.specs.Prelude.{◌≡◌, ◌≤◌, map, length, All, List, Result, MatchResult}
 use Rattle.re_search.specs.Working.Matchers.{matched_expression}
 use Rattle.grep_core.specs.Files.{Inputs}
@@ -21,7 +22,7 @@ inputs_of s =
     }
 
 abbrev pub watched_of : Inside → Watched
-watched_of s = record { inputs = inputs_of s; marks = s.marks.items }
+watched_of s = record { inputs = inputs_of s; marks = s.marks.items; states = s.states }
 
 -- the matchers are those of the patterns, what is kept of each line is what they find in it, and
 -- they keep no more states than were asked for; the marks fit the files

@@ -98,6 +98,7 @@ impl Session {
     /// number that the session was made with.
     pub fn cached(&self) -> Caches
         ensures within { result.kept ≤ length self.now.inputs.patterns * result.each }
+        ensures each { result.each ≡ self.now.states }
         ensures few { result.each ≤ most_states }
     {
         Caches {

@@ -1,5 +1,5 @@
 -- A command on a file with a failed read, worked by hand.
-use Rattle.grep_utility.proofs.Prelude.{◌≡◌, ℕ, true, false, List, [], ◌∷◌, ◌++◌, Option, None, Some, Ok, refl, sym, ap, ◌∙◌, subst, arith, ◌⊎◌, inl, inr, codes, false≢true, All-nil, All-cons, Basic, Text, byte, list_of, ended_lines_of, IsReadable, Options, Error, File, broken, HasSelected, FaultMet, Messages, StatusOf, Out, Source, Reading, fails_after, Steps, Writer, devices, Devices, files_of, Finishes, count_more, CommandGives, Folder, sources_named, FailuresAre, Wrote, ReportsMemory, HasReturned, list, read, word_of, meaning_of, broken_words, broken_text, broken_output, broken_messages, BrokenFollows}
+use Rattle.grep_utility.proofs.Prelude.{◌≡◌, ℕ, true, false, List, [], ◌∷◌, Option, None, Some, Ok, refl, sym, ap, ◌∙◌, subst, arith, ◌⊎◌, inl, inr, codes, false≢true, All-nil, All-cons, Basic, Text, byte, list_of, ended_lines_of, IsReadable, Options, Error, File, broken, HasSelected, FaultMet, Messages, StatusOf, Out, Source, Reading, fails_after, Steps, Writer, devices, Devices, files_of, Finishes, count_more, CommandGives, Folder, sources_named, FailuresAre, Wrote, ReportsMemory, HasReturned, list, read, word_of, meaning_of, broken_words, broken_text, broken_output, broken_messages, BrokenFollows}
 use Rattle.std.specs.Str.{chars}
 use Rattle.std.specs.Fmt.{digits}
 use Rattle.re_syntax.proofs.lemmas.Decisions.{Any-first}
@@ -63,11 +63,11 @@ module _ (folder : Folder) (opens : folder.opens (codes "f") ≡ Some true) (byt
   are_files = refl
 
   module _ (given : List (Option Text) → Type 0) (reported_too : (left : List (Option Text)) → given left → HasReturned 1 1 left) (old new : Devices) (status : ℕ) (counts : FailuresAre 1 old new) where
-    determined : (before : List (Option Text)) (between : Devices) (s : _) (h : Finishes es broken_options broken_sources (λ left. given (before ++ left)) old between s) → new ≡ between → h.story.readings ≡ did
-    determined before between s h same =
+    determined : (between : Devices) (s : _) (h : Finishes es broken_options broken_sources given old between s) → new ≡ between → h.story.readings ≡ did
+    determined between s h same =
         let once : h.story.failures ≡ 1 =
         few_counted h.story.failures 1 (sym counts.counted ∙ ap (λ (d : Devices). d.source_failures) same ∙ h.story.counted ∙ ap (λ n. count_more n h.story.failures) counts.from_none) counts.few in
-        one_broken es broken_options refl refl (record { name = codes "f"; opens = folder.opens (codes "f"); bytes = folder.bytes (codes "f") }) broken_text opens bytes h.story.failures once before h.story.left (reported_too (before ++ h.story.left) h.story.gave_back) h.story.readings h.story.are_readings h.story.are_failures h.story.are_left
+        one_broken es broken_options refl refl (record { name = codes "f"; opens = folder.opens (codes "f"); bytes = folder.bytes (codes "f") }) broken_text opens bytes h.story.failures once [] h.story.left (reported_too h.story.left h.story.gave_back) h.story.readings h.story.are_readings h.story.are_failures h.story.are_left
 
     -- what the command gives, for any history that tells how many readers came back
     pub broken_gives : CommandGives folder given old new status broken_words → Wrote broken_output broken_messages Error old new status ⊎ ReportsMemory old.messages new.messages

@@ -1,5 +1,5 @@
 -- How the whole command ends, from what its steps did.
-use Rattle.grep_utility.proofs.Prelude.{◌≡◌, ℕ, nat_lt, ◌<◌, ◌≤◌, ◌-◌, ◌^◌, Bool, true, false, List, [], ◌∷◌, Ok, Err, MatchBool, MatchResult, ◌⊎◌, inl, inr, length, map, refl, sym, ap, ◌∙◌, subst, arith, ◌++◌, Option, ltb-false, false≢true, the_type, FaultKind, Syntax, PatternFault, Text, Steps, Matcher, IsOutOfMemory, matched_expression, Expression, Options, IsSameChoice, Writer, Devices, count_more, UsageFault, ReportsLines, GivesUp, SearchEnds, RefusesPattern, SearchesNamed, DoesForRequest, CommandGives, Folder, sources_named, searched, IsPrepared, IsDue, HasNumber, due_text, CommandFault, TooMany, Refused, most_patterns, IsFirstRefused, folder_after_all, GivePatterns, too_many_patterns, fault_text, usage_texts, Asked, read, OrMemory}
+use Rattle.grep_utility.proofs.Prelude.{◌≡◌, ℕ, nat_lt, ◌<◌, ◌≤◌, ◌-◌, ◌^◌, Bool, true, false, List, [], ◌∷◌, Ok, Err, MatchBool, MatchResult, ◌⊎◌, inl, inr, length, map, refl, sym, ap, ◌∙◌, subst, arith, Option, ltb-false, false≢true, the_type, FaultKind, Syntax, PatternFault, Text, Steps, Matcher, IsOutOfMemory, matched_expression, Expression, Options, IsSameChoice, Writer, Devices, count_more, UsageFault, ReportsLines, GivesUp, SearchEnds, RefusesPattern, SearchesNamed, ReturnedAfter, DoesForRequest, CommandGives, Folder, sources_named, searched, IsPrepared, IsDue, HasNumber, due_text, CommandFault, TooMany, Refused, most_patterns, IsFirstRefused, folder_after_all, GivePatterns, too_many_patterns, fault_text, usage_texts, Asked, read, OrMemory}
 use denote.Enum.Bare.{sameb}
 use Rattle.re_syntax.specs.declared.fault.FaultKind.TheVariants.{Memory}
 use Rattle.grep_core.specs.Reading.{Source as FileSource}
@@ -31,7 +31,7 @@ served : (options : Options) (sources : List FileSource) (given : List (Option T
 served options sources given old new status ds es same fewer s = record { found = s.found; between = s.between; runs = RunGives-same options ds es same fewer sources given old s.between s.found s.runs; ends = s.ends }
 
 -- the same where more is said of what readers had left
-given_ends : (options : Options) (sources : List FileSource) (given other : List (Option Text) → Type 0) → ((left : List (Option Text)) → given left → other left) → (old new : Devices) (status : ℕ) (es : List Expression)
+pub given_ends : (options : Options) (sources : List FileSource) (given other : List (Option Text) → Type 0) → ((left : List (Option Text)) → given left → other left) → (old new : Devices) (status : ℕ) (es : List Expression)
     → SearchEnds es options sources given old new status → SearchEnds es options sources other old new status
 given_ends options sources given other more old new status es e = record { found = e.found; between = e.between; runs = RunGives-given es options sources given other more old e.between e.found e.runs; ends = e.ends }
 
@@ -60,34 +60,34 @@ module _ (folder : Folder) (given : List (Option Text) → Type 0) (words : List
 
     -- some sources of patterns were read
     by_count : (texts : List Text) → GivePatterns folder asked.sources texts → (many : Bool) → nat_lt most_patterns (length texts) ≡ many
-        → ((read : List (Option Text)) → MatchBool many (GivesUp first last (too_many_patterns ∷ []) 0 2) (RefusesPattern asked (folder_after_all folder asked.sources) texts (λ left. given (read ++ left)) first last 2 ⊎ SearchesNamed asked (folder_after_all folder asked.sources) texts (λ left. given (read ++ left)) first last 2))
+        → MatchBool many (GivesUp first last (too_many_patterns ∷ []) 0 2) (RefusesPattern asked (folder_after_all folder asked.sources) texts (ReturnedAfter asked.sources given) first last 2 ⊎ SearchesNamed asked (folder_after_all folder asked.sources) texts (ReturnedAfter asked.sources given) first last 2)
         → CommandGives folder given first last 2 words
     by_count texts gives many count does =
         words_read first last 2
-        (inr (texts, [], gives, subst (λ b. MatchBool b (GivesUp first last (too_many_patterns ∷ []) 0 2) (RefusesPattern asked (folder_after_all folder asked.sources) texts (λ left. given ([] ++ left)) first last 2 ⊎ SearchesNamed asked (folder_after_all folder asked.sources) texts (λ left. given ([] ++ left)) first last 2)) (sym count) (does [])))
+        (inr (texts, gives, subst (λ b. MatchBool b (GivesUp first last (too_many_patterns ∷ []) 0 2) (RefusesPattern asked (folder_after_all folder asked.sources) texts (ReturnedAfter asked.sources given) first last 2 ⊎ SearchesNamed asked (folder_after_all folder asked.sources) texts (ReturnedAfter asked.sources given) first last 2)) (sym count) does))
 
     -- the command ends before its search
     pub ends_before : (fault : CommandFault) → IsDue asked folder before after fault → ReportsLines old new (due_text fault ∷ []) → CommandGives folder given first last 2 words
     ends_before (Unread (unread.Missing word)) h reported = words_read first last 2 (inl (_, h.1, reports _ h.0 reported h.2))
     ends_before (Unread (unread.Broken word)) h reported = words_read first last 2 (inl (_, h.1, reports _ h.0 reported h.2))
     ends_before (Unread unread.Memory) h reported = inr (reports _ 0 reported h)
-    ends_before TooMany (texts, gives, many, same) reported = by_count texts gives true many (λ read. reports _ 0 reported same)
-    ends_before (Refused place fault) (texts, gives, few, first_refused, same) reported = by_count texts gives false few (λ read. inl (record { place = place; fault = fault; is_first = first_refused; gives_up = reports _ 0 reported same }))
+    ends_before TooMany (texts, gives, many, same) reported = by_count texts gives true many (reports _ 0 reported same)
+    ends_before (Refused place fault) (texts, gives, few, first_refused, same) reported = by_count texts gives false few (inl (record { place = place; fault = fault; is_first = first_refused; gives_up = reports _ 0 reported same }))
 
   -- ---- the search
 
-  -- the files were searched, of which this is known once the patterns were read; `read` is what the readers of those had left
-  pub ends_after : (mid : Folder) (matchers : List Matcher) → IsPrepared asked folder mid matchers → (beyond : List (Option Text) → Type 0) (read : List (Option Text)) → ((left : List (Option Text)) → beyond left → given (read ++ left))
+  -- the files were searched, of which this is known once the patterns were read
+  pub ends_after : (mid : Folder) (matchers : List Matcher) → IsPrepared asked folder mid matchers → (beyond : List (Option Text) → Type 0) → ((left : List (Option Text)) → beyond left → ReturnedAfter asked.sources given left)
       → (old new : Devices) (status : ℕ) → SearchEnds (map matched_expression matchers) asked.options (sources_named mid (searched asked.files)) beyond old new status → CommandGives folder given old new status words
-  ends_after mid matchers p beyond begun join old new status h =
+  ends_after mid matchers p beyond join old new status h =
       let later = folder_after_all folder asked.sources in
-      let rest = λ (left : List (Option Text)). given (begun ++ left) in
+      let rest = ReturnedAfter asked.sources given in
       let there = subst (λ f. SearchEnds (map matched_expression matchers) asked.options (sources_named f (searched asked.files)) beyond old new status) p.used h in
       let known = given_ends asked.options (sources_named later (searched asked.files)) beyond rest join old new status (map matched_expression matchers) there in
       let meant = served asked.options (sources_named later (searched asked.files)) rest old new status (map matched_expression matchers) p.serve.es p.serve.same p.serve.fewer known in
       let searches : SearchesNamed asked later p.texts rest old new status = record { readable = p.serve.readable; es = p.serve.es; are_meant = p.serve.meant; ends = meant } in
       words_read old new status
-      (inr (p.texts, begun, p.are_texts, subst (λ b. MatchBool b (GivesUp old new (too_many_patterns ∷ []) 0 status) (RefusesPattern asked later p.texts rest old new status ⊎ SearchesNamed asked later p.texts rest old new status)) (sym p.few) (inr searches)))
+      (inr (p.texts, p.are_texts, subst (λ b. MatchBool b (GivesUp old new (too_many_patterns ∷ []) 0 status) (RefusesPattern asked later p.texts rest old new status ⊎ SearchesNamed asked later p.texts rest old new status)) (sym p.few) (inr searches)))
 
 module _ (folder : Folder) (given : List (Option Text) → Type 0) (words : List Text) where
   words_fault : (fault : UsageFault) (old new : Devices) (status : ℕ) → read words ≡ Err fault → GivesUp old new (usage_texts fault) 0 status → CommandGives folder given old new status words

@@ -1,10 +1,11 @@
 -- A command that searches known sources, whose count of failures says that no read failed.
-use Rattle.grep_utility.proofs.Prelude.{◌≡◌, ℕ, zero, suc, ◌+◌, ◌^◌, ◌-◌, ◌<◌, min, nat_lt, false, List, [], ◌∷◌, ◌++◌, length, Option, Ok, Err, All, MatchBool, MatchResult, Result, refl, sym, ap, ◌∙◌, subst, arith, append-nil, ◌⊎◌, inl, inr, ⊤, All-get_or, le-ltb, Appends-nil, Syntax, Text, Expression, list_of, most_patterns, IsReadable, Options, Status, RunFault, Write, MessageWrite, one_more, AreMeant, IsFirstRefused, Out, Messages, StatusOf, Source, Reading, Writer, Devices, TakesAll, files_of, count_more, RunGives, Finishes, status_number, ReportsLines, GivesUp, EndsAfter, SearchEnds, SearchesNamed, RefusesPattern, DoesForPatterns, DoesForRequest, CommandGives, Folder, sources_named, searched, IsKnown, in_full, unopened, ReportsMemory, Wrote, Predicts, FailuresAre, WordsDecide, FirstUnread, out_of_memory, too_many_patterns, usage_texts, Asked, PatternsFrom, list, read}
+use Rattle.grep_utility.proofs.Prelude.{◌≡◌, ℕ, zero, suc, ◌+◌, ◌^◌, ◌-◌, ◌<◌, min, nat_lt, false, List, [], ◌∷◌, ◌++◌, length, Option, Ok, Err, All, MatchBool, MatchResult, Result, refl, sym, ap, ◌∙◌, subst, arith, append-nil, ◌⊎◌, inl, inr, ⊤, All-get_or, le-ltb, Appends-nil, Syntax, Text, Expression, list_of, most_patterns, IsReadable, Options, Status, RunFault, Write, MessageWrite, one_more, AreMeant, IsFirstRefused, Out, Messages, StatusOf, Source, Reading, Writer, Devices, TakesAll, files_of, count_more, RunGives, Finishes, status_number, ReportsLines, GivesUp, EndsAfter, SearchEnds, SearchesNamed, RefusesPattern, DoesForPatterns, ReturnedAfter, DoesForRequest, CommandGives, Folder, sources_named, searched, IsKnown, in_full, unopened, ReportsMemory, Wrote, Predicts, FailuresAre, WordsDecide, FirstUnread, out_of_memory, too_many_patterns, usage_texts, Asked, PatternsFrom, list, read}
 use Rattle.grep_core.specs.declared.status.RunFault.TheVariants.{Memory}
 use Rattle.grep_core.proofs.lemmas.WriterLaws.{TakesAll-more}
 use Rattle.grep_core.proofs.lemmas.LawsHold.{means_one}
 use Rattle.grep_core.proofs.lemmas.Determined.{Out-determined, Messages-determined, StatusOf-determined}
 use Rattle.grep_utility.specs.Patterns.{Unread}
+use Rattle.grep_utility.proofs.lemmas.CommandLemmas.{given_ends}
 use Rattle.grep_utility.proofs.lemmas.KnownLemmas.{all_in_full}
 
 -- a count that begins at 0 is the number of failures, where it is less than the greatest
@@ -69,7 +70,7 @@ module _ (syntax : Syntax) (options : Options) (text : Text) (files : List Text)
     (folder : Folder) (readings : List Reading) (output messages : List Text) (found : Status) (is_output : Out es options (files_of (sources_named folder (searched files)) readings) output)
     (are_messages : Messages es options (files_of (sources_named folder (searched files)) readings) messages) (is_status : StatusOf es options (files_of (sources_named folder (searched files)) readings) found)
     (given : List (Option Text) → Type 0) (old new : Devices) (status : ℕ)
-    (determined : (before : List (Option Text)) (between : Devices) (s : Status) (h : Finishes es options (sources_named folder (searched files)) (λ left. given (before ++ left)) old between s) → new ≡ between → h.story.readings ≡ readings)
+    (determined : (between : Devices) (s : Status) (h : Finishes es options (sources_named folder (searched files)) given old between s) → new ≡ between → h.story.readings ≡ readings)
     (out_kept : new.out.failures ≡ 0) (messages_kept : new.messages.failures ≡ 0) where
   abbrev asked_for : Asked
   asked_for = record { syntax = syntax; options = options; sources = list text ∷ []; files = files }
@@ -83,18 +84,26 @@ module _ (syntax : Syntax) (options : Options) (text : Text) (files : List Text)
   none_refused : (place : ℕ) (fault : _) → IsFirstRefused syntax options.ignore_case (list_of text) place fault → ⊥
   none_refused place fault first = first.unreadable (All-get_or (IsReadable syntax options.ignore_case) (list_of text) place [] first.in_texts readable)
 
-  named : (before : List (Option Text)) → SearchesNamed asked_for folder (list_of text) (λ left. given (before ++ left)) old new status → Gives
-  named before h =
-      let same : h.es ≡ es = means_one syntax options (list_of text) h.es es h.are_meant are_meant in
-      search_ends options es (sources_named folder (searched files)) readings output messages found is_output are_messages is_status (λ left. given (before ++ left)) old new status (determined before) out_kept messages_kept
-      (subst (λ ds. SearchEnds ds options (sources_named folder (searched files)) (λ left. given (before ++ left)) old new status) same h.ends)
+  -- a list has no reader
+  abbrev After : List (Option Text) → Type 0
+  After = ReturnedAfter (list text ∷ []) given
 
-  for_patterns : (before : List (Option Text)) → DoesForPatterns asked_for folder (list_of text) (λ left. given (before ++ left)) old new status → Gives
-  for_patterns before h = chosen (subst (λ b. MatchBool b (GivesUp old new (too_many_patterns ∷ []) 0 status) (RefusesPattern asked_for folder (list_of text) (λ left. given (before ++ left)) old new status ⊎ SearchesNamed asked_for folder (list_of text) (λ left. given (before ++ left)) old new status)) few_patterns h)
+  as_given : (left : List (Option Text)) → After left → given left
+  as_given left (before, none, h) = subst (λ b. given (b ++ left)) none h
+
+  named : SearchesNamed asked_for folder (list_of text) After old new status → Gives
+  named h =
+      let same : h.es ≡ es = means_one syntax options (list_of text) h.es es h.are_meant are_meant in
+      let sources = sources_named folder (searched files) in
+      search_ends options es sources readings output messages found is_output are_messages is_status given old new status determined out_kept messages_kept
+      (subst (λ ds. SearchEnds ds options sources given old new status) same (given_ends options sources After given as_given old new status h.es h.ends))
+
+  for_patterns : DoesForPatterns asked_for folder (list_of text) After old new status → Gives
+  for_patterns h = chosen (subst (λ b. MatchBool b (GivesUp old new (too_many_patterns ∷ []) 0 status) (RefusesPattern asked_for folder (list_of text) After old new status ⊎ SearchesNamed asked_for folder (list_of text) After old new status)) few_patterns h)
     where
-      chosen : RefusesPattern asked_for folder (list_of text) (λ left. given (before ++ left)) old new status ⊎ SearchesNamed asked_for folder (list_of text) (λ left. given (before ++ left)) old new status → Gives
+      chosen : RefusesPattern asked_for folder (list_of text) After old new status ⊎ SearchesNamed asked_for folder (list_of text) After old new status → Gives
       chosen (inl refused) = absurd (none_refused refused.place refused.fault refused.is_first)
-      chosen (inr h) = named before h
+      chosen (inr h) = named h
 
   for_request : DoesForRequest folder given old new status asked_for → Gives
   for_request (inl h) = none_unread h.0 h.1
@@ -103,9 +112,9 @@ module _ (syntax : Syntax) (options : Options) (text : Text) (files : List Text)
       none_unread unread (inl is) = let no : ⊥ = cc is in absurd no
       none_unread unread (inr h) = absurd h.2
   for_request (inr h) =
-      let first : h.2.0 ≡ list_of text = cc h.2.2 in
-      let texts_are : h.0 ≡ list_of text = h.2.4 ∙ ap (λ ts. ts ++ h.2.1) first ∙ ap (λ ts. list_of text ++ ts) h.2.3 ∙ append-nil (list_of text) in
-      for_patterns h.1 (subst (λ ts. DoesForPatterns asked_for folder ts (λ left. given (h.1 ++ left)) old new status) texts_are h.3)
+      let first : h.1.0 ≡ list_of text = cc h.1.2 in
+      let texts_are : h.0 ≡ list_of text = h.1.4 ∙ ap (λ ts. ts ++ h.1.1) first ∙ ap (λ ts. list_of text ++ ts) h.1.3 ∙ append-nil (list_of text) in
+      for_patterns (subst (λ ts. DoesForPatterns asked_for folder ts After old new status) texts_are h.2)
 
   -- all is written as for files that are read in full, unless memory runs out
   pub command_gives : (words : List Text) → read words ≡ Ok asked_for → CommandGives folder given old new status words → Gives
@@ -122,7 +131,7 @@ predicted folder words output messages missing found f given old new status h n 
     let few = n.few in
     let sources = sources_named folder (searched a.files) in
     command_gives a.syntax a.options f.text a.files (le-ltb most_patterns (length (list_of f.text)) least) f.readable f.es f.are_meant folder (in_full sources) output messages found f.is_output f.are_messages f.is_status given old new status
-    (λ before between s run same. full_readings a.options f.loud f.all_lines f.es sources f.known (λ left. given (before ++ left)) old new between n.from_none (n.counted ∙ sym sum) (omega (arith, sum, few)) s run same)
+    (λ between s run same. full_readings a.options f.loud f.all_lines f.es sources f.known given old new between n.from_none (n.counted ∙ sym sum) (omega (arith, sum, few)) s run same)
     n.output_kept n.messages_kept words (f.is_read ∙ ap (λ (s : List PatternsFrom). Ok (record a { sources = s })) f.one_list) h
 
 -- the words tell all that is written

@@ -1,8 +1,8 @@
 -- Patterns that are joined into choices, one more at a time.
-use Rattle.grep_utility.proofs.Prelude.{◌≡◌, ℕ, ◌+◌, ◌≤◌, inl, inr, Any, All, Option, Some, None, IfSome, List, [], ◌∷◌, ◌++◌, length, length-append, map, refl, sym, ap, ◌∙◌, subst, arith, map-append, length-map, append_assoc, append-nil, All-push, Syntax, Text, Expression, alt, Holds, IsMeant, Matcher, IsReadable, matched_expression, wants_whole, Options, AreGrouped, ServeFor, IsSameChoice}
+use Rattle.grep_utility.proofs.Prelude.{◌≡◌, ◌≤◌, inl, inr, All, Option, Some, None, IfSome, List, [], ◌∷◌, ◌++◌, length, length-append, map, refl, sym, ap, ◌∙◌, subst, arith, map-append, length-map, append_assoc, append-nil, All-push, Syntax, Text, Expression, alt, IsMeant, Matcher, IsReadable, matched_expression, wants_whole, Options, AreGrouped, ServeFor, IsSameChoice}
 use Rattle.re_search.specs.Reading.{IsSmallFor}
 use Rattle.grep_core.proofs.lemmas.SameChoice.{alt-is_same}
-use Rattle.grep_utility.proofs.lemmas.ServingLemmas.{Here, of_either, of_first, of_second, more_choices, meant_more}
+use Rattle.grep_utility.proofs.lemmas.ServingLemmas.{of_either, of_first, of_second, more_choices, meant_more}
 
 -- of an option
 pub some_with : {A : Type 0} {P Q : A → Type 0} (r : Option A) → ((x : A) → P x → Q x) → IfSome r P → IfSome r Q

@@ -1,12 +1,12 @@
 -- The sources of patterns, one more at a time.
-use Rattle.grep_utility.proofs.Prelude.{◌≡◌, ℕ, suc, ◌+◌, ◌<◌, true, false, List, [], ◌∷◌, ◌++◌, Option, Err, IfSome, inl, inr, length, map, drop, get_or, refl, sym, ap, ◌∙◌, subst, append_assoc, append-nil, add-one, drop-cons, Text, newline, list_of, joined, terminated, AreListed, File, whole, broken, StandsFor, IsReadingOf, file_of, failures_of, open_source, count_more, PatternSource, Whole, Broken, PatternsFault, Folder, patterns_by, GivesPatterns, folder_after, folder_after_all, GivePatterns, FirstUnread, Adds, AddsLines, ReadsFile, AddsSource, StopsFor, PatternsFrom, list, given_source}
+use Rattle.grep_utility.proofs.Prelude.{◌≡◌, ℕ, suc, ◌+◌, ◌<◌, true, false, List, [], ◌∷◌, ◌++◌, Option, Err, IfSome, inl, inr, length, map, drop, get_or, refl, sym, ap, ◌∙◌, subst, append_assoc, append-nil, add-one, drop-cons, Text, newline, list_of, joined, terminated, AreListed, File, whole, broken, StandsFor, IsReadingOf, file_of, failures_of, open_source, count_more, PatternSource, Whole, Broken, PatternsFault, Folder, patterns_by, GivesPatterns, folder_after, folder_after_all, GivePatterns, FirstUnread, Adds, AddsLines, ReadsFile, AddsSource, StopsFor, PatternsFrom, list, file, given_source}
 use Rattle.re_syntax.specs.Lines.{lines_of}
 use Rattle.re_syntax.proofs.lemmas.LinesLaws.{lines_of-terminated, AreListed-list_of}
 use Rattle.grep_core.specs.Reading as reading
 use Rattle.grep_core.proofs.lemmas.OneFile.{whole-failures}
 use Rattle.grep_core.proofs.lemmas.OpenedLemmas.{opened, count_on, few_failures}
 use Rattle.grep_utility.specs.declared.patterns.PatternsFault.TheVariants as fault
-use Rattle.grep_utility.specs.Patterns.{Unread}
+use Rattle.grep_utility.specs.Patterns.{Unread, OneReaderEach}
 use Rattle.grep_utility.proofs.lemmas.CollectingLemmas.{Adds-trans}
 
 -- ---- a file
@@ -82,6 +82,11 @@ module _ (start : Folder) (all : List PatternsFrom) (now : Folder) (source : Pat
   sources_stop before mid after same (fault.Missing word) h = (h.0, s.stop _ (inl h.1), h.2 ∙ ap (λ n. count_more n h.0) same)
   sources_stop before mid after same (fault.Broken word) h = (h.0, s.stop _ (inl h.1), h.2 ∙ ap (λ n. count_more n h.0) same)
   sources_stop before mid after same fault.Memory h = h ∙ same
+
+-- what its readers had left is followed by what those of the others had
+pub each_more : (source : PatternsFrom) (sources : List PatternsFrom) (own others : List (Option Text)) → OneReaderEach (source ∷ []) own → OneReaderEach sources others → OneReaderEach (source ∷ sources) (own ++ others)
+each_more (list text) sources own others none h = subst (λ l. OneReaderEach sources (l ++ others)) (sym none) h
+each_more (file name) sources own others (rest, more, none, is) h = (rest, others, h, ap (λ l. l ++ others) is ∙ ap (λ l. rest ∷ (l ++ others)) none)
 
 -- all were read
 pub sources_all : (start : Folder) (all : List PatternsFrom) (now : Folder) (bytes : Text) → SourcesSoFar start all now [] bytes → GivePatterns start all (lines_of bytes)

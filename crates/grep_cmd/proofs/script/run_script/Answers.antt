@@ -12,8 +12,8 @@ loop-fault-init g c =
     let lines = c.in-Ok.lines in
     let is = c.in-Ok.ensures.ok in
     let none = has_handed_none (λ r. g.R.CountedRead.remaining r.now) (λ r. g.R.CountedRead.failures r.now) lines (ap (λ (n : Numbered _). n.lines.ahead) is) (ap (λ (n : Numbered _). n.lines.stage) is) (ap (λ (n : Numbered _). n.number) is) in (
-      subst (λ watched. AnsweredSoFar (λ r. g.R.CountedRead.remaining r.now) (λ r. g.R.CountedRead.failures r.now) g.W.CountedWrite.contents g.W.CountedWrite.failures lines.lines.reader c.args.meter.now c.args.writer.now lines watched c.args.meter.now c.args.writer.now Clean) (sym c.new-session.ensures)
-          (so_far_none (λ r. g.R.CountedRead.remaining r.now) (λ r. g.R.CountedRead.failures r.now) g.W.CountedWrite.contents g.W.CountedWrite.failures lines.lines.reader c.args.meter.now c.args.writer.now lines none),
+      subst (λ watched. AnsweredSoFar (λ r. g.R.CountedRead.remaining r.now) (λ r. g.R.CountedRead.failures r.now) g.W.CountedWrite.contents g.W.CountedWrite.failures lines.lines.reader c.args.states c.args.meter.now c.args.writer.now lines watched c.args.meter.now c.args.writer.now Clean) (sym c.new-session.ensures)
+          (so_far_none (λ r. g.R.CountedRead.remaining r.now) (λ r. g.R.CountedRead.failures r.now) g.W.CountedWrite.contents g.W.CountedWrite.failures lines.lines.reader c.args.states c.args.meter.now c.args.writer.now lines none),
       refl,
       subst IsOneLineAndFew (sym (ap (λ (n : Numbered _). n.lines.ahead) is)) none_in_nothing,
     )
@@ -24,7 +24,7 @@ loop-fault-preserved-in-Ok-Accepted g c =
     let next = rw c.in-Ok-true.field-0-test at c.in-Ok-true.ensures.next in
     let handed = next c.in-Ok.lines.lines.reader s.handed s.has_handed in
     let a = rw c.in-Ok-Accepted.field-0-is at c.in-Ok-Accepted.ensures.answers c.in-Ok.lines.lines.reader (s.handed ++ c.next_line.new.lines.lines.line ∷ []) handed in
-    (so_far_accepted (λ r. g.R.CountedRead.remaining r.now) (λ r. g.R.CountedRead.failures r.now) g.W.CountedWrite.contents g.W.CountedWrite.failures c.in-Ok.lines.lines.reader c.args.meter.now c.args.writer.now c.loop-fault.lines c.loop-fault.session c.loop-fault.meter c.loop-fault.writer c.loop-fault.end c.loop-fault.invariant.0 c.next_line.new.lines.lines.line c.next_line.new.out c.in-Ok-true.ensures.sent c.answer_command.new.lines c.answer_command.new.session c.answer_command.new.meter c.answer_command.new.out a.0 a.1 a.2 a.3, c.answer_command.ensures.same_loan ∙ c.next_line.ensures.same_loan ∙ c.loop-fault.invariant.1, c.answer_command.ensures.held (c.next_line.ensures.held c.loop-fault.invariant.2))
+    (so_far_accepted (λ r. g.R.CountedRead.remaining r.now) (λ r. g.R.CountedRead.failures r.now) g.W.CountedWrite.contents g.W.CountedWrite.failures c.in-Ok.lines.lines.reader c.args.states c.args.meter.now c.args.writer.now c.loop-fault.lines c.loop-fault.session c.loop-fault.meter c.loop-fault.writer c.loop-fault.end c.loop-fault.invariant.0 c.next_line.new.lines.lines.line c.next_line.new.out c.in-Ok-true.ensures.sent c.answer_command.new.lines c.answer_command.new.session c.answer_command.new.meter c.answer_command.new.out a.0 a.1 a.2 a.3, c.answer_command.ensures.same_loan ∙ c.next_line.ensures.same_loan ∙ c.loop-fault.invariant.1, c.answer_command.ensures.held (c.next_line.ensures.held c.loop-fault.invariant.2))
 
 pub loop-fault-smaller-in-Ok-Accepted : goal.loop-fault-smaller-in-Ok-Accepted
 loop-fault-smaller-in-Ok-Accepted g c =
@@ -32,7 +32,7 @@ loop-fault-smaller-in-Ok-Accepted g c =
     let next = rw c.in-Ok-true.field-0-test at c.in-Ok-true.ensures.next in
     let handed = next c.in-Ok.lines.lines.reader s.handed s.has_handed in
     let a = rw c.in-Ok-Accepted.field-0-is at c.in-Ok-Accepted.ensures.answers c.in-Ok.lines.lines.reader (s.handed ++ c.next_line.new.lines.lines.line ∷ []) handed in
-    let more = grows (λ r. g.R.CountedRead.remaining r.now) (λ r. g.R.CountedRead.failures r.now) g.W.CountedWrite.contents g.W.CountedWrite.failures c.in-Ok.lines.lines.reader c.args.meter.now c.args.writer.now c.loop-fault.lines c.loop-fault.session c.loop-fault.meter c.loop-fault.writer c.loop-fault.end c.loop-fault.invariant.0 c.next_line.new.lines.lines.line c.next_line.new.out c.in-Ok-true.ensures.sent c.answer_command.new.lines c.answer_command.new.session c.answer_command.new.meter c.answer_command.new.out a.1.taken a.1.has_handed in
+    let more = grows (λ r. g.R.CountedRead.remaining r.now) (λ r. g.R.CountedRead.failures r.now) g.W.CountedWrite.contents g.W.CountedWrite.failures c.in-Ok.lines.lines.reader c.args.states c.args.meter.now c.args.writer.now c.loop-fault.lines c.loop-fault.session c.loop-fault.meter c.loop-fault.writer c.loop-fault.end c.loop-fault.invariant.0 c.next_line.new.lines.lines.line c.next_line.new.out c.in-Ok-true.ensures.sent c.answer_command.new.lines c.answer_command.new.session c.answer_command.new.meter c.answer_command.new.out a.1.taken a.1.has_handed in
     omega (arith, more.0, more.1)
 
 pub loop-fault-preserved : goal.loop-fault-preserved
@@ -41,7 +41,7 @@ loop-fault-preserved g c =
     let next = rw c.in-Ok-true.field-0-test at c.in-Ok-true.ensures.next in
     let handed = next c.in-Ok.lines.lines.reader s.handed s.has_handed in
     let a = rw c.in-Ok-Refused.field-0-is at c.in-Ok-Refused.ensures.answers c.in-Ok.lines.lines.reader (s.handed ++ c.next_line.new.lines.lines.line ∷ []) handed in
-    (so_far_refused (λ r. g.R.CountedRead.remaining r.now) (λ r. g.R.CountedRead.failures r.now) g.W.CountedWrite.contents g.W.CountedWrite.failures c.in-Ok.lines.lines.reader c.args.meter.now c.args.writer.now c.loop-fault.lines c.loop-fault.session c.loop-fault.meter c.loop-fault.writer c.loop-fault.end c.loop-fault.invariant.0 c.next_line.new.lines.lines.line c.next_line.new.out c.in-Ok-true.ensures.sent c.answer_command.new.lines c.answer_command.new.session c.answer_command.new.meter c.answer_command.new.out a.0 a.1 a.2 a.3, c.answer_command.ensures.same_loan ∙ c.next_line.ensures.same_loan ∙ c.loop-fault.invariant.1, c.answer_command.ensures.held (c.next_line.ensures.held c.loop-fault.invariant.2))
+    (so_far_refused (λ r. g.R.CountedRead.remaining r.now) (λ r. g.R.CountedRead.failures r.now) g.W.CountedWrite.contents g.W.CountedWrite.failures c.in-Ok.lines.lines.reader c.args.states c.args.meter.now c.args.writer.now c.loop-fault.lines c.loop-fault.session c.loop-fault.meter c.loop-fault.writer c.loop-fault.end c.loop-fault.invariant.0 c.next_line.new.lines.lines.line c.next_line.new.out c.in-Ok-true.ensures.sent c.answer_command.new.lines c.answer_command.new.session c.answer_command.new.meter c.answer_command.new.out a.0 a.1 a.2 a.3, c.answer_command.ensures.same_loan ∙ c.next_line.ensures.same_loan ∙ c.loop-fault.invariant.1, c.answer_command.ensures.held (c.next_line.ensures.held c.loop-fault.invariant.2))
 
 pub loop-fault-smaller : goal.loop-fault-smaller
 loop-fault-smaller g c =
@@ -49,7 +49,7 @@ loop-fault-smaller g c =
     let next = rw c.in-Ok-true.field-0-test at c.in-Ok-true.ensures.next in
     let handed = next c.in-Ok.lines.lines.reader s.handed s.has_handed in
     let a = rw c.in-Ok-Refused.field-0-is at c.in-Ok-Refused.ensures.answers c.in-Ok.lines.lines.reader (s.handed ++ c.next_line.new.lines.lines.line ∷ []) handed in
-    let more = grows (λ r. g.R.CountedRead.remaining r.now) (λ r. g.R.CountedRead.failures r.now) g.W.CountedWrite.contents g.W.CountedWrite.failures c.in-Ok.lines.lines.reader c.args.meter.now c.args.writer.now c.loop-fault.lines c.loop-fault.session c.loop-fault.meter c.loop-fault.writer c.loop-fault.end c.loop-fault.invariant.0 c.next_line.new.lines.lines.line c.next_line.new.out c.in-Ok-true.ensures.sent c.answer_command.new.lines c.answer_command.new.session c.answer_command.new.meter c.answer_command.new.out a.1.taken a.1.has_handed in
+    let more = grows (λ r. g.R.CountedRead.remaining r.now) (λ r. g.R.CountedRead.failures r.now) g.W.CountedWrite.contents g.W.CountedWrite.failures c.in-Ok.lines.lines.reader c.args.states c.args.meter.now c.args.writer.now c.loop-fault.lines c.loop-fault.session c.loop-fault.meter c.loop-fault.writer c.loop-fault.end c.loop-fault.invariant.0 c.next_line.new.lines.lines.line c.next_line.new.out c.in-Ok-true.ensures.sent c.answer_command.new.lines c.answer_command.new.session c.answer_command.new.meter c.answer_command.new.out a.1.taken a.1.has_handed in
     omega (arith, more.0, more.1)
 
 pub answer_command-requires : goal.answer_command-requires
@@ -62,10 +62,10 @@ pub returns-in-Err-clause-gives : goal.returns-in-Err-clause-gives
 returns-in-Err-clause-gives g c =
     let known = g.R.CountedRead.remaining c.args.reader.now in
     let failed = g.R.CountedRead.failures c.args.reader.now in
-    subst (λ r. ScriptGives g.W.CountedWrite.contents g.W.CountedWrite.failures (GaveLines known (g.R.CountedRead.remaining r)) known (g.R.CountedRead.remaining r) failed (g.R.CountedRead.failures r) c.args.meter.now c.args.meter.now c.args.writer.now c.send_replies.new.writer c.send_replies.result)
+    subst (λ r. ScriptGives g.W.CountedWrite.contents g.W.CountedWrite.failures (GaveLines known (g.R.CountedRead.remaining r)) known (g.R.CountedRead.remaining r) failed (g.R.CountedRead.failures r) c.args.states c.args.meter.now c.args.meter.now c.args.writer.now c.send_replies.new.writer c.send_replies.result)
     (search rules)
-    (sends_after g.W.CountedWrite.contents g.W.CountedWrite.failures (GaveLines known known) known known failed failed c.args.meter.now c.args.meter.now c.args.writer.now c.args.writer.now c.send_replies.new.writer (Err Memory) c.send_replies.result
-    (runs_out_at_once g.R.CountedRead.remaining g.R.CountedRead.failures g.W.CountedWrite.contents g.W.CountedWrite.failures c.args.reader.now c.args.meter.now c.args.writer.now) c.send_replies.ensures.kept)
+    (sends_after g.W.CountedWrite.contents g.W.CountedWrite.failures (GaveLines known known) known known failed failed c.args.states c.args.meter.now c.args.meter.now c.args.writer.now c.args.writer.now c.send_replies.new.writer (Err Memory) c.send_replies.result
+    (runs_out_at_once g.R.CountedRead.remaining g.R.CountedRead.failures g.W.CountedWrite.contents g.W.CountedWrite.failures c.args.reader.now c.args.states c.args.meter.now c.args.writer.now) c.send_replies.ensures.kept)
 
 pub returns-clause-gives : goal.returns-clause-gives
 returns-clause-gives g c =
@@ -74,29 +74,29 @@ returns-clause-gives g c =
     let then = c.match-next_line in
     let last = then.lines.lines.reader.now in
     let left = g.R.CountedRead.remaining last in
-    let ended : ScriptGives g.W.CountedWrite.contents g.W.CountedWrite.failures (HasRead (λ r. g.R.CountedRead.remaining r.now) (λ r. g.R.CountedRead.failures r.now) reader then.lines) (g.R.CountedRead.remaining reader.now) left (g.R.CountedRead.failures reader.now) (g.R.CountedRead.failures last) c.args.meter.now then.meter c.args.writer.now then.writer then.ended
+    let ended : ScriptGives g.W.CountedWrite.contents g.W.CountedWrite.failures (HasRead (λ r. g.R.CountedRead.remaining r.now) (λ r. g.R.CountedRead.failures r.now) reader then.lines) (g.R.CountedRead.remaining reader.now) left (g.R.CountedRead.failures reader.now) (g.R.CountedRead.failures last) c.args.states c.args.meter.now then.meter c.args.writer.now then.writer then.ended
     × (then.lines.lines.reader.ghost_name ≡ reader.ghost_name) = elim c.match-next_line.branch [
       | in-Ok-false w ↦
           let next = rw w.in-Ok-false.field-0-test at w.in-Ok-false.ensures.next in
-          rw w.lines-is (rw w.meter-is (rw w.writer-is (rw w.ended-is (ends_here (λ r. g.R.CountedRead.remaining r.now) (λ r. g.R.CountedRead.failures r.now) g.W.CountedWrite.contents g.W.CountedWrite.failures reader c.args.meter.now c.args.writer.now c.loop-fault.lines c.loop-fault.session c.loop-fault.meter c.loop-fault.writer c.loop-fault.end s c.next_line.new.lines c.next_line.new.out (next reader s.handed s.has_handed) w.in-Ok-false.ensures.sent, c.next_line.ensures.same_loan ∙ c.loop-fault.invariant.1))))
+          rw w.lines-is (rw w.meter-is (rw w.writer-is (rw w.ended-is (ends_here (λ r. g.R.CountedRead.remaining r.now) (λ r. g.R.CountedRead.failures r.now) g.W.CountedWrite.contents g.W.CountedWrite.failures reader c.args.states c.args.meter.now c.args.writer.now c.loop-fault.lines c.loop-fault.session c.loop-fault.meter c.loop-fault.writer c.loop-fault.end s c.next_line.new.lines c.next_line.new.out (next reader s.handed s.has_handed) w.in-Ok-false.ensures.sent, c.next_line.ensures.same_loan ∙ c.loop-fault.invariant.1))))
       | in-Err-next_line w ↦
-          rw w.lines-is (rw w.meter-is (rw w.writer-is (rw w.ended-is (next_fails (λ r. g.R.CountedRead.remaining r.now) (λ r. g.R.CountedRead.failures r.now) g.W.CountedWrite.contents g.W.CountedWrite.failures reader c.args.meter.now c.args.writer.now c.loop-fault.lines c.loop-fault.session c.loop-fault.meter c.loop-fault.writer c.loop-fault.end s c.next_line.new.lines c.next_line.new.out w.in-Err-next_line.fault (w.in-Err-next_line.ensures.held c.loop-fault.invariant.2) (w.in-Err-next_line.ensures.next reader s.handed s.has_handed) w.in-Err-next_line.ensures.sent, c.next_line.ensures.same_loan ∙ c.loop-fault.invariant.1))))
+          rw w.lines-is (rw w.meter-is (rw w.writer-is (rw w.ended-is (next_fails (λ r. g.R.CountedRead.remaining r.now) (λ r. g.R.CountedRead.failures r.now) g.W.CountedWrite.contents g.W.CountedWrite.failures reader c.args.states c.args.meter.now c.args.writer.now c.loop-fault.lines c.loop-fault.session c.loop-fault.meter c.loop-fault.writer c.loop-fault.end s c.next_line.new.lines c.next_line.new.out w.in-Err-next_line.fault (w.in-Err-next_line.ensures.held c.loop-fault.invariant.2) (w.in-Err-next_line.ensures.next reader s.handed s.has_handed) w.in-Err-next_line.ensures.sent, c.next_line.ensures.same_loan ∙ c.loop-fault.invariant.1))))
       | in-Ok-true+in-Ok-Truncated w ↦
           let next = rw w.in-Ok-true.field-0-test at w.in-Ok-true.ensures.next in
           let handed = next reader s.handed s.has_handed in
           let a = rw w.in-Ok-Truncated.field-0-is at w.in-Ok-Truncated.ensures.answers reader (s.handed ++ c.next_line.new.lines.lines.line ∷ []) handed in
-          rw w.lines-is (rw w.meter-is (rw w.writer-is (rw w.ended-is (ends_truncated (λ r. g.R.CountedRead.remaining r.now) (λ r. g.R.CountedRead.failures r.now) g.W.CountedWrite.contents g.W.CountedWrite.failures reader c.args.meter.now c.args.writer.now c.loop-fault.lines c.loop-fault.session c.loop-fault.meter c.loop-fault.writer c.loop-fault.end s c.next_line.new.lines.lines.line c.next_line.new.out w.in-Ok-true.ensures.sent w.answer_command.new.lines w.answer_command.new.session w.answer_command.new.meter w.answer_command.new.out a.0 a.1, w.answer_command.ensures.same_loan ∙ c.next_line.ensures.same_loan ∙ c.loop-fault.invariant.1))))
+          rw w.lines-is (rw w.meter-is (rw w.writer-is (rw w.ended-is (ends_truncated (λ r. g.R.CountedRead.remaining r.now) (λ r. g.R.CountedRead.failures r.now) g.W.CountedWrite.contents g.W.CountedWrite.failures reader c.args.states c.args.meter.now c.args.writer.now c.loop-fault.lines c.loop-fault.session c.loop-fault.meter c.loop-fault.writer c.loop-fault.end s c.next_line.new.lines.lines.line c.next_line.new.out w.in-Ok-true.ensures.sent w.answer_command.new.lines w.answer_command.new.session w.answer_command.new.meter w.answer_command.new.out a.0 a.1, w.answer_command.ensures.same_loan ∙ c.next_line.ensures.same_loan ∙ c.loop-fault.invariant.1))))
       | in-Ok-true+in-Err-answer_command w ↦
           let next = rw w.in-Ok-true.field-0-test at w.in-Ok-true.ensures.next in
           let handed = next reader s.handed s.has_handed in
-          rw w.lines-is (rw w.meter-is (rw w.writer-is (rw w.ended-is (answer_fails (λ r. g.R.CountedRead.remaining r.now) (λ r. g.R.CountedRead.failures r.now) g.W.CountedWrite.contents g.W.CountedWrite.failures reader c.args.meter.now c.args.writer.now c.loop-fault.lines c.loop-fault.session c.loop-fault.meter c.loop-fault.writer c.loop-fault.end s c.next_line.new.lines.lines.line c.next_line.new.out w.in-Ok-true.ensures.sent w.answer_command.new.lines w.answer_command.new.session w.answer_command.new.meter w.answer_command.new.out w.in-Err-answer_command.fault (w.in-Err-answer_command.ensures.held (c.next_line.ensures.held c.loop-fault.invariant.2)) (w.in-Err-answer_command.ensures.answers reader (s.handed ++ c.next_line.new.lines.lines.line ∷ []) handed), w.answer_command.ensures.same_loan ∙ c.next_line.ensures.same_loan ∙ c.loop-fault.invariant.1))))
+          rw w.lines-is (rw w.meter-is (rw w.writer-is (rw w.ended-is (answer_fails (λ r. g.R.CountedRead.remaining r.now) (λ r. g.R.CountedRead.failures r.now) g.W.CountedWrite.contents g.W.CountedWrite.failures reader c.args.states c.args.meter.now c.args.writer.now c.loop-fault.lines c.loop-fault.session c.loop-fault.meter c.loop-fault.writer c.loop-fault.end s c.next_line.new.lines.lines.line c.next_line.new.out w.in-Ok-true.ensures.sent w.answer_command.new.lines w.answer_command.new.session w.answer_command.new.meter w.answer_command.new.out w.in-Err-answer_command.fault (w.in-Err-answer_command.ensures.held (c.next_line.ensures.held c.loop-fault.invariant.2)) (w.in-Err-answer_command.ensures.answers reader (s.handed ++ c.next_line.new.lines.lines.line ∷ []) handed), w.answer_command.ensures.same_loan ∙ c.next_line.ensures.same_loan ∙ c.loop-fault.invariant.1))))
     ] in
     let loan = ended.1 in
-    let given = gives_by_reader (λ r. g.R.CountedRead.remaining r.now) (λ r. g.R.CountedRead.failures r.now) g.W.CountedWrite.contents g.W.CountedWrite.failures _ then.lines c.args.meter.now then.meter c.args.writer.now then.writer then.ended ended.0 in
-    let gives = subst (λ r. ScriptGives g.W.CountedWrite.contents g.W.CountedWrite.failures (GaveLines (g.R.CountedRead.remaining r) left) (g.R.CountedRead.remaining r) left (g.R.CountedRead.failures r) (g.R.CountedRead.failures last) c.args.meter.now then.meter c.args.writer.now then.writer then.ended)
+    let given = gives_by_reader (λ r. g.R.CountedRead.remaining r.now) (λ r. g.R.CountedRead.failures r.now) g.W.CountedWrite.contents g.W.CountedWrite.failures _ c.args.states then.lines c.args.meter.now then.meter c.args.writer.now then.writer then.ended ended.0 in
+    let gives = subst (λ r. ScriptGives g.W.CountedWrite.contents g.W.CountedWrite.failures (GaveLines (g.R.CountedRead.remaining r) left) (g.R.CountedRead.remaining r) left (g.R.CountedRead.failures r) (g.R.CountedRead.failures last) c.args.states c.args.meter.now then.meter c.args.writer.now then.writer then.ended)
     (ap (λ (n : Numbered _). n.lines.reader.now) c.in-Ok.ensures.ok) given in
     let known = g.R.CountedRead.remaining c.args.reader.now in
-    subst (λ r. ScriptGives g.W.CountedWrite.contents g.W.CountedWrite.failures (GaveLines known (g.R.CountedRead.remaining r)) known (g.R.CountedRead.remaining r) (g.R.CountedRead.failures c.args.reader.now) (g.R.CountedRead.failures r) c.args.meter.now then.meter c.args.writer.now c.send_replies-2.new.writer c.send_replies-2.result)
+    subst (λ r. ScriptGives g.W.CountedWrite.contents g.W.CountedWrite.failures (GaveLines known (g.R.CountedRead.remaining r)) known (g.R.CountedRead.remaining r) (g.R.CountedRead.failures c.args.reader.now) (g.R.CountedRead.failures r) c.args.states c.args.meter.now then.meter c.args.writer.now c.send_replies-2.new.writer c.send_replies-2.result)
     (search (rules, loan))
-    (sends_after g.W.CountedWrite.contents g.W.CountedWrite.failures (GaveLines known left) known left _ (g.R.CountedRead.failures last) c.args.meter.now then.meter c.args.writer.now then.writer c.send_replies-2.new.writer then.ended c.send_replies-2.result
+    (sends_after g.W.CountedWrite.contents g.W.CountedWrite.failures (GaveLines known left) known left _ (g.R.CountedRead.failures last) c.args.states c.args.meter.now then.meter c.args.writer.now then.writer c.send_replies-2.new.writer then.ended c.send_replies-2.result
     gives c.send_replies-2.ensures.kept)

@@ -1,6 +1,5 @@
-use Rattle.grep_utility.proofs.Prelude.{◌≡◌, rules, [], ◌∷◌, ◌++◌, List, Text, map, refl, sym, ap, ◌∙◌, subst, append_assoc, append-nil, AreGrouped, ServeFor}
+use Rattle.grep_utility.proofs.Prelude.{◌≡◌, rules, [], ◌∷◌, ◌++◌, sym, ap, ◌∙◌, subst, append_assoc, ServeFor}
 use Rattle.re_syntax.specs.Lines.{lines_of}
-use Rattle.re_syntax.specs.Working.Trees.{expression_of}
 use Rattle.grep_utility.proofs.lemmas.GroupLemmas.{none_grouped, groups_serve}
 use Rattle.grep_utility.proofs.joined.joined_matchers.Goals as goal
 

@@ -19,14 +19,6 @@ returns-in-Ok-false-clause-ok g c =
     opened.0 opened.1 opened.2 (g.F.Files.failures c.args.files.now) (g.F.Files.failures c.close.new.self) counted
     _ _ (rw (c.in-Ok-false.is, c.in-Ok-false.field-0-test) at c.add_all_lines-reader.ensures.ok)
 
-pub returns-in-Err-clause-back : goal.returns-in-Err-clause-back
-returns-in-Err-clause-back g c =
-    (_, gives_both g.F.Files.returned_readers c.args.files.now c.open_named.new.files c.close.new.self [] (g.F.Reader.CountedRead.remaining c.add_all_lines-reader.result.0 ∷ []) c.open_named.ensures.none_back c.close.ensures.back)
-
 pub returns-in-Ok-true-clause-back : goal.returns-in-Ok-true-clause-back
-returns-in-Ok-true-clause-back g c =
-    (_, gives_both g.F.Files.returned_readers c.args.files.now c.open_named.new.files c.close.new.self [] (g.F.Reader.CountedRead.remaining c.add_all_lines-reader.result.0 ∷ []) c.open_named.ensures.none_back c.close.ensures.back)
-
-pub returns-in-Ok-false-clause-back : goal.returns-in-Ok-false-clause-back
-returns-in-Ok-false-clause-back g c =
+returns-in-Ok-true-clause-back g c whole =
     (_, gives_both g.F.Files.returned_readers c.args.files.now c.open_named.new.files c.close.new.self [] (g.F.Reader.CountedRead.remaining c.add_all_lines-reader.result.0 ∷ []) c.open_named.ensures.none_back c.close.ensures.back)

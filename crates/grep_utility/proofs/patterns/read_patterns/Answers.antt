@@ -1,6 +1,7 @@
-use Rattle.grep_utility.proofs.Prelude.{◌+◌, ◌++◌, map, drop, sym, ap, ◌∙◌, subst, arith, drop_all, given_source}
+use Rattle.grep_utility.proofs.Prelude.{[], ◌+◌, ◌++◌, map, drop, refl, sym, ap, ◌∙◌, subst, arith, append_assoc, append-nil, drop_all, given_source}
+use Rattle.grep_utility.specs.Patterns.{OneReaderEach}
 use Rattle.grep_core.proofs.lemmas.SourceLaws.{gives_both}
-use Rattle.grep_utility.proofs.lemmas.SourceLemmas.{SourcesSoFar, next_source, sources_more, sources_stop, sources_all}
+use Rattle.grep_utility.proofs.lemmas.SourceLemmas.{SourcesSoFar, each_more, next_source, sources_more, sources_stop, sources_all}
 use Rattle.grep_utility.proofs.patterns.read_patterns.Goals as goal
 
 pub returns-in-Err-clause-err : goal.returns-in-Err-clause-err
@@ -21,11 +22,16 @@ loop-source-preserved g c =
     let now = g.F.Files.folder c.loop-source.files in
     let here = next_source c.args.sources.now c.loop-source.source-index _ c.loop-source-test.true c.source-item.is in
     let so_far = subst (λ left. SourcesSoFar start all now left c.loop-source.texts.items) here s.so_far in
+    let own = c.in-Ok.ensures.back in
     let more = sources_more start all now _ _ _ so_far c.add_source.new.texts.items c.in-Ok.ensures.ok in
     record {
       so_far = subst (λ folder. SourcesSoFar start all folder (map given_source (drop (c.loop-source.source-index + 1) c.args.sources.now)) c.add_source.new.texts.items) (sym c.in-Ok.ensures.used) more;
       none_failed = c.in-Ok.ensures.none_failed ∙ s.none_failed;
-      back = (s.back.0 ++ c.add_source.ensures.back.0, gives_both g.F.Files.returned_readers c.args.files.now c.loop-source.files c.add_source.new.files s.back.0 c.add_source.ensures.back.0 s.back.1 c.add_source.ensures.back.1);
+      back = (
+        s.back.0 ++ own.0,
+        λ others h. subst (OneReaderEach all) (sym (append_assoc s.back.0 own.0 others)) (s.back.1 (own.0 ++ others) (subst (λ left. OneReaderEach left (own.0 ++ others)) (sym here) (each_more _ _ own.0 others own.1 h))),
+        gives_both g.F.Files.returned_readers c.args.files.now c.loop-source.files c.add_source.new.files s.back.0 own.0 s.back.2 own.2,
+      );
       same_loan = c.in-Ok.ensures.same_loan ∙ s.same_loan;
     }
 
@@ -37,7 +43,8 @@ returns-clause-ok g c =
     let none = ap (map given_source) (drop_all c.loop-source.source-index c.args.sources.now (omega (arith, c.loop-source-test.false))) in
     sources_all start all now c.loop-source.texts.items (subst (λ left. SourcesSoFar start all now left c.loop-source.texts.items) none c.loop-source.invariant.so_far)
 
-pub returns-in-Err-clause-back : goal.returns-in-Err-clause-back
-returns-in-Err-clause-back g c =
+pub returns-clause-back : goal.returns-clause-back
+returns-clause-back g c =
     let s = c.loop-source.invariant in
-    (s.back.0 ++ c.add_source.ensures.back.0, gives_both g.F.Files.returned_readers c.args.files.now c.loop-source.files c.add_source.new.files s.back.0 c.add_source.ensures.back.0 s.back.1 c.add_source.ensures.back.1)
+    let none = ap (map given_source) (drop_all c.loop-source.source-index c.args.sources.now (omega (arith, c.loop-source-test.false))) in
+    (s.back.0, subst (OneReaderEach (map given_source c.args.sources.now)) (append-nil s.back.0) (s.back.1 [] (subst (λ left. OneReaderEach left []) (sym none) refl)), s.back.2)

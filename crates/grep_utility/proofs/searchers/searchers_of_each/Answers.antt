@@ -1,4 +1,4 @@
-use Rattle.grep_utility.proofs.Prelude.{◌≡◌, Some, None, map, sym, ◌∙◌, subst, ForSome, AreNeeded, matched_expression}
+use Rattle.grep_utility.proofs.Prelude.{◌≡◌, Some, None, map, sym, ◌∙◌, subst, AreNeeded, matched_expression}
 use Rattle.grep_utility.proofs.searchers.searchers_of_each.Goals.{in-Ok, in-Err}
 use Rattle.grep_utility.proofs.searchers.searchers_of_each.Goals as goal
 

@@ -13,7 +13,7 @@ returns-in-Ok-Some-Edit-clause-answers g c =
     λ reader handed h.
     let done = does_alone g.R.CountedRead.remaining g.R.CountedRead.failures reader handed c.args.lines.now.lines.line c.args.lines.now c.args.meter.now c.make_edit.new.meter c.args.session.now c.make_edit.new.session g.W.CountedWrite.contents g.W.CountedWrite.failures c.args.out.now c.args.out.now c.reply_to_edit.new.out flushed
     (does edit) (reply_to c.make_edit.result ∷ []) h (rw is (refl, refl))
-    (c.make_edit.result, record { gives = c.make_edit.ensures.gives; marks = c.make_edit.ensures.marks; named = λ none. not_for_memory c.make_edit.result (c.make_edit.ensures.memory none) }, refl) c.make_edit.ensures.steps.most c.make_edit.ensures.steps.refusals c.make_edit.ensures.steps.is_most c.make_edit.ensures.steps.few in
+    (c.make_edit.result, record { gives = c.make_edit.ensures.gives; same_states = c.make_edit.ensures.same_states; marks = c.make_edit.ensures.marks; named = λ none. not_for_memory c.make_edit.result (c.make_edit.ensures.memory none) }, refl) c.make_edit.ensures.steps.most c.make_edit.ensures.steps.refusals c.make_edit.ensures.steps.is_most c.make_edit.ensures.steps.few in
     answers_step g.R.CountedRead.remaining g.R.CountedRead.failures reader handed c.args.lines.now.lines.line c.args.lines.now c.args.meter.now c.make_edit.new.meter c.args.session.now c.make_edit.new.session g.W.CountedWrite.contents g.W.CountedWrite.failures c.args.out.now c.args.out.now c.reply_to_edit.new.out flushed
     (reply_to c.make_edit.result ∷ []) (answer_for c.make_edit.result) c.reply_to_edit.result done (refused_as c.make_edit.result) (answered_in_time c.make_edit.result) c.reply_to_edit.ensures
 

@@ -1,4 +1,4 @@
-use Rattle.grep_utility.proofs.Prelude.{◌≡◌, [], ◌∷◌, ◌++◌, List, Text, map, sym, ap, ◌∙◌, subst, AreGrouped}
+use Rattle.grep_utility.proofs.Prelude.{◌≡◌, [], ◌∷◌, ◌++◌, map, sym, ap, ◌∙◌, subst, AreGrouped}
 use Rattle.re_syntax.specs.Working.Trees.{expression_of}
 use Rattle.grep_utility.proofs.lemmas.GroupLemmas.{pattern_joins, pattern_alone, some_with}
 use Rattle.grep_utility.proofs.joined.Groups.add.Goals as goal

@@ -1,4 +1,4 @@
-use Rattle.grep_utility.proofs.Prelude.{◌≡◌, ◌≤◌, List, [], ◌∷◌, Option, Some, None, IfSome, false≢true, refl, length, map, sym, ap, ◌∙◌, arith, length-map, alt}
+use Rattle.grep_utility.proofs.Prelude.{◌≤◌, false≢true, length, map, ap, ◌∙◌, arith, length-map, alt}
 use Rattle.re_syntax.specs.Working.Trees.{expression_of}
 use Rattle.grep_utility.proofs.lemmas.GroupLemmas.{choice_closes, some_with, not_none}
 use Rattle.grep_utility.proofs.joined.Groups.close.Goals as goal
