@@ -11,8 +11,8 @@ from program import Bench, Cases, Verdict, all_of
 from system_calls import differences, sources
 
 ANSWER = re.compile(r"\bErr\(AllocError\)(?! =>)|(?<!== )\b(?:\w+Fault|FaultKind)::Memory\b(?!\)* =>| \{ \.\. \}\) =>)"
-                    r"|(?<!fn )\bout_of_memory\(\)")
-"""Out of memory as a value, std's or our own."""
+                    r"|(?<!fn )\bout_of_memory\(\)|\bself\.refused = ")
+"""Out of memory as a value, std's or our own, and a refusal that is counted."""
 
 BEGINS = re.compile(r"=>|\blet [^;]*?\belse \{|\b(?:if|match|while|for) [^;{]*\{|\bfn (?:from\([^;{]*\{)?")
 """What decides whether the code after it runs."""

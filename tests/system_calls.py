@@ -18,7 +18,7 @@ IMPORTS = {
     "grep/disk.rt": {"fs", "fs::File", "io", "io::ErrorKind", "io::Read", "io::Stdin"},
     "grep/guard.rt": {"fs", "fs::File", "fs::Metadata", "io", "os::unix::fs::MetadataExt"},
     "grep/main.rt": {"process::ExitCode"},
-    "grep_io/devices/counted.rt": {"io::Read", "io::Write"},
+    "grep_io/devices/device.rt": {"io::Read", "io::Write"},
     "grep_io/devices/limited.rt": {"io::Error", "io::ErrorKind", "io::Read", "io::Result", "io::Write"},
     "grep_utility/program.rt": {"env", "io", "io::ErrorKind"},
     "occur/main.rt": {"fs", "fs::File", "fs::Metadata", "io", "os::unix::fs::MetadataExt", "process::ExitCode"},
@@ -29,8 +29,15 @@ CALLS = {
     "grep/disk.rt": {"fs::open": 1, "rt.stdin": 1, ".read": 2},
     "grep/guard.rt": {"fs::metadata": 2, ".metadata": 1},
     "grep/main.rt": {"rt.stdout": 1, "rt.stderr": 2},
-    "grep_io/devices/counted.rt": {".read": 1, ".write": 1},
-    "grep_io/devices/limited.rt": {".read": 1, ".write": 1},
+    "grep_cmd/script.rt": {".flush": 1},
+    "grep_core/search/file.rt": {".flush": 1},
+    "grep_core/search/next_line.rt": {".flush": 1},
+    "grep_io/devices/buffered.rt": {".flush": 1},
+    "grep_io/devices/counted.rt": {".flush_once": 1, ".read_once": 1, ".write_once": 1},
+    "grep_io/devices/device.rt": {".flush": 1, ".read": 1, ".write": 1},
+    "grep_io/devices/limited.rt": {".flush": 1, ".read": 1, ".write": 1},
+    "grep_io/devices/whole_lines.rt": {".flush": 1},
+    "grep_utility/message_texts.rt": {".flush": 1},
     "grep_utility/program.rt": {"env::args": 1, "rt.stderr": 2},
     "occur/main.rt": {"fs::metadata": 2, "fs::open": 1, ".metadata": 1, ".print": 1,
                       "rt.stdin": 1, "rt.stdout": 1, "rt.stderr": 5},
@@ -40,10 +47,10 @@ one read or one write at a time. A call is known by its module; by the handle `r
 value, by the name of a method that a file, a stream or the handle has.
 """
 
-METHODS = (r"bind_unix|canonicalize|copy|create\w*|e?print|hard_link|l?chown|lock\w*|(?:symlink_)?metadata|open_\w+"
-           r"|pipe|read(?:_(?:dir|exact|link|to|vectored)\w*)?|remove_(?:dir|file)\w*|rename|rewind|seek\w*"
-           r"|set_(?:len|modified|permissions|times)|symlink|sync_\w+|try_clone|try_lock\w*|unlock"
-           r"|write(?:_(?:all|fmt|vectored))?")
+METHODS = (r"bind_unix|canonicalize|copy|create\w*|e?print|flush(?:_once)?|hard_link|l?chown|lock\w*"
+           r"|(?:symlink_)?metadata|open_\w+|pipe|read(?:_(?:dir|exact|link|once|to|vectored)\w*)?|remove_(?:dir|file)\w*"
+           r"|rename|rewind|seek\w*|set_(?:len|modified|permissions|times)|symlink|sync_\w+|try_clone|try_lock\w*|unlock"
+           r"|write(?:_(?:all|fmt|once|vectored))?")
 """The methods of files, of streams and of the handle by which they read, write and change what is outside."""
 
 CALL = re.compile(rf"\b(?:{OUTSIDE})::(?!Error\b|Result\b)\w+|\bFile::\w+|\brt\.(?!alloc\b)\w+(?=\()"

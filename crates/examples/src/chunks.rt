@@ -6,11 +6,11 @@ use line_chunks::KeptLines;
 use std::alloc::{AllocError, Global};
 
 /// Two lines, the first of which is replaced by another.
-pub fn replaced(alloc: Global) -> Result<KeptLines, AllocError> {
-    let mut lines = KeptLines::new(alloc, 65_536);
+pub fn replaced(alloc: Global) -> Result<KeptLines<65_536>, AllocError> {
+    let mut lines = KeptLines::new(alloc);
     lines.push(alloc, b"one")?;
     lines.push(alloc, b"two")?;
-    let mut new = KeptLines::new(alloc, 65_536);
+    let mut new = KeptLines::new(alloc);
     new.push(alloc, b"three")?;
     lines.splice(alloc, 0, 1, &new)?;
     Ok(lines)

@@ -81,10 +81,11 @@ pub fn run_script<R: CountedRead, W: CountedWrite>(
 ) -> Result<ScriptEnd, ScriptFault>
     requires some { 1 ≤ states }
     requires few { states ≤ most_states }
+    requires readable { R.may_be_read reader.old }
     ensures gives { ScriptGives W.contents W.failures
         (GaveLines (R.remaining reader.old) (R.remaining reader.new)) (R.remaining reader.old)
-        (R.remaining reader.new) (R.failures reader.old) (R.failures reader.new) states meter.old meter.new
-        writer.old writer.new result }
+        (R.remaining reader.new) (R.failures reader.old) (R.failures reader.new) states meter.old
+        meter.new writer.old writer.new result }
     ensures sent { result ≢ Err ScriptFault.Write → W.waiting writer.new ≡ 0 }
 {
     let mut lines = match Lines::new(alloc, reader) {

@@ -1,5 +1,5 @@
 //! The sources that a run reads.
-ghost use Rattle.std.specs.Prelude.{◌≡◌, ℕ, ◌+◌, ◌<◌, List, [], ◌∷◌, Option, length, ⊤};
+ghost use Rattle.std.specs.Prelude.{◌≡◌, ℕ, ◌+◌, ◌<◌, List, [], ◌∷◌, Option, IfSome, length, ⊤};
 ghost use Rattle.grep_io.specs.Reading.{Source};
 ghost use Rattle.grep_core.specs.Run.{count_more};
 ghost use Rattle.grep_core.specs.Sources.{source_at, Opens, Returns};
@@ -49,7 +49,8 @@ pub trait Sources {
         ensures same_loan { loan self.new ≡ loan self.old }
         ensures given { Opens Self.Reader.remaining Self.Reader.failures
             (source_at (listed self.old) k)
-            (failures self.old) (failures self.new) result };
+            (failures self.old) (failures self.new) result }
+        ensures readable { IfSome result Self.Reader.may_be_read };
 
     /// Takes a reader back, and counts its failures.
     fn close(&mut self, reader: Self::Reader)

@@ -1,5 +1,6 @@
 -- What one read or one write of a device does to the known bytes, and how failures are counted.
-use Rattle.std.specs.Prelude.{◌≡◌, ℕ, zero, suc, ◌+◌, ◌-◌, ◌^◌, min, take, Option, MatchOption}
+use Rattle.std.specs.Prelude.{◌≡◌, ℕ, zero, suc, ◌+◌, ◌-◌, ◌<◌, ◌^◌, min, List, [], ◌∷◌, ◌++◌, take}
+use Rattle.std.specs.Prelude.{Option, Some, None, MatchOption, IfSome, Result, Ok, Err}
 use Rattle.std.specs.Io.KnownBytes.{Keeps, Appends, Consumes, IsAtEnd}
 use Rattle.re_syntax.specs.Bytes.{Text}
 
@@ -32,3 +33,17 @@ Counts old new answer = MatchOption answer (new ≡ one_more old) (λ _. new ≡
 pub record Tallied (T : Type 0) : Type 0 where
   pub device : T
   pub failed : ℕ
+
+-- one call more was made, with this answer
+abbrev pub CalledOnce : {D : Type 0} → (D → List (Option ℕ) → Type 0) → D → D → Option ℕ → Type 0
+CalledOnce calls old new answer =
+    (made : List (Option ℕ)) → calls old made → calls new (made ++ answer ∷ [])
+
+-- the answer of a call that sends what is buffered
+abbrev pub sent_or_not : {T E : Type 0} → Result T E → Option ℕ
+sent_or_not (Ok done) = Some 0
+sent_or_not (Err fault) = None
+
+-- after a read that gave bytes there may be another
+abbrev pub ReadsOn : {R : Type 0} → (R → Type 0) → R → Option ℕ → Type 0
+ReadsOn may_be_read new given = IfSome given (λ n. 0 < n → may_be_read new)

@@ -3,6 +3,7 @@
 pub mod buffered;
 pub mod byte_buffer;
 pub mod counted;
+pub mod device;
 pub mod limited;
 pub mod push;
 pub mod whole_lines;

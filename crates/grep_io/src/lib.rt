@@ -7,6 +7,7 @@ mod input;
 
 pub use devices::buffered::Buffered;
 pub use devices::counted::{CountedRead, CountedWrite, Tally, WriteFault};
+pub use devices::device::{ReadDevice, WriteDevice};
 pub use devices::limited::Limited;
 pub use devices::push::push_all;
 pub use devices::whole_lines::WholeLines;

@@ -29,7 +29,7 @@ pub use Rattle.grep_session.specs.Headline.{AcceptedEditsDecide, Attempt, ComesT
 pub use Rattle.grep_session.specs.Laws.{AreAlike, EditsAreDetermined, MemorySavesEditSteps}
 pub use Rattle.grep_session.specs.Listed.{ListedParts}
 pub use Rattle.grep_session.specs.Marks.{AreFit, Fits, MarksGiven, Watched, known_marks, lost, mark_at, new_mark, touched, whole_mark}
-pub use Rattle.grep_session.specs.Touched.{Costs, CostsAccepted, CostsAs, NeedsNoMemory, PartsCost, PartsCostOf, TakesSteps, Touched, Touches, all_lines, pairs_cost, parts_alone, searched_by, touched_by_flag}
+pub use Rattle.grep_session.specs.Touched.{Costs, CostsAccepted, CostsAs, NeedsNoMemory, PartsCost, PartsCostOf, PartsSearchCost, TakesSteps, Touched, Touches, all_lines, pairs_cost, parts_alone, searched_by, touched_by_flag}
 pub use Rattle.grep_session.specs.Working.Again.{AreReadable, ReadsAgain, read_as}
 pub use Rattle.grep_session.specs.Working.Changed.{ChangeCost, CostAnew, CostOfEach, HasChanged, HasNewParts, IsWithin, NewPartsCost, SearchesEach, SearchesOne, TakesAtMost, WasFileKept, WasKept, searched_for}
 pub use Rattle.grep_session.specs.Working.Columns.{AddsColumn, AddsColumns, AreAllParts, AreDecided, AreLeft, AreMatches, ArePartsAgain, CostsParts, Grows, IsAdded, IsNextLine, KeepsAll, first_sought, has_new_parts, left_numbers, next_line_cost}

@@ -23,7 +23,8 @@ use Rattle.grep_session.specs.Edits.{Edit, AddFile, AddMissing, DropFile, Splice
 use Rattle.grep_session.specs.Edits.{DropPattern, SetFlag, SetSyntax, SetContext, option_of}
 use Rattle.grep_session.specs.Edits.{HasPlace, Applies}
 
--- what an edit has searched: each of `paired` by that number of patterns, and the parts of `lines`
+-- what an edit has searched: each of `paired` by that number of patterns, and the parts of those of
+-- `lines` that some pattern matches after it
 pub record Touched : Type 0 where
   pub patterns : ℕ
   pub paired : List Text
@@ -32,11 +33,11 @@ pub record Touched : Type 0 where
 abbrev pub nothing_touched : Touched
 nothing_touched = record { patterns = 0; paired = []; lines = [] }
 
--- the lines searched by this number of patterns, and their parts
+-- the lines searched by this number of patterns, and the parts of those that are matched
 abbrev pub searched_by : ℕ → List Text → Touched
 searched_by patterns lines = record { patterns = patterns; paired = lines; lines = lines }
 
--- the parts of the lines alone
+-- the parts of those of the lines that are matched alone
 abbrev pub parts_alone : List Text → Touched
 parts_alone lines = record { patterns = 0; paired = []; lines = lines }
 
@@ -79,14 +80,20 @@ pairs_cost patterns [] = 0
 pairs_cost patterns (line ∷ lines) = search_cost patterns line + pairs_cost patterns lines
 
 module _ (es : List Expression) (options : Options) where
-  -- the cost of a line's parts under `-o`: all patterns search once for each part and once more,
-  -- but at most four times, unless the allocation for the line's list of ends failed; `refusals`
-  -- says how often it did
-  abbrev pub PartsCostOf : Text → ℕ → ℕ → Type 0
-  PartsCostOf line refusals cost =
+  -- the cost of the search for a line's parts under `-o`: all patterns search once for each part and
+  -- once more, but at most four times, unless the allocation for the line's list of ends failed;
+  -- `refusals` says how often it did
+  abbrev pub PartsSearchCost : Text → ℕ → ℕ → Type 0
+  PartsSearchCost line refusals cost =
       MatchBool options.only_matching
       ((parts : List (ℕ × ℕ)) × AreParts es line options.line_regexp parts ×
       (cost ≡ searches_for refusals (length parts + 1) * search_cost (length es) line))
+      ((refusals ≡ 0) × (cost ≡ 0))
+
+  -- the cost of a line's parts: they are searched for where some pattern matches the line
+  abbrev pub PartsCostOf : Text → ℕ → ℕ → Type 0
+  PartsCostOf line refusals cost =
+      IfHolds (Matched es options line) (PartsSearchCost line refusals cost)
       ((refusals ≡ 0) × (cost ≡ 0))
 
   -- the sums of the lines' refusals and costs

@@ -8,10 +8,10 @@ ghost use Rattle.grep_core.specs.Written.{Writes};
 ghost use Rattle.line_chunks.specs.Working.Chunks.{all_of, line_text, no_line};
 ghost use Rattle.grep_session.specs.Working.Report.{shown_rows, around_rows};
 
+use crate::kept::FileLines;
 use crate::layout::Layout;
 use crate::verdicts::is_selected;
 use grep_core::{Context, CountedWrite, Progress, Shown, WriteFault, write_line_after};
-use line_chunks::KeptLines;
 
 /// Writes the separator, if there is one.
 fn write_separator<W: CountedWrite>(
@@ -31,7 +31,7 @@ fn write_separator<W: CountedWrite>(
 /// Writes the last `count` of the lines before line `end`, as lines around others.
 fn write_waiting<W: CountedWrite>(
     layout: &Layout,
-    lines: &KeptLines,
+    lines: &FileLines,
     end: usize,
     count: usize,
     out: &mut W,
@@ -73,7 +73,7 @@ fn write_itself<W: CountedWrite>(
 /// Writes what is shown at line `k`, selected or not.
 fn write_shown<W: CountedWrite>(
     layout: &Layout,
-    lines: &KeptLines,
+    lines: &FileLines,
     k: usize,
     found: bool,
     shown: Shown,
@@ -100,7 +100,7 @@ pub fn write_lines_around<W: CountedWrite>(
     layout: &Layout,
     context: Context,
     some: bool,
-    lines: &KeptLines,
+    lines: &FileLines,
     out: &mut W,
 ) -> Result<(), WriteFault>
     ensures { Writes W.contents W.failures out.old out.new (written layout.now.margin.now

@@ -17,13 +17,13 @@ ghost use Rattle.re_search.specs.Searches.{SameMatchers};
 
 use crate::change::Change;
 use crate::found::put_columns;
-use crate::kept::KeptFile;
+use crate::kept::{FileLines, KeptFile};
 use crate::line_matches::find_matches;
 use crate::line_parts::find_parts;
 use crate::search::SearchContext;
 use crate::vec_push::push;
 use grep_core::Options;
-use line_chunks::{Chunk, Found, KeptLines, Matches};
+use line_chunks::{Chunk, Found, Matches};
 use re_search::{LineMatch, Matcher, Meter};
 use std::alloc::{AllocError, Global};
 
@@ -80,7 +80,7 @@ pub fn find_in_lines<M: LineMatch>(
     search: &SearchContext,
     matchers: &mut [M],
     change: Change,
-    lines: &KeptLines,
+    lines: &FileLines,
     found: &mut Vec<Option<Found>>,
     meter: &mut Meter,
 ) -> Result<(), AllocError>

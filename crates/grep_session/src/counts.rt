@@ -8,12 +8,11 @@ ghost use Rattle.grep_session.specs.Working.Kept.{IsFileKept, kept_file};
 ghost use Rattle.grep_session.specs.Working.Counts.{SelectedFrom};
 ghost use Rattle.grep_session.specs.Working.Report.{selected_count};
 
-use crate::kept::KeptFile;
+use crate::kept::{FileLines, KeptFile};
 use grep_core::Options;
-use line_chunks::KeptLines;
 
 /// The number of selected lines among those before line `place`.
-fn count_selected(lines: &KeptLines, options: &Options, place: usize) -> usize
+fn count_selected(lines: &FileLines, options: &Options, place: usize) -> usize
     requires { place ≤ length (all_of lines.now) }
     ensures { result ≡ selected_count options.now (take place (all_of lines.now)) }
 {
@@ -25,14 +24,14 @@ fn count_selected(lines: &KeptLines, options: &Options, place: usize) -> usize
 }
 
 /// The number of selected lines.
-pub fn count_all(lines: &KeptLines, options: &Options) -> u64
+pub fn count_all(lines: &FileLines, options: &Options) -> u64
     ensures { result ≡ selected_count options.now (all_of lines.now) }
 {
     count_selected(lines, options, lines.len()) as u64
 }
 
 /// The first selected line from line `place` on, or the number of lines.
-pub fn find_selected(lines: &KeptLines, options: &Options, place: usize) -> usize
+pub fn find_selected(lines: &FileLines, options: &Options, place: usize) -> usize
     requires { place ≤ length (all_of lines.now) }
     ensures { SelectedFrom options.now (all_of lines.now) place result }
 {

@@ -4,9 +4,9 @@ ghost use Rattle.line_chunks.specs.Working.Chunks.{all_of, line_text, no_line};
 ghost use Rattle.grep_session.specs.Working.ListedParts.{listed_spans};
 ghost use Rattle.grep_session.specs.Working.Report.{is_selected};
 
+use crate::kept::FileLines;
 use crate::verdicts::is_selected;
 use grep_core::Options;
-use line_chunks::KeptLines;
 use re_search::Span;
 
 /// A selected line: its text, and its parts, which are listed under `-o` alone.
@@ -19,7 +19,7 @@ pub struct Hit<'a> {
 }
 
 /// The listed parts of line `k`: under `-o` those that are kept, and otherwise none.
-fn listed_parts<'a>(lines: &'a KeptLines, k: usize, options: &Options) -> &'a [Span]
+fn listed_parts<'a>(lines: &'a FileLines, k: usize, options: &Options) -> &'a [Span]
     requires { k < length (all_of lines.now) }
     ensures { result.now ≡ listed_spans options.now (get_or (all_of lines.now) k no_line) }
 {
@@ -30,7 +30,7 @@ fn listed_parts<'a>(lines: &'a KeptLines, k: usize, options: &Options) -> &'a [S
 }
 
 /// Line `k` as an editor lists it, where it is selected.
-pub fn hit_at<'a>(lines: &'a KeptLines, k: usize, options: &Options) -> Option<Hit<'a>>
+pub fn hit_at<'a>(lines: &'a FileLines, k: usize, options: &Options) -> Option<Hit<'a>>
     requires { k < length (all_of lines.now) }
     ensures { let line = get_or (all_of lines.now) k no_line in
         MatchOption result (is_selected options.now line ≡ false)

@@ -98,7 +98,8 @@ pub fn find_parts<M: LineMatch>(
         new.now) }
     ensures same_matchers { SameMatchers M.expression M.whole M.room matchers.old matchers.new }
     ensures steps { (changed : List Expression) →
-        AreDecided change changed search.now.options (map line_text chunk.now) old.now new.now →
+        AreDecided change changed (map M.expression matchers.old) search.now.options
+        (map line_text chunk.now) old.now new.now →
         SearchesEach
         (NewPartsCost change changed (map M.expression matchers.old) search.now.options)
         (map line_text chunk.now) meter.old meter.new }

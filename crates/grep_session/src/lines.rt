@@ -9,9 +9,9 @@ ghost use Rattle.grep_session.specs.Working.Report.{selected_rows, text_rows};
 
 use crate::around::write_lines_around;
 use crate::counts::{count_all, find_selected};
+use crate::kept::FileLines;
 use crate::layout::Layout;
 use grep_core::{CountedWrite, Form, WriteFault};
-use line_chunks::KeptLines;
 use re_search::Span;
 
 /// Writes the parts of a line.
@@ -38,7 +38,7 @@ fn write_parts<W: CountedWrite>(
 /// Writes the rows of line `k`, which is selected, in the form that the options ask for.
 fn write_selected<W: CountedWrite>(
     layout: &Layout,
-    lines: &KeptLines,
+    lines: &FileLines,
     k: usize,
     out: &mut W,
 ) -> Result<(), WriteFault>
@@ -65,7 +65,7 @@ fn write_selected<W: CountedWrite>(
 /// Writes the rows of a file's selected lines, one line after the other.
 fn write_found<W: CountedWrite>(
     layout: &Layout,
-    lines: &KeptLines,
+    lines: &FileLines,
     out: &mut W,
 ) -> Result<(), WriteFault>
     requires { All (PartsFit layout.now.request.options) (all_of lines.now) }
@@ -85,7 +85,7 @@ fn write_found<W: CountedWrite>(
 fn write_rows<W: CountedWrite>(
     layout: &Layout,
     some: bool,
-    lines: &KeptLines,
+    lines: &FileLines,
     out: &mut W,
 ) -> Result<(), WriteFault>
     requires { All (PartsFit layout.now.request.options) (all_of lines.now) }
@@ -108,7 +108,7 @@ fn write_rows<W: CountedWrite>(
 pub fn write_lines<W: CountedWrite>(
     layout: &Layout,
     some: bool,
-    lines: &KeptLines,
+    lines: &FileLines,
     out: &mut W,
 ) -> Result<u64, WriteFault>
     requires { All (PartsFit layout.now.request.options) (all_of lines.now) }

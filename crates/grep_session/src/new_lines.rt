@@ -5,12 +5,9 @@ ghost use Rattle.line_chunks.specs.Working.Chunks.{all_of, line_text};
 ghost use Rattle.grep_session.specs.Working.Copied.{CopiesLines};
 
 use crate::fault::EditFault;
-use line_chunks::KeptLines;
+use crate::kept::FileLines;
 use std::alloc::{AllocError, Global};
 use std::marker::Model;
-
-/// How many bytes of lines a chunk has from which on it takes no further line.
-const CHUNK: u32 = 65_536;
 
 /// Whether a byte of the line is a newline.
 fn has_newline(line: &[u8]) -> bool
@@ -37,7 +34,7 @@ fn any_newline(lines: &[Vec<u8>]) -> bool
 #[derive(Drop)]
 pub struct NewLines {
     alloc: Global,
-    lines: KeptLines,
+    lines: FileLines,
 }
 
 impl Model for NewLines {
@@ -62,7 +59,7 @@ impl NewLines {
     {
         NewLines {
             alloc,
-            lines: KeptLines::new(alloc, CHUNK),
+            lines: FileLines::new(alloc),
         }
     }
 
@@ -110,7 +107,7 @@ impl NewLines {
 }
 
 /// The chunks of the lines, in which nothing is found yet.
-pub fn kept_of(given: NewLines) -> KeptLines
+pub fn kept_of(given: NewLines) -> FileLines
     ensures same { map line_text (all_of result) ≡ given }
     ensures free { All HasNoNewline given }
 {

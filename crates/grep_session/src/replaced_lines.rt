@@ -10,8 +10,7 @@ ghost use Rattle.grep_session.specs.Working.SplicePlaces.{PlaceGives};
 ghost use Rattle.line_chunks.specs.Working.Chunks.{all_of};
 
 use crate::fault::EditFault;
-use crate::kept::KeptFile;
-use line_chunks::KeptLines;
+use crate::kept::{FileLines, KeptFile};
 use std::alloc::{AllocError, Global};
 
 /// Whether file `k` has `count` lines from `start` on, and how many lines come after these.
@@ -48,7 +47,7 @@ pub fn put_in(
     file: &mut KeptFile,
     start: usize,
     count: usize,
-    new: &KeptLines,
+    new: &FileLines,
 ) -> Result<(), AllocError>
     requires { IfSome (kept_lines file.old) (λ lines. start + count ≤ length lines) }
     ensures name { file.new.name ≡ file.old.name }

@@ -5,16 +5,16 @@ ghost use Rattle.re_search.specs.Searches.{AllAnswer};
 ghost use Rattle.re_syntax.specs.Lines.{HasNoNewline};
 ghost use Rattle.re_syntax.specs.Profile.{most_patterns};
 ghost use Rattle.line_chunks.specs.Working.Chunks.{all_of, line_text};
-ghost use Rattle.grep_session.specs.Touched.{PartsCostOf};
+ghost use Rattle.grep_session.specs.Touched.{PartsSearchCost};
 ghost use Rattle.grep_session.specs.Working.Changed.{CostAnew, SearchesEach, SearchesOne};
 ghost use Rattle.grep_session.specs.Working.Kept.{ArePartsKept, IsKept};
 ghost use Rattle.re_search.specs.Searches.{SameMatchers};
 
 use crate::change::Change;
 use crate::columns::find_in_lines;
+use crate::kept::FileLines;
 use crate::new_lines::{NewLines, kept_of};
 use grep_core::Options;
-use line_chunks::KeptLines;
 use re_search::{Course, LineMatch, Matcher, Meter, Span, next_part};
 use std::alloc::{AllocError, Global};
 
@@ -38,7 +38,7 @@ pub fn parts_of<M: LineMatch>(
     ensures ok { IfOk result
         (λ spans. ArePartsKept (map M.expression matchers.old) search.now.options line.now spans.items) }
     ensures same_matchers { SameMatchers M.expression M.whole M.room matchers.old matchers.new }
-    ensures steps { SearchesOne (PartsCostOf (map M.expression matchers.old) search.now.options) line.now
+    ensures steps { SearchesOne (PartsSearchCost (map M.expression matchers.old) search.now.options) line.now
         meter.old meter.new }
 {
     let mut spans = Vec::new(search.alloc);
@@ -68,7 +68,7 @@ pub fn search_new(
     options: &Options,
     given: NewLines,
     meter: &mut Meter,
-) -> Result<KeptLines, AllocError>
+) -> Result<FileLines, AllocError>
     requires whole { AllAnswer options.now.line_regexp (map wants_whole matchers.old.items) }
     requires few { length matchers.old.items ≤ most_patterns }
     ensures ok { IfOk result

@@ -5,12 +5,11 @@ ghost use Rattle.grep_session.specs.Working.Kept.{kept_file};
 ghost use Rattle.grep_session.specs.Working.Report.{end_of, is_selected, some_selected};
 ghost use Rattle.grep_session.specs.Working.Report.{has_selected};
 
-use crate::kept::KeptFile;
+use crate::kept::{FileLines, KeptFile};
 use grep_core::{FileEnd, Options};
-use line_chunks::KeptLines;
 
 /// Whether grep selects line `k`: some pattern matches it, and under `-v` none does.
-pub fn is_selected(lines: &KeptLines, k: usize, options: &Options) -> bool
+pub fn is_selected(lines: &FileLines, k: usize, options: &Options) -> bool
     requires { k < length (all_of lines.now) }
     ensures { result ≡ is_selected options.now (get_or (all_of lines.now) k no_line) }
 {
@@ -18,7 +17,7 @@ pub fn is_selected(lines: &KeptLines, k: usize, options: &Options) -> bool
 }
 
 /// Whether some line is selected.
-fn some_selected(lines: &KeptLines, options: &Options) -> bool
+fn some_selected(lines: &FileLines, options: &Options) -> bool
     ensures { result ≡ some_selected options.now (all_of lines.now) }
 {
     if options.invert_match {

@@ -1,5 +1,5 @@
 //! The files that a command may name.
-ghost use Rattle.std.specs.Prelude.{◌≡◌, ℕ, ⊤, List, [], ◌∷◌, Option};
+ghost use Rattle.std.specs.Prelude.{◌≡◌, ℕ, ⊤, List, [], ◌∷◌, Option, IfSome};
 ghost use Rattle.grep_core.specs.Run.{count_more};
 ghost use Rattle.grep_core.specs.Sources.{Opens, Returns};
 ghost use Rattle.grep_utility.specs.Folder.{Folder, file_named, input_used, is_standard, display_name};
@@ -32,6 +32,7 @@ pub trait Files {
         ensures used { folder self.new ≡ input_used (folder self.old) }
         ensures bytes { Self.Reader.remaining result ≡ (folder self.old).input }
         ensures fresh { Self.Reader.failures result ≡ 0 }
+        ensures readable { Self.Reader.may_be_read result }
         ensures counted { failures self.new ≡ failures self.old }
         ensures none_back { Returns returned_readers self.old self.new [] }
         ensures same_loan { loan self.new ≡ loan self.old };
@@ -43,6 +44,7 @@ pub trait Files {
         ensures opened { Opens Self.Reader.remaining Self.Reader.failures
             (file_named (folder self.old) name.now)
             (failures self.old) (failures self.new) result }
+        ensures readable { IfSome result Self.Reader.may_be_read }
         ensures none_back { Returns returned_readers self.old self.new [] }
         ensures same_loan { loan self.new ≡ loan self.old };
 
@@ -124,6 +126,7 @@ pub fn open_named<F: Files>(files: &mut F, name: &str) -> Option<F::Reader>
     ensures opened { Opens F.Reader.remaining F.Reader.failures
         (source_named (F.folder files.old) name.now)
         (F.failures files.old) (F.failures files.new) result }
+    ensures readable { IfSome result F.Reader.may_be_read }
     ensures none_back { Returns F.returned_readers files.old files.new [] }
     ensures same_loan { F.loan files.new ≡ F.loan files.old }
 {

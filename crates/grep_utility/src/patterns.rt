@@ -78,6 +78,7 @@ fn add_all_lines<R: CountedRead>(
     reader: R,
     texts: &mut Vec<u8>,
 ) -> (R, Result<bool, AllocError>)
+    requires { R.may_be_read reader }
     ensures ok { IfOk result.1 (λ all. AddsLines (R.remaining reader) (R.remaining result.0)
         (R.failures reader) (R.failures result.0) texts.old.items texts.new.items all) }
     ensures err { OnErr result.1 (R.failures result.0 ≡ R.failures reader) }

@@ -4,6 +4,7 @@ pub mod Joins
 pub mod Sums
 pub mod Pieces
 pub mod Edits
+pub mod Added
 pub mod Columns
 pub mod BlockLemmas
 pub mod SeenLaws

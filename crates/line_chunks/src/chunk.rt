@@ -93,8 +93,10 @@ impl Chunk {
         self.block.len()
     }
 
-    /// The number of bytes of the lines and their newlines. No contract depends on it.
-    pub fn size(&self) -> usize {
+    /// The number of bytes of the lines and their newlines.
+    pub fn size(&self) -> usize
+        ensures { result ≡ length (terminated (map line_text self.now)) }
+    {
         self.block.text().len()
     }
 

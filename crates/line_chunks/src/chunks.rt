@@ -2,7 +2,7 @@
 ghost use Rattle.std.specs.Prelude.{◌≡◌, ℕ, ◌+◌, ◌-◌, ◌<◌, ◌≤◌, ◌^◌, [], ◌∷◌, ◌++◌, length, map, take, drop, get_or, IfOk, OnErr, slice_set};
 ghost use Rattle.std.specs.List.{splice, remove_range};
 ghost use Rattle.re_syntax.specs.Lines.{HasNoNewline};
-ghost use Rattle.line_chunks.specs.Working.Chunks.{new_line, matched_count, all_of};
+ghost use Rattle.line_chunks.specs.Working.Chunks.{new_line, has_room, with_line, matched_count, all_of};
 ghost use Rattle.line_chunks.specs.Working.Sums.{chunks_of, AreSummed, IsSummedTo};
 
 use crate::chunk::Chunk;
@@ -32,8 +32,8 @@ fn add_to_last(entries: &mut Vec<Entry>, k: usize, line: &[u8]) -> Result<(), Al
     requires last { k + 1 ≡ length entries.old.items }
     requires summed { AreSummed 0 0 entries.old.items }
     requires few { length (all_of (chunks_of entries.old.items)) + 1 < 2 ^ 64 }
-    ensures ok { IfOk result (λ _. all_of (chunks_of entries.new.items) ≡
-        all_of (chunks_of entries.old.items) ++ new_line line.now ∷ []) }
+    ensures ok { IfOk result (λ _. chunks_of entries.new.items ≡ slice_set (chunks_of entries.old.items) k
+        (get_or (chunks_of entries.old.items) k [] ++ new_line line.now ∷ [])) }
     ensures err { OnErr result (entries.new.items ≡ entries.old.items) }
     ensures summed { AreSummed 0 0 entries.new.items }
 {
@@ -59,8 +59,8 @@ fn add_chunk(
     requires free { HasNoNewline line.now }
     requires summed { AreSummed 0 0 entries.old.items }
     requires few { length (all_of (chunks_of entries.old.items)) + 1 < 2 ^ 64 }
-    ensures ok { IfOk result (λ _. all_of (chunks_of entries.new.items) ≡
-        all_of (chunks_of entries.old.items) ++ new_line line.now ∷ []) }
+    ensures ok { IfOk result (λ _. chunks_of entries.new.items ≡
+        chunks_of entries.old.items ++ (new_line line.now ∷ []) ∷ []) }
     ensures err { OnErr result (entries.new.items ≡ entries.old.items) }
     ensures summed { AreSummed 0 0 entries.new.items }
 {
@@ -74,7 +74,9 @@ fn add_chunk(
 }
 
 /// Whether an entry's chunk has at most `limit` bytes with the line and its newline.
-fn takes(entry: &Entry, limit: usize, line: &[u8]) -> bool {
+fn takes(entry: &Entry, limit: usize, line: &[u8]) -> bool
+    ensures { result ≡ has_room limit entry.now.chunk line.now }
+{
     entry.chunk.size().saturating_add(line.len()) < limit
 }
 
@@ -88,8 +90,8 @@ pub fn add_line(
 ) -> Result<(), AllocError>
     requires free { HasNoNewline line.now }
     requires summed { AreSummed 0 0 entries.old.items }
-    ensures ok { IfOk result (λ _. all_of (chunks_of entries.new.items) ≡
-        all_of (chunks_of entries.old.items) ++ new_line line.now ∷ []) }
+    ensures ok { IfOk result (λ _. chunks_of entries.new.items ≡
+        with_line limit (chunks_of entries.old.items) (new_line line.now)) }
     ensures err { OnErr result (entries.new.items ≡ entries.old.items) }
     ensures summed { AreSummed 0 0 entries.new.items }
 {

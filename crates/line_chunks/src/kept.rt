@@ -3,7 +3,7 @@ ghost use Rattle.std.specs.Prelude.{◌≡◌, ℕ, ◌+◌, ◌<◌, ◌≤◌,
 ghost use Rattle.std.specs.List.{splice};
 ghost use Rattle.std.specs.Vec.Iter.{into_iter_items};
 ghost use Rattle.re_syntax.specs.Lines.{HasNoNewline};
-ghost use Rattle.line_chunks.specs.Working.Chunks.{no_line, new_line, line_text, is_matched, matched_count, all_of, line_without, with_columns, FitColumns};
+ghost use Rattle.line_chunks.specs.Working.Chunks.{no_line, new_line, with_line, line_text, is_matched, matched_count, all_of, line_without, with_columns, FitColumns};
 
 use crate::chunk::Chunk;
 use crate::chunks::{add_line, insert, remove};
@@ -18,15 +18,14 @@ use std::alloc::{AllocError, Global};
 use std::marker::Model;
 use std::vec::IntoIter;
 
-/// The lines of a file with what is found in each, in chunks. Contracts see the list of its chunks.
+/// The lines of a file with what is found in each, in chunks. A chunk to which lines are added has at
+/// most `LIMIT` bytes. Contracts see the list of the chunks.
 #[derive(Drop)]
-pub struct KeptLines {
+pub struct KeptLines<const LIMIT: u32> {
     entries: Vec<Entry>,
-    /// The most bytes of a chunk to which lines are added.
-    limit: u32,
 }
 
-impl Model for KeptLines {
+impl<const LIMIT: u32> Model for KeptLines<LIMIT> {
     ghost use Rattle.std.specs.Prelude.{List};
     ghost use Rattle.line_chunks.specs.Working.Chunks.{KeptLine};
 
@@ -40,14 +39,13 @@ impl Model for KeptLines {
     ghost invariant = { λ lines. AreSummed 0 0 lines.entries.items };
 }
 
-impl KeptLines {
-    /// No lines. One goes to the last chunk if this has at most `limit` bytes then.
-    pub fn new(alloc: Global, limit: u32) -> KeptLines
+impl<const LIMIT: u32> KeptLines<LIMIT> {
+    /// No lines.
+    pub fn new(alloc: Global) -> KeptLines<LIMIT>
         ensures { result ≡ [] }
     {
         KeptLines {
             entries: Vec::new(alloc),
-            limit,
         }
     }
 
@@ -139,13 +137,15 @@ impl KeptLines {
         find_next(&self.entries, from, matched)
     }
 
-    /// Adds a line in which nothing is found.
+    /// Adds a line in which nothing is found: to the last chunk if this has at most `LIMIT` bytes
+    /// then, and otherwise as a chunk of its own.
     pub fn push(&mut self, alloc: Global, line: &[u8]) -> Result<(), AllocError>
         requires { HasNoNewline line.now }
         ensures ok { IfOk result (λ _. all_of self.new ≡ all_of self.old ++ new_line line.now ∷ []) }
+        ensures chunks { IfOk result (λ _. self.new ≡ with_line LIMIT self.old (new_line line.now)) }
         ensures err { OnErr result (self.new ≡ self.old) }
     {
-        add_line(alloc, &mut self.entries, self.limit as usize, line)
+        add_line(alloc, &mut self.entries, LIMIT as usize, line)
     }
 
     /// Puts other lines in the place of `count` lines from `start` on. If there is no memory for
@@ -155,7 +155,7 @@ impl KeptLines {
         alloc: Global,
         start: usize,
         count: usize,
-        new: &KeptLines,
+        new: &KeptLines<LIMIT>,
     ) -> Result<(), AllocError>
         requires { start + count ≤ length (all_of self.old) }
         ensures ok { IfOk result (λ _. all_of self.new ≡
@@ -173,7 +173,7 @@ impl KeptLines {
         }
         let filling = Filling {
             alloc,
-            limit: self.limit as usize,
+            limit: LIMIT as usize,
         };
         insert(filling, &mut self.entries, start, count, &new.entries)
     }

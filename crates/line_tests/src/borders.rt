@@ -23,50 +23,58 @@ fn texts_of(alloc: Global, lines: &[&[u8]], count: usize) -> Result<Vec<Vec<u8>>
 }
 
 /// Puts `new` lines in the place of those from `start` up to `end`, in chunks of this size.
-fn assert_splice(
+fn assert_splice<const LIMIT: u32>(
     rt: &impl Abort,
     alloc: Global,
-    limit: u32,
     start: usize,
     end: usize,
     new: usize,
 ) -> Result<(), Fail> {
     let mut texts = texts_of(alloc, &LINES, 6)?;
-    let mut lines = kept_of(alloc, limit, &texts, b"ab")?;
-    assert_same(rt, alloc, &lines, limit, &texts, b"ab")?;
+    let mut lines = kept_of::<LIMIT>(alloc, &texts, b"ab")?;
+    assert_same(rt, alloc, &lines, &texts, b"ab")?;
     let count = end.saturating_sub(start);
     let fresh = texts_of(alloc, &NEW, new)?;
-    let made = splice_both(
-        alloc, &mut lines, limit, &mut texts, b"ab", start, count, fresh,
-    )?;
+    let made = splice_both(alloc, &mut lines, &mut texts, b"ab", start, count, fresh)?;
     assert!(rt; made, "lines from {start} to {end}");
-    assert_same(rt, alloc, &lines, limit, &texts, b"ab")
+    assert_same(rt, alloc, &lines, &texts, b"ab")
 }
 
 /// Makes each splice that begins at a line, with none, one and three new lines.
-fn assert_from(rt: &impl Abort, alloc: Global, limit: u32, start: usize) -> Result<(), Fail> {
+fn assert_from<const LIMIT: u32>(rt: &impl Abort, alloc: Global, start: usize) -> Result<(), Fail> {
     for end in start..7 {
         for new in [0, 1, 3] {
-            assert_splice(rt, alloc, limit, start, end, new)?;
+            assert_splice::<LIMIT>(rt, alloc, start, end, new)?;
         }
+    }
+    Ok(())
+}
+
+/// Makes each splice of lines in chunks of this size.
+fn assert_all<const LIMIT: u32>(rt: &impl Abort, alloc: Global) -> Result<(), Fail> {
+    for start in 0usize..7 {
+        assert_from::<LIMIT>(rt, alloc, start)?;
     }
     Ok(())
 }
 
 #[test]
 fn splices_at_each_border(rt: HostRuntime) -> Result<(), Fail> {
-    for limit in [0, 1, 4, 6, 1_000] {
-        for start in 0usize..7 {
-            assert_from(&rt, rt.alloc(), limit, start)?;
-        }
-    }
-    Ok(())
+    assert_all::<0>(&rt, rt.alloc())?;
+    assert_all::<1>(&rt, rt.alloc())?;
+    assert_all::<4>(&rt, rt.alloc())?;
+    assert_all::<6>(&rt, rt.alloc())?;
+    assert_all::<1_000>(&rt, rt.alloc())
 }
 
 /// The number of lines of each of three chunks.
-fn assert_sizes(rt: &impl Abort, alloc: Global, limit: u32, sizes: [usize; 3]) -> Result<(), Fail> {
+fn assert_sizes<const LIMIT: u32>(
+    rt: &impl Abort,
+    alloc: Global,
+    sizes: [usize; 3],
+) -> Result<(), Fail> {
     let texts = texts_of(alloc, &LINES, 6)?;
-    let lines = kept_of(alloc, limit, &texts, b"ab")?;
+    let lines = kept_of::<LIMIT>(alloc, &texts, b"ab")?;
     assert_eq!(rt; lines.chunk_count(), 3);
     for i in 0..lines.chunk_count() {
         if i < 3 {
@@ -78,5 +86,5 @@ fn assert_sizes(rt: &impl Abort, alloc: Global, limit: u32, sizes: [usize; 3]) -
 
 #[test]
 fn lines_are_in_three_chunks(rt: HostRuntime) -> Result<(), Fail> {
-    assert_sizes(&rt, rt.alloc(), 4, [2, 2, 2])
+    assert_sizes::<4>(&rt, rt.alloc(), [2, 2, 2])
 }

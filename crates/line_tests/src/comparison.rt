@@ -7,9 +7,9 @@ use std::process::Abort;
 use std::test::Fail;
 
 /// Compares line `place`, the parts of it, whether it is matched, and how many lines are before it.
-fn assert_line(
+fn assert_line<const LIMIT: u32>(
     rt: &impl Abort,
-    lines: &KeptLines,
+    lines: &KeptLines<LIMIT>,
     place: usize,
     text: &[u8],
     letters: &[u8],
@@ -40,7 +40,12 @@ fn assert_spans(rt: &impl Abort, spans: &[Span], text: &[u8]) {
 }
 
 /// Compares all lines, and the numbers of them and of the matched ones.
-fn assert_lines(rt: &impl Abort, lines: &KeptLines, texts: &[Vec<u8>], letters: &[u8]) {
+fn assert_lines<const LIMIT: u32>(
+    rt: &impl Abort,
+    lines: &KeptLines<LIMIT>,
+    texts: &[Vec<u8>],
+    letters: &[u8],
+) {
     assert_eq!(rt; lines.len(), texts.len());
     let mut hits: usize = 0;
     for place in 0..texts.len() {
@@ -54,7 +59,13 @@ fn assert_lines(rt: &impl Abort, lines: &KeptLines, texts: &[Vec<u8>], letters: 
 }
 
 /// Compares the next line of a kind from line `place` on.
-fn assert_next(rt: &impl Abort, lines: &KeptLines, place: usize, matched: bool, next: usize) {
+fn assert_next<const LIMIT: u32>(
+    rt: &impl Abort,
+    lines: &KeptLines<LIMIT>,
+    place: usize,
+    matched: bool,
+    next: usize,
+) {
     let there = place <= lines.len();
     assert!(rt; there, "line {place}");
     assert_eq!(rt;
@@ -65,7 +76,12 @@ fn assert_next(rt: &impl Abort, lines: &KeptLines, place: usize, matched: bool, 
 }
 
 /// Compares the next matched line, and the next that is not, from each line on.
-fn assert_nexts(rt: &impl Abort, lines: &KeptLines, texts: &[Vec<u8>], letters: &[u8]) {
+fn assert_nexts<const LIMIT: u32>(
+    rt: &impl Abort,
+    lines: &KeptLines<LIMIT>,
+    texts: &[Vec<u8>],
+    letters: &[u8],
+) {
     let mut matched = texts.len();
     let mut bare = texts.len();
     assert_next(rt, lines, texts.len(), true, matched);
@@ -153,32 +169,30 @@ fn assert_chunk(
 }
 
 /// Compares all chunks, each of which has lines, and none more than the limit lets it take.
-fn assert_chunks(
+fn assert_chunks<const LIMIT: u32>(
     rt: &impl Abort,
     alloc: Global,
-    lines: &KeptLines,
-    limit: u32,
+    lines: &KeptLines<LIMIT>,
     texts: &[Vec<u8>],
     letters: &[u8],
 ) -> Result<(), Fail> {
     let mut at = 0;
     for i in 0..lines.chunk_count() {
-        at = assert_chunk(rt, alloc, lines.chunk(i), limit, texts, letters, at)?;
+        at = assert_chunk(rt, alloc, lines.chunk(i), LIMIT, texts, letters, at)?;
     }
     assert_eq!(rt; at, texts.len());
     Ok(())
 }
 
 /// Compares all that is said of the lines with what the plain list and the letters say.
-pub fn assert_same(
+pub fn assert_same<const LIMIT: u32>(
     rt: &impl Abort,
     alloc: Global,
-    lines: &KeptLines,
-    limit: u32,
+    lines: &KeptLines<LIMIT>,
     texts: &[Vec<u8>],
     letters: &[u8],
 ) -> Result<(), Fail> {
     assert_lines(rt, lines, texts, letters);
     assert_nexts(rt, lines, texts, letters);
-    assert_chunks(rt, alloc, lines, limit, texts, letters)
+    assert_chunks(rt, alloc, lines, texts, letters)
 }

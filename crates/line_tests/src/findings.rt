@@ -104,9 +104,9 @@ fn found_in(alloc: Global, chunk: &Chunk, letters: &[u8]) -> Result<Found, Alloc
 }
 
 /// What is found in the lines of each chunk.
-fn columns_of(
+fn columns_of<const LIMIT: u32>(
     alloc: Global,
-    lines: &KeptLines,
+    lines: &KeptLines<LIMIT>,
     letters: &[u8],
 ) -> Result<Vec<Option<Found>>, AllocError>
     ensures { IfOk result (λ found. FitColumns lines.now found.items) }
@@ -120,7 +120,11 @@ fn columns_of(
 }
 
 /// Puts in place what is found in all lines.
-pub fn find(alloc: Global, lines: &mut KeptLines, letters: &[u8]) -> Result<(), AllocError> {
+pub fn find<const LIMIT: u32>(
+    alloc: Global,
+    lines: &mut KeptLines<LIMIT>,
+    letters: &[u8],
+) -> Result<(), AllocError> {
     let columns = columns_of(alloc, lines, letters)?;
     lines.put_columns(&mut columns.into_iter());
     Ok(())
@@ -134,13 +138,12 @@ fn is_line(line: &[u8]) -> bool
 }
 
 /// These lines in chunks, with what is found in them. One with a newline in it is left out.
-pub fn kept_of(
+pub fn kept_of<const LIMIT: u32>(
     alloc: Global,
-    limit: u32,
     texts: &[Vec<u8>],
     letters: &[u8],
-) -> Result<KeptLines, AllocError> {
-    let mut lines = KeptLines::new(alloc, limit);
+) -> Result<KeptLines<LIMIT>, AllocError> {
+    let mut lines = KeptLines::new(alloc);
     for text in texts {
         if is_line(text) {
             lines.push(alloc, text)?;

@@ -4,12 +4,12 @@ use line_chunks::KeptLines;
 use std::alloc::{AllocError, Global};
 
 /// Puts lines in the place of `count` from `start` on, where these are there; whether they are.
-pub fn splice_kept(
+pub fn splice_kept<const LIMIT: u32>(
     alloc: Global,
-    lines: &mut KeptLines,
+    lines: &mut KeptLines<LIMIT>,
     start: usize,
     count: usize,
-    new: &KeptLines,
+    new: &KeptLines<LIMIT>,
 ) -> Result<bool, AllocError> {
     let all = lines.len();
     if start > all || count > all - start {
@@ -36,17 +36,16 @@ pub fn splice_plain(
 }
 
 /// Makes one splice in both; whether the lines are there.
-pub fn splice_both(
+pub fn splice_both<const LIMIT: u32>(
     alloc: Global,
-    lines: &mut KeptLines,
-    limit: u32,
+    lines: &mut KeptLines<LIMIT>,
     texts: &mut Vec<Vec<u8>>,
     letters: &[u8],
     start: usize,
     count: usize,
     new: Vec<Vec<u8>>,
 ) -> Result<bool, AllocError> {
-    let kept = kept_of(alloc, limit, &new, letters)?;
+    let kept = kept_of(alloc, &new, letters)?;
     if !splice_kept(alloc, lines, start, count, &kept)? {
         return Ok(false);
     }

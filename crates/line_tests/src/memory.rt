@@ -30,9 +30,9 @@ fn texts_of(alloc: Global, count: usize) -> Result<Vec<Vec<u8>>, AllocError> {
 /// whether one did. Where the splice was refused for that, all is as it was.
 fn assert_refusal(rt: &impl Abort, alloc: Global, new: usize, n: usize) -> Result<bool, Fail> {
     let mut texts = texts_of(alloc, 12)?;
-    let mut lines = kept_of(alloc, LIMIT, &texts, b"ab")?;
+    let mut lines = kept_of::<LIMIT>(alloc, &texts, b"ab")?;
     let fresh = texts_of(alloc, new)?;
-    let kept = kept_of(alloc, LIMIT, &fresh, b"ab")?;
+    let kept = kept_of::<LIMIT>(alloc, &fresh, b"ab")?;
     refuse(alloc, n)?;
     let given = splice_kept(alloc, &mut lines, 2, 5, &kept);
     let refused = was_refused(alloc);
@@ -43,7 +43,7 @@ fn assert_refusal(rt: &impl Abort, alloc: Global, new: usize, n: usize) -> Resul
         }
         Err(_) => assert!(rt; refused, "request {n}"),
     }
-    assert_same(rt, alloc, &lines, LIMIT, &texts, b"ab")?;
+    assert_same(rt, alloc, &lines, &texts, b"ab")?;
     Ok(refused)
 }
 

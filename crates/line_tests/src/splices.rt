@@ -15,7 +15,11 @@ const SPLICES: usize = 16_700;
 const LETTERS: [u8; 3] = [b'a', b'b', b'd'];
 
 /// Removes a pattern if there is one.
-fn drop_one(numbers: &mut Numbers, lines: &mut KeptLines, letters: &mut Vec<u8>) {
+fn drop_one<const LIMIT: u32>(
+    numbers: &mut Numbers,
+    lines: &mut KeptLines<LIMIT>,
+    letters: &mut Vec<u8>,
+) {
     let p = numbers.below(letters.len());
     if p < letters.len() {
         letters.remove(p);
@@ -24,10 +28,10 @@ fn drop_one(numbers: &mut Numbers, lines: &mut KeptLines, letters: &mut Vec<u8>)
 }
 
 /// Adds a pattern if one more is wanted.
-fn add_one(
+fn add_one<const LIMIT: u32>(
     alloc: Global,
     numbers: &mut Numbers,
-    lines: &mut KeptLines,
+    lines: &mut KeptLines<LIMIT>,
     letters: &mut Vec<u8>,
 ) -> Result<(), Fail> {
     if letters.len() < 4 {
@@ -38,12 +42,11 @@ fn add_one(
 }
 
 /// Makes a splice at a random place. Where there are many lines, many go.
-fn splice_once(
+fn splice_once<const LIMIT: u32>(
     rt: &impl Abort,
     alloc: Global,
     numbers: &mut Numbers,
-    lines: &mut KeptLines,
-    limit: u32,
+    lines: &mut KeptLines<LIMIT>,
     texts: &mut Vec<Vec<u8>>,
     letters: &[u8],
 ) -> Result<(), Fail> {
@@ -51,18 +54,17 @@ fn splice_once(
     let most = if texts.len() > 200 { 100 } else { 41 };
     let count = numbers.below(most).min(texts.len().saturating_sub(start));
     let new = some_lines(alloc, numbers)?;
-    let made = splice_both(alloc, lines, limit, texts, letters, start, count, new)?;
+    let made = splice_both(alloc, lines, texts, letters, start, count, new)?;
     assert!(rt; made, "{start} and {count} lines are there");
     Ok(())
 }
 
 /// Makes an edit: most are splices, and now and then a pattern goes or comes.
-fn edit_once(
+fn edit_once<const LIMIT: u32>(
     rt: &impl Abort,
     alloc: Global,
     numbers: &mut Numbers,
-    lines: &mut KeptLines,
-    limit: u32,
+    lines: &mut KeptLines<LIMIT>,
     texts: &mut Vec<Vec<u8>>,
     letters: &mut Vec<u8>,
 ) -> Result<(), Fail> {
@@ -73,13 +75,13 @@ fn edit_once(
     if kind == 1 {
         add_one(alloc, numbers, lines, letters)?;
     }
-    splice_once(rt, alloc, numbers, lines, limit, texts, letters)
+    splice_once(rt, alloc, numbers, lines, texts, letters)
 }
 
 /// Makes many edits of lines in chunks of this size, and compares after some of them.
-fn assert_edits(rt: &impl Abort, alloc: Global, limit: u32) -> Result<(), Fail> {
-    let mut numbers = Numbers::from(limit as u64);
-    let mut lines = KeptLines::new(alloc, limit);
+fn assert_edits<const LIMIT: u32>(rt: &impl Abort, alloc: Global) -> Result<(), Fail> {
+    let mut numbers = Numbers::from(LIMIT as u64);
+    let mut lines = KeptLines::<LIMIT>::new(alloc);
     let mut texts = Vec::new(alloc);
     let mut letters = Vec::from_slice(alloc, b"ab")?;
     for k in 0..SPLICES {
@@ -88,44 +90,43 @@ fn assert_edits(rt: &impl Abort, alloc: Global, limit: u32) -> Result<(), Fail> 
             alloc,
             &mut numbers,
             &mut lines,
-            limit,
             &mut texts,
             &mut letters,
         )?;
         assert_eq!(rt; lines.len(), texts.len());
         if k % 4 == 0 {
-            assert_same(rt, alloc, &lines, limit, &texts, &letters)?;
+            assert_same(rt, alloc, &lines, &texts, &letters)?;
         }
     }
-    assert_same(rt, alloc, &lines, limit, &texts, &letters)
+    assert_same(rt, alloc, &lines, &texts, &letters)
 }
 
 #[test]
 fn chunks_of_one_line(rt: HostRuntime) -> Result<(), Fail> {
-    assert_edits(&rt, rt.alloc(), 0)
+    assert_edits::<0>(&rt, rt.alloc())
 }
 
 #[test]
 fn chunks_of_a_byte(rt: HostRuntime) -> Result<(), Fail> {
-    assert_edits(&rt, rt.alloc(), 1)
+    assert_edits::<1>(&rt, rt.alloc())
 }
 
 #[test]
 fn chunks_of_4_bytes(rt: HostRuntime) -> Result<(), Fail> {
-    assert_edits(&rt, rt.alloc(), 4)
+    assert_edits::<4>(&rt, rt.alloc())
 }
 
 #[test]
 fn chunks_of_8_bytes(rt: HostRuntime) -> Result<(), Fail> {
-    assert_edits(&rt, rt.alloc(), 8)
+    assert_edits::<8>(&rt, rt.alloc())
 }
 
 #[test]
 fn chunks_of_64_bytes(rt: HostRuntime) -> Result<(), Fail> {
-    assert_edits(&rt, rt.alloc(), 64)
+    assert_edits::<64>(&rt, rt.alloc())
 }
 
 #[test]
 fn chunks_of_1000_bytes(rt: HostRuntime) -> Result<(), Fail> {
-    assert_edits(&rt, rt.alloc(), 1_000)
+    assert_edits::<1_000>(&rt, rt.alloc())
 }

@@ -50,6 +50,7 @@ fn run_on_devices<R: CountedRead, W: CountedWrite, M: CountedWrite>(
 ) -> u8
     requires least { 1 ≤ states }
     requires most { states ≤ most_states }
+    requires readable { R.may_be_read reader.old }
     ensures { ProgramGives W.contents W.failures W.waiting states
         (streams (R.remaining reader.old) (R.failures reader.old) out.old
         (writer M.contents M.failures messages.old) (M.waiting messages.old) meter.old)

@@ -7,7 +7,7 @@ pub use Rattle.re_match.specs.Working.Literals.{Literals, any_literal, literal_m
 pub use Rattle.re_match.specs.Working.Strings.{IsPartOfLines, StringMatcher, look_expression}
 pub use Rattle.re_match.specs.Working.NextParts.{BeginsLater}
 pub use Rattle.re_match.specs.Working.Same.{SameMatcher}
-pub use Rattle.re_match.specs.Working.Sweeps.{LooksOver, StopsAt, left_for}
+pub use Rattle.re_match.specs.Working.Sweeps.{IsSameFrom, LooksOver, StopsAt, left_for}
 pub use Rattle.re_match.specs.declared.sweeps.Stop.{Stop}
 pub use Rattle.re_match.specs.declared.sweeps.Stop.TheVariants.{Matched, Seen, Unseen}
 pub use Rattle.re_match.specs.declared.sweeps.Sweep.{Sweep}

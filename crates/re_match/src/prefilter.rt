@@ -1,5 +1,5 @@
 //! What is known of lines, parts and blocks by what each match contains.
-ghost use Rattle.std.specs.Prelude.{◌≡◌, ℕ, ◌+◌, ◌≤◌, IfOk, IfSome, IsTrue, Some, length, map};
+ghost use Rattle.std.specs.Prelude.{◌≡◌, ℕ, ◌+◌, ◌≤◌, ◌⊎◌, false, IfOk, IfSome, IsTrue, Some, length, map};
 ghost use Rattle.std.specs.Prelude.{slice_range};
 ghost use Rattle.re_syntax.specs.Expression.{Expression};
 ghost use Rattle.re_syntax.specs.Working.Trees.{expression_of};
@@ -18,10 +18,13 @@ use crate::scan_backoff::ScanBackoff;
 use crate::sweeps::{Stop, Sweep};
 use crate::tries::{NextPart, next_tried};
 use re_auto::{Automaton, Meter};
-use re_needle::{LookCost, Needle, bytes_of};
+use re_needle::{LookCost, Needle, bytes_of, has_begin};
 use re_runs::{RunFinder, Swept, first_line_beginning_with, first_line_with_run, has_no_newline};
 use re_syntax::{ByteSet, Span, Tree};
 use std::alloc::{AllocError, Global};
+
+// A search that begins so many bytes after its line does counts as a byte that a look passed.
+const WORTH_A_BYTE: usize = 32;
 
 /// What each match of an expression contains, if that is known. It is looked for in lines, and in
 /// blocks where such looks pay.
@@ -30,6 +33,8 @@ pub struct Prefilter {
     needle: Option<Needle>,
     // Bytes, among which are all of each match.
     bytes: ByteSet,
+    // Whether the expression has a `^`.
+    has_begin: bool,
     backoff: ScanBackoff,
 }
 
@@ -44,6 +49,7 @@ impl Prefilter {
         Ok(Prefilter {
             needle,
             bytes,
+            has_begin: has_begin(tree),
             backoff,
         })
     }
@@ -95,10 +101,11 @@ impl Prefilter {
     // Looks for the first line of a block of whole lines that may be matched. No line before it is.
     fn first_line(&self, block: &[u8], whole: bool, meter: &mut Meter) -> Sweep
         requires { IsBlock block.now }
-        ensures passes { (e : Expression) → IsNeedleFor e self.now.needle →
+        ensures passes { (e : Expression) → IsPrefilterFor e self.now →
             PassesUnmatched e whole block.now result.start }
-        ensures stops { (e : Expression) → IsNeedleFor e self.now.needle →
+        ensures stops { (e : Expression) → IsPrefilterFor e self.now →
             StopsAt e whole block.now result }
+        ensures low { result.start ≤ result.first }
         ensures steps { AddsUpTo 0 result.reached meter.old meter.new }
     {
         let Some(needle) = &self.needle else {
@@ -112,7 +119,27 @@ impl Prefilter {
         if needle.is_all && !whole && has_run(&needle.finder, block, swept) {
             return Sweep::of(block, swept, Stop::Matched);
         }
-        Sweep::of(block, swept, Stop::Seen)
+        let first = self.first_place(needle, whole, swept);
+        Sweep {
+            first,
+            ..Sweep::of(block, swept, Stop::Seen)
+        }
+    }
+
+    // From which place on the line is searched in which a look for the needle stopped: from the needle's,
+    // if each match begins with it, wherever its line begins.
+    #[inline(always)]
+    fn first_place(&self, needle: &Needle, whole: bool, swept: Swept) -> usize
+        ensures { (result ≡ swept.start) ⊎ (IsTrue needle.now.is_first × (whole ≡ false)
+            × (self.now.has_begin ≡ false) × (swept.place ≡ Some result)) }
+    {
+        let Some(place) = swept.place else {
+            return swept.start;
+        };
+        if needle.is_first && !whole && !self.has_begin {
+            return place;
+        }
+        swept.start
     }
 
     /// What is known of the next part of the line, where the whole line need not be matched. If the
@@ -150,9 +177,9 @@ impl Prefilter {
     #[inline(always)]
     pub fn sweep(&self, block: &[u8], whole: bool, meter: &mut Meter) -> Sweep
         requires { IsBlock block.now }
-        ensures passes { (e : Expression) → IsNeedleFor e self.now.needle →
+        ensures passes { (e : Expression) → IsPrefilterFor e self.now →
             PassesUnmatched e whole block.now result.start }
-        ensures stops { (e : Expression) → IsNeedleFor e self.now.needle →
+        ensures stops { (e : Expression) → IsPrefilterFor e self.now →
             StopsAt e whole block.now result }
         ensures steps { AddsUpTo result.start result.reached meter.old meter.new }
     {
@@ -160,7 +187,8 @@ impl Prefilter {
             return Sweep::none();
         }
         let sweep = self.first_line(block, whole, meter);
-        self.backoff.note(sweep.start);
+        let ahead = (sweep.first - sweep.start) / WORTH_A_BYTE;
+        self.backoff.note(sweep.start + ahead);
         meter.add_built(sweep.start as u64);
         sweep
     }

@@ -128,6 +128,7 @@ impl StringSet {
         ensures found { (end : ℕ) → IsLineFrom block.now result.start end →
             Matches (any_literal self.now) (slice_range block.now result.start end) false }
         ensures unknown { result.stop ≡ Matched → ⊥ }
+        ensures first { result.first ≡ result.start }
         ensures looked { LooksForAny self.now block.now meter.old meter.new }
         ensures steps { AddsUpTo 0 result.reached meter.old meter.new }
     {

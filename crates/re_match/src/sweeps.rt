@@ -32,6 +32,8 @@ pub enum Stop {
 pub struct Sweep {
     /// Where the line begins at which it stopped; the end of the block if it passed all lines.
     pub start: usize,
+    /// A place of that line, before which no match of it begins; `start` if none is known.
+    pub first: usize,
     /// Up to where the block was looked over: `start`, or a place of that line or the end of its
     /// newline.
     pub reached: usize,
@@ -42,10 +44,11 @@ pub struct Sweep {
 impl Sweep {
     /// No line was passed, and none looked over.
     pub fn none() -> Sweep
-        ensures { result ≡ record { start = 0; reached = 0; stop = Unseen } }
+        ensures { result ≡ record { start = 0; first = 0; reached = 0; stop = Unseen } }
     {
         Sweep {
             start: 0,
+            first: 0,
             reached: 0,
             stop: Stop::Unseen,
         }
@@ -53,10 +56,11 @@ impl Sweep {
 
     /// A look stopped at `reached`, in the line that begins at `start`, which may be matched.
     pub fn to(start: usize, reached: usize) -> Sweep
-        ensures { result ≡ record { start = start; reached = reached; stop = Seen } }
+        ensures { result ≡ record { start = start; first = start; reached = reached; stop = Seen } }
     {
         Sweep {
             start,
+            first: start,
             reached,
             stop: Stop::Seen,
         }
@@ -67,12 +71,14 @@ impl Sweep {
         requires { IfSome swept.place (λ at. at ≤ length block.now) }
         ensures { result ≡ record {
           start = swept.start;
+          first = swept.start;
           reached = look_cost block.now swept.place;
           stop = stop;
         } }
     {
         Sweep {
             start: swept.start,
+            first: swept.start,
             reached: bytes_over(block, swept.place),
             stop,
         }
@@ -110,7 +116,8 @@ pub trait Sweeps {
 }
 
 /// The first line of a block of whole lines that is matched, like `LineMatch::next_matched`. Each
-/// line at which a sweep stops is searched, if the sweep doesn't say that it is matched.
+/// line at which a sweep stops is searched, if the sweep doesn't say that it is matched, from the
+/// first place on at which a match may begin.
 pub fn next_by_sweeps<M: Sweeps>(matcher: &mut M, block: &[u8], meter: &mut Meter) -> Option<Span>
     requires { IsBlock block.now }
     ensures reported { FindsMatched (M.expression matcher.old) (M.whole matcher.old)
@@ -126,7 +133,8 @@ pub fn next_by_sweeps<M: Sweeps>(matcher: &mut M, block: &[u8], meter: &mut Mete
         let Some(end) = line_end(block, from) else {
             return None;
         };
-        if matcher.search_after(sweep.stop, &block[from..end], meter) {
+        let first = start + sweep.first;
+        if matcher.search_after(sweep.stop, &block[first..end], meter) {
             return Some(Span { start: from, end });
         }
         start = end + 1;

@@ -5,3 +5,4 @@ pub mod ChoiceOutlines
 pub mod NeedleLaws
 pub mod BranchLaws
 pub mod NeededLines
+pub mod LaterStarts

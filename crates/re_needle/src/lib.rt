@@ -1,6 +1,7 @@
 //! What every match of an expression contains.
 #![tactic(auto)]
 
+mod anchors;
 mod bytes;
 mod choice;
 mod choice_needle;
@@ -10,6 +11,7 @@ mod needle;
 mod outline;
 mod outline_item;
 
+pub use anchors::has_begin;
 pub use bytes::bytes_of;
 pub use cost::LookCost;
 pub use needle::{Needle, one_byte};

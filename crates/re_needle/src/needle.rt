@@ -45,7 +45,7 @@ impl Needle {
     pub fn of(alloc: Global, tree: &Tree) -> Result<Option<Needle>, AllocError>
         ensures { IfOk result (IsNeedleFor (expression_of tree.now)) }
     {
-        let choice = choice_needle(alloc, tree)?;
+        let choice = choice_needle(alloc, tree, true)?;
         if choice.is_some() {
             return Ok(choice);
         }
@@ -79,6 +79,15 @@ impl Needle {
         }
     }
 
+    /// About how many of 65,536 places of most texts a look for it stops at: none if it is a string, which
+    /// is looked for fast.
+    pub fn stops(&self) -> u64 {
+        match &self.finder {
+            RunFinder::Text(_) => 0,
+            RunFinder::Sets(finder) => finder.stops(),
+        }
+    }
+
     /// What the search for it over a block costs.
     pub fn look_cost(&self) -> LookCost {
         if self.is_common && self.finder.text().is_none() {
@@ -88,14 +97,10 @@ impl Needle {
     }
 }
 
-// About how many of 65,536 places of most texts the needle stops at: none if it is a string, which is
-// looked for fast, and all if it is common or there is none.
+// The same of a needle that may be missing: all places if there is none, or if it is common.
 fn stops_of(needle: &Option<Needle>) -> u64 {
     match needle {
-        Some(needle) if !needle.is_common => match &needle.finder {
-            RunFinder::Text(_) => 0,
-            RunFinder::Sets(finder) => finder.stops(),
-        },
+        Some(needle) if !needle.is_common => needle.stops(),
         _ => u64::MAX,
     }
 }
@@ -137,6 +142,16 @@ pub fn run_needle(alloc: Global, tree: &Tree) -> Result<Option<Needle>, AllocErr
         return Ok(single);
     }
     set_needle(alloc, &marks, sets.start, RunKind::SmallSets, 1, true)
+}
+
+/// The two or more small sets with which each match begins. `None` if they aren't known. The only error is
+/// that an allocation failed.
+pub fn head_needle(alloc: Global, tree: &Tree) -> Result<Option<Needle>, AllocError>
+    ensures { IfOk result (IsRunNeedleFor (expression_of tree.now)) }
+{
+    let mut marks = Vec::new(alloc);
+    add_outline(alloc, tree, &mut marks)?;
+    set_needle(alloc, &marks, 0, RunKind::SmallSets, 2, true)
 }
 
 // The needle of the single bytes from a mark on, if there are at least `least`.

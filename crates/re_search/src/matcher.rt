@@ -275,8 +275,7 @@ pub(crate) fn checked_positions(
 ) -> Result<usize, PatternFault>
     ensures counted { IfOk result (HasPositions syntax text.now) }
     ensures small { IfOk result (λ count. IsTrue (has_limit syntax fold) → count ≤ most_positions) }
-    ensures refused { IfErr result
-        (λ fault. IsOutOfMemory fault ⊎ IsRefusedFor syntax fold text.now fault) }
+    ensures refused { IfErr result (IsRefusedFor syntax fold text.now) }
 {
     let count = spelled_positions(text, syntax)?;
     if count > MOST_POSITIONS && is_limited(syntax, fold) {
@@ -306,8 +305,7 @@ pub(crate) fn built_tree(
 // How many positions the text has, as a pattern.
 fn spelled_positions(text: &[u8], syntax: Syntax) -> Result<usize, PatternFault>
     ensures counted { IfOk result (HasPositions syntax text.now) }
-    ensures refused { IfErr result
-        (λ fault. IsOutOfMemory fault ⊎ IsNotSpelled syntax text.now fault) }
+    ensures refused { IfErr result (IsNotSpelled syntax text.now) }
 {
     match syntax {
         Syntax::Basic => basic_positions(text),

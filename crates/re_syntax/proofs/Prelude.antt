@@ -28,7 +28,7 @@ pub use Rattle.re_syntax.specs.Working.DuplicationSteps.{HasNone, HasOne}
 pub use Rattle.re_syntax.specs.Working.EscapeSteps.{EscapeStands, HasNoEscape, refused}
 pub use Rattle.re_syntax.specs.Working.ExtendedSteps.{IsNext, IsNoSign, ends, is_stop, stops}
 pub use Rattle.re_syntax.specs.Working.IntervalSteps.{AreDigits, GreatestStands, HasNoDigit, HasNoGreatest, IntervalStands, IsDigitCount, NumberStands}
-pub use Rattle.re_syntax.specs.Working.PieceSteps.{AreReported, IsBracketPiece, IsJoined, IsRefused, IsRepeated, IsReported, meant_bytes, memory, reported}
+pub use Rattle.re_syntax.specs.Working.PieceSteps.{AreReported, IsBracketPiece, IsJoined, IsRefused, IsRepeated, IsReported, RunsOut, meant_bytes, memory, reported}
 pub use Rattle.re_syntax.specs.Working.Splits.{texts_of_rest}
 pub use Rattle.re_syntax.specs.Working.StandardBasic.{IsStandardBasic}
 pub use Rattle.re_syntax.specs.Working.StandardExtended.{IsStandardExtended}

@@ -11,7 +11,7 @@ ghost use Rattle.re_syntax.specs.Profile.{most_levels};
 ghost use Rattle.re_syntax.specs.Spelled.{IsSpelled, SpellsNoOther};
 ghost use Rattle.re_syntax.specs.BasicFaults.{NeedsItem, IsStart, HasNothingToRepeat, IsShownIn};
 ghost use Rattle.re_syntax.specs.BasicFaults.{IsNoBasic};
-ghost use Rattle.re_syntax.specs.Working.PieceSteps.{IsReported, IsRefused};
+ghost use Rattle.re_syntax.specs.Working.PieceSteps.{IsReported, IsRefused, RunsOut};
 ghost use Rattle.re_syntax.specs.Working.BasicSteps.{AtomStands, HasNoAtom, HasItem, HasNoItem};
 ghost use Rattle.re_syntax.specs.Working.BasicSteps.{HasNoTail, ComesAfterTail, SoFar, IsEnded};
 ghost use Rattle.re_syntax.specs.Working.BasicSteps.{MayBegin, ItemStands, HasNoItems};
@@ -61,7 +61,7 @@ fn read_lead(alloc: Option<Global>, text: &[u8], from: usize) -> Result<Pieces, 
     requires within { from ≤ length text.now }
     requires starts { IsStart (take from text.now) }
     ensures read { IfOk result (λ items. (levels : ℕ) → SoFar alloc levels text.now from items) }
-    ensures refused { IfErr result (λ fault. fault ≡ record { kind = FaultKind.Memory; at = 0 }) }
+    ensures refused { IfErr result (RunsOut alloc) }
 {
     let items = no_pieces(alloc, from);
     match after(text, from, b"^") {
@@ -75,7 +75,7 @@ fn read_tail(alloc: Option<Global>, text: &[u8], items: Pieces) -> Result<Pieces
     requires within { items.beyond ≤ length text.now }
     requires ends { HasNoItem (drop items.beyond text.now) }
     ensures read { IfOk result (IsEnded alloc text.now items) }
-    ensures refused { IfErr result (λ fault. fault ≡ record { kind = FaultKind.Memory; at = 0 }) }
+    ensures refused { IfErr result (RunsOut items.trees) }
 {
     match after_tail(text, items.beyond) {
         None => Ok(items),
@@ -107,7 +107,7 @@ fn read_group(
     ensures read { IfOk result (λ piece. (p : ItemPlace) → AtomStands alloc p levels text.now at piece) }
     ensures refused { IfErr result
         (λ fault. (p : ItemPlace) →
-        IsRefused (HasNoAtom p levels (drop at text.now)) (IsShownIn text.now fault) fault) }
+        IsRefused alloc (HasNoAtom p levels (drop at text.now)) (IsShownIn text.now fault) fault) }
 {
     if levels == 0 {
         return Err(PatternFault {
@@ -148,7 +148,7 @@ fn read_escaped(
     ensures read { IfOk result (λ piece. (p : ItemPlace) → AtomStands alloc p levels text.now at piece) }
     ensures refused { IfErr result
         (λ fault. (p : ItemPlace) →
-        IsRefused (HasNoAtom p levels (drop at text.now)) (IsShownIn text.now fault) fault) }
+        IsRefused alloc (HasNoAtom p levels (drop at text.now)) (IsShownIn text.now fault) fault) }
 {
     if after(text, at, b"\\(").is_some() {
         return read_group(alloc, text, at, levels);
@@ -180,7 +180,7 @@ fn read_atom(
         AtomStands alloc p levels text.now at piece) }
     ensures refused { IfErr result
         (λ fault. (p : ItemPlace) →
-        IsRefused (HasNoAtom p levels (drop at text.now)) (IsShownIn text.now fault) fault) }
+        IsRefused alloc (HasNoAtom p levels (drop at text.now)) (IsShownIn text.now fault) fault) }
 {
     match text[at] {
         b'[' => read_bracket_atom(alloc, text, at),
@@ -206,7 +206,7 @@ fn read_item(
         ItemStands alloc p levels text.now at piece) }
     ensures refused { IfErr result
         (λ fault. (p : ItemPlace) → MayBegin p (drop at text.now) →
-        IsRefused (HasNoItems p levels (drop at text.now)) (IsShownIn text.now fault) fault) }
+        IsRefused alloc (HasNoItems p levels (drop at text.now)) (IsShownIn text.now fault) fault) }
 {
     let mut piece = read_atom(alloc, text, at, levels)?;
     'duplications: while let Some((counts, beyond)) = read_duplication(text, piece.beyond)? {
@@ -235,7 +235,8 @@ fn read_branch(
     ensures read { IfOk result (BranchStands alloc levels text.now from) }
     ensures refused { IfErr result
         (λ fault.
-        IsRefused (HasNoItems First levels (drop from text.now)) (IsShownIn text.now fault) fault) }
+        IsRefused alloc (HasNoItems First levels (drop from text.now)) (IsShownIn text.now fault)
+        fault) }
 {
     let mut items = read_lead(alloc, text, from)?;
     'items: while has_item(text, items.beyond) {
@@ -258,8 +259,10 @@ fn read_branches(
     requires starts { IsStart (take from text.now) }
     requires few { levels ≤ most_levels }
     ensures read { IfOk result (BranchesStand alloc levels text.now from) }
-    ensures refused { IfErr result (λ fault. IsRefused (HasNoBranches levels (drop from text.now))
-        (IsShownIn text.now fault) fault) }
+    ensures refused { IfErr result
+        (λ fault.
+        IsRefused alloc (HasNoBranches levels (drop from text.now)) (IsShownIn text.now fault)
+        fault) }
 {
     let none = no_pieces(alloc, from);
     let first = read_branch(alloc, text, from, levels)?;
@@ -276,7 +279,7 @@ pub(crate) fn read_whole(alloc: Option<Global>, text: &[u8]) -> Result<Piece, Pa
     ensures read { IfOk result
         (λ piece. (e : Expression) × IsSpelled Basic text.now e × IsReported alloc piece e) }
     ensures refused { IfErr result
-        (λ fault. (fault ≡ record { kind = FaultKind.Memory; at = 0 }) ⊎ IsNoBasic text.now fault) }
+        (λ fault. RunsOut alloc fault ⊎ IsNoBasic text.now fault) }
 {
     let branches = read_branches(alloc, text, 0, MOST_LEVELS)?;
     if branches.beyond < text.len() {

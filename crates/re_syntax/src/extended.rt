@@ -10,7 +10,7 @@ ghost use Rattle.re_syntax.specs.Profile.{most_levels};
 ghost use Rattle.re_syntax.specs.Spelled.{IsSpelled, SpellsNoOther};
 ghost use Rattle.re_syntax.specs.ExtendedFaults.{OpensDuplication, IsStart, HasNothingToRepeat};
 ghost use Rattle.re_syntax.specs.ExtendedFaults.{IsShownIn, IsNoExtended};
-ghost use Rattle.re_syntax.specs.Working.PieceSteps.{IsReported, IsRefused};
+ghost use Rattle.re_syntax.specs.Working.PieceSteps.{IsReported, IsRefused, RunsOut};
 ghost use Rattle.re_syntax.specs.Working.ExtendedSteps.{stops, IsNoSign, DuplicationStands};
 ghost use Rattle.re_syntax.specs.Working.ExtendedSteps.{HasBadInterval, MayBegin, AtomStands};
 ghost use Rattle.re_syntax.specs.Working.ExtendedSteps.{HasNoAtom, ItemStands, HasNoItems, IsNext};
@@ -115,7 +115,8 @@ fn read_group(
     ensures read { IfOk result (AtomStands alloc in_group levels text.now at) }
     ensures refused { IfErr result
         (λ fault.
-        IsRefused (HasNoAtom in_group levels (drop at text.now)) (IsShownIn text.now fault) fault) }
+        IsRefused alloc (HasNoAtom in_group levels (drop at text.now)) (IsShownIn text.now fault)
+        fault) }
 {
     if levels == 0 {
         return Err(PatternFault {
@@ -156,7 +157,8 @@ fn read_atom(
     ensures read { IfOk result (AtomStands alloc in_group levels text.now at) }
     ensures refused { IfErr result
         (λ fault.
-        IsRefused (HasNoAtom in_group levels (drop at text.now)) (IsShownIn text.now fault) fault) }
+        IsRefused alloc (HasNoAtom in_group levels (drop at text.now)) (IsShownIn text.now fault)
+        fault) }
 {
     match text[at] {
         b'[' => read_bracket_atom(alloc, text, at),
@@ -185,7 +187,7 @@ fn read_item(
     ensures read { IfOk result (ItemStands alloc in_group levels text.now at) }
     ensures refused { IfErr result
         (λ fault.
-        IsRefused (HasNoItems in_group levels (drop at text.now)) (IsShownIn text.now fault)
+        IsRefused alloc (HasNoItems in_group levels (drop at text.now)) (IsShownIn text.now fault)
         fault) }
 {
     let mut piece = read_atom(alloc, text, at, in_group, levels)?;
@@ -217,7 +219,7 @@ fn read_next(
     ensures read { IfOk result (IsNext alloc in_group levels text.now at) }
     ensures refused { IfErr result
         (λ fault.
-        IsRefused (HasNoItems in_group levels (drop at text.now)) (IsShownIn text.now fault)
+        IsRefused alloc (HasNoItems in_group levels (drop at text.now)) (IsShownIn text.now fault)
         fault) }
 {
     if let Some(beyond) = after(text, at, b"^") {
@@ -247,7 +249,7 @@ fn read_branch(
     ensures read { IfOk result (BranchStands alloc in_group levels text.now from) }
     ensures refused { IfErr result
         (λ fault.
-        IsRefused (HasNoItems in_group levels (drop from text.now)) (IsShownIn text.now fault)
+        IsRefused alloc (HasNoItems in_group levels (drop from text.now)) (IsShownIn text.now fault)
         fault) }
 {
     let mut items = no_pieces(alloc, from);
@@ -273,8 +275,8 @@ fn read_branches(
     ensures read { IfOk result (BranchesStand alloc in_group levels text.now from) }
     ensures refused { IfErr result
         (λ fault.
-        IsRefused (HasNoBranches in_group levels (drop from text.now)) (IsShownIn text.now fault)
-        fault) }
+        IsRefused alloc (HasNoBranches in_group levels (drop from text.now))
+        (IsShownIn text.now fault) fault) }
 {
     let none = no_pieces(alloc, from);
     let first = read_branch(alloc, text, from, in_group, levels)?;
@@ -291,8 +293,7 @@ pub(crate) fn read_whole(alloc: Option<Global>, text: &[u8]) -> Result<Piece, Pa
     ensures read { IfOk result
         (λ piece. (e : Expression) × IsSpelled Extended text.now e × IsReported alloc piece e) }
     ensures refused { IfErr result
-        (λ fault. (fault ≡ record { kind = FaultKind.Memory; at = 0 }) ⊎
-        IsNoExtended text.now fault) }
+        (λ fault. RunsOut alloc fault ⊎ IsNoExtended text.now fault) }
 {
     let branches = read_branches(alloc, text, 0, false, MOST_LEVELS)?;
     Ok(any_of(branches))

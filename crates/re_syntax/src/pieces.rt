@@ -6,11 +6,10 @@ ghost use Rattle.std.specs.Global.{Global};
 ghost use Rattle.re_syntax.specs.Expression.{Expression, choice, sequence, repeat};
 ghost use Rattle.re_syntax.specs.Working.Trees.{expression_of, members};
 ghost use Rattle.re_syntax.specs.Holds.{copies, positions};
-ghost use Rattle.re_syntax.specs.declared.fault.FaultKind.{FaultKind};
 ghost use Rattle.re_syntax.specs.Faults.{IsNoBracket};
 ghost use Rattle.re_syntax.specs.Profile.{most_levels};
 ghost use Rattle.re_syntax.specs.Working.PieceSteps.{meant_bytes, Keeps, KeepsAll, IsReported, AreReported};
-ghost use Rattle.re_syntax.specs.Working.PieceSteps.{IsBracketPiece, IsRepeated, IsJoined};
+ghost use Rattle.re_syntax.specs.Working.PieceSteps.{IsBracketPiece, IsRepeated, IsJoined, RunsOut};
 
 use crate::bracket::read_bracket;
 use crate::bytes::ByteSet;
@@ -122,7 +121,7 @@ fn repeated_tree(
     ensures made { IfOk result
         (λ new. (e : Expression) → Keeps alloc tree e →
         Keeps alloc new (repeat e counts.least counts.most)) }
-    ensures refused { IfErr result (λ fault. fault ≡ record { kind = FaultKind.Memory; at = 0 }) }
+    ensures refused { IfErr result (RunsOut alloc) }
 {
     let Some(alloc) = alloc else {
         return Ok(None);
@@ -145,7 +144,7 @@ pub fn repeated(
 ) -> Result<Piece, PatternFault>
     requires { piece.height < most_levels }
     ensures made { IfOk result (IsRepeated alloc piece counts beyond) }
-    ensures refused { IfErr result (λ fault. fault ≡ record { kind = FaultKind.Memory; at = 0 }) }
+    ensures refused { IfErr result (RunsOut alloc) }
 {
     let tree = repeated_tree(alloc, piece.tree, counts)?;
     Ok(Piece {
@@ -164,7 +163,7 @@ fn with_tree(
     ensures made { IfOk result
         (λ new. (alloc : Option Global) (es : List Expression) (e : Expression) →
         KeepsAll alloc trees es → Keeps alloc tree e → KeepsAll alloc new (es ++ e ∷ [])) }
-    ensures refused { IfErr result (λ fault. fault ≡ record { kind = FaultKind.Memory; at = 0 }) }
+    ensures refused { IfErr result (RunsOut trees) }
 {
     let Some(mut trees) = trees else {
         return Ok(None);
@@ -181,7 +180,7 @@ fn with_tree(
 /// The pieces and one more after them.
 pub fn joined(pieces: Pieces, piece: Piece) -> Result<Pieces, PatternFault>
     ensures made { IfOk result (IsJoined pieces piece) }
-    ensures refused { IfErr result (λ fault. fault ≡ record { kind = FaultKind.Memory; at = 0 }) }
+    ensures refused { IfErr result (RunsOut pieces.trees) }
 {
     let trees = with_tree(pieces.trees, piece.tree)?;
     Ok(Pieces {

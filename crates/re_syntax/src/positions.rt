@@ -1,6 +1,5 @@
 //! The numbers of positions that expressions have, found without their trees.
-ghost use Rattle.std.specs.Prelude.{◌≡◌, ◌⊎◌, IfOk, IfErr};
-ghost use Rattle.re_syntax.specs.declared.fault.FaultKind.{FaultKind};
+ghost use Rattle.std.specs.Prelude.{IfOk, IfErr};
 ghost use Rattle.re_syntax.specs.declared.syntax.Syntax.TheVariants.{Basic, Extended};
 ghost use Rattle.re_syntax.specs.BasicFaults.{IsNoBasic};
 ghost use Rattle.re_syntax.specs.Working.Counted.{HasPositions};
@@ -17,8 +16,7 @@ use crate::{basic, extended};
 /// Those of [`crate::read_basic`] but `FaultKind::Memory`: it allocates no memory.
 pub fn basic_positions(text: &[u8]) -> Result<usize, PatternFault>
     ensures counted { IfOk result (HasPositions Basic text.now) }
-    ensures refused { IfErr result
-        (λ fault. (fault ≡ record { kind = FaultKind.Memory; at = 0 }) ⊎ IsNoBasic text.now fault) }
+    ensures refused { IfErr result (IsNoBasic text.now) }
 {
     let piece = basic::read_whole(None, text)?;
     Ok(piece.positions)
@@ -32,9 +30,7 @@ pub fn basic_positions(text: &[u8]) -> Result<usize, PatternFault>
 /// Those of [`crate::read_extended`] but `FaultKind::Memory`: it allocates no memory.
 pub fn extended_positions(text: &[u8]) -> Result<usize, PatternFault>
     ensures counted { IfOk result (HasPositions Extended text.now) }
-    ensures refused { IfErr result
-        (λ fault. (fault ≡ record { kind = FaultKind.Memory; at = 0 }) ⊎
-        IsNoExtended text.now fault) }
+    ensures refused { IfErr result (IsNoExtended text.now) }
 {
     let piece = extended::read_whole(None, text)?;
     Ok(piece.positions)

@@ -75,18 +75,18 @@ module _ {R : Type 0} (remaining : R → Option Text) (failures : R → ℕ) whe
       (subst (λ r. Keeps (to_come remaining failures old) (prepend_known old.ahead (remaining r))) (sym same) (Keeps-refl (to_come remaining failures old))) cut (λ no. absurd no)).0
 
   -- how far a reader of lines has read stays true of fewer bytes ahead
-  pub stage_stays : (stage : Stage) (old new : Text) (reader : R) (count : ℕ) → IsStageOf remaining failures stage old reader → old ≡ take count old ++ new → IsStageOf remaining failures stage new reader
-  stage_stays Open old new reader count h cut = tt
-  stage_stays Ended old new reader count h cut =
+  pub stage_stays : (may_be_read : R → Type 0) (stage : Stage) (old new : Text) (reader : R) (count : ℕ) → IsStageOf remaining failures may_be_read stage old reader → old ≡ take count old ++ new → IsStageOf remaining failures may_be_read stage new reader
+  stage_stays may_be_read Open old new reader count h cut = h
+  stage_stays may_be_read Ended old new reader count h cut =
       let long : length old ≡ length (take count old) + length new = ap length cut ∙ length-append (take count old) new in
       (nil_from_length new (omega (arith, long, ap length h.0)), h.1)
-  stage_stays Failed old new reader count h cut = rest_free (take count old) new (subst HasNoNewline cut h)
+  stage_stays may_be_read Failed old new reader count h cut = rest_free (take count old) new (subst HasNoNewline cut h)
 
   -- at the end nothing is ahead
-  pub none_at_end : (stage : Stage) (ahead : Text) (reader : R) → IsStageOf remaining failures stage ahead reader → stage ≡ Ended → ahead ≡ []
-  none_at_end Open ahead reader h over = absurd (let no : ⊥ = cc in no)
-  none_at_end Ended ahead reader h over = h.0
-  none_at_end Failed ahead reader h over = absurd (let no : ⊥ = cc in no)
+  pub none_at_end : (may_be_read : R → Type 0) (stage : Stage) (ahead : Text) (reader : R) → IsStageOf remaining failures may_be_read stage ahead reader → stage ≡ Ended → ahead ≡ []
+  none_at_end may_be_read Open ahead reader h over = absurd (let no : ⊥ = cc in no)
+  none_at_end may_be_read Ended ahead reader h over = h.0
+  none_at_end may_be_read Failed ahead reader h over = absurd (let no : ⊥ = cc in no)
 
   handed_too : (stage : Stage) (given : Text) (handed lines : List Text) → AreHanded stage given handed → (stage ≡ Ended → lines ≡ []) → All HasNoNewline lines → AreHanded stage (given ++ terminated lines) (handed ++ lines)
   handed_too Open given handed lines h none free =

@@ -1,5 +1,5 @@
 -- What a reader of lines is in contracts, and what a call for the next line does.
-use Rattle.std.specs.Prelude.{◌≡◌, ◌≢◌, ℕ, ◌≤◌, [], ◌∷◌, ◌++◌, length, Option, ⊤}
+use Rattle.std.specs.Prelude.{◌≡◌, ◌≢◌, ℕ, ◌≤◌, [], ◌∷◌, ◌++◌, length, Option}
 use Rattle.std.specs.Io.KnownBytes.{prepend_known, Keeps, Consumes, IsAtEnd}
 use Rattle.re_syntax.specs.Bytes.{Text}
 use Rattle.re_syntax.specs.Lines.{newline, HasNoNewline}
@@ -21,12 +21,12 @@ module _ {R : Type 0} (remaining : R → Option Text) (failures : R → ℕ) whe
   abbrev pub to_come : LineReader R → Option Text
   to_come lines = prepend_known lines.ahead (remaining lines.reader)
 
-  -- what holds of every reader of lines: at the end nothing is to come, and after a failed read
-  -- what is held ends no line
-  abbrev pub IsStageOf : Stage → Text → R → Type 0
-  IsStageOf Open ahead reader = ⊤
-  IsStageOf Ended ahead reader = (ahead ≡ []) × IsAtEnd (remaining reader)
-  IsStageOf Failed ahead reader = HasNoNewline ahead
+  -- what holds of every reader of lines: there may be another read, or nothing is to come, or after
+  -- a failed read what is held ends no line
+  abbrev pub IsStageOf : (R → Type 0) → Stage → Text → R → Type 0
+  IsStageOf may_be_read Open ahead reader = may_be_read reader
+  IsStageOf may_be_read Ended ahead reader = (ahead ≡ []) × IsAtEnd (remaining reader)
+  IsStageOf may_be_read Failed ahead reader = HasNoNewline ahead
 
   -- the first of what was to come was a line and its newline, or all of it was a line without one
   abbrev pub IsLineOf : LineReader R → LineReader R → Stage → Type 0

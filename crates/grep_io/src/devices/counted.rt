@@ -1,10 +1,15 @@
 // Readers and writers that count their failures.
-ghost use Rattle.std.specs.Prelude.{◌≡◌, ℕ, ◌<◌, ◌≤◌, List, [], Option, None, length, IfSome, IfOk};
+ghost use Rattle.std.specs.Prelude.{◌≡◌, ℕ, ◌<◌, ◌≤◌, List, [], Option, None, ⊤, length, IfSome, IfOk};
 ghost use Rattle.grep_io.specs.Counted.{PullConsumes, PushAppends, Counts, one_more};
+ghost use Rattle.grep_io.specs.Counted.{CalledOnce, ReadsOn, sent_or_not};
 ghost use Rattle.grep_io.specs.Written.{Writes};
 
-use std::io::{Read, Write};
+use crate::devices::device::{ReadDevice, WriteDevice};
 use std::marker::Model;
+
+/// A write failed. A beginning of the bytes was written.
+#[derive(Clone, Copy, Debug, PartialEq, Eq)]
+pub struct WriteFault;
 
 /// A reader whose failed reads are counted, and not tried again.
 pub trait CountedRead {
@@ -14,28 +19,33 @@ pub trait CountedRead {
     /// How many reads have failed.
     ghost failures: { Self → ℕ };
 
+    /// What the device answered to each read, in order: any history of it that a caller keeps.
+    ghost calls: { Self → List (Option ℕ) → Type 0 } = { λ _ _. ⊤ };
+
+    /// Whether there may be another read: neither did one fail, nor did one find the end.
+    ghost may_be_read: { Self → Type 0 } = { λ _. ⊤ };
+
     /// Which loan a reader that is a `&mut` is, by the name of its referent's value in proofs. All
     /// other readers have the same value. What takes a `&mut` and returns it can state with this
     /// that it is the same one.
     ghost loan: { Self → ℕ } = { λ _. 0 };
 
     /// One read into a slice that is not empty. `Some(0)` says that no byte is left, `None` that
-    /// the read failed.
+    /// the read failed; after neither of them is another asked for.
     fn pull(&mut self, into: &mut [u8]) -> Option<usize>
-        requires { 0 < length into.old }
+        requires some { 0 < length into.old }
+        requires open { may_be_read self.old }
         ensures bound { IfSome result (λ n. n ≤ length into.new) }
         ensures bytes { PullConsumes (remaining self.old) (remaining self.new) result into.new }
         ensures counted { Counts (failures self.old) (failures self.new) result }
+        ensures called { CalledOnce calls self.old self.new result }
+        ensures open { ReadsOn may_be_read self.new result }
         ensures same_loan { loan self.new ≡ loan self.old };
 
     /// How many reads have failed. The count stays at the greatest `u64`.
     fn failures(&self) -> u64
         ensures { result ≡ failures self.now };
 }
-
-/// A write failed; the writer has counted it. A beginning of the bytes was written.
-#[derive(Clone, Copy, Debug, PartialEq, Eq)]
-pub struct WriteFault;
 
 /// A writer whose failed writes are counted, and not tried again.
 pub trait CountedWrite {
@@ -48,6 +58,10 @@ pub trait CountedWrite {
     /// How many of the bytes are buffered and not yet sent to the device.
     ghost waiting: { Self → ℕ } = { λ _. 0 };
 
+    /// What the device answered to each call, in order, 0 where it sent what it had buffered: any
+    /// history of it that a caller keeps, where each call of the writer is one of the device.
+    ghost calls: { Self → List (Option ℕ) → Type 0 } = { λ _ _. ⊤ };
+
     /// One write of at least one byte. It takes at least one of them, in order from the first, and
     /// says how many; `None` says that it failed and took none.
     fn push(&mut self, from: &[u8]) -> Option<usize>
@@ -55,14 +69,16 @@ pub trait CountedWrite {
         ensures some_taken { IfSome result (λ n. 0 < n) }
         ensures bound { IfSome result (λ n. n ≤ length from.now) }
         ensures bytes { PushAppends (contents self.old) (contents self.new) result from.now }
-        ensures counted { Counts (failures self.old) (failures self.new) result };
+        ensures counted { Counts (failures self.old) (failures self.new) result }
+        ensures called { CalledOnce calls self.old self.new result };
 
     /// Sends the buffered bytes to the device.
     ///
     /// Returns `WriteFault` if a write fails. What was not sent keeps waiting.
     fn flush(&mut self) -> Result<(), WriteFault>
         ensures kept { Writes contents failures self.old self.new [] result }
-        ensures sent { IfOk result (λ _. waiting self.new ≡ 0) };
+        ensures sent { IfOk result (λ _. waiting self.new ≡ 0) }
+        ensures called { CalledOnce calls self.old self.new (sent_or_not result) };
 
     /// How many writes have failed. The count stays at the greatest `u64`.
     fn failures(&self) -> u64
@@ -73,6 +89,10 @@ impl<R: CountedRead> CountedRead for &mut R {
     ghost remaining = { λ r. R.remaining r.now };
 
     ghost failures = { λ r. R.failures r.now };
+
+    ghost calls = { λ r. R.calls r.now };
+
+    ghost may_be_read = { λ r. R.may_be_read r.now };
 
     ghost loan = { λ r. r.ghost_name };
 
@@ -92,6 +112,8 @@ impl<W: CountedWrite> CountedWrite for &mut W {
 
     ghost waiting = { λ w. W.waiting w.now };
 
+    ghost calls = { λ w. W.calls w.now };
+
     fn push(&mut self, from: &[u8]) -> Option<usize> {
         CountedWrite::push(&mut **self, from)
     }
@@ -105,8 +127,8 @@ impl<W: CountedWrite> CountedWrite for &mut W {
     }
 }
 
-/// Any reader or writer of std with a count of its failures. Contracts see it as the device and
-/// the count.
+/// A device with a count of its failures; any reader or writer of std is one. Contracts see it as
+/// the device and the count.
 #[derive(Drop)]
 pub struct Tally<T> {
     device: T,
@@ -145,19 +167,21 @@ fn one_more(count: u64) -> u64
     count.saturating_add(1)
 }
 
-impl<T: Read> CountedRead for Tally<T> {
+impl<T: ReadDevice> CountedRead for Tally<T> {
     ghost remaining = { λ t. T.remaining t.device };
 
     ghost failures = { λ t. t.failed };
 
+    ghost calls = { λ t. T.calls t.device };
+
+    ghost may_be_read = { λ t. T.may_be_read t.device };
+
     fn pull(&mut self, into: &mut [u8]) -> Option<usize> {
-        match self.device.read(into) {
-            Ok(n) => Some(n),
-            Err(_) => {
-                self.failed = one_more(self.failed);
-                None
-            }
+        let given = self.device.read_once(into);
+        if given.is_none() {
+            self.failed = one_more(self.failed);
         }
+        given
     }
 
     fn failures(&self) -> u64 {
@@ -165,30 +189,27 @@ impl<T: Read> CountedRead for Tally<T> {
     }
 }
 
-/// A write that takes none of the bytes that it was given is a failure.
-impl<T: Write> CountedWrite for Tally<T> {
+impl<T: WriteDevice> CountedWrite for Tally<T> {
     ghost contents = { λ t. T.contents t.device };
 
     ghost failures = { λ t. t.failed };
 
+    ghost calls = { λ t. T.calls t.device };
+
     fn push(&mut self, from: &[u8]) -> Option<usize> {
-        match self.device.write(from) {
-            Ok(n) if n > 0 => Some(n),
-            _ => {
-                self.failed = one_more(self.failed);
-                None
-            }
+        let taken = self.device.write_once(from);
+        if taken.is_none() {
+            self.failed = one_more(self.failed);
         }
+        taken
     }
 
     fn flush(&mut self) -> Result<(), WriteFault> {
-        match self.device.flush() {
-            Ok(()) => Ok(()),
-            Err(_) => {
-                self.failed = one_more(self.failed);
-                Err(WriteFault)
-            }
+        let sent = self.device.flush_once();
+        if sent.is_err() {
+            self.failed = one_more(self.failed);
         }
+        sent
     }
 
     fn failures(&self) -> u64 {

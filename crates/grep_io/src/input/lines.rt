@@ -84,13 +84,15 @@ impl<R: CountedRead> Model for Lines<R> {
       number = a.number;
     } };
 
-    ghost invariant = { λ a. IsStageOf R.remaining R.failures a.stage a.window.ahead a.reader };
+    ghost invariant = { λ a. IsStageOf R.remaining R.failures R.may_be_read a.stage
+        a.window.ahead a.reader };
 }
 
 impl<R: CountedRead> Lines<R> {
     /// The lines of the reader, from which nothing was read yet. The reader is returned if the
     /// allocation fails.
     pub fn new(alloc: Global, reader: R) -> Result<Lines<R>, R>
+        requires { R.may_be_read reader }
         ensures ok { IfOk result
             (λ lines. lines ≡ record {
               lines = record { reader = reader; ahead = []; line = []; stage = Stage.Open };

@@ -5,8 +5,9 @@ ghost use Rattle.std.specs.Prelude.{slice_range, vec_len};
 ghost use Rattle.re_syntax.specs.Bytes.{Text};
 ghost use Rattle.re_syntax.specs.Lines.{newline, HasNoNewline};
 ghost use Rattle.re_runs.specs.Working.Blocks.{IsBlock, PassesAll};
-ghost use Rattle.grep_io.specs.Counted.{PullConsumes, Counts};
+ghost use Rattle.grep_io.specs.Counted.{PullConsumes, Counts, ReadsOn};
 ghost use Rattle.grep_io.specs.Working.Refilled.{Refilled};
+ghost use Rattle.grep_io.specs.declared.input.window.Refill.{Refill};
 ghost use Rattle.grep_io.specs.Reading.{IsOneLineAndFew};
 ghost use Rattle.grep_io.specs.Working.Held.{HasWholeLine, waiting, last_line};
 ghost use Rattle.grep_io.specs.Working.Held.{LastLineFits};
@@ -173,13 +174,15 @@ impl Window {
     /// Reads once, where no line ends in what is ahead. At the end all that was ahead is handed
     /// out.
     pub fn refill<R: CountedRead>(&mut self, reader: &mut R) -> Result<Refill, AllocError>
-        requires { HasNoNewline self.old.ahead }
+        requires no_line { HasNoNewline self.old.ahead }
+        requires open { R.may_be_read reader.old }
         ensures ok { IfOk result
             (Refilled R.remaining R.failures self.old self.new reader.old reader.new) }
         ensures bound { length self.new.ahead < 2 ^ 64 }
         ensures err { OnErr result ((self.new.ahead ≡ self.old.ahead) × (self.new.line ≡ [])) }
         ensures err_few { OnErr result (IsOneLineAndFew self.new.ahead) }
         ensures err_reader { OnErr result (reader.new ≡ reader.old) }
+        ensures open { IfOk result (λ did. did ≡ Refill.More → R.may_be_read reader.new) }
         ensures same_loan { R.loan reader.new ≡ R.loan reader.old }
     {
         empty_where_shown(&mut self.spill, self.shown);
@@ -206,12 +209,14 @@ impl Window {
 
 // One read over the whole buffer.
 fn pull_over<R: CountedRead>(reader: &mut R, buffer: &mut Vec<u8>) -> Option<usize>
-    requires { 0 < vec_len buffer.old }
+    requires some { 0 < vec_len buffer.old }
+    requires open { R.may_be_read reader.old }
     ensures len { vec_len buffer.new ≡ vec_len buffer.old }
     ensures bound { IfSome result (λ n. n ≤ vec_len buffer.new) }
     ensures bytes { PullConsumes (R.remaining reader.old) (R.remaining reader.new) result
         buffer.new.items }
     ensures counted { Counts (R.failures reader.old) (R.failures reader.new) result }
+    ensures open { ReadsOn R.may_be_read reader.new result }
     ensures same_loan { R.loan reader.new ≡ R.loan reader.old }
 {
     reader.pull(buffer.as_mut_slice())

@@ -1,5 +1,5 @@
 -- What is found in a line after a change of the patterns.
-use Rattle.grep_session.proofs.Prelude.{◌≡◌, ℕ, zero, suc, ◌+◌, ◌<◌, ◌≤◌, Bool, true, false, ◌||◌, List, [], ◌∷◌, ◌++◌, inl, inr, length, map, take, drop, length-take, nat_eq, nat_lt, get_or, MatchBool, Decides, Any, refl, sym, ap, subst, ◌∙◌, All, Option, None, Some, IfSome, arith, remove, list_any, Text, Expression, Holds, Matches, IsFound, ArePartsFrom, AreParts, Options, Matched, Rebuild, PartsOnly, Added, Dropped, KeptFile, KeptLine, without, Change, Span, ArePartsAgain, first_sought, has_new_parts, left_numbers, HasChanged, HasNewParts, IsWithin, WasKept, WasFileKept, kept_lines, AreMatching, AddsMatching, ArePartsKept, IsKept, span_places, drop-length, append-nil, length-append, false≢true}
+use Rattle.grep_session.proofs.Prelude.{◌≡◌, ℕ, zero, suc, ◌+◌, ◌<◌, ◌≤◌, Bool, true, false, not, ◌==◌, nat_tests, ◌||◌, List, [], ◌∷◌, ◌++◌, inl, inr, length, map, take, drop, length-take, nat_eq, nat_lt, get_or, MatchBool, Decides, Any, refl, sym, ap, subst, ◌∙◌, All, Option, None, Some, IfSome, arith, remove, list_any, Text, Expression, Holds, Matches, IsFound, ArePartsFrom, AreParts, Options, Matched, Rebuild, PartsOnly, Added, Dropped, KeptFile, KeptLine, without, Change, Span, ArePartsAgain, first_sought, has_new_parts, left_numbers, HasChanged, HasNewParts, IsWithin, WasKept, WasFileKept, kept_lines, AreMatching, AddsMatching, ArePartsKept, IsKept, span_places, drop-length, append-nil, length-append, false≢true}
 use Rattle.std.specs.Bool.{⊤}
 use Rattle.re_syntax.proofs.lemmas.Decisions.{Any-first, Any-later, Any-cases, Any-none}
 use Rattle.re_syntax.proofs.lemmas.SomeOfJoined.{Any-single}
@@ -138,6 +138,13 @@ module _ (line : Text) (entire : Bool) where
         | inl c ↦ Any-first (λ e. Matches e line entire) e es c.0
         | inr c ↦ Any-later (λ e. Matches e line entire) e es (some_at (suc first) es n ns (subst (AreMatching line entire (suc first) es) (sym c.1) a.2))
       ]
+
+  -- there is a number if and only if some expression matches
+  pub some_decides : (first : ℕ) (es : List Expression) (ns : List ℕ) → AreMatching line entire first es ns → Decides (not (length ns == 0)) (Any (λ e. Matches e line entire) es)
+  some_decides first es [] a = decided_no (none_match line entire first es a)
+  some_decides first es (n ∷ ns) a =
+      let there : not (length (n ∷ ns) == 0) ≡ true = grind (arith, nat_tests) in
+      subst (λ b. Decides b (Any (λ e. Matches e line entire) es)) (sym there) (decided_yes (some_at first es n ns a))
 
   -- there are more numbers if and only if some added expression matches
   grown_decides : (first : ℕ) (es : List Expression) (old found : List ℕ) → AreMatching line entire first es found → Decides (nat_lt (length old) (length (old ++ found))) (Any (λ e. Matches e line entire) es)

@@ -1,10 +1,10 @@
 -- What is found in the lines of a chunk after a change, from what is found in each line.
-use Rattle.grep_session.proofs.Prelude.{◌≡◌, ℕ, ◌+◌, ◌-◌, ◌*◌, ◌<◌, ◌==◌, Bool, true, false, not, Decides, List, [], ◌∷◌, ◌++◌, All, length, map, drop, get_or, refl, sym, ap, subst, ◌∙◌, arith, length-append, append-nil, false≢true, nat_tests, length-map, length-drop, nil_from_length, get_or_default, All-append, Text, Expression, newline, terminated, Span, AddsAtMost, search_cost, Steps, Adds, Options, FoundIn, finds_at, is_paired, numbers_at, AreBelow, KeptLine, no_line, line_text, seen, Change, Rebuild, PartsOnly, Added, Dropped, ChangeCost, CostOfEach, HasChanged, HasNewParts, IsWithin, NewPartsCost, SearchesEach, WasKept, searched_for, AreAllParts, AreDecided, AreMatches, Grows, IsAdded, KeepsAll, first_sought, has_new_parts, left_numbers, AddsMatching, IsKept}
+use Rattle.grep_session.proofs.Prelude.{◌≡◌, ℕ, ◌+◌, ◌-◌, ◌*◌, ◌<◌, ◌==◌, Bool, true, false, not, Decides, List, [], ◌∷◌, ◌++◌, All, length, map, drop, get_or, refl, sym, ap, subst, ◌∙◌, arith, length-append, append-nil, false≢true, nat_tests, length-map, length-drop, nil_from_length, get_or_default, All-append, Text, Expression, newline, terminated, Span, AddsAtMost, search_cost, Steps, Adds, Options, FoundIn, finds_at, is_paired, numbers_at, Matched, AreBelow, KeptLine, no_line, line_text, seen, Change, Rebuild, PartsOnly, Added, Dropped, ChangeCost, CostOfEach, HasChanged, HasNewParts, IsWithin, NewPartsCost, SearchesEach, WasKept, searched_for, AreAllParts, AreDecided, AreMatches, Grows, IsAdded, KeepsAll, first_sought, has_new_parts, left_numbers, AddsMatching, IsKept}
 use Rattle.std.proofs.Math.ListN.{get_or-map}
 use Rattle.re_meter.proofs.lemmas.Adding.{all_both}
 use Rattle.line_chunks.proofs.lemmas.PairLaws.{lt_no}
 use Rattle.line_chunks.proofs.lemmas.SeenLaws.{length-seen, line_seen}
-use Rattle.grep_session.proofs.lemmas.ChangeLemmas.{LineChanges, line_changes, line_right}
+use Rattle.grep_session.proofs.lemmas.ChangeLemmas.{LineChanges, line_changes, line_right, some_decides}
 use Rattle.grep_session.proofs.lemmas.StepLemmas.{NewPartsCost-exists, each_none, each_front}
 
 -- what holds of each text with what was found in it holds of all lines
@@ -34,13 +34,14 @@ module _ (change : Change) (es before changed : List Expression) (options : Opti
       let adds = subst (λ t. AddsMatching t options.line_regexp first (drop first es) (numbers_at k m.left) (numbers_at k new)) text (m.adds.numbers k high) in
       line_changes es before changed options line (numbers_at k new) change within h (all k no_line inside) (subst (λ ns. AddsMatching line.text options.line_regexp first (drop first es) ns (numbers_at k new)) left adds)
 
-  -- whether their parts are searched anew is known
-  pub column_decides : AreDecided change changed options (map line_text lines) old new
+  -- whether some expression matches them, and whether their parts are searched anew, is known
+  pub column_decides : AreDecided change changed es options (map line_text lines) old new
   column_decides k high =
       let inside : k < length lines = omega (arith, high, length-map lines line_text) in
       let text : line_text (get_or lines k no_line) ≡ get_or (map line_text lines) k [] = sym (get_or-map line_text lines k no_line) in
       let d = subst (λ ns. Decides (has_new_parts change ns (numbers_at k new)) (HasNewParts change changed options (get_or lines k no_line).text)) (sym (own k inside)) (changes_at k inside).decided in
-      subst (λ t. Decides (has_new_parts change (numbers_at k old) (numbers_at k new)) (HasNewParts change changed options t)) text d
+      let some = some_decides (get_or lines k no_line).text options.line_regexp 0 es (numbers_at k new) (changes_at k inside).matching in
+      subst (λ t. Decides (is_paired k new) (Matched es options t) × Decides (has_new_parts change (numbers_at k old) (numbers_at k new)) (HasNewParts change changed options t)) text (some, d)
 
   -- what is found in each is right
   pub column_right : (parts : List (List Span)) → AreAllParts change es options lines old new parts → All (IsKept es options) (seen (map line_text lines) (record { size = length lines; pairs = new; parts = parts }))

@@ -1,6 +1,6 @@
 -- The laws of the definitions: an edit has one outcome for its inputs, and one cost if no
 -- allocation fails, which is the least.
-use Rattle.grep_session.proofs.Prelude.{◌≡◌, ℕ, ◌+◌, ◌*◌, ◌<◌, ◌≤◌, Bool, true, false, List, [], ◌∷◌, length, Result, Ok, Err, MatchBool, take, get_or, length-take, refl, sym, ap, subst, ◌∙◌, arith, PatternFault, Syntax, Text, Expression, Matches, list_of, AreParts, IsReadable, Options, Chosen, searches_for, search_cost, Inputs, Matched, EditFault, NoSuchFile, FileIsMissing, OutOfRange, LineHasNewline, NoSuchPattern, Pattern, TooManyPatterns, Memory, Edit, AddFile, AddMissing, DropFile, Splice, AddPatterns, DropPattern, SetFlag, SetSyntax, SetContext, Applies, Reads, IsFirstRefused, AreAlike, EditsAreDetermined, MemorySavesEditSteps, Touched, Touches, PartsCostOf, PartsCost, Costs, CostsAs, CostsAccepted, pairs_cost, parts_alone, all_lines, get_or-take, mul-le-mul_right}
+use Rattle.grep_session.proofs.Prelude.{◌≡◌, ℕ, ◌+◌, ◌*◌, ◌<◌, ◌≤◌, Bool, true, false, List, [], ◌∷◌, length, Result, Ok, Err, MatchBool, take, get_or, length-take, refl, sym, ap, subst, ◌∙◌, arith, PatternFault, Syntax, Text, Expression, Matches, list_of, AreParts, IsReadable, Options, Chosen, searches_for, search_cost, Inputs, Matched, EditFault, NoSuchFile, FileIsMissing, OutOfRange, LineHasNewline, NoSuchPattern, Pattern, TooManyPatterns, Memory, Edit, AddFile, AddMissing, DropFile, Splice, AddPatterns, DropPattern, SetFlag, SetSyntax, SetContext, Applies, Reads, IsFirstRefused, AreAlike, EditsAreDetermined, MemorySavesEditSteps, Touched, Touches, PartsSearchCost, PartsCostOf, PartsCost, Costs, CostsAs, CostsAccepted, pairs_cost, parts_alone, all_lines, get_or-take, mul-le-mul_right}
 use Rattle.re_syntax.proofs.lemmas.PartsLaws.{ArePartsFrom-unique}
 use Rattle.grep_core.proofs.lemmas.CostLaws.{refused_searches}
 use Rattle.grep_core.proofs.lemmas.ChooseLaws.{same_value, IfHolds-both, Chosen-determined}
@@ -75,8 +75,8 @@ Touches-once (DropFile k) old a b p q = same_value p q
 
 -- parts cost least if no allocation fails
 module _ (es : List Expression) (options : Options) where
-  PartsCostOf-least : (line : Text) (refusals few most : ℕ) → PartsCostOf es options line 0 few → PartsCostOf es options line refusals most → few ≤ most
-  PartsCostOf-least line refusals few most p q = by_flag options.only_matching p q
+  PartsSearchCost-least : (line : Text) (refusals few most : ℕ) → PartsSearchCost es options line 0 few → PartsSearchCost es options line refusals most → few ≤ most
+  PartsSearchCost-least line refusals few most p q = by_flag options.only_matching p q
     where
       Cost : ℕ → Bool → ℕ → Type 0
       Cost r asked n = MatchBool asked ((parts : List (ℕ × ℕ)) × AreParts es line options.line_regexp parts × (n ≡ searches_for r (length parts + 1) * search_cost (length es) line)) ((r ≡ 0) × (n ≡ 0))
@@ -89,6 +89,9 @@ module _ (es : List Expression) (options : Options) where
           let same : most ≡ searches_for refusals times * n = q.2 ∙ ap (λ ps. searches_for refusals (length ps + 1) * n) (ArePartsFrom-unique es line options.line_regexp q.0 p.0 0 q.1 p.1) in
           subst (λ m. few ≤ m) (sym same) (subst (λ m. m ≤ searches_for refusals times * n) (sym p.2) least)
       by_flag false p q = omega (arith, p.1)
+
+  PartsCostOf-least : (line : Text) (refusals few most : ℕ) → PartsCostOf es options line 0 few → PartsCostOf es options line refusals most → few ≤ most
+  PartsCostOf-least line refusals few most p q = IfHolds-both p q (PartsSearchCost-least line refusals few most) (λ a b. omega (arith, a.1))
 
   PartsCost-least : (lines : List Text) (refusals few most : ℕ) → PartsCost es options lines 0 few → PartsCost es options lines refusals most → few ≤ most
   PartsCost-least [] refusals few most p q = omega (arith, p.1)

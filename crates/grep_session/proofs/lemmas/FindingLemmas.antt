@@ -1,5 +1,5 @@
 -- What is found in a line, one matcher or one part more at a time.
-use Rattle.grep_session.proofs.Prelude.{◌≡◌, ℕ, suc, ◌+◌, ◌*◌, ◌≤◌, Bool, true, false, List, [], ◌∷◌, ◌++◌, inl, inr, length, map, MatchBool, refl, sym, ap, subst, ◌∙◌, append_assoc, append-nil, arith, map-append, length_push, length-append, length-map, Text, Expression, Matches, IsFound, IsPart, ArePartsFrom, AreParts, searches_for, Span, Steps, Adds, Options, IfHolds, Course, HasTaken, refusals, search_cost, AreMatching, AddsMatching, span_places, PartsCostOf, SearchesOne}
+use Rattle.grep_session.proofs.Prelude.{◌≡◌, ℕ, suc, ◌+◌, ◌*◌, ◌≤◌, Bool, true, false, List, [], ◌∷◌, ◌++◌, inl, inr, length, map, MatchBool, refl, sym, ap, subst, ◌∙◌, append_assoc, append-nil, arith, map-append, length_push, length-append, length-map, Text, Expression, Matches, IsFound, IsPart, ArePartsFrom, AreParts, searches_for, Span, Steps, Adds, Options, IfHolds, Course, HasTaken, refusals, search_cost, AreMatching, AddsMatching, span_places, PartsSearchCost, SearchesOne}
 use Rattle.re_syntax.proofs.lemmas.PartsLaws.{IsPart-unique}
 use Rattle.re_syntax.proofs.lemmas.PartsExist.{AreParts-exist}
 use Rattle.re_search.proofs.lemmas.CourseLaws.{few_searches}
@@ -82,7 +82,7 @@ module _ (es : List Expression) (options : Options) (line : Text) where
 
   -- the parts cost what the searches for them took
   pub spans_cost : options.only_matching ≡ true → (from : ℕ) (spans : List Span) (begun after : Steps) (course : Course) (matchers : ℕ) → matchers ≡ length es → SpansSoFar from spans → HasTaken (search_cost matchers line) begun (length spans + 1) course after
-      → SearchesOne (PartsCostOf es options) line begun after
+      → SearchesOne (PartsSearchCost es options) line begun after
   spans_cost asked from spans begun after course matchers many s taken =
       let all = map span_places spans ++ s.left in
       let own = refusals course.known in
@@ -104,7 +104,7 @@ module _ (es : List Expression) (options : Options) (line : Text) where
   spans_more spans pushed span cost begun after course is taken = subst (λ n. HasTaken cost begun n course after) (sym (ap length is ∙ length_push spans span)) taken
 
   -- where parts are not asked for they cost nothing
-  pub unasked_parts : options.only_matching ≡ false → (steps : Steps) → SearchesOne (PartsCostOf es options) line steps steps
+  pub unasked_parts : options.only_matching ≡ false → (steps : Steps) → SearchesOne (PartsSearchCost es options) line steps steps
   unasked_parts unasked steps = record {
     at_most = (
       0,
@@ -114,9 +114,9 @@ module _ (es : List Expression) (options : Options) (line : Text) where
     );
   }
 
-  -- a line's parts have a cost if no allocation fails
-  pub parts_cost_exists : (own : ℕ) × PartsCostOf es options line 0 own
-  parts_cost_exists = by_flag options.only_matching
+  -- the search for a line's parts has a cost if no allocation fails
+  pub parts_search_exists : (own : ℕ) × PartsSearchCost es options line 0 own
+  parts_search_exists = by_flag options.only_matching
     where
       by_flag : (asked : Bool) → (own : ℕ) × MatchBool asked ((parts : List (ℕ × ℕ)) × AreParts es line options.line_regexp parts × (own ≡ searches_for 0 (length parts + 1) * search_cost (length es) line)) ((◌≡◌ {A = ℕ} 0 0) × (own ≡ 0))
       by_flag true = let ps = AreParts-exist es line options.line_regexp in (searches_for 0 (length ps.0 + 1) * search_cost (length es) line, (ps.0, ps.1, refl))

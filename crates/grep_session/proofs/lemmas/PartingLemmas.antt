@@ -1,5 +1,5 @@
 -- The parts of the lines of a chunk, one line after the other.
-use Rattle.grep_session.proofs.Prelude.{◌≡◌, ℕ, suc, ◌+◌, ◌<◌, ◌==◌, Bool, true, false, not, ◌&&◌, MatchBool, Decides, List, [], ◌∷◌, ◌++◌, inl, inr, length, drop, get_or, nat_lt, Result, Ok, Err, IfOk, refl, sym, ap, subst, ◌∙◌, arith, length-append, append-nil, take, add-one, drop-append_seam, drop-cons, take-suc, cases_lt, nat_tests, Text, Expression, Span, Steps, Adds, Options, is_paired, numbers_at, KeptLine, no_line, Change, Added, PartsCostOf, HasNewParts, NewPartsCost, SearchesOne, TakesAtMost, Grows, has_new_parts, ArePartsAgain, CostsParts}
+use Rattle.grep_session.proofs.Prelude.{◌≡◌, ℕ, suc, ◌+◌, ◌<◌, ◌==◌, Bool, true, false, not, ◌&&◌, MatchBool, Decides, List, [], ◌∷◌, ◌++◌, inl, inr, length, drop, get_or, nat_lt, Result, Ok, Err, IfOk, refl, sym, ap, subst, ◌∙◌, arith, length-append, append-nil, take, add-one, drop-append_seam, drop-cons, take-suc, cases_lt, nat_tests, Text, Expression, Span, Steps, Adds, Options, is_paired, numbers_at, KeptLine, no_line, Change, Added, Matched, PartsSearchCost, HasNewParts, NewPartsCost, SearchesOne, TakesAtMost, Grows, has_new_parts, ArePartsAgain, CostsParts}
 use Rattle.grep_core.proofs.lemmas.CostLaws.{cost_within}
 use Rattle.line_chunks.proofs.lemmas.PairLaws.{numbers_at-append}
 use Rattle.grep_session.proofs.lemmas.ColumnLemmas.{front_and_rest}
@@ -29,11 +29,11 @@ added_marks items change first size n old new (Ok marks) is counted grows marked
 -- ---- one line
 
 -- the steps for the parts of a line that are searched
-pub costs_search : (matched anew : Bool) (es : List Expression) (options : Options) (line : Text) (begun ended : Steps) → matched ≡ true → anew ≡ true → SearchesOne (PartsCostOf es options) line begun ended → CostsParts matched anew es options line begun ended
+pub costs_search : (matched anew : Bool) (es : List Expression) (options : Options) (line : Text) (begun ended : Steps) → matched ≡ true → anew ≡ true → SearchesOne (PartsSearchCost es options) line begun ended → CostsParts matched anew es options line begun ended
 costs_search matched anew es options line begun ended m a s =
     let both : matched && anew ≡ true = ap (λ b. b && anew) m ∙ a in
     let own = s.at_most in
-    record { at_most = (own.0, own.1, subst (λ b. MatchBool b (PartsCostOf es options line own.0 own.1) ((own.0 ≡ 0) × (own.1 ≡ 0))) (sym both) own.2, own.3) }
+    record { at_most = (own.0, own.1, subst (λ b. MatchBool b (PartsSearchCost es options line own.0 own.1) ((own.0 ≡ 0) × (own.1 ≡ 0))) (sym both) own.2, own.3) }
 
 -- the parts of a line by what its marks stand for
 pub parts_by : (matched paired anew fresh : Bool) (es : List Expression) (options : Options) (line : KeptLine) (spans : List Span) → matched ≡ paired → (paired ≡ true → anew ≡ fresh) → ArePartsAgain matched anew es options line spans → ArePartsAgain paired fresh es options line spans
@@ -41,7 +41,7 @@ parts_by matched false anew fresh es options line spans m a are = subst (λ b. A
 parts_by matched true anew fresh es options line spans m a are = subst (λ b. ArePartsAgain true b es options line spans) (a refl) (subst (λ b. ArePartsAgain b anew es options line spans) m are)
 
 -- the steps for its parts
-pub costs_one : (change : Change) (changed es : List Expression) (options : Options) (line : Text) (matched paired anew fresh : Bool) (begun ended : Steps) → matched ≡ paired → (paired ≡ true → anew ≡ fresh) → Decides fresh (HasNewParts change changed options line)
+pub costs_one : (change : Change) (changed es : List Expression) (options : Options) (line : Text) (matched paired anew fresh : Bool) (begun ended : Steps) → matched ≡ paired → (paired ≡ true → anew ≡ fresh) → Decides paired (Matched es options line) × Decides fresh (HasNewParts change changed options line)
     → CostsParts matched anew es options line begun ended → SearchesOne (NewPartsCost change changed es options) line begun ended
 costs_one change changed es options line matched paired anew fresh begun ended m a d s = record { at_most = by_marks s.at_most.0 s.at_most.1 s.at_most.3 matched anew m a s.at_most.2 }
   where
@@ -50,10 +50,10 @@ costs_one change changed es options line matched paired anew fresh begun ended m
         let cost = NewPartsCost-exists change changed es options line in
         (0, cost.0, cost.1, cost_within own cost.0 0 begun ended (omega (arith, nothing.1)) (subst (λ k. Adds own own k begun ended) nothing.0 few))
 
-    by_marks : (refusals own : ℕ) → Adds own own refusals begun ended → (b f : Bool) → b ≡ paired → (paired ≡ true → f ≡ fresh) → MatchBool (b && f) (PartsCostOf es options line refusals own) ((refusals ≡ 0) × (own ≡ 0)) → TakesAtMost (NewPartsCost change changed es options line) begun ended
+    by_marks : (refusals own : ℕ) → Adds own own refusals begun ended → (b f : Bool) → b ≡ paired → (paired ≡ true → f ≡ fresh) → MatchBool (b && f) (PartsSearchCost es options line refusals own) ((refusals ≡ 0) × (own ≡ 0)) → TakesAtMost (NewPartsCost change changed es options line) begun ended
     by_marks refusals own few false f m a nothing = none refusals own few nothing
     by_marks refusals own few true false m a nothing = none refusals own few nothing
-    by_marks refusals own few true true m a is_own = (refusals, own, inl (d.0 (sym (a (sym m))), is_own), few)
+    by_marks refusals own few true true m a is_own = (refusals, own, inl (d.1.0 (sym (a (sym m))), inl (d.0.0 (sym m), is_own)), few)
 
 -- one more text
 pub take-suc' : (texts : List Text) (k : ℕ) (text : Text) → k < length texts → get_or texts k [] ≡ text → take (k + 1) texts ≡ take k texts ++ text ∷ []

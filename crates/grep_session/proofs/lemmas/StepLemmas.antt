@@ -1,9 +1,9 @@
 -- The cost of lines, and the steps that a search of them takes.
-use Rattle.grep_session.proofs.Prelude.{◌≡◌, ℕ, ◌+◌, List, [], ◌∷◌, ◌++◌, inl, inr, length, map, Ok, refl, sym, ap, subst, ◌∙◌, append_assoc, arith, length-map, Text, Expression, Matcher, matched_expression, Steps, Adds, Options, Chosen, search_cost, Inputs, AreMeant, AreMatchers, Change, Rebuild, PartsOnly, Added, Dropped, Edit, Applies, PartsCost, TakesSteps, Touched, Touches, pairs_cost, parts_alone, searched_by, ChangeCost, CostAnew, CostOfEach, HasNewParts, NewPartsCost, SearchesEach, SearchesOne, searched_for}
+use Rattle.grep_session.proofs.Prelude.{◌≡◌, ℕ, ◌+◌, List, [], ◌∷◌, ◌++◌, inl, inr, length, map, Ok, refl, sym, ap, subst, ◌∙◌, append_assoc, arith, length-map, Text, Expression, Matcher, matched_expression, Steps, Adds, Options, Chosen, search_cost, Inputs, AreMeant, AreMatchers, Change, Rebuild, PartsOnly, Added, Dropped, Edit, Applies, PartsCost, PartsCostOf, Matched, TakesSteps, Touched, Touches, pairs_cost, parts_alone, searched_by, ChangeCost, CostAnew, CostOfEach, HasNewParts, NewPartsCost, SearchesEach, SearchesOne, searched_for}
 use Rattle.re_meter.proofs.lemmas.Adding.{adds_none, all_both}
 use Rattle.grep_core.proofs.lemmas.CostLaws.{cost_within}
 use Rattle.grep_core.proofs.lemmas.Decided.{dec_matched}
-use Rattle.grep_session.proofs.lemmas.FindingLemmas.{parts_cost_exists}
+use Rattle.grep_session.proofs.lemmas.FindingLemmas.{parts_search_exists}
 
 -- ---- one line
 
@@ -14,7 +14,15 @@ dec_new_parts PartsOnly changed options line = yes tt
 dec_new_parts (Added first) changed options line = dec_matched changed options line
 dec_new_parts (Dropped p) changed options line = dec_matched changed options line
 
--- the search for a line's parts has a cost if no allocation fails
+-- a line's parts have a cost if no allocation fails
+parts_cost_exists : (es : List Expression) (options : Options) (line : Text) → (cost : ℕ) × PartsCostOf es options line 0 cost
+parts_cost_exists es options line = by_verdict (dec_matched es options line)
+  where
+    by_verdict : Dec (Matched es options line) → (cost : ℕ) × PartsCostOf es options line 0 cost
+    by_verdict (yes m) = let own = parts_search_exists es options line in (own.0, inl (m, own.1))
+    by_verdict (no m) = (0, inr (m, (refl, refl)))
+
+-- so they have after a change
 pub NewPartsCost-exists : (change : Change) (changed es : List Expression) (options : Options) (line : Text) → (cost : ℕ) × NewPartsCost change changed es options line 0 cost
 NewPartsCost-exists change changed es options line = by_verdict (dec_new_parts change changed options line)
   where

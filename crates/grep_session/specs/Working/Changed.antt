@@ -55,8 +55,7 @@ HasNewParts (Added first) changed options line = Matched changed options line
 HasNewParts (Dropped p) changed options line = Matched changed options line
 HasNewParts _ changed options line = ⊤
 
--- the cost of the search for a line's parts, where the allocation for its list of ends failed so
--- often
+-- the cost of a line's parts, where the allocation for its list of ends failed so often
 abbrev pub NewPartsCost : Change → List Expression → List Expression → Options → Text → ℕ → ℕ →
     Type 0
 NewPartsCost change changed es options line refusals cost =

@@ -9,11 +9,12 @@ use Rattle.re_syntax.specs.Lines.{terminated}
 use Rattle.re_syntax.specs.declared.span.Span.{Span}
 use Rattle.grep_core.specs.Meters.{Steps}
 use Rattle.grep_core.specs.declared.options.Options.{Options}
+use Rattle.grep_core.specs.Files.{Matched}
 use Rattle.line_chunks.specs.Working.Finds.{FoundIn, AreBelow, is_paired, numbers_at, without}
 use Rattle.line_chunks.specs.Working.Chunks.{KeptLine, no_line, FitsColumn}
 use Rattle.grep_session.specs.declared.change.Change.{Change}
 use Rattle.grep_session.specs.declared.change.Change.TheVariants.{Rebuild, Added, Dropped}
-use Rattle.grep_session.specs.Touched.{PartsCostOf}
+use Rattle.grep_session.specs.Touched.{PartsSearchCost}
 use Rattle.grep_session.specs.Working.Changed.{HasChanged, HasNewParts, TakesAtMost, WasKept}
 use Rattle.grep_session.specs.Working.Found.{IsColumn}
 use Rattle.grep_session.specs.Working.Kept.{AddsMatching, ArePartsKept}
@@ -93,11 +94,13 @@ AreAllParts change es options lines old new parts =
     ArePartsAgain (is_paired k new) (has_new_parts change (numbers_at k old) (numbers_at k new)) es
     options (get_or lines k no_line) (get_or parts k [])
 
--- whether the parts of each of the lines are searched anew is known
-abbrev pub AreDecided : Change → List Expression → Options → List Text → List (ℕ × ℕ) →
-    List (ℕ × ℕ) → Type 0
-AreDecided change changed options texts old new =
+-- whether some expression matches each of the lines, and whether its parts are searched anew, is
+-- known
+abbrev pub AreDecided : Change → List Expression → List Expression → Options → List Text →
+    List (ℕ × ℕ) → List (ℕ × ℕ) → Type 0
+AreDecided change changed es options texts old new =
     (k : ℕ) → k < length texts →
+    Decides (is_paired k new) (Matched es options (get_or texts k [])) ×
     Decides (has_new_parts change (numbers_at k old) (numbers_at k new))
     (HasNewParts change changed options (get_or texts k []))
 
@@ -134,5 +137,5 @@ pub record CostsParts (matched anew : Bool) (es : List Expression) (options : Op
     (begun ended : Steps) : Type 0 where
   pub at_most : TakesAtMost
       (λ refusals own.
-      MatchBool (matched && anew) (PartsCostOf es options line refusals own)
+      MatchBool (matched && anew) (PartsSearchCost es options line refusals own)
       ((refusals ≡ 0) × (own ≡ 0))) begun ended

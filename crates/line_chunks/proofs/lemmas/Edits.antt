@@ -1,7 +1,6 @@
 -- Entries that are changed, removed or put in the place of others.
 use Rattle.line_chunks.proofs.Prelude.{◌≡◌, ℕ, suc, ◌+◌, ◌-◌, ◌^◌, ◌<◌, ◌≤◌, List, [], ◌∷◌, ◌++◌, length, take, drop, set, get_or, ap, sym, ◌∙◌, arith, length-append, add-one, subst, inl, inr, take_all, length-take, length-drop, map-append, set-get_or, length-set, take-append-le, take-take, drop-map, drop_all, cases_lt, IfOk, OnErr, remove_range, Result, Ok, Err, Text, KeptLine, all_of, new_line, matched_count, IsPlace, chunks_of, AreSummed, IsSummedTo, Entry}
 use Rattle.line_chunks.proofs.lemmas.Joins.{joined_more, size_suc, all_taken, seams_in_order, put_in}
-use Rattle.line_chunks.proofs.lemmas.Pieces.{lines_set_last, lines_push}
 use Rattle.line_chunks.proofs.lemmas.Sums.{chunks_of-set, chunks_of-take, length-chunks_of, chunk_at, summed_to, summed_all, summed_set, summed_take, end_suc, hits_suc, matched-append, summed_push}
 
 -- ---- what an entry says of the lines up to its chunk
@@ -68,9 +67,13 @@ module _ (es : List Entry) (k : ℕ) (old new : Entry) (text : Text) (h : k + 1 
 
   pub add_ok : {T E : Type 0} (result : Result T E)
       → IfOk result (λ _. new ≡ record { chunk = old.chunk ++ new_line text ∷ []; end = old.end + 1; hits = old.hits })
-      → IfOk result (λ _. all_of (chunks_of (set es k new)) ≡ all_of (chunks_of es) ++ new_line text ∷ [])
+      → IfOk result (λ _. chunks_of (set es k new) ≡ set (chunks_of es) k (get_or (chunks_of es) k [] ++ new_line text ∷ []))
   add_ok (Ok a) is =
-      lines_set_last es k old new (new_line text ∷ []) h read (ap (λ (one : Entry). one.chunk) is)
+      let here : old.chunk ≡ get_or (chunks_of es) k [] =
+      ap (λ (e : Entry). e.chunk) read ∙ sym (chunk_at es k old (omega arith)) in
+      chunks_of-set es k new ∙
+      ap (λ lines. set (chunks_of es) k lines)
+      (ap (λ (one : Entry). one.chunk) is ∙ ap (λ lines. lines ++ new_line text ∷ []) here)
   add_ok (Err a) is = tt
 
 -- ---- entries are removed
@@ -192,11 +195,11 @@ module _ (es new : List Entry) (lines hits : ℕ) (empty chunk : List KeptLine) 
   one_line : chunk ≡ new_line text ∷ []
   one_line = chunk_is ∙ ap (λ xs. xs ++ new_line text ∷ []) none
 
-  pub new_chunk_lines : all_of (chunks_of new) ≡ all_of (chunks_of es) ++ new_line text ∷ []
-  new_chunk_lines =
-      ap (λ xs. all_of (chunks_of xs)) is ∙
-      lines_push es (record { chunk = chunk; end = lines + 1; hits = hits }) ∙
-      ap (λ xs. all_of (chunks_of es) ++ xs) one_line
+  pub new_chunk_put : chunks_of new ≡ chunks_of es ++ (new_line text ∷ []) ∷ []
+  new_chunk_put =
+      ap chunks_of is ∙
+      map-append (λ (e : Entry). e.chunk) es (record { chunk = chunk; end = lines + 1; hits = hits } ∷ []) ∙
+      ap (λ xs. chunks_of es ++ xs ∷ []) one_line
 
   pub new_chunk_summed : (ds fs : List Entry) (count : ℕ) → AreSummed 0 0 es → ds ≡ es → fs ≡ es
       → count ≡ length es → lines ≡ length (all_of (take count (chunks_of ds)))

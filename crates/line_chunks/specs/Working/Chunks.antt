@@ -1,6 +1,7 @@
 -- Lines with what was found in each, in chunks.
-use Rattle.std.specs.Prelude.{◌≡◌, ℕ, suc, ◌+◌, ◌==◌, Bool, not, List, [], ◌∷◌, ◌++◌, length, map, if◌then◌else◌, Option, Some, None, IfSome, ⊤}
+use Rattle.std.specs.Prelude.{◌≡◌, ℕ, suc, ◌+◌, ◌==◌, Bool, not, List, [], ◌∷◌, ◌++◌, length, map, if◌then◌else◌, nat_lt, Option, Some, None, IfSome, ⊤}
 use Rattle.re_syntax.specs.Bytes.{Text}
+use Rattle.re_syntax.specs.Lines.{terminated}
 use Rattle.line_finds.specs.Working.Finds.{Finds, no_finds, FoundIn, finds_at, without}
 
 -- a line, and what was found in it
@@ -48,6 +49,19 @@ seen texts found = seen_from 0 texts found
 abbrev pub all_of : List (List KeptLine) → List KeptLine
 all_of [] = []
 all_of (lines ∷ chunks) = lines ++ all_of chunks
+
+-- ---- a line is added
+
+-- with the line and its newline the chunk has at most so many bytes
+abbrev pub has_room : ℕ → List KeptLine → Text → Bool
+has_room limit lines text = nat_lt (length (terminated (map line_text lines)) + length text) limit
+
+-- a line goes to the last chunk if this has room for it, and otherwise becomes a chunk of its own
+abbrev pub with_line : ℕ → List (List KeptLine) → KeptLine → List (List KeptLine)
+with_line limit [] line = (line ∷ []) ∷ []
+with_line limit (lines ∷ []) line =
+    if has_room limit lines line.text then (lines ++ line ∷ []) ∷ [] else lines ∷ (line ∷ []) ∷ []
+with_line limit (lines ∷ next ∷ chunks) line = lines ∷ with_line limit (next ∷ chunks) line
 
 -- ---- what was found, chunk by chunk
 

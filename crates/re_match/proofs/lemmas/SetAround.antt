@@ -7,6 +7,7 @@ use Rattle.re_runs.proofs.lemmas.Looks.{place_in_line}
 use Rattle.re_match.proofs.lemmas.SetBlocks.{piece_before, piece_after}
 use Rattle.re_strings.proofs.lemmas.KeyLaws.{key_newline}
 use Rattle.re_match.proofs.lemmas.SetMatches.{occurs_decides}
+use Rattle.re_match.proofs.lemmas.SweptLines.{whole_line}
 
 -- ---- the line around a string
 
@@ -123,11 +124,13 @@ module _ (l : Literals) (none_empty : IsString (map (keys l.fold) l.texts) [] �
         (occurs_decides l line true none_empty ((λ e. (i - start, stop - start, there)), (λ e. refl))).0 refl
 
     -- and the search stopped in it
-    pub stops_around : HasNoNewline (drop start (take stop block)) → StopsAt (any_literal l) false block (record { start = start; reached = stop; stop = Seen })
+    pub stops_around : HasNoNewline (drop start (take stop block)) → StopsAt (any_literal l) false block (record { start = start; first = start; reached = stop; stop = Seen })
     stops_around none = record {
       within = fits;
       near = λ end cut. let near = place_in_line block start stop end fits start_low none cut in omega (arith, near);
       unseen = λ no. absurd (other no);
+      low = omega arith;
+      first = λ end cut. whole_line (any_literal l) false block start end cut;
       matched = λ no. absurd (another no);
     }
       where

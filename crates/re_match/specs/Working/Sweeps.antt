@@ -1,6 +1,6 @@
 -- Looks over lines and blocks: what they pass, where a sweep stops, and what is known of the line
 -- there.
-use Rattle.std.specs.Prelude.{◌≡◌, ℕ, ◌+◌, ◌≤◌, ◌⊎◌, Bool, Option, min, length, slice_range}
+use Rattle.std.specs.Prelude.{◌≡◌, ℕ, ◌+◌, ◌≤◌, ◌↔◌, ◌⊎◌, Bool, Option, min, length, slice_range}
 use Rattle.re_syntax.specs.Bytes.{Text}
 use Rattle.re_syntax.specs.Expression.{Expression}
 use Rattle.re_syntax.specs.Holds.{Matches}
@@ -12,12 +12,21 @@ use Rattle.re_match.specs.declared.sweeps.Stop.{Stop}
 use Rattle.re_match.specs.declared.sweeps.Stop.TheVariants.{Unseen, Seen, Matched}
 use Rattle.re_match.specs.declared.sweeps.Sweep.{Sweep}
 
+-- the line of the block from `start` to `end` may be searched from the place `first` on
+abbrev pub IsSameFrom : Expression → Bool → Text → ℕ → ℕ → ℕ → Type 0
+IsSameFrom e whole block start first end =
+    (first ≤ end) ×
+    (Matches e (slice_range block first end) whole ↔ Matches e (slice_range block start end) whole)
+
 -- the block was looked over up to a place of the line, or to the end of its newline; not beyond the
--- line's beginning if nothing was seen of it; and the line is matched if the sweep says so
+-- line's beginning if nothing was seen of it; what is left of the line from its first place on is matched
+-- exactly if the line is; and the line is matched if the sweep says so
 pub record StopsAt (e : Expression) (whole : Bool) (block : Text) (sweep : Sweep) : Type 0 where
   pub within : sweep.reached ≤ length block
   pub near : (end : ℕ) → IsLineFrom block sweep.start end → sweep.reached ≤ end + 1
   pub unseen : sweep.stop ≡ Unseen → sweep.reached ≤ sweep.start
+  pub low : sweep.start ≤ sweep.first
+  pub first : (end : ℕ) → IsLineFrom block sweep.start end → IsSameFrom e whole block sweep.start sweep.first end
   pub matched : sweep.stop ≡ Matched → (end : ℕ) → IsLineFrom block sweep.start end →
       Matches e (slice_range block sweep.start end) whole
 

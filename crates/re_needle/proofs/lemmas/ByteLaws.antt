@@ -45,11 +45,12 @@ alt_one_more set (f ∷ es) e all one line small i j h = elim h [
 ]
 
 module _ (parts : List Tree) (i : ℕ) (part : Tree) (lt : i < length parts) (is : part ≡ get_or parts i part) where
-  grown : map expression_of (take (i + 1) parts) ≡ map expression_of (take i parts) ++ expression_of part ∷ []
-  grown = ap (map expression_of) (take_more parts i part lt) ∙ map-append expression_of (take i parts) (get_or parts i part ∷ []) ∙ ap (λ x. map expression_of (take i parts) ++ expression_of x ∷ []) (sym is)
+  -- the expressions of the parts up to this one
+  pub parts_grown : map expression_of (take (i + 1) parts) ≡ map expression_of (take i parts) ++ expression_of part ∷ []
+  parts_grown = ap (map expression_of) (take_more parts i part lt) ∙ map-append expression_of (take i parts) (get_or parts i part ∷ []) ∙ ap (λ x. map expression_of (take i parts) ++ expression_of x ∷ []) (sym is)
 
   pub all_more : (set : Bytes) → HasBytesOf set (cat (map expression_of (take i parts))) → HasBytesOf set (expression_of part) → HasBytesOf set (cat (map expression_of (take (i + 1) parts)))
-  all_more set all one = subst (λ es. HasBytesOf set (cat es)) (sym grown) (cat_one_more set (map expression_of (take i parts)) (expression_of part) all one)
+  all_more set all one = subst (λ es. HasBytesOf set (cat es)) (sym parts_grown) (cat_one_more set (map expression_of (take i parts)) (expression_of part) all one)
 
   pub one_more : (set : Bytes) → HasBytesOf set (alt (map expression_of (take i parts))) → HasBytesOf set (expression_of part) → HasBytesOf set (alt (map expression_of (take (i + 1) parts)))
-  one_more set all one = subst (λ es. HasBytesOf set (alt es)) (sym grown) (alt_one_more set (map expression_of (take i parts)) (expression_of part) all one)
+  one_more set all one = subst (λ es. HasBytesOf set (alt es)) (sym parts_grown) (alt_one_more set (map expression_of (take i parts)) (expression_of part) all one)

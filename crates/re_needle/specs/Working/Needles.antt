@@ -1,7 +1,7 @@
 -- Strings, and choices of runs of sets, that each stretch on which an expression holds contains.
-use Rattle.std.specs.Prelude.{◌≡◌, ℕ, ◌+◌, ◌<◌, ◌≤◌, slice_index, IsTrue, IfSome, All, Any, List, Option, length, ◌⊎◌, Bool, true, false}
+use Rattle.std.specs.Prelude.{◌≡◌, ℕ, ◌+◌, ◌<◌, ◌≤◌, slice_index, IsTrue, IfSome, All, Any, List, Option, length, ◌⊎◌, Bool, true, false, ⊤}
 use Rattle.re_syntax.specs.Bytes.{Bytes, Text}
-use Rattle.re_syntax.specs.Expression.{Expression}
+use Rattle.re_syntax.specs.Expression.{Expression, begin, cat_more, alt_more, repeat}
 use Rattle.re_syntax.specs.Holds.{Holds}
 use Rattle.memchr.specs.Find.{OccursAt}
 use Rattle.re_needle.specs.declared.needle.Needle.{Needle}
@@ -43,6 +43,14 @@ abbrev pub HasBytesOf : Bytes → Expression → Type 0
 HasBytesOf set e =
     (line : Text) → ((x : ℕ) → slice_index line x < 256) → (i j : ℕ) → Holds line e i j →
     (k : ℕ) → i ≤ k → k < j → IsTrue (set (slice_index line k))
+
+-- no `^` is in it: whether it holds doesn't depend on where the line begins
+abbrev pub HasNoBegin : Expression → Type 0
+HasNoBegin begin = ⊥
+HasNoBegin (cat_more e rest) = HasNoBegin e × HasNoBegin rest
+HasNoBegin (alt_more e rest) = HasNoBegin e × HasNoBegin rest
+HasNoBegin (repeat e least most) = HasNoBegin e
+HasNoBegin e = ⊤
 
 -- The expression needs one of the runs. If the needle says that they are first, each match begins with
 -- one. If the needle says that they are all, the expression holds exactly where one is.

@@ -1,5 +1,5 @@
 -- Groups of basic expressions, and a whole expression, by the branches at their places.
-use Rattle.re_syntax.proofs.Prelude.{◌≡◌, ◌≢◌, ℕ, suc, ◌+◌, ◌-◌, ◌<◌, ◌≤◌, ◌⊎◌, inl, inr, List, [], ◌∷◌, ◌++◌, length, take, drop, codes, refl, sym, ap, ◌∙◌, subst, arith, length-drop, Option, Global, nil_from_length, take-append-drop, Piece, Pieces, UnopenedGroup, Memory, PatternFault, Basic, Text, Begins, IsAfter, Expression, choice, ItemPlace, IsNoBasic, IsAtLast, text_ends, group_ends, IsRefused, memory, reported, IsReported, AreReported, most_levels, IsSpelled, as_basic}
+use Rattle.re_syntax.proofs.Prelude.{◌≡◌, ◌≢◌, ℕ, suc, ◌+◌, ◌-◌, ◌<◌, ◌≤◌, ◌⊎◌, inl, inr, List, [], ◌∷◌, ◌++◌, length, take, drop, codes, refl, sym, ap, ◌∙◌, subst, arith, length-drop, Option, Global, nil_from_length, take-append-drop, Piece, Pieces, UnopenedGroup, PatternFault, Basic, Text, Begins, IsAfter, Expression, choice, ItemPlace, IsNoBasic, IsAtLast, text_ends, group_ends, IsRefused, RunsOut, memory, reported, IsReported, AreReported, most_levels, IsSpelled, as_basic}
 use Rattle.re_syntax.specs.Basic.{Branches, Atom, bracket, period, escaped, ordinary, group}
 use Rattle.re_syntax.specs.BasicFaults.{IsStart, OpensUnclosed, IsShownIn}
 use Rattle.re_syntax.specs.Working.BasicSteps.{AtomStands, HasNoAtom, HasNoBranches, BranchesStand}
@@ -144,7 +144,7 @@ nothing_spelled : (text : Text) (fault : PatternFault) → HasNoBranches most_le
 nothing_spelled text fault k shown = record { none = λ e spelled. let (h, es, bs, le) = spelled_branches spelled in k.none h [] es bs text_ends le; shown = shown }
 
 -- memory ran out, or nothing is spelled
-pub memory_or_none : (text : Text) (fault : PatternFault) → IsRefused (HasNoBranches most_levels text) (IsShownIn text fault) fault →
-    ◌≡◌ {A = PatternFault} fault (record { kind = Memory; at = 0 }) ⊎ IsNoBasic text fault
-memory_or_none text fault (memory e) = inl e
+pub memory_or_none : {alloc : Option Global} (text : Text) (fault : PatternFault) → IsRefused alloc (HasNoBranches most_levels text) (IsShownIn text fault) fault →
+    RunsOut alloc fault ⊎ IsNoBasic text fault
+memory_or_none text fault (memory out) = inl out
 memory_or_none text fault (reported k shown) = inr (nothing_spelled text fault k shown)

@@ -1,6 +1,6 @@
 -- Branches and groups of extended expressions, and a whole expression, by the items at their
 -- places.
-use Rattle.re_syntax.proofs.Prelude.{◌≡◌, ◌≢◌, ℕ, suc, ◌+◌, ◌-◌, ◌≤◌, ◌⊎◌, inl, inr, max, Bool, true, false, ◌&&◌, nat_eq, List, [], ◌∷◌, ◌++◌, length, take, drop, codes, refl, sym, ap, ◌∙◌, subst, arith, append_assoc, length-drop, Option, Global, or_cases, eqb-true, Piece, Pieces, Memory, PatternFault, Extended, Text, Begins, IsAfter, Expression, sequence, choice, IsNoExtended, stops, ends, IsRefused, memory, reported, IsReported, AreReported, IsJoined, most_levels, IsSpelled, as_extended}
+use Rattle.re_syntax.proofs.Prelude.{◌≡◌, ◌≢◌, ℕ, suc, ◌+◌, ◌-◌, ◌≤◌, ◌⊎◌, inl, inr, max, Bool, true, false, ◌&&◌, nat_eq, List, [], ◌∷◌, ◌++◌, length, take, drop, codes, refl, sym, ap, ◌∙◌, subst, arith, append_assoc, length-drop, Option, Global, or_cases, eqb-true, Piece, Pieces, PatternFault, Extended, Text, Begins, IsAfter, Expression, sequence, choice, IsNoExtended, stops, ends, IsRefused, RunsOut, memory, reported, IsReported, AreReported, IsJoined, most_levels, IsSpelled, as_extended}
 use Rattle.re_syntax.specs.Extended.{Branches, last, more, Items, Atom, group}
 use Rattle.re_syntax.specs.ExtendedFaults.{IsStart, OpensUnclosed, IsShownIn}
 use Rattle.re_syntax.specs.Working.ExtendedSteps.{AtomStands, HasNoAtom, HasNoItems, BranchStands, HasNoBranches, BranchesStand}
@@ -220,7 +220,7 @@ nothing_spelled : (text : Text) → HasNoBranches false most_levels text → (e 
 nothing_spelled text k e (as_extended {h = h} {es = es} bs le) = k.none h [] es bs refl le
 
 -- memory ran out, or nothing is spelled
-pub memory_or_none : (text : Text) (fault : PatternFault) → IsRefused (HasNoBranches false most_levels text) (IsShownIn text fault) fault →
-    ◌≡◌ {A = PatternFault} fault (record { kind = Memory; at = 0 }) ⊎ IsNoExtended text fault
-memory_or_none text fault (memory e) = inl e
+pub memory_or_none : {alloc : Option Global} (text : Text) (fault : PatternFault) → IsRefused alloc (HasNoBranches false most_levels text) (IsShownIn text fault) fault →
+    RunsOut alloc fault ⊎ IsNoExtended text fault
+memory_or_none text fault (memory out) = inl out
 memory_or_none text fault (reported k shown) = inr (record { none = nothing_spelled text k; shown = shown })

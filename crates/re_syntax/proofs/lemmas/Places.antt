@@ -1,6 +1,6 @@
 -- What readers of expressions share: bytes at places of a text, what was found, and what follows
 -- from what is said.
-use Rattle.re_syntax.proofs.Prelude.{◌≡◌, ℕ, ◌+◌, ◌<◌, max, Bool, true, false, not, ◌∷◌, ◌++◌, length, take, drop, Option, Some, None, Result, Ok, Err, IfOk, IfErr, MatchOption, MatchBool, is_some, slice_get, get_or, sym, ap, ◌∙◌, arith, take-add, take-append_seam, drop-drop, drop_more, slice_get_within, slice_get-get_or, get_or_from_slice_get, PatternFault, Text, IsRefused, memory, reported}
+use Rattle.re_syntax.proofs.Prelude.{◌≡◌, ℕ, ◌+◌, ◌<◌, max, Bool, true, false, not, ◌∷◌, ◌++◌, length, take, drop, Option, Some, None, Global, Result, Ok, Err, IfOk, IfErr, MatchOption, MatchBool, is_some, slice_get, get_or, sym, ap, ◌∙◌, arith, take-add, take-append_seam, drop-drop, drop_more, slice_get_within, slice_get-get_or, get_or_from_slice_get, PatternFault, Text, IsRefused, memory, reported}
 
 -- the text from the place of a byte on
 pub byte_at : (text : Text) (at b : ℕ) → slice_get text at ≡ Some b → drop at text ≡ b ∷ drop (at + 1) text
@@ -59,6 +59,6 @@ pub regrouped : (h k n : ℕ) → max h (max k n) ≡ max (max h k) n
 regrouped h k n = omega arith
 
 -- what follows from what a refusal says of the text is said by it too
-pub refused_as : {P Q S : Type 0} {fault : PatternFault} → IsRefused P S fault → (P → Q) → IsRefused Q S fault
+pub refused_as : {alloc : Option Global} {P Q S : Type 0} {fault : PatternFault} → IsRefused alloc P S fault → (P → Q) → IsRefused alloc Q S fault
 refused_as (memory e) f = memory e
 refused_as (reported h s) f = reported (f h) s

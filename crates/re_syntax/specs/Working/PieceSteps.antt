@@ -1,5 +1,5 @@
 -- What the parts of an expression that were read say, in basic and in extended expressions.
-use Rattle.std.specs.Prelude.{◌≡◌, ℕ, ◌+◌, max, List, [], ◌∷◌, ◌++◌, map, nat_eq}
+use Rattle.std.specs.Prelude.{◌≡◌, ◌≢◌, ℕ, ◌+◌, max, List, [], ◌∷◌, ◌++◌, map, nat_eq}
 use Rattle.std.specs.Prelude.{if◌then◌else◌, Option, None, MatchOption, Vec}
 use Rattle.std.specs.Global.{Global}
 use Rattle.re_syntax.specs.declared.pieces.Piece.{Piece}
@@ -15,23 +15,29 @@ use Rattle.re_syntax.specs.Working.Trees.{expression_of}
 use Rattle.re_syntax.specs.Working.Counted.{up_to_word}
 use Rattle.re_syntax.specs.Holds.{positions}
 
--- memory ran out, or what is said of the text holds and the fault shows there
-pub data IsRefused (P Shown : Type 0) (fault : PatternFault) : Type 0 where
-  memory : fault ≡ record { kind = Memory; at = 0 } → IsRefused P Shown fault
-  reported : P → Shown → IsRefused P Shown fault
+-- Memory ran out. It is asked for only where this is given: an allocator, or the trees so far.
+abbrev pub RunsOut : {A : Type 0} → Option A → PatternFault → Type 0
+RunsOut needs fault = (needs ≢ None) × (fault ≡ record { kind = Memory; at = 0 })
+
+-- memory ran out for trees, or what is said of the text holds and the fault shows there
+pub data IsRefused (alloc : Option Global) (P Shown : Type 0) (fault : PatternFault) : Type 0 where
+  memory : RunsOut alloc fault → IsRefused alloc P Shown fault
+  reported : P → Shown → IsRefused alloc P Shown fault
 
 -- what a byte means outside brackets and escapes
 abbrev pub meant_bytes : ℕ → Bytes
 meant_bytes b = if nat_eq b 46 then any_but_nul else only b
 
--- the tree of an expression, or none where no allocator is given for it
+-- the tree of an expression where an allocator is given for it, or none where none is
 abbrev pub Keeps : Option Global → Option Tree → Expression → Type 0
-Keeps alloc tree e = MatchOption tree (alloc ≡ None) (λ kept. expression_of kept ≡ e)
+Keeps alloc tree e =
+    MatchOption tree (alloc ≡ None) (λ kept. (alloc ≢ None) × (expression_of kept ≡ e))
 
--- the trees of several expressions, or none where no allocator is given for them
+-- the trees of several expressions where an allocator is given for them, or none where none is
 abbrev pub KeepsAll : Option Global → Option (Vec Tree Global) → List Expression → Type 0
 KeepsAll alloc trees es =
-    MatchOption trees (alloc ≡ None) (λ kept. map expression_of kept.items ≡ es)
+    MatchOption trees (alloc ≡ None)
+    (λ kept. (alloc ≢ None) × (map expression_of kept.items ≡ es))
 
 -- the piece has the tree of the expression, where trees are kept, and its number of positions
 pub record IsReported (alloc : Option Global) (piece : Piece) (e : Expression) : Type 0 where

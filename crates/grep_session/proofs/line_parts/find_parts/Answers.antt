@@ -1,4 +1,4 @@
-use Rattle.grep_session.proofs.Prelude.{◌≡◌, suc, ◌<◌, true, false, Decides, [], length, map, take, drop, get_or, ap, subst, refl, ◌∙◌, arith, take_all, get_or_default, length-map, line_text, no_line, is_paired, numbers_at, HasNewParts, NewPartsCost, SearchesEach, has_new_parts}
+use Rattle.grep_session.proofs.Prelude.{◌≡◌, suc, ◌<◌, true, false, Decides, [], length, map, take, drop, get_or, ap, subst, refl, ◌∙◌, arith, take_all, get_or_default, length-map, line_text, no_line, is_paired, numbers_at, Matched, HasNewParts, NewPartsCost, SearchesEach, has_new_parts}
 use Rattle.std.proofs.Math.ListN.{get_or-map}
 use Rattle.grep_session.proofs.lemmas.PartingLemmas.{parts_by, costs_one, parts_next, take-suc', with_next}
 use Rattle.re_search.proofs.lemmas.KeptMatchers.{none_asked, same_over}
@@ -49,7 +49,7 @@ loop-k-preserved g c =
       found = parts_next c.args.change c.args.old.now c.args.new.now es options lines k c.loop-k.parts c.put_parts.new.parts s.found c.in_ok-put_parts.ensures.others (parts_by matched _ anew _ es options (get_or lines k no_line) _ is_matched is_anew put);
       same_matchers = same_over c.put_parts.ensures.same_matchers s.same_matchers;
       steps = λ changed d. each_one (NewPartsCost c.args.change changed es options) (take k texts) (line_text (get_or lines k no_line)) _ _ _ _ (take-suc' texts k (line_text (get_or lines k no_line)) one text) (s.steps changed d)
-          (costs_one c.args.change changed es options (line_text (get_or lines k no_line)) matched _ anew fresh _ _ is_matched is_anew (subst (λ t. Decides fresh (HasNewParts c.args.change changed options t)) text (d k one)) spent);
+          (costs_one c.args.change changed es options (line_text (get_or lines k no_line)) matched _ anew fresh _ _ is_matched is_anew (subst (λ t. Decides (is_paired k c.args.new.now) (Matched es options t) × Decides fresh (HasNewParts c.args.change changed options t)) text (d k one)) spent);
     }
 
 pub returns-in_err-put_parts-clause-steps : goal.returns-in_err-put_parts-clause-steps
@@ -71,7 +71,7 @@ returns-in_err-put_parts-clause-steps g c = λ changed d.
     let text : get_or texts k [] ≡ line_text (get_or lines k no_line) = get_or-map line_text lines k no_line in
     let spent = rw s.same_matchers.same_expressions at c.put_parts.ensures.steps in
     each_next (NewPartsCost c.args.change changed es options) (NewPartsCost-exists c.args.change changed es options) (take k texts) (line_text (get_or lines k no_line)) (drop (suc k) texts) texts _ _ _ (with_next texts k (line_text (get_or lines k no_line)) one text) (s.steps changed d)
-    (costs_one c.args.change changed es options (line_text (get_or lines k no_line)) matched _ anew fresh _ _ is_matched is_anew (subst (λ t. Decides fresh (HasNewParts c.args.change changed options t)) text (d k one)) spent)
+    (costs_one c.args.change changed es options (line_text (get_or lines k no_line)) matched _ anew fresh _ _ is_matched is_anew (subst (λ t. Decides (is_paired k c.args.new.now) (Matched es options t) × Decides fresh (HasNewParts c.args.change changed options t)) text (d k one)) spent)
 
 pub returns-clause-ok : goal.returns-clause-ok
 returns-clause-ok g c = λ k high asked. c.loop-k.invariant.found k (omega (arith, c.loop-k-test.false, c.len-size.ensures, high))

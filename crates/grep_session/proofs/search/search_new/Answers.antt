@@ -22,7 +22,7 @@ pub put_columns-requires : goal.put_columns-requires
 put_columns-requires c =
     let a = c.in_ok-find_in_lines.ensures.ok in
     let found : into_iter_items c.into_iter.result ≡ a.found = c.into_iter.ensures.rest ∙ a.added ∙ ap (λ l. l ++ a.found) c.new-found.ensures.items in
-    subst (FitColumns c.kept_of-lines.result) (sym found) (fit_all c.kept_of-lines.result a.found a.fit)
+    (omega arith, subst (FitColumns c.kept_of-lines.result) (sym found) (fit_all c.kept_of-lines.result a.found a.fit))
 
 pub returns-clause-texts : goal.returns-clause-texts
 returns-clause-texts c = ap (λ cs. map line_text (all_of cs)) c.put_columns.ensures.lines ∙ texts_with_columns c.kept_of-lines.result (into_iter_items c.into_iter.result) ∙ c.kept_of-lines.ensures.same

@@ -1,4 +1,4 @@
-use Rattle.grep_utility.proofs.Prelude.{[], ◌∷◌, ap, ◌∙◌, count_more, source_named}
+use Rattle.grep_utility.proofs.Prelude.{[], ◌∷◌, refl, ap, ◌∙◌, count_more, not_opened, source_named}
 use Rattle.grep_core.proofs.lemmas.SourceLaws.{gives_both}
 use Rattle.grep_utility.proofs.lemmas.SourceLemmas.{file_whole, file_broken}
 use Rattle.grep_utility.proofs.patterns.add_pattern_file.Goals as goal
@@ -22,3 +22,6 @@ returns-in-Ok-false-clause-ok g c =
 pub returns-in-Ok-true-clause-back : goal.returns-in-Ok-true-clause-back
 returns-in-Ok-true-clause-back g c whole =
     (_, gives_both g.F.Files.returned_readers c.args.files.now c.open_named.new.files c.close.new.self [] (g.F.Reader.CountedRead.remaining c.add_all_lines-reader.result.0 ∷ []) c.open_named.ensures.none_back c.close.ensures.back)
+
+pub returns-in_default-clause-ok : goal.returns-in_default-clause-ok
+returns-in_default-clause-ok g c = let opened = c.in_default.ensures.opened in (1, (not_opened, opened.0, refl), opened.1)

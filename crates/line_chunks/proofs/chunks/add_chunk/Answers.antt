@@ -1,10 +1,10 @@
 use Rattle.line_chunks.proofs.Prelude.{◌∙◌}
-use Rattle.line_chunks.proofs.lemmas.Edits.{new_chunk_lines, new_chunk_summed}
+use Rattle.line_chunks.proofs.lemmas.Edits.{new_chunk_put, new_chunk_summed}
 use Rattle.line_chunks.proofs.chunks.add_chunk.Goals as goal
 
 pub returns-clause-ok : goal.returns-clause-ok
 returns-clause-ok c =
-    new_chunk_lines c.args.entries.now.items c.push-2.new.self.items c.lines_before-end.result
+    new_chunk_put c.args.entries.now.items c.push-2.new.self.items c.lines_before-end.result
     c.matched_before-hits.result c.in_ok-chunk.chunk c.push.new.self c.args.line.now c.in_ok-chunk.ensures
     c.in_ok-push.ensures.ok c.in_ok-push-2.ensures.items
 

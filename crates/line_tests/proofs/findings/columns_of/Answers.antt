@@ -5,7 +5,7 @@ use Rattle.line_tests.proofs.Fitting.{fits_more}
 use Rattle.line_tests.proofs.findings.columns_of.Goals as goal
 
 pub loop-i-preserved : goal.loop-i-preserved
-loop-i-preserved c =
+loop-i-preserved g c =
     let is = c.in_ok-push.ensures.items in (
       omega (
         arith,

@@ -1,21 +1,11 @@
-use Rattle.re_needle.proofs.Prelude.{◌≡◌, map, sym, ap, ◌∙◌, subst, alt, members, members_of, sets_of_each, expression_of, RunIsNeeded, RunBegins, IsJustRun}
 use Rattle.re_syntax.proofs.lemmas.ExpressionLaws.{expression-Alt}
-use Rattle.re_runs.proofs.lemmas.RunLaws.{map-map}
-use Rattle.re_needle.proofs.lemmas.BranchLaws.{runs_needed, runs_begin, runs_just}
 use Rattle.re_needle.proofs.choice_needle.choice_needle.Goals as goal
 
+pub returns-then-are_preferred : goal.returns-then-are_preferred
+returns-then-are_preferred c = rw c.in-Alt.is (rw (expression-Alt c.in-Alt.branches) (rw c.deref-2.ensures.value at c.in_ok-heads.ensures))
+
 pub returns : goal.returns
-returns c =
-    let found = c.in-Some.field-0 in
-    let runs = found.runs.items in
-    let finder = c.in-Some-2.finder in
-    let es = map expression_of c.in-Alt.branches.items in
-    let choice : finder ≡ map (λ run. run.items) runs = rw c.in-Some-2.is at c.in_ok-finder.ensures.runs in
-    let same : members_of finder ≡ sets_of_each runs = ap members_of choice ∙ map-map (map members) (λ run. run.items) runs in
-    let each = rw c.deref.ensures.value at (rw c.in-Some.is at c.in_ok-runs.ensures) in
-    rw c.in-Alt.is (rw (expression-Alt c.in-Alt.branches) (record {
-      needed = subst (λ r. RunIsNeeded r (alt es)) (sym same) (runs_needed found.are_first found.are_all (sets_of_each runs) es each);
-      some = rw c.in-Some-2.is at c.in_ok-finder.ensures.some;
-      first = λ reported. subst (λ r. RunBegins r (alt es)) (sym same) (runs_begin found.are_first found.are_all (sets_of_each runs) es each reported);
-      all = λ reported. subst (λ r. IsJustRun r (alt es)) (sym same) (runs_just found.are_first found.are_all (sets_of_each runs) es each reported);
-    }))
+returns c = rw c.in-Alt.is (rw (expression-Alt c.in-Alt.branches) (rw c.deref.ensures.value at c.in_ok-best.ensures))
+
+pub returns-then-not-begins : goal.returns-then-not-begins
+returns-then-not-begins c = rw c.in-Alt.is (rw (expression-Alt c.in-Alt.branches) (rw c.deref.ensures.value at c.in_ok-best.ensures))

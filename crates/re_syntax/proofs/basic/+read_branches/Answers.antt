@@ -2,6 +2,7 @@ use Rattle.re_syntax.proofs.Prelude.{◌+◌, ◌-◌, ◌≢◌, inl, get_or, d
 use Rattle.re_syntax.specs.Working.BasicSteps.{DuplicationStands}
 use Rattle.re_syntax.proofs.lemmas.ExpressionLaws.{expression-Set}
 use Rattle.re_syntax.proofs.lemmas.BasicEnds.{item_within}
+use Rattle.re_syntax.proofs.lemmas.PiecesLaws.{runs_out}
 use Rattle.re_syntax.proofs.lemmas.Places.{ok_as, err_as, some_found, nothing_found, byte_here, front_here, refused_as}
 use Rattle.re_syntax.proofs.lemmas.BasicAtoms.{no_escape_atom, no_atom_needed, single_stands, escaped_stands, shown_escape, bracket_atom, no_bracket_atom, shown_no_bracket}
 use Rattle.re_syntax.proofs.lemmas.BasicGroups.{opening_within, opening_starts, group_stands, no_group_left, no_group_inside, no_group_end, opens_unclosed}
@@ -161,7 +162,7 @@ read_branch-returns-in_err-piece-clause-refused t c =
 pub read_branch-returns-in_err-items-2-clause-refused : goal.read_branch-returns-in_err-items-2-clause-refused
 read_branch-returns-in_err-items-2-clause-refused t c =
     let q = err_from_is_err_and c.from_residual-in_err-items-2.result c.from_residual-in_err-items-2.ensures.1 in
-    rw (q.1, q.2) (memory c.in_err-items-2.ensures.refused)
+    rw (q.1, q.2) (memory (runs_out c.items.invariant.are c.in_err-items-2.ensures.refused))
 
 pub read_branch-items-smaller : goal.read_branch-items-smaller
 read_branch-items-smaller t c =
@@ -176,7 +177,7 @@ read_branch-items-preserved t c =
 pub read_branch-returns-in_err-all-clause-refused : goal.read_branch-returns-in_err-all-clause-refused
 read_branch-returns-in_err-all-clause-refused t c =
     let q = err_from_is_err_and c.from_residual-in_err-all.result c.from_residual-in_err-all.ensures.1 in
-    rw (q.1, q.2) (memory c.in_err-all.ensures.refused)
+    rw (q.1, q.2) (memory (runs_out c.items.invariant.are c.in_err-all.ensures.refused))
 
 pub read_branch-returns-clause-read : goal.read_branch-returns-clause-read
 read_branch-returns-clause-read t c =
@@ -193,7 +194,7 @@ read_branches-returns-in_err-first-clause-refused t c =
 pub read_branches-returns-in_err-branches-clause-refused : goal.read_branches-returns-in_err-branches-clause-refused
 read_branches-returns-in_err-branches-clause-refused t c =
     let q = err_from_is_err_and c.from_residual-in_err-branches.result c.from_residual-in_err-branches.ensures.1 in
-    rw (q.1, q.2) (memory c.in_err-branches.ensures.refused)
+    rw (q.1, q.2) (memory (runs_out c.no_pieces-none.ensures.reported c.in_err-branches.ensures.refused))
 
 pub read_branches-branches-init : goal.read_branches-branches-init
 read_branches-branches-init t c =
@@ -213,7 +214,7 @@ read_branches-returns-in_err-branch-clause-refused t c =
 pub read_branches-returns-in_err-branches-2-clause-refused : goal.read_branches-returns-in_err-branches-2-clause-refused
 read_branches-returns-in_err-branches-2-clause-refused t c =
     let q = err_from_is_err_and c.from_residual-in_err-branches-2.result c.from_residual-in_err-branches-2.ensures.1 in
-    rw (q.1, q.2) (memory c.in_err-branches-2.ensures.refused)
+    rw (q.1, q.2) (memory (runs_out c.branches.invariant.are c.in_err-branches-2.ensures.refused))
 
 pub read_branches-branches-smaller : goal.read_branches-branches-smaller
 read_branches-branches-smaller t c =

@@ -1,5 +1,6 @@
 use Rattle.re_syntax.proofs.lemmas.ExpressionLaws.{expression-Begin}
-use Rattle.re_syntax.proofs.lemmas.Places.{ok_as}
+use Rattle.re_syntax.proofs.lemmas.Places.{ok_as, err_as}
+use Rattle.re_syntax.proofs.lemmas.PiecesLaws.{runs_out}
 use Rattle.re_syntax.proofs.lemmas.BasicLeads.{without_lead, with_lead}
 use Rattle.re_syntax.proofs.basic.read_lead.Goals as goal
 
@@ -13,3 +14,6 @@ returns-in-Some-clause-read c =
     ok_as _ _ c.joined.result c.joined.ensures.made
     (λ new j levels. with_lead levels c.args.text.now c.args.from _ new c.leaf.result c.requires.within (rw c.leaf.ensures.place c.in-Some.ensures) c.no_pieces-items.ensures.reported
     c.no_pieces-items.ensures.height (c.leaf.ensures.reported _ expression-Begin) c.leaf.ensures.height j)
+
+pub returns-in-Some-clause-refused : goal.returns-in-Some-clause-refused
+returns-in-Some-clause-refused c = err_as _ _ c.joined.result c.joined.ensures.refused (λ fault out. runs_out c.no_pieces-items.ensures.reported out)

@@ -1,6 +1,7 @@
 use Rattle.re_syntax.proofs.Prelude.{◌≡◌, ◌≢◌, ◌+◌, ◌-◌, inl, true, false, get_or, drop, refl, ap, ◌∙◌, arith, rules, err_from_is_err_and, one_of, memory, reported, stops}
 use Rattle.re_syntax.specs.Working.ExtendedSteps.{DuplicationStands}
 use Rattle.re_syntax.proofs.lemmas.ExpressionLaws.{expression-Set, expression-Begin, expression-End}
+use Rattle.re_syntax.proofs.lemmas.PiecesLaws.{runs_out}
 use Rattle.re_syntax.proofs.lemmas.ExtendedAtoms.{shown_escape, escaped_stands, no_escape_atom, bracket_atom, no_bracket_atom, shown_no_bracket, dollar_stands, single_stands}
 use Rattle.re_syntax.proofs.lemmas.ExtendedItems.{no_items_without_atom, item_of_atom, item_read, item_repeated, duplication_takes, too_deep, shown_deep, no_items_opening, no_items_bad, anchor_next, item_next, none_so_far, one_more, branch_read}
 use Rattle.re_syntax.proofs.lemmas.ExtendedBranches.{first_branch, next_branch, no_branches, bar_starts, branches_read, opening_within, opening_starts, group_stands, no_group_left, no_group_inside, no_group_end, opens_unclosed}
@@ -77,7 +78,7 @@ read_branch-read_next-requires t c =
 pub read_branch-returns-in_err-items-clause-refused : goal.read_branch-returns-in_err-items-clause-refused
 read_branch-returns-in_err-items-clause-refused t c =
     let q = err_from_is_err_and c.from_residual-in_err-items.result c.from_residual-in_err-items.ensures.1 in
-    rw (q.1, q.2) (memory c.in_err-items.ensures.refused)
+    rw (q.1, q.2) (memory (runs_out c.items.invariant.are c.in_err-items.ensures.refused))
 
 pub read_branch-items-smaller : goal.read_branch-items-smaller
 read_branch-items-smaller t c =
@@ -105,7 +106,7 @@ read_branches-read_branch-requires t c = (search rules, (c.requires.within, (c.r
 pub read_branches-returns-in_err-branches-clause-refused : goal.read_branches-returns-in_err-branches-clause-refused
 read_branches-returns-in_err-branches-clause-refused t c =
     let q = err_from_is_err_and c.from_residual-in_err-branches.result c.from_residual-in_err-branches.ensures.1 in
-    rw (q.1, q.2) (memory c.in_err-branches.ensures.refused)
+    rw (q.1, q.2) (memory (runs_out c.no_pieces-none.ensures.reported c.in_err-branches.ensures.refused))
 
 pub read_branches-branches-init : goal.read_branches-branches-init
 read_branches-branches-init t c =
@@ -125,7 +126,7 @@ read_branches-returns-in_err-branch-clause-refused t c =
 pub read_branches-returns-in_err-branches-2-clause-refused : goal.read_branches-returns-in_err-branches-2-clause-refused
 read_branches-returns-in_err-branches-2-clause-refused t c =
     let q = err_from_is_err_and c.from_residual-in_err-branches-2.result c.from_residual-in_err-branches-2.ensures.1 in
-    rw (q.1, q.2) (memory c.in_err-branches-2.ensures.refused)
+    rw (q.1, q.2) (memory (runs_out c.branches.invariant.are c.in_err-branches-2.ensures.refused))
 
 pub read_branches-branches-smaller : goal.read_branches-branches-smaller
 read_branches-branches-smaller t c =

@@ -3,7 +3,7 @@ use Rattle.line_chunks.proofs.lemmas.Columns.{lines_mapped}
 use Rattle.line_chunks.proofs.kept.KeptLines.drop_number.Goals as goal
 
 pub sum_from-requires-clause-few : goal.sum_from-requires-clause-few
-sum_from-requires-clause-few c =
+sum_from-requires-clause-few g c =
     let now = ap (λ cs. length (all_of cs)) c.drop_in_all.ensures in
     let same = lines_mapped (chunks_of c.self.inside.entries.items) (line_without c.args.p) in
     let all = ap (λ cs. length (all_of cs)) c.self.view_is in

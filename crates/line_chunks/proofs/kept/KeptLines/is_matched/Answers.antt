@@ -3,7 +3,7 @@ use Rattle.line_chunks.proofs.lemmas.Sums.{line_found}
 use Rattle.line_chunks.proofs.kept.KeptLines.is_matched.Goals as goal
 
 pub returns : goal.returns
-returns c =
+returns g c =
     c.is_matched.ensures ∙
     ap is_matched
     (line_found c.deref.result.now c.self.inside.entries.items c.args.place c.find_line-at.result.0

@@ -3,7 +3,7 @@ use Rattle.line_chunks.proofs.lemmas.Sums.{line_found}
 use Rattle.line_chunks.proofs.kept.KeptLines.line.Goals as goal
 
 pub returns-clause-line : goal.returns-clause-line
-returns-clause-line c =
+returns-clause-line g c =
     c.line.ensures.line ∙
     ap line_text
     (line_found c.deref.result.now c.self.inside.entries.items c.args.place c.find_line-at.result.0

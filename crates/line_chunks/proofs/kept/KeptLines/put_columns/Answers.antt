@@ -3,7 +3,7 @@ use Rattle.line_chunks.proofs.lemmas.Columns.{lines_with_columns}
 use Rattle.line_chunks.proofs.kept.KeptLines.put_columns.Goals as goal
 
 pub sum_from-requires-clause-few : goal.sum_from-requires-clause-few
-sum_from-requires-clause-few c =
+sum_from-requires-clause-few g c =
     let now = ap (λ cs. length (all_of cs)) c.put_all.ensures.chunks in
     let same = lines_with_columns (chunks_of c.self.inside.entries.items) (into_iter_items c.args.found.now) in
     let all = ap (λ cs. length (all_of cs)) c.self.view_is in

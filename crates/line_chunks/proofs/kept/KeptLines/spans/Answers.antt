@@ -3,7 +3,7 @@ use Rattle.line_chunks.proofs.lemmas.Sums.{line_found}
 use Rattle.line_chunks.proofs.kept.KeptLines.spans.Goals as goal
 
 pub returns : goal.returns
-returns c =
+returns g c =
     c.spans.ensures ∙
     ap (λ (line : KeptLine). line.found.spans)
     (line_found c.deref.result.now c.self.inside.entries.items c.args.place c.find_line-at.result.0

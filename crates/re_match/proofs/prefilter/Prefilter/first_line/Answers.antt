@@ -1,7 +1,7 @@
-use Rattle.re_match.proofs.Prelude.{◌≤◌, subst, IfSome, runs_of}
+use Rattle.re_match.proofs.Prelude.{◌≤◌, arith, subst, inl, inr, IfSome, runs_of}
 use Rattle.re_needle.proofs.lemmas.NeededLines.{passes_unmatched_run}
 use Rattle.re_needle.proofs.lemmas.NeededLines.{passes_unmatched_begun}
-use Rattle.re_match.proofs.lemmas.SweptLines.{stops_seen, stops_matched}
+use Rattle.re_match.proofs.lemmas.SweptLines.{stops_seen, stops_matched, stops_at_head}
 use Rattle.re_match.proofs.prefilter.Prefilter.first_line.Goals as goal
 
 pub of-requires : goal.of-requires
@@ -9,7 +9,7 @@ of-requires c = c.first_line_beginning_with-swept.ensures.within
 
 pub returns-then-needle-clause-passes : goal.returns-then-needle-clause-passes
 returns-then-needle-clause-passes c = λ e is.
-    let needle = rw c.in-Some.is at is in
+    let needle = rw c.in-Some.is at is.needle in
     rw (c.of.ensures, c.if-whole.true)
     (passes_unmatched_begun e (runs_of c.in-Some.needle.finder) (needle.first c.if-needle.true) c.args.block.now c.first_line_beginning_with-swept.result.start c.first_line_beginning_with-swept.ensures.passes)
 
@@ -18,12 +18,12 @@ returns-then-needle-clause-stops c = λ e is. rw c.of.ensures (stops_seen e c.ar
 
 pub returns-then-has_run-clause-passes : goal.returns-then-has_run-clause-passes
 returns-then-has_run-clause-passes c = λ e is.
-    let needle = rw c.in-Some.is at is in
+    let needle = rw c.in-Some.is at is.needle in
     rw c.of-then-has_run.ensures (passes_unmatched_run e (runs_of c.in-Some.needle.finder) c.args.whole needle.needed c.args.block.now c.first_line_with_run-swept.result.start c.first_line_with_run-swept.ensures.passes)
 
 pub returns-then-has_run-clause-stops : goal.returns-then-has_run-clause-stops
 returns-then-has_run-clause-stops c = λ e is.
-    let needle = rw c.in-Some.is at is in
+    let needle = rw c.in-Some.is at is.needle in
     let swept = c.first_line_with_run-swept.result in
     let run = runs_of c.in-Some.needle.finder in
     let (at, last, place, longest, free) = c.has_run.ensures c.if-has_run.true in
@@ -32,8 +32,26 @@ returns-then-has_run-clause-stops c = λ e is.
 
 pub returns-clause-passes : goal.returns-clause-passes
 returns-clause-passes c = λ e is.
-    let needle = rw c.in-Some.is at is in
+    let needle = rw c.in-Some.is at is.needle in
     rw c.of-2.ensures (passes_unmatched_run e (runs_of c.in-Some.needle.finder) c.args.whole needle.needed c.args.block.now c.first_line_with_run-swept.result.start c.first_line_with_run-swept.ensures.passes)
 
 pub returns-clause-stops : goal.returns-clause-stops
-returns-clause-stops c = λ e is. rw c.of-2.ensures (stops_seen e c.args.whole c.args.block.now c.first_line_with_run-swept.result c.first_line_with_run-swept.ensures.stops)
+returns-clause-stops c = λ e is.
+    let needle = rw c.in-Some.is at is.needle in
+    let block = c.args.block.now in
+    let swept = c.first_line_with_run-swept.result in
+    let of = c.first_line_with_run-swept.ensures in
+    rw c.of-2.ensures (elim c.first_place-first.ensures [
+      | inl same ↦ rw same (stops_seen e c.args.whole block swept of.stops)
+      | inr (first, any, free, place) ↦
+          let low = subst (λ p. IfSome p (λ k. swept.start ≤ k)) place of.low in
+          rw any (stops_at_head e (runs_of c.in-Some.needle.finder) block swept c.first_place-first.result (is.begin free) (needle.first first) needle.some place of.found low of.stops)
+    ])
+
+pub returns-clause-low : goal.returns-clause-low
+returns-clause-low c =
+    let swept = c.first_line_with_run-swept.result in
+    rw c.of-2.ensures (elim c.first_place-first.ensures [
+      | inl same ↦ omega (arith, same)
+      | inr head ↦ subst (λ p. IfSome p (λ k. swept.start ≤ k)) head.3 c.first_line_with_run-swept.ensures.low
+    ])

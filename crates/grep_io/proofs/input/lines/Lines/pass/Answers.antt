@@ -10,7 +10,7 @@ pass-requires g c =
 pub invariant_of-self : goal.invariant_of-self
 invariant_of-self g c =
     let a = c.self.inside in
-    stage_stays g.R.CountedRead.remaining g.R.CountedRead.failures a.stage a.window.ahead c.pass.new.self.ahead a.reader c.args.bytes c.self.invariant c.pass.ensures.ahead
+    stage_stays g.R.CountedRead.remaining g.R.CountedRead.failures g.R.CountedRead.may_be_read a.stage a.window.ahead c.pass.new.self.ahead a.reader c.args.bytes c.self.invariant c.pass.ensures.ahead
 
 pub returns-clause-passed : goal.returns-clause-passed
 returns-clause-passed g c =
@@ -19,4 +19,4 @@ returns-clause-passed g c =
     rw (← c.self.view_is)
     (passes_block g.R.CountedRead.remaining g.R.CountedRead.failures (record { lines = record { reader = a.reader; ahead = a.window.ahead; line = a.window.line; stage = a.stage }; number = a.number })
     (record { lines = record { reader = a.reader; ahead = c.pass.new.self.ahead; line = c.pass.new.self.line; stage = a.stage }; number = a.number + c.args.count }) c.requires.0 c.args.bytes c.args.count c.requires.1 ready
-    (none_at_end g.R.CountedRead.remaining g.R.CountedRead.failures a.stage a.window.ahead a.reader c.self.invariant) c.pass.ensures.ahead refl refl refl)
+    (none_at_end g.R.CountedRead.remaining g.R.CountedRead.failures g.R.CountedRead.may_be_read a.stage a.window.ahead a.reader c.self.invariant) c.pass.ensures.ahead refl refl refl)

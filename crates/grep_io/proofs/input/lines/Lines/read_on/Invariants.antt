@@ -6,6 +6,7 @@ abbrev pub invariant-loop-self : goal.invariant-loop-self
 invariant-loop-self g l =
     let remaining = g.R.CountedRead.remaining in
     record {
+      may_be_read : g.R.CountedRead.may_be_read l.self-inside.reader;
       still_open : l.self-inside.stage ≡ Open;
       kept : Keeps (prepend_known l.fn.self.lines.ahead (remaining l.fn.self.lines.reader)) (prepend_known l.self-inside.window.ahead (remaining l.self-inside.reader));
       none_failed : g.R.CountedRead.failures l.self-inside.reader ≡ g.R.CountedRead.failures l.fn.self.lines.reader;

@@ -40,4 +40,4 @@ returns-in_err-extend_from_slice-clause-err_few g c =
     let a = c.self.inside in
     let same : c.extend_from_slice.new.self.items ++ slice_range a.buffer.items a.start a.end ≡ c.args.self.now.ahead =
     ap (λ l. l ++ slice_range a.buffer.items a.start a.end) (◌∙◌ {A = Text} c.in_err-extend_from_slice.ensures.items c.empty_where_shown.ensures) ∙ ap (λ (h : Held). h.ahead) c.self.view_is in
-    at_failure c.from_residual.result _ (subst IsOneLineAndFew (sym same) (one_line c.args.self.now.ahead c.requires))
+    at_failure c.from_residual.result _ (subst IsOneLineAndFew (sym same) (one_line c.args.self.now.ahead c.requires.no_line))
