@@ -28,7 +28,7 @@ MOST_WORDS = {
     "docs/GUARANTEES.md": 1_780,
     "docs/SPECIFICATION.md": 5_500,
     "docs/ARCHITECTURE.md": 3_350,
-    "docs/PROVING.md": 6_200,
+    "docs/PROVING.md": 5_180,
     "docs/DECISIONS.md": 4_970,
     "docs/PERFORMANCE.md": 1_500,
     "docs/CHANGING.md": 1_650,
