@@ -29,7 +29,7 @@ MOST_WORDS = {
     "docs/SPECIFICATION.md": 5_500,
     "docs/ARCHITECTURE.md": 3_350,
     "docs/PROVING.md": 5_180,
-    "docs/DECISIONS.md": 4_970,
+    "docs/DECISIONS.md": 4_620,
     "docs/PERFORMANCE.md": 1_500,
     "docs/CHANGING.md": 1_650,
     "docs/ROADMAP.md": 1_000,
