@@ -27,7 +27,7 @@ MOST_WORDS = {
     "SECURITY.md": 650,
     "docs/GUARANTEES.md": 1_780,
     "docs/SPECIFICATION.md": 5_320,
-    "docs/ARCHITECTURE.md": 3_350,
+    "docs/ARCHITECTURE.md": 3_030,
     "docs/PROVING.md": 5_180,
     "docs/DECISIONS.md": 4_620,
     "docs/PERFORMANCE.md": 1_500,
