@@ -30,7 +30,7 @@ MOST_WORDS = {
     "docs/ARCHITECTURE.md": 3_030,
     "docs/PROVING.md": 5_180,
     "docs/DECISIONS.md": 4_620,
-    "docs/PERFORMANCE.md": 1_500,
+    "docs/PERFORMANCE.md": 1_410,
     "docs/CHANGING.md": 1_600,
     "docs/ROADMAP.md": 1_000,
     "docs/GLOSSARY.md": 830,
