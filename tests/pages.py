@@ -22,7 +22,7 @@ import count  # noqa: E402
 import figures  # noqa: E402
 
 MOST_WORDS = {
-    "README.md": 1_400,
+    "README.md": 1_370,
     "CONTRIBUTING.md": 500,
     "SECURITY.md": 650,
     "docs/GUARANTEES.md": 1_780,
@@ -38,7 +38,7 @@ MOST_WORDS = {
     "tests/README.md": 1_030,
     "editors/emacs/README.md": 1_590,
     "editors/nvim/*.md": 1_500,
-    "*": 38_500,
+    "*": 36_380,
 }
 """How many words pages have at most, by the pattern of their names."""
 
