@@ -13,14 +13,15 @@ trap 'trap "" INT TERM; kill $(jobs -p) 2> /dev/null || true; wait; rm -rf "$cop
 trap 'exit 130' INT TERM HUP
 lanes=${RT_JOBS:-2}
 
-# Copies the crates as they stand, new files too, but none that git ignores, and links what is proved of them.
+# Copies the crates as they stand, new files too, but none that git ignores, and what is proved of them: not as links,
+# since rt loses what it kept of a library whose files a copy shares.
 copy_crates() {
     local file present=()
     while IFS= read -r -d '' file; do
         if [ -f "$file" ]; then present+=("$file"); fi
     done < <(git ls-files -z --cached --others --exclude-standard HANDLES crates.txt crates)
     cp --parents --target-directory="$1" -- "${present[@]}"
-    for file in crates/*/out/rlib; do cp -al --parents --target-directory="$1" -- "$file"; done
+    for file in crates/*/out/rlib; do cp -a --no-preserve=links --parents --target-directory="$1" -- "$file"; done
 }
 
 # Puts a crate's audit in the place of its must-fail edits, and counts it; a page beside the edits is none.
