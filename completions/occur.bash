@@ -6,7 +6,7 @@ _gaxtrel_occur() {
     if [[ $before == --states ]]; then
         return
     elif [[ $word == -* ]]; then
-        mapfile -t COMPREPLY < <(compgen -W '--help --states' -- "$word")
+        mapfile -t COMPREPLY < <(compgen -W '--help --states --version' -- "$word")
     else
         mapfile -t COMPREPLY < <(compgen -f -- "$word")
     fi

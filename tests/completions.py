@@ -137,4 +137,4 @@ for shell, offers in SHELLS.items():
         make(bench, "install-occur", f"PREFIX={bench.folder / 'there'}")
         bench.write("pattern", b"")
         given = [offers(bench.folder, line) for line in ("occur --", "occur pat")]
-        return Verdict(shown({"--help", "--states"}, {"pattern"}), shown(*given))
+        return Verdict(shown({"--help", "--states", "--version"}, {"pattern"}), shown(*given))

@@ -82,7 +82,7 @@ def hold(process: subprocess.Popen[bytes], steps: Sequence[Step], last: bytes = 
     return Answer(heard + rest.out, rest.err, rest.status)
 
 
-ENDS = (b"ok", b"refused", b"status")
+ENDS = (b"ok", b"refused", b"status", b"occur")
 """How the last line of a reply begins, and no other line of it."""
 
 

@@ -29,6 +29,7 @@ DEFINITIONS = {("grep_io", "re_runs"), ("line_chunks", "re_runs"), ("grep_sessio
 
 FROM_TOOLCHAIN = {
     "memchr": {"re_syntax", "re_auto", "re_runs", "re_needle", "re_strings", "re_match", "re_search", "grep_io"},
+    "arrayvec": {"line_marks"},
     "lru": {"re_steps"},
     "indexmap": {"re_steps"},
     "itoa": {"grep_core"},

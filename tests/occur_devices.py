@@ -9,6 +9,7 @@ import pty
 import resource
 import tty
 from functools import partial
+from pathlib import Path
 
 from dialogue import Step, exchange, hold
 from program import Answer, Bench, Cases, Verdict, Word, all_of, finish
@@ -31,13 +32,15 @@ from streams import (
 )
 
 OUT_OF_MEMORY = b"occur: out of memory\n"
+VERSION = (Path(__file__).resolve().parent.parent / "VERSION").read_bytes().strip()
+VERSION_LINE = b"occur " + VERSION + b" script 2\n"
 
 case = Cases("occur", "occur_devices.py")
 cases = all_of(case)
 """All cases of this file."""
 
 
-# Help
+# Help and the version
 
 
 @case("Help is written to standard output, names the words, and gives 0.")
@@ -45,6 +48,11 @@ def help_wanted(bench: Bench) -> Verdict:
     given = bench.ask("--help", stdin=b"show\n")
     named = [word for word in (b"--states", b"SCRIPT") if word in given.out]
     return Verdict(Answer(b"--states SCRIPT"), Answer(b" ".join(named), given.err, given.status))
+
+
+@case("The option `--version` writes the version that the file VERSION has, and gives 0.")
+def version_wanted(bench: Bench) -> Verdict:
+    return Verdict(Answer(VERSION_LINE), bench.ask("--version", stdin=b"show\n"))
 
 
 # Dialogues. That each reply of a script comes before the next command is sent is tried with each of
@@ -63,6 +71,13 @@ def dialogue(name: str, steps: list[tuple[bytes, bytes]], last: bytes, wanted: A
 dialogue(
     "Before anything is sent nothing is written.",
     [(b"", b""), (b"show\n", b"status 1\n")], b"", Answer(b"status 1\n"))
+dialogue(
+    "The version is told in any session, and changes nothing.",
+    [(b"version\n", VERSION_LINE), (b"file f 2\na\nb\n", b"ok\n"), (b"patterns 1\nb\n", b"ok\n"),
+     (b"version\n", VERSION_LINE), (b"changes\n", b"h 0 0 0 2 1\nr 1 - b\nstatus 0\n"),
+     (b"version\n", VERSION_LINE), (b"changes\n", b"status 0\n")],
+    b"version", Answer(VERSION_LINE + b"ok\nok\n" + VERSION_LINE + b"h 0 0 0 2 1\nr 1 - b\nstatus 0\n"
+                       + VERSION_LINE + b"status 0\n" + VERSION_LINE))
 dialogue(
     "Half a word of a command has no reply.",
     [(b"sh", b""), (b"ow", b""), (b"\n", b"status 1\n")], b"", Answer(b"status 1\n"))
@@ -288,6 +303,8 @@ full_output(
     ["nofile"], b"", Answer(b"", SCRIPT_CANNOT_OPEN, 2))
 full_output(
     "Help that can't be written gives 2.", ["--help"], b"", Answer(b"", REPLY_WRITE_ERROR, 2))
+full_output(
+    "A version that can't be written gives 2.", ["--version"], b"", Answer(b"", REPLY_WRITE_ERROR, 2))
 
 
 def small_output(room: int) -> None:

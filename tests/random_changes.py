@@ -182,7 +182,7 @@ def heads_after(edit: bytes, files: int) -> list[bytes] | None:
     """The `h` lines after this edit alone, without their counts; `None` where it may touch all
     lines. That many files there are now."""
     word, *given = edit.partition(b"\n")[0].split(b" ")
-    if word in (b"patterns", b"drop", b"syntax") or (word == b"flag" and given[0] in b"iovx"):
+    if word in (b"patterns", b"drop", b"pattern", b"syntax") or (word == b"flag" and given[0] in b"iovx"):
         return None
     if word == b"file" and given[1] != b"0":
         return [b"h %d 0 0 %b" % (files - 1, given[1])]

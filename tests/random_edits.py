@@ -128,6 +128,14 @@ class Edits:
         at = self.dice.randrange(len(self.session.patterns) + 1)
         return Edit(f"drop {at}\n".encode(), lambda: self.session.patterns.__delitem__(at))
 
+    def change(self) -> Edit:
+        at, text = self.dice.randrange(len(self.session.patterns) + 1), self.pattern()
+
+        def put() -> None:
+            self.session.patterns[at] = text
+
+        return Edit(b"pattern %d\n%b\n" % (at, text), put)
+
     def flag(self) -> Edit:
         letter, is_on = self.dice.choice(LETTERS), self.dice.random() < 0.4
         change = self.session.flags.add if is_on else self.session.flags.discard
@@ -161,6 +169,7 @@ class Edits:
             self.splice: 12,
             self.add_patterns: 3 if patterns < 6 else 1,
             self.drop: 1 if patterns < 6 else 4,
+            self.change: 3,
             self.flag: 6,
             self.choose_syntax: 1,
             self.choose_context: 2,

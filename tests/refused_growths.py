@@ -39,7 +39,7 @@ LONGEST = 2000
 STATES = ("1", "4096")
 """How many states the patterns' matchers may have."""
 
-ASKING = frozenset(("file", "missing", "splice", "patterns", "flag", "syntax"))
+ASKING = frozenset(("file", "missing", "splice", "patterns", "pattern", "flag", "syntax"))
 """The kinds of edit of which some have to be refused as out of memory. `drop` may be too, where
 parts are kept."""
 

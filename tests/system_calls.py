@@ -48,8 +48,9 @@ value, by the name of a method that a file, a stream or the handle has.
 """
 
 METHODS = (r"bind_unix|canonicalize|copy|create\w*|e?print|flush(?:_once)?|hard_link|l?chown|lock\w*"
-           r"|(?:symlink_)?metadata|open_\w+|pipe|read(?:_(?:dir|exact|link|once|to|vectored)\w*)?|remove_(?:dir|file)\w*"
-           r"|rename|rewind|seek\w*|set_(?:len|modified|permissions|times)|symlink|sync_\w+|try_clone|try_lock\w*|unlock"
+           r"|(?:symlink_)?metadata|open_\w+|pipe|read(?:_(?:dir|exact|link|once|to|vectored)\w*)?"
+           r"|remove_(?:dir|file)\w*|rename|rewind|seek\w*|set_(?:len|modified|permissions|times)|symlink"
+           r"|sync_\w+|try_clone|try_lock\w*|unlock"
            r"|write(?:_(?:all|fmt|once|vectored))?")
 """The methods of files, of streams and of the handle by which they read, write and change what is outside."""
 
@@ -81,10 +82,10 @@ def crates_of(*programs: str) -> set[str]:
 
 
 def sources() -> dict[str, str]:
-    """The code of the programs' crates, by crate and file."""
+    """The code of the programs' crates, without their tests, by crate and file."""
     folders = [(crate, CRATES / crate / "src") for crate in sorted(crates_of("grep", "occur"))]
     return {f"{crate}/{file.relative_to(folder)}": code_of(file)
-            for crate, folder in folders for file in sorted(folder.glob("**/*.rt"))}
+            for crate, folder in folders for file in sorted(folder.glob("**/*.rt")) if file.name != "tests.rt"}
 
 
 def paths(text: str) -> list[str]:

@@ -52,7 +52,7 @@ fn assert_row(rt: &impl Abort, alloc: Global, row: Row) {
     }
 }
 
-static ROWS: [Row; 3] = [
+static ROWS: [Row; 5] = [
     // one command of each kind that is needed
     (SCRIPT, REPLIES, ScriptEnd::Clean),
     // what changed, and a page of the hits
@@ -60,6 +60,18 @@ static ROWS: [Row; 3] = [
         b"file f 2\na\nb\npatterns 1\na\nchanges\npage 0 9\n",
         b"ok\nok\nh 0 0 0 2 1\nr 0 - a\nstatus 0\nhits 1\np 0 0 - a\nstatus 0\n",
         ScriptEnd::Clean,
+    ),
+    // a pattern in the place of another
+    (
+        b"file f 2\na\nb\npatterns 1\na\npattern 0\nb\nshow\npattern 1\na\n",
+        b"ok\nok\nok\no b\nstatus 0\nrefused NoSuchPattern\n",
+        ScriptEnd::Refused,
+    ),
+    // the version, twice
+    (
+        b"version\nversion 2\nversion\n",
+        b"occur 0.9.0 script 2\nrefused BadCommand\noccur 0.9.0 script 2\n",
+        ScriptEnd::Refused,
     ),
     // a number above the greatest
     (

@@ -11,6 +11,8 @@ mod finds;
 #[cfg(test)]
 mod lines;
 #[cfg(test)]
+mod marks;
+#[cfg(test)]
 mod matchers;
 #[cfg(test)]
 mod scripts;

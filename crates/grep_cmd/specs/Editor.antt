@@ -13,7 +13,7 @@ use Rattle.grep_live.specs.Changes.{Change, all_after}
 use Rattle.grep_live.specs.Follows.{Follows, view_after}
 use Rattle.grep_live.specs.Rows.{changes_rows}
 use Rattle.grep_cmd.specs.Script.{Step, does, reports, reports_changes, reports_page, is_bad}
-use Rattle.grep_cmd.specs.Script.{is_truncated}
+use Rattle.grep_cmd.specs.Script.{is_truncated, tells_version}
 use Rattle.grep_cmd.specs.Show.{status_line}
 use Rattle.grep_cmd.specs.Replies.{Replies, AnswersScript}
 
@@ -35,6 +35,7 @@ IsOneReply reports reply = EndsWithStatus reply
 IsOneReply reports_changes reply = EndsWithStatus reply
 IsOneReply (reports_page first count) reply = EndsWithStatus reply
 IsOneReply (does edit) reply = length reply ≡ 1
+IsOneReply tells_version reply = length reply ≡ 1
 IsOneReply is_bad reply = length reply ≡ 1
 IsOneReply is_truncated reply = length reply ≡ 1
 
@@ -60,12 +61,13 @@ pub record IsHeldChange (change : Change) : Type 0 where
   pub count : IsHeld (length change.come)
   pub hits : All IsHeldHit change.come
 
--- the reply to `changes` has the rows of these changes, one for each list
-pub record ReadsChanges (reply : List Text) (view : View) (changes : List Change) : Type 0 where
+-- the reply to `changes` has the rows of these changes, some for each list
+pub record ReadsChanges (reply : List Text) (view : View)
+    (changes : List (List Change)) : Type 0 where
   pub status : Status
   pub is : reply ≡ changes_rows 0 changes ++ status_line status ∷ []
   pub one_each : length changes ≡ length view
-  pub held : IsHeld (length view) × All IsHeldChange changes
+  pub held : IsHeld (length view) × All (λ own. All IsHeldChange own) changes
 
 -- ---- the lists
 
@@ -76,7 +78,8 @@ abbrev pub ListsAfter : Step → List Text → View → View → Type 0
 ListsAfter (does edit) reply view new =
     IfHolds (reply ≡ codes "ok" ∷ []) (new ≡ view_after edit view) (new ≡ view)
 ListsAfter reports_changes reply view new =
-    (changes : List Change) × ReadsChanges reply view changes × (new ≡ all_after changes view)
+    (changes : List (List Change)) × ReadsChanges reply view changes ×
+    (new ≡ all_after changes view)
 ListsAfter _ reply view new = new ≡ view
 
 -- the lists that it has after the replies to some steps, which it takes one after the other

@@ -11,7 +11,7 @@ use Rattle.grep_core.specs.Written.{Writes}
 use Rattle.grep_live.specs.Lists.{AllThree}
 use Rattle.grep_live.specs.Hits.{View, AreHits}
 use Rattle.grep_session.specs.Marks.{Watched, all_known}
-use Rattle.grep_live.specs.Changes.{Change, IsChange, all_after}
+use Rattle.grep_live.specs.Changes.{Change, ChangesFile, all_after}
 use Rattle.grep_live.specs.Follows.{Follows}
 use Rattle.grep_live.specs.Rows.{changes_rows, total_row, page_rows, all_hits}
 use Rattle.grep_cmd.specs.Show.{status_line}
@@ -21,8 +21,8 @@ use Rattle.grep_cmd.specs.Show.{status_line}
 pub record ReportsChanges (before after : Watched) (rows : List Text) : Type 0 where
   pub es : List Expression
   pub are_meant : AreMeant before.inputs.syntax before.inputs.options before.inputs.patterns es
-  pub changes : List Change
-  pub are_changes : AllThree (IsChange es before.inputs.options) before.inputs.files before.marks
+  pub changes : List (List Change)
+  pub are_changes : AllThree (ChangesFile es before.inputs.options) before.inputs.files before.marks
       changes
   pub status : Status
   pub is_status : StatusOf es before.inputs.options before.inputs.files status

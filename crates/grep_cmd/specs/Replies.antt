@@ -23,7 +23,7 @@ use Rattle.grep_cmd.specs.declared.script.ScriptFault.{ScriptFault}
 use Rattle.grep_cmd.specs.declared.script.ScriptFault.TheVariants.{Read, Write, Memory}
 use Rattle.grep_session.specs.Marks.{Watched, new_watched, MarksGiven}
 use Rattle.grep_cmd.specs.Script.{Step, does, reports, reports_changes, reports_page, is_bad}
-use Rattle.grep_cmd.specs.Script.{is_truncated, Steps, IsUnfinished, IsBegun}
+use Rattle.grep_cmd.specs.Script.{is_truncated, tells_version, Steps, IsUnfinished, IsBegun}
 use Rattle.grep_cmd.specs.Show.{AreShown}
 use Rattle.grep_cmd.specs.Lists.{ReportsChanges, ReportsPage}
 use Rattle.grep_utility.specs.Texts.{kind_name}
@@ -57,6 +57,10 @@ bad_command = refused_for (codes "BadCommand")
 abbrev pub truncated : Text
 truncated = refused_for (codes "Truncated")
 
+-- the version of the program, and that of scripts
+abbrev pub version_line : Text
+version_line = codes "occur 0.9.0 script 2"
+
 -- the line is a refusal
 abbrev pub is_refusal : Text → Bool
 is_refusal line = bytes_eq (take 8 line) (codes "refused ")
@@ -78,6 +82,7 @@ RepliesTo reports before reply after = AreShown before.inputs reply × (after �
 RepliesTo reports_changes before reply after = ReportsChanges before after reply
 RepliesTo (reports_page first count) before reply after =
     ReportsPage before.inputs first count reply × (after ≡ before)
+RepliesTo tells_version before reply after = (reply ≡ version_line ∷ []) × (after ≡ before)
 RepliesTo is_bad before reply after = (reply ≡ bad_command ∷ []) × (after ≡ before)
 RepliesTo is_truncated before reply after = (reply ≡ truncated ∷ []) × (after ≡ before)
 

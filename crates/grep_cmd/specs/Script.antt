@@ -10,7 +10,7 @@ use Rattle.re_syntax.specs.Lines.{put_before, joined}
 use Rattle.grep_core.specs.declared.options.Flag.{Flag}
 use Rattle.grep_core.specs.Files.{Ending, whole}
 use Rattle.grep_session.specs.Edits.{Edit, AddFile, AddMissing, DropFile, Splice, AddPatterns}
-use Rattle.grep_session.specs.Edits.{DropPattern, SetFlag, SetSyntax, SetContext}
+use Rattle.grep_session.specs.Edits.{DropPattern, ChangePattern, SetFlag, SetSyntax, SetContext}
 use Rattle.grep_utility.specs.declared.words.tokens.Meaning.{Meaning}
 use Rattle.grep_utility.specs.declared.words.tokens.Meaning.TheVariants as meaning
 use Rattle.grep_utility.specs.Words.{meaning_of, number_of}
@@ -52,14 +52,15 @@ syntax_of word =
 
 -- ---- commands
 
--- an edit, an edit with the number of next lines that it counts, the report, what changed, or a page
--- with the number of its first hit and of its hits
+-- an edit, an edit with the number of next lines that it counts, the report, what changed, a page
+-- with the number of its first hit and of its hits, or the version
 pub data Command : Type 0 where
   edits : Edit → Command
   counts : ℕ → (List Text → Edit) → Command
   shows : Command
   lists_changes : Command
   lists_page : ℕ → ℕ → Command
+  asks_version : Command
 
 abbrev pub file_from : Option Text → Option ℕ → Option Command
 file_from (Some name) (Some count) = Some (counts count (AddFile name))
@@ -105,6 +106,12 @@ patterns_command _ = None
 abbrev pub drop_command : List Text → Option Command
 drop_command (pattern ∷ []) = option_map (λ p. edits (DropPattern p)) (number_of pattern)
 drop_command _ = None
+
+-- `pattern P`, which counts one line
+abbrev pub pattern_command : List Text → Option Command
+pattern_command (pattern ∷ []) =
+    option_map (λ p. counts 1 (λ lines. ChangePattern p (joined lines))) (number_of pattern)
+pattern_command _ = None
 
 abbrev pub flag_from : Option Flag → Option Bool → Option Command
 flag_from (Some flag) (Some on) = Some (edits (SetFlag flag on))
@@ -153,21 +160,28 @@ abbrev pub page_command : List Text → Option Command
 page_command (first ∷ count ∷ []) = page_from (number_of first) (number_of count)
 page_command _ = None
 
-abbrev pub listing_command : Text → List Text → Option Command
-listing_command word given =
+-- `version`
+abbrev pub version_command : List Text → Option Command
+version_command [] = Some asks_version
+version_command _ = None
+
+abbrev pub asking_command : Text → List Text → Option Command
+asking_command word given =
+    if bytes_eq word (codes "show") then show_command given else
     if bytes_eq word (codes "changes") then changes_command given else
-    if bytes_eq word (codes "page") then page_command given else None
+    if bytes_eq word (codes "page") then page_command given else
+    if bytes_eq word (codes "version") then version_command given else None
 
 abbrev pub unnamed_command : Text → List Text → Option Command
 unnamed_command word given =
-    if bytes_eq word (codes "show") then show_command given else
     if bytes_eq word (codes "splice") then splice_command given else
     if bytes_eq word (codes "close") then close_command given else
     if bytes_eq word (codes "patterns") then patterns_command given else
     if bytes_eq word (codes "drop") then drop_command given else
+    if bytes_eq word (codes "pattern") then pattern_command given else
     if bytes_eq word (codes "flag") then flag_command given else
     if bytes_eq word (codes "syntax") then syntax_command given else
-    if bytes_eq word (codes "context") then context_command given else listing_command word given
+    if bytes_eq word (codes "context") then context_command given else asking_command word given
 
 -- the command of these words, where they are one
 unfoldable pub command_of : List Text → Option Command
@@ -188,6 +202,7 @@ pub data Step : Type 0 where
   reports : Step
   reports_changes : Step
   reports_page : ℕ → ℕ → Step
+  tells_version : Step
   -- the line is no command
   is_bad : Step
   -- it counts more lines than follow
@@ -200,6 +215,7 @@ IsStep (Some (counts count edit)) taken step = (length taken ≡ count) × (step
 IsStep (Some shows) taken step = (taken ≡ []) × (step ≡ reports)
 IsStep (Some lists_changes) taken step = (taken ≡ []) × (step ≡ reports_changes)
 IsStep (Some (lists_page first count)) taken step = (taken ≡ []) × (step ≡ reports_page first count)
+IsStep (Some asks_version) taken step = (taken ≡ []) × (step ≡ tells_version)
 IsStep None taken step = (taken ≡ []) × (step ≡ is_bad)
 
 -- the lines are a command line that counts more lines than follow

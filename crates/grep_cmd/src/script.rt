@@ -19,6 +19,9 @@ use grep_core::{CountedRead, CountedWrite, Lines, WriteFault};
 use grep_session::{Meter, Session};
 use std::alloc::Global;
 
+/// The version of the program, and that of scripts.
+pub const VERSION: &str = "0.9.0 script 2";
+
 /// How a script ended.
 #[derive(Clone, Copy, PartialEq, Eq, Debug, Drop)]
 pub enum ScriptEnd {

@@ -12,22 +12,23 @@ pub use Rattle.grep_core.specs.declared.options.Flag.TheVariants.{Count, FilesWi
 pub use Rattle.grep_core.specs.declared.options.Options.{Options}
 pub use Rattle.grep_core.specs.declared.status.Status.{Status}
 pub use Rattle.grep_io.specs.declared.devices.counted.WriteFault.{WriteFault}
-pub use Rattle.grep_live.specs.Changes.{AreWithin, Change, IsChange, after, all_after, hits_before, hits_from, is_idle, moved, spliced_hits}
-pub use Rattle.grep_live.specs.Follows.{Follows, FollowsFile, view_after}
+pub use Rattle.grep_live.specs.Changes.{AreChanges, AreWithin, Change, ChangesFile, after, after_each, all_after, hits_before, hits_from, is_idle, moved, spliced_hits}
+pub use Rattle.grep_live.specs.Follows.{Follows, FollowsFile, hits_at, view_after}
 pub use Rattle.grep_live.specs.Hits.{AreHits, Hit, HitOf, Hits, HitsFrom, View}
-pub use Rattle.grep_live.specs.Laws.{EachLeavesEnds, EditsCarry, IsBetween, LeavesEnds, LeavesHits, NothingTwice, OneSplice, OnlyTouched, change_at}
+pub use Rattle.grep_live.specs.Laws.{AreBetween, EachLeavesEnds, EachStays, EditsCarry, LeaveLine, LeavesEnds, LeavesHits, NothingTwice, OneSplice, OnlyTouched, Stays, UntouchedLines, changes_at, splices}
 pub use Rattle.grep_live.specs.Lists.{AllThree}
 pub use Rattle.grep_live.specs.Reported.{WritesChanges, WritesPage}
 pub use Rattle.grep_live.specs.Rows.{all_hits, change_row, change_rows, changes_rows, hit_row, more_parts, page_row, page_rows, part_text, parts_text, spaced, total_row}
 pub use Rattle.grep_live.specs.Working.LineHits.{HitsBetween, IsFirst, IsPlaceAfter, Mean, SelectedBefore}
-pub use Rattle.grep_session.specs.Edits.{AddFile, AddMissing, AddPatterns, Applies, DropFile, DropPattern, Edit, EditGives, Reads, SetContext, SetFlag, SetSyntax, Splice, missing_file, spliced, whole_file, with_context, with_files, with_option, with_patterns}
-pub use Rattle.grep_session.specs.Headline.{Attempt, IsStatusOfInputs}
+pub use Rattle.grep_session.specs.Edits.{AddFile, AddMissing, AddPatterns, Applies, ChangePattern, DropFile, DropPattern, Edit, EditGives, Reads, SetContext, SetFlag, SetSyntax, Splice, missing_file, option_of, spliced, whole_file, with_context, with_files, with_option, with_patterns}
+pub use Rattle.grep_session.specs.Headline.{Attempt, IsStatusOfInputs, accepted, with_accepted}
 pub use Rattle.grep_session.specs.Listed.{ListedParts}
-pub use Rattle.grep_session.specs.Marks.{AreFit, Fits, MarksAfter, MarksGiven, Watched, all_known, lost, mark_at, marks_by_flag, new_mark, touched, whole_mark}
+pub use Rattle.grep_session.specs.Marks.{AreFit, IsFit, MarksAfter, MarksGiven, Watched, all_known, mark_at, marks_by_flag}
 pub use Rattle.grep_session.specs.Working.Kept.{span_places}
 pub use Rattle.grep_session.specs.declared.fault.EditFault.{EditFault}
 pub use Rattle.grep_session.specs.declared.fault.EditFault.TheVariants.{FileIsMissing, LineHasNewline, Memory, NoSuchFile, NoSuchPattern, OutOfRange, Pattern, TooManyPatterns}
-pub use Rattle.grep_session.specs.declared.mark.Mark.{Mark}
+pub use Rattle.line_marks.specs.Stretches.{Fits, IsAfter, IsBefore, Keeps, Marked, Moves, Splices, lost, most_stretches, new_mark, whole_mark}
+pub use Rattle.line_marks.specs.declared.stretch.Stretch.{Stretch}
 pub use Rattle.re_search.specs.Working.Blocks.{HoldsOfMany}
 pub use Rattle.re_syntax.specs.Bytes.{Text}
 pub use Rattle.re_syntax.specs.Expression.{Expression}
@@ -36,11 +37,11 @@ unfoldable pub use Rattle.re_syntax.specs.Lines.{list_of}
 pub use Rattle.re_syntax.specs.Parts.{AreParts}
 pub use Rattle.re_syntax.specs.declared.span.Span.{Span}
 pub use Rattle.re_syntax.specs.declared.syntax.Syntax.{Syntax}
-pub use Rattle.std.proofs.Common.{Bool, Decides, Err, IfOk, List, MatchBool, MatchOption, MatchResult, Ok, Option, Result, Some, [], ap, append-nil, append_assoc, arith, codes, cond, decimal, drop, drop-cons, drop-drop, false, filter, flat_map, get_or, get_or-set_other, get_or-set_same, get_or-take, if◌then◌else◌, inl, inr, le-leb, le-ltb, length, length-append, length-drop, length-set, length-take, length-take-le, lt-ltb, map, min, nat_eq, nat_le, nat_lt, refl, remove, set, slice_range, slice_set, subst, suc, sym, take, take-add, take-append-drop, take-take, take_all, true, zero, ℕ, ◌&&◌, ◌++◌, ◌+◌, ◌-◌, ◌<◌, ◌^◌, ◌∙◌, ◌∷◌, ◌≡◌, ◌≤◌, ◌⊎◌}
+pub use Rattle.std.proofs.Common.{Bool, Decides, Err, IfOk, List, MatchBool, MatchOption, MatchResult, Ok, Option, Result, Some, [], ap, append-nil, append_assoc, arith, codes, cond, decimal, drop, drop-cons, drop-drop, false, filter, flat_map, get_or, get_or-append-add, get_or-drop, get_or-set_other, get_or-set_same, get_or-take, if◌then◌else◌, inl, inr, le-leb, le-ltb, length, length-append, length-drop, length-set, length-take, length-take-le, lt-ltb, map, min, nat_eq, nat_le, nat_lt, refl, remove, set, slice_range, slice_set, subst, suc, sym, take, take-add, take-append-drop, take-take, take_all, true, zero, ℕ, ◌&&◌, ◌++◌, ◌+◌, ◌-◌, ◌<◌, ◌^◌, ◌∙◌, ◌∷◌, ◌≡◌, ◌≤◌, ◌⊎◌}
 pub use Rattle.std.proofs.Math.Seq.{drop-append-add}
 pub use Rattle.std.proofs.lemmas.Bool.{cases_eq, cases_lt}
 pub use Rattle.std.proofs.lemmas.Bool.Decides.{nat_tests}
 pub use Rattle.std.proofs.lemmas.Grind.{flat_map-append}
 pub use Rattle.std.proofs.lemmas.List.{drop_all, get_or_append_left, get_or_default, length-map, map-append, take-append-le, take_more}
 pub use Rattle.std.proofs.lemmas.List.Elements.{filter-append}
-pub use Rattle.std.specs.List.{enumerate_from, splice}
+pub use Rattle.std.specs.List.{AllZip, enumerate_from, splice}

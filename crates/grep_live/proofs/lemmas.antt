@@ -11,3 +11,4 @@ pub mod CatchLemmas
 pub mod PageLemmas
 pub mod TwiceLemmas
 pub mod OnlyLemmas
+pub mod UntouchedLemmas

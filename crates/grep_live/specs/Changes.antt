@@ -1,11 +1,13 @@
 -- Changes: what is reported of a file, and the list that an editor makes of it.
 use Rattle.std.specs.Prelude.{◌≡◌, ℕ, ◌+◌, ◌-◌, ◌<◌, ◌≤◌, nat_lt, nat_le, nat_eq, ◌&&◌, Bool}
-use Rattle.std.specs.Prelude.{if◌then◌else◌, List, [], ◌∷◌, ◌++◌, map, length, slice_range}
+use Rattle.std.specs.Prelude.{if◌then◌else◌, List, [], ◌∷◌, ◌++◌, map, drop, slice_range}
 use Rattle.std.specs.List.{filter}
+use Rattle.re_syntax.specs.Bytes.{Text}
 use Rattle.re_syntax.specs.Expression.{Expression}
 use Rattle.grep_core.specs.declared.options.Options.{Options}
 use Rattle.grep_core.specs.Files.{File}
-use Rattle.grep_session.specs.declared.mark.Mark.{Mark}
+use Rattle.line_marks.specs.Stretches.{Marked}
+use Rattle.line_marks.specs.declared.stretch.Stretch.{Stretch}
 use Rattle.grep_live.specs.Hits.{Hit, View, HitsFrom}
 
 -- ---- what an editor does
@@ -46,21 +48,34 @@ after change hits =
     if is_idle change then hits
     else spliced_hits change.front change.removed change.added change.come hits
 
--- the lists of all files, each after its change
-abbrev pub all_after : List Change → View → View
-all_after [] view = []
-all_after (change ∷ changes) [] = []
-all_after (change ∷ changes) (hits ∷ view) = after change hits ∷ all_after changes view
+-- the list of a file after its changes, one after the other
+abbrev pub after_each : List Change → List Hit → List Hit
+after_each [] hits = hits
+after_each (change ∷ more) hits = after_each more (after change hits)
 
--- the change of a file by its mark: of the known lines all but the untouched ones at the front and
--- at the back were replaced by those that are there now
-pub record IsChange (es : List Expression) (options : Options) (file : File) (mark : Mark)
-    (change : Change) : Type 0 where
-  pub is_front : change.front ≡ mark.front
-  pub is_removed : change.removed ≡ mark.known - mark.front - mark.back
-  pub is_added : change.added ≡ length file.lines - mark.front - mark.back
-  pub are_hits : HitsFrom es options change.front
-      (slice_range file.lines change.front (change.front + change.added)) change.come
+-- the lists of all files, each after its changes
+abbrev pub all_after : List (List Change) → View → View
+all_after [] view = []
+all_after (changes ∷ more) [] = []
+all_after (changes ∷ more) (hits ∷ view) = after_each changes hits ∷ all_after more view
+
+module _ (es : List Expression) (options : Options) where
+  -- the changes of a file by its stretches: each was replaced by the lines that stand there now. The
+  -- lines are those after the stretch before, and `first` is the place of the first of them
+  abbrev pub AreChanges : ℕ → List Text → List Stretch → List Change → Type 0
+  AreChanges first lines [] changes = changes ≡ []
+  AreChanges first lines (stretch ∷ more) [] = ⊥
+  AreChanges first lines (stretch ∷ more) (change ∷ changes) =
+      let front = first + stretch.kept in
+      let past = stretch.kept + stretch.added in
+      (change.front ≡ front) × (change.removed ≡ stretch.removed) ×
+      (change.added ≡ stretch.added) ×
+      HitsFrom es options front (slice_range lines stretch.kept past) change.come ×
+      AreChanges (first + past) (drop past lines) more changes
+
+  -- the changes of a file by its mark
+  abbrev pub ChangesFile : File → Marked → List Change → Type 0
+  ChangesFile file mark changes = AreChanges 0 file.lines mark.stretches changes
 
 -- hits in the order of their places, from place `first` on and before place `past`
 abbrev pub AreWithin : ℕ → ℕ → List Hit → Type 0

@@ -1,26 +1,29 @@
 -- Which lists of an editor are still right, and what an edit makes of them.
-use Rattle.std.specs.Prelude.{◌-◌, List, [], ◌∷◌, ◌++◌, length, take, drop}
-use Rattle.std.specs.List.{remove}
+use Rattle.std.specs.Prelude.{ℕ, ◌<◌, nat_eq, List, [], ◌∷◌, ◌++◌, map, length, get_or}
+use Rattle.std.specs.List.{filter, remove}
 use Rattle.re_syntax.specs.Expression.{Expression}
 use Rattle.grep_core.specs.Files.{File, Inputs, AreMeant}
 use Rattle.grep_session.specs.Edits.{Edit, AddFile, AddMissing, DropFile}
-use Rattle.grep_session.specs.declared.mark.Mark.{Mark}
+use Rattle.line_marks.specs.Stretches.{Marked, Keeps}
 use Rattle.grep_live.specs.Lists.{AllThree}
-use Rattle.grep_live.specs.Hits.{Hit, View, HitsFrom}
-use Rattle.grep_live.specs.Changes.{AreWithin, hits_before, hits_from}
+use Rattle.grep_live.specs.Hits.{Hit, View, HitOf}
+use Rattle.grep_live.specs.Changes.{AreWithin, moved}
 use Rattle.grep_session.specs.Marks.{Watched}
 
--- the list of a file is in order, and of the lines that were known; of the untouched lines at the
--- front it has the present hits, and of those at the back too, moved to their present places
-pub record FollowsFile (inputs : Inputs) (file : File) (mark : Mark)
+-- the hits at a place
+abbrev pub hits_at : ℕ → List Hit → List Hit
+hits_at place hits = filter (λ hit. nat_eq hit.place place) hits
+
+-- the list of a file is in order, and of the lines that were known; at each of these that is
+-- untouched it has the present hits, moved to where the line is now
+pub record FollowsFile (inputs : Inputs) (file : File) (mark : Marked)
     (hits : List Hit) : Type 0 where
   pub in_order : AreWithin 0 mark.known hits
-  pub in_front : (es : List Expression) →
-      AreMeant inputs.syntax inputs.options inputs.patterns es → HitsFrom es inputs.options 0
-      (take mark.front file.lines) (hits_before mark.front hits)
-  pub in_back : (es : List Expression) → AreMeant inputs.syntax inputs.options inputs.patterns es →
-      let first = length file.lines - mark.back in HitsFrom es inputs.options first
-      (drop first file.lines) (hits_from (mark.known - mark.back) first hits)
+  pub untouched : (es : List Expression) →
+      AreMeant inputs.syntax inputs.options inputs.patterns es → (old new : ℕ) →
+      Keeps mark.stretches old new → new < length file.lines →
+      HitOf es inputs.options (new, get_or file.lines new [])
+      (map (moved old new) (hits_at old hits))
 
 -- the list of each file follows
 abbrev pub Follows : Watched → View → Type 0

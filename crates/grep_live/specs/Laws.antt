@@ -1,23 +1,26 @@
 -- Laws of the definitions.
-use Rattle.std.specs.Prelude.{◌≡◌, ◌≢◌, ℕ, ◌+◌, ◌-◌, ◌<◌, ◌≤◌, ◌⊎◌, ⊤, true, List, [], ◌∷◌, length, get_or}
-use Rattle.std.specs.Prelude.{Result, Ok, Err, IfOk}
+use Rattle.std.specs.Prelude.{◌≡◌, ◌≢◌, ℕ, ◌+◌, ◌-◌, ◌<◌, ◌≤◌, ◌⊎◌, ⊤, List, [], ◌∷◌}
+use Rattle.std.specs.Prelude.{length, get_or, Result, Ok, Err, IfOk, MatchResult}
 use Rattle.re_syntax.specs.Bytes.{Text}
 use Rattle.re_syntax.specs.Expression.{Expression}
 use Rattle.grep_core.specs.declared.options.Flag.{Flag}
 use Rattle.grep_core.specs.declared.options.Flag.TheVariants.{IgnoreCase, OnlyMatching}
 use Rattle.grep_core.specs.declared.options.Flag.TheVariants.{InvertMatch, LineRegexp}
+use Rattle.grep_core.specs.Choose.{IfHolds}
 use Rattle.grep_core.specs.Files.{Inputs}
 use Rattle.grep_core.specs.Run.{file_at}
 use Rattle.grep_session.specs.Edits.{Edit, AddFile, AddMissing, DropFile, Splice, AddPatterns}
-use Rattle.grep_session.specs.Edits.{DropPattern, SetFlag, SetSyntax, SetContext, option_of}
+use Rattle.grep_session.specs.Edits.{DropPattern, ChangePattern, SetFlag, SetSyntax, SetContext}
+use Rattle.grep_session.specs.Edits.{option_of}
 use Rattle.grep_session.specs.Edits.{Applies, EditGives}
-use Rattle.grep_session.specs.Headline.{Attempt}
+use Rattle.grep_session.specs.Headline.{Attempt, accepted}
 use Rattle.grep_session.specs.declared.fault.EditFault.{EditFault}
-use Rattle.grep_live.specs.Hits.{View}
+use Rattle.line_marks.specs.Stretches.{Moves, most_stretches}
+use Rattle.grep_live.specs.Hits.{Hit, View}
 use Rattle.grep_live.specs.Follows.{Follows, view_after}
 use Rattle.grep_live.specs.Lists.{AllThree}
 use Rattle.grep_session.specs.Marks.{Watched, all_known, AreFit, MarksAfter, MarksGiven}
-use Rattle.grep_live.specs.Changes.{Change, IsChange, AreWithin, is_idle}
+use Rattle.grep_live.specs.Changes.{Change, ChangesFile, AreWithin}
 use Rattle.grep_live.specs.Rows.{change_rows, changes_rows}
 
 -- ---- what an edit leaves
@@ -44,33 +47,36 @@ EditsCarry =
 -- of files whose changes were all reported no row is written
 abbrev pub NothingTwice : Type 0
 NothingTwice =
-    (old : Watched) (es : List Expression) (changes : List Change) →
-    AllThree (IsChange es old.inputs.options) old.inputs.files (all_known old).marks changes →
+    (old : Watched) (es : List Expression) (changes : List (List Change)) →
+    AllThree (ChangesFile es old.inputs.options) old.inputs.files (all_known old).marks changes →
     changes_rows 0 changes ≡ []
 
--- the change of file k
-abbrev pub change_at : List Change → ℕ → Change
-change_at changes k = get_or changes k (record { front = 0; removed = 0; added = 0; come = [] })
+-- the changes of file k
+abbrev pub changes_at : List (List Change) → ℕ → List Change
+changes_at changes k = get_or changes k []
 
 -- ---- what is reported after one splice
 
 -- rows are written of file k alone: `count` lines from line `start` on were replaced by these, and
 -- each of these has at most one hit
 pub record ReportsSplice (k start count : ℕ) (lines : List Text)
-    (changes : List Change) : Type 0 where
-  pub of_one_file : changes_rows 0 changes ≡ change_rows k (change_at changes k)
-  pub is_front : (change_at changes k).front ≡ start
-  pub is_removed : (change_at changes k).removed ≡ count
-  pub is_added : (change_at changes k).added ≡ length lines
-  pub few_hits : length (change_at changes k).come ≤ length lines
+    (changes : List (List Change)) : Type 0 where
+  pub come : List Hit
+  pub rows : changes_rows 0 changes ≡ change_rows k (record {
+    front = start;
+    removed = count;
+    added = length lines;
+    come = come;
+  })
+  pub few_hits : length come ≤ length lines
 
 -- after one accepted splice, where all changes before it were reported, this splice is reported
 abbrev pub OneSplice : Type 0
 OneSplice =
     (old new : Watched) (k start count : ℕ) (lines : List Text) (es : List Expression)
-    (changes : List Change) → Applies (Splice k start count lines) old.inputs (Ok new.inputs) →
-    MarksAfter (Splice k start count lines) (all_known old) new.marks →
-    AllThree (IsChange es new.inputs.options) new.inputs.files new.marks changes →
+    (changes : List (List Change)) → Applies (Splice k start count lines) old.inputs (Ok new.inputs)
+    → MarksAfter (Splice k start count lines) (all_known old) new.marks →
+    AllThree (ChangesFile es new.inputs.options) new.inputs.files new.marks changes →
     ReportsSplice k start count lines changes
 
 -- ---- what is reported after edits that leave lines of a file as they are
@@ -93,6 +99,7 @@ LeavesEnds k front back (Splice other start count lines) old =
     (other ≢ k) ⊎ ((front ≤ start) × (start + count + back ≤ length (file_at old.files k).lines))
 LeavesEnds k front back (AddPatterns list) old = ⊥
 LeavesEnds k front back (DropPattern p) old = ⊥
+LeavesEnds k front back (ChangePattern p text) old = text ≡ get_or old.patterns p []
 LeavesEnds k front back (SetFlag flag on) old = LeavesHits flag ⊎ (option_of flag old.options ≡ on)
 LeavesEnds k front back (SetSyntax syntax) old = syntax ≡ old.syntax
 LeavesEnds k front back (SetContext context) old = ⊤
@@ -107,21 +114,75 @@ EachLeavesEnds k front back (attempt ∷ more) old new =
     IfOk attempt.answer (λ _. LeavesEnds k front back attempt.edit old.inputs) ×
     EachLeavesEnds k front back more between new
 
--- a change is idle, or replaces none of the first `front` and none of the last `back` lines, of
--- `known` lines before it and `lines` after it; and no hit of it is among these
-pub record IsBetween (front back known lines : ℕ) (change : Change) : Type 0 where
-  pub replaces : (is_idle change ≡ true)
-      ⊎ ((front ≤ change.front) × (change.front + change.removed + back ≤ known) ×
-      (change.front + change.added + back ≤ lines))
-  pub hits : AreWithin front (lines - back) change.come
+-- changes, made one after the other in a file of `lines` lines, replace none of its first `front`
+-- and none of its last `back` lines, and no hit of them is among these; `now` lines are left
+abbrev pub AreBetween : ℕ → ℕ → ℕ → ℕ → List Change → Type 0
+AreBetween front back lines now [] = now ≡ lines
+AreBetween front back lines now (change ∷ more) =
+    let after = lines - change.removed + change.added in
+    (front ≤ change.front) × (change.front + change.removed + back ≤ lines) ×
+    AreWithin front (after - back) change.come × AreBetween front back after now more
 
--- after such edits, where all changes before them were reported, the change of file k replaces none
+-- after such edits, where all changes before them were reported, the changes of file k replace none
 -- of its first `front` and last `back` lines, and no hit is reported among these
 abbrev pub OnlyTouched : Type 0
 OnlyTouched =
     (tried : List Attempt) (old new : Watched) (k front back : ℕ) (es : List Expression)
-    (changes : List Change) → k < length old.inputs.files →
+    (changes : List (List Change)) → k < length old.inputs.files →
     EachLeavesEnds k front back tried (all_known old) new →
-    AllThree (IsChange es new.inputs.options) new.inputs.files new.marks changes →
-    IsBetween front back (length (file_at old.inputs.files k).lines)
-    (length (file_at new.inputs.files k).lines) (change_at changes k)
+    AllThree (ChangesFile es new.inputs.options) new.inputs.files new.marks changes →
+    AreBetween front back (length (file_at old.inputs.files k).lines)
+    (length (file_at new.inputs.files k).lines) (changes_at changes k)
+
+-- ---- what is reported after edits that leave a line as it is
+
+-- an edit leaves line `line` of file k and whether it is selected and which parts are listed; it is
+-- line `now` of file `j` then
+abbrev pub Stays : ℕ → ℕ → Edit → Inputs → ℕ → ℕ → Type 0
+Stays k line (AddFile name lines) old j now = (j ≡ k) × (now ≡ line)
+Stays k line (AddMissing name) old j now = (j ≡ k) × (now ≡ line)
+Stays k line (DropFile other) old j now =
+    (((k < other) × (j ≡ k)) ⊎ ((other < k) × (j + 1 ≡ k))) × (now ≡ line)
+Stays k line (Splice other start count lines) old j now =
+    (j ≡ k) × IfHolds (other ≡ k) (Moves start count (length lines) line now) (now ≡ line)
+Stays k line (AddPatterns list) old j now = ⊥
+Stays k line (DropPattern p) old j now = ⊥
+Stays k line (ChangePattern p text) old j now =
+    (text ≡ get_or old.patterns p []) × (j ≡ k) × (now ≡ line)
+Stays k line (SetFlag flag on) old j now =
+    (LeavesHits flag ⊎ (option_of flag old.options ≡ on)) × (j ≡ k) × (now ≡ line)
+Stays k line (SetSyntax syntax) old j now = (syntax ≡ old.syntax) × (j ≡ k) × (now ≡ line)
+Stays k line (SetContext context) old j now = (j ≡ k) × (now ≡ line)
+
+-- edits that were tried, one after the other, lead from an old to a new state, and each that was
+-- accepted leaves this line
+abbrev pub EachStays : ℕ → ℕ → List Attempt → Watched → Watched → ℕ → ℕ → Type 0
+EachStays k line [] old new j now = (new ≡ old) × (j ≡ k) × (now ≡ line)
+EachStays k line (attempt ∷ more) old new j now =
+    (between : Watched) × (file : ℕ) × (place : ℕ) ×
+    EditGives attempt.edit old.inputs between.inputs attempt.answer ×
+    MarksGiven attempt.edit old between.marks attempt.answer ×
+    MatchResult attempt.answer (λ _. Stays k line attempt.edit old.inputs file place)
+    (λ _. (file ≡ k) × (place ≡ line)) × EachStays file place more between new j now
+
+-- how many of the edits are splices
+abbrev pub splices : List Edit → ℕ
+splices [] = 0
+splices (Splice k start count lines ∷ more) = 1 + splices more
+splices (_ ∷ more) = splices more
+
+-- changes, made one after the other, leave line `old` of a file, and it becomes line `new`
+abbrev pub LeaveLine : List Change → ℕ → ℕ → Type 0
+LeaveLine [] old new = new ≡ old
+LeaveLine (change ∷ more) old new =
+    (then : ℕ) × Moves change.front change.removed change.added old then × LeaveLine more then new
+
+-- after such edits, with no more accepted splices than a mark has stretches, where all changes
+-- before them were reported, the changes that are reported leave this line
+abbrev pub UntouchedLines : Type 0
+UntouchedLines =
+    (tried : List Attempt) (old new : Watched) (k line j now : ℕ) (es : List Expression)
+    (changes : List (List Change)) → line < length (file_at old.inputs.files k).lines →
+    splices (accepted tried) ≤ most_stretches → EachStays k line tried (all_known old) new j now →
+    AllThree (ChangesFile es new.inputs.options) new.inputs.files new.marks changes →
+    LeaveLine (changes_at changes j) line now

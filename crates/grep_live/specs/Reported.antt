@@ -1,5 +1,6 @@
 -- What `changes` and `page` write, and which lists an editor has after that.
-use Rattle.std.specs.Prelude.{◌≡◌, ℕ, ◌-◌, ◌^◌, min, List, ◌∷◌, length, Option, Result, IfOk, MatchResult}
+use Rattle.std.specs.Prelude.{◌≡◌, ℕ, ◌-◌, ◌^◌, min, List, ◌∷◌, length, Option, Result, IfOk}
+use Rattle.std.specs.Prelude.{MatchResult}
 use Rattle.re_syntax.specs.Bytes.{Text}
 use Rattle.re_syntax.specs.Expression.{Expression}
 use Rattle.grep_core.specs.declared.status.Status.{Status}
@@ -10,19 +11,20 @@ use Rattle.grep_core.specs.Written.{Writes}
 use Rattle.grep_live.specs.Lists.{AllThree}
 use Rattle.grep_live.specs.Hits.{View, AreHits}
 use Rattle.grep_session.specs.Marks.{Watched, all_known}
-use Rattle.grep_live.specs.Changes.{Change, IsChange, all_after}
+use Rattle.grep_live.specs.Changes.{Change, ChangesFile, all_after}
 use Rattle.grep_live.specs.Follows.{Follows}
 use Rattle.grep_live.specs.Rows.{changes_rows, total_row, page_rows, all_hits}
 
 module _ {W : Type 0} (contents : W → Option Text) (failures : W → ℕ) (margin : Text)
     (begun ended : W) where
-  -- a change of each file was written, or a write failed and a beginning of them was written; any
-  -- view that followed becomes by them the present hits, and follows then
+  -- the changes of each file were written, or a write failed and a beginning of them was written;
+  -- any view that followed becomes by them the present hits, and follows then
   pub record WritesChanges {E : Type 0} (old new : Watched) (result : Result Status E) : Type 0 where
     pub es : List Expression
     pub are_meant : AreMeant old.inputs.syntax old.inputs.options old.inputs.patterns es
-    pub changes : List Change
-    pub are_changes : AllThree (IsChange es old.inputs.options) old.inputs.files old.marks changes
+    pub changes : List (List Change)
+    pub are_changes : AllThree (ChangesFile es old.inputs.options) old.inputs.files old.marks
+        changes
     pub wrote : Writes contents failures begun ended (written margin (changes_rows 0 changes)) result
     pub is_status : IfOk result (StatusOf es old.inputs.options old.inputs.files)
     pub leaves : MatchResult result (λ _. new ≡ all_known old) (λ _. new ≡ old)

@@ -39,15 +39,15 @@ change_row k change =
     codes "h"
     ++ spaced (k ∷ change.front ∷ change.removed ∷ change.added ∷ length change.come ∷ [])
 
--- the rows of file k: none, or the change and each hit among the added lines
+-- the rows of a change of file k: none, or the change and each hit among the added lines
 abbrev pub change_rows : ℕ → Change → List Text
 change_rows k change =
     if is_idle change then [] else change_row k change ∷ map hit_row change.come
 
 -- the rows of files, the first of which has number `k`
-abbrev pub changes_rows : ℕ → List Change → List Text
+abbrev pub changes_rows : ℕ → List (List Change) → List Text
 changes_rows k [] = []
-changes_rows k (change ∷ more) = change_rows k change ++ changes_rows (k + 1) more
+changes_rows k (changes ∷ more) = flat_map (change_rows k) changes ++ changes_rows (k + 1) more
 
 -- ---- pages
 

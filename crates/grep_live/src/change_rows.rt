@@ -1,20 +1,22 @@
 //! What changed of the files of a session, as rows.
 ghost use Rattle.std.specs.Prelude.{◌≡◌, ◌-◌, ◌≤◌, ◌&&◌, ◌∷◌, List, map, length, nat_eq};
+ghost use Rattle.std.specs.List.{flat_map};
 ghost use Rattle.re_syntax.specs.Expression.{Expression};
 ghost use Rattle.grep_core.specs.Output.{written};
 ghost use Rattle.grep_core.specs.Run.{file_at};
 ghost use Rattle.grep_core.specs.Written.{Writes};
-ghost use Rattle.grep_session.specs.Marks.{AreFit};
+ghost use Rattle.grep_session.specs.Marks.{AreFit, IsFit};
 ghost use Rattle.grep_live.specs.Lists.{AllThree};
 ghost use Rattle.grep_live.specs.Hits.{Hit};
-ghost use Rattle.grep_live.specs.Changes.{Change, IsChange};
+ghost use Rattle.grep_live.specs.Changes.{Change, ChangesFile};
 ghost use Rattle.grep_live.specs.Rows.{hit_row, change_row, change_rows, changes_rows};
 ghost use Rattle.grep_live.specs.Working.LineHits.{Mean, HitsBetween};
 
 use crate::hits::{LineRange, count_hits, first_hit};
 use crate::rows::{write_hit_row, write_number_row};
 use grep_core::{CountedWrite, WriteFault};
-use grep_session::{Mark, Session};
+use grep_session::Session;
+use line_marks::Mark;
 
 /// Writes a row for each hit among some lines.
 fn write_hits<W: CountedWrite>(
@@ -35,22 +37,6 @@ fn write_hits<W: CountedWrite>(
         from = found.place + 1;
     }
     Ok(())
-}
-
-/// The number of known lines that were removed, by the mark of their file.
-fn removed_lines(mark: &Mark) -> usize
-    ensures { result ≡ mark.now.known - mark.now.front - mark.now.back }
-{
-    mark.known
-        .saturating_sub(mark.front)
-        .saturating_sub(mark.back)
-}
-
-/// The number of lines that were added, of a file that has `lines` now.
-fn added_lines(mark: &Mark, lines: usize) -> usize
-    ensures { result ≡ lines - mark.now.front - mark.now.back }
-{
-    lines.saturating_sub(mark.front).saturating_sub(mark.back)
 }
 
 /// Whether no line was removed and none was added.
@@ -87,6 +73,32 @@ fn write_rows<W: CountedWrite>(
     write_hits(session, stretch, margin, out)
 }
 
+/// Writes the rows of a stretch of a file: `removed` lines were replaced by these. If there were none
+/// and there are none, it has no row.
+fn write_stretch<W: CountedWrite>(
+    session: &Session,
+    removed: usize,
+    stretch: LineRange,
+    margin: &[u8],
+    out: &mut W,
+) -> Result<(), WriteFault>
+    requires in_order { stretch.from ≤ stretch.to }
+    requires within { stretch.to ≤ length (file_at session.now.inputs.files stretch.k).lines }
+    ensures { (es : List Expression) → Mean session.now.inputs es → (hits : List Hit) →
+        HitsBetween es session.now.inputs stretch.k stretch.from stretch.to hits → Writes W.contents W.failures out.old out.new
+        (written margin.now (change_rows stretch.k (record {
+          front = stretch.from;
+          removed = removed;
+          added = stretch.to - stretch.from;
+          come = hits;
+        }))) result }
+{
+    if is_idle(removed, stretch.to - stretch.from) {
+        return Ok(());
+    }
+    write_rows(session, removed, stretch, margin, out)
+}
+
 /// Writes what changed of file `k`, by its mark.
 fn write_change<W: CountedWrite>(
     session: &Session,
@@ -95,21 +107,27 @@ fn write_change<W: CountedWrite>(
     margin: &[u8],
     out: &mut W,
 ) -> Result<(), WriteFault>
-    requires { mark.now.front ≤ length (file_at session.now.inputs.files k).lines }
-    ensures { (es : List Expression) → Mean session.now.inputs es → (change : Change) →
-        IsChange es session.now.inputs.options (file_at session.now.inputs.files k) mark.now change →
-        Writes W.contents W.failures out.old out.new (written margin.now (change_rows k change))
-        result }
+    requires { IsFit (file_at session.now.inputs.files k) mark.now }
+    ensures { (es : List Expression) → Mean session.now.inputs es → (changes : List Change) →
+        ChangesFile es session.now.inputs.options (file_at session.now.inputs.files k) mark.now changes →
+        Writes W.contents W.failures out.old out.new
+        (written margin.now (flat_map (change_rows k) changes)) result }
 {
-    let removed = removed_lines(mark);
-    let added = added_lines(mark, session.line_count(k));
-    if is_idle(removed, added) {
-        return Ok(());
+    let to = session.line_count(k);
+    let mut rest = LineRange { k, from: 0, to };
+    for stretch in mark.stretches() {
+        let from = rest.from + stretch.kept;
+        let to = from + stretch.added;
+        write_stretch(
+            session,
+            stretch.removed,
+            LineRange { k, from, to },
+            margin,
+            out,
+        )?;
+        rest.from = to;
     }
-    let from = mark.front;
-    let to = from + added;
-    let stretch = LineRange { k, from, to };
-    write_rows(session, removed, stretch, margin, out)
+    Ok(())
 }
 
 /// Writes what changed of each file, by its mark.
@@ -120,8 +138,8 @@ pub fn write_changes<W: CountedWrite>(
     out: &mut W,
 ) -> Result<(), WriteFault>
     requires { AreFit session.now.inputs.files marks.now }
-    ensures { (es : List Expression) → Mean session.now.inputs es → (changes : List Change) →
-        AllThree (IsChange es session.now.inputs.options) session.now.inputs.files marks.now changes →
+    ensures { (es : List Expression) → Mean session.now.inputs es → (changes : List (List Change)) →
+        AllThree (ChangesFile es session.now.inputs.options) session.now.inputs.files marks.now changes →
         Writes W.contents W.failures out.old out.new (written margin.now (changes_rows 0 changes))
         result }
 {

@@ -1,5 +1,6 @@
 //! Laws of the definitions, as functions that do nothing.
 ghost use Rattle.grep_live.specs.Laws.{EditsCarry, NothingTwice, OneSplice, OnlyTouched};
+ghost use Rattle.grep_live.specs.Laws.{UntouchedLines};
 
 /// A list of hits that is right but for touched lines is so after each edit, and the marks that the
 /// edit leaves fit the files.
@@ -23,4 +24,10 @@ pub fn one_splice()
 /// are, none of these is reported as replaced, and no hit is reported among them.
 pub fn only_touched()
     ensures { OnlyTouched }
+{}
+
+/// If edits since all changes were reported left a line as it is, and no more than 64 of them were
+/// splices, that line is not reported as replaced.
+pub fn untouched_lines()
+    ensures { UntouchedLines }
 {}

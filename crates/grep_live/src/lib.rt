@@ -10,5 +10,5 @@ mod placed_hit;
 mod rows;
 mod status;
 
-pub use laws::{edits_carry, nothing_twice, one_splice, only_touched};
+pub use laws::{edits_carry, nothing_twice, one_splice, only_touched, untouched_lines};
 pub use lists::{changes, page};

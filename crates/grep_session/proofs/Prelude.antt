@@ -24,15 +24,16 @@ pub use Rattle.grep_core.specs.declared.output.around.Progress.{Progress}
 pub use Rattle.grep_core.specs.declared.output.around.Shown.{Shown}
 pub use Rattle.grep_core.specs.declared.status.FileEnd.TheVariants.{Missing, Whole}
 pub use Rattle.grep_core.specs.declared.status.Status.{Status}
-pub use Rattle.grep_session.specs.Edits.{AddFile, AddMissing, AddPatterns, Applies, DropFile, DropPattern, Edit, EditGives, HasPlace, Reads, SetContext, SetFlag, SetSyntax, Splice, no_inputs, option_of, spliced, whole_file, with_files, with_option, with_patterns}
+pub use Rattle.grep_session.specs.Edits.{AddFile, AddMissing, AddPatterns, Applies, ChangePattern, DropFile, DropPattern, Edit, EditGives, HasPlace, Reads, SetContext, SetFlag, SetSyntax, Splice, no_inputs, option_of, spliced, whole_file, with_files, with_option, with_patterns}
 pub use Rattle.grep_session.specs.Headline.{AcceptedEditsDecide, Attempt, ComesTo, GrepGives, IsStatusOfInputs, Makes, ReportsAllInputs, ReportsInputs, accepted, with_accepted}
 pub use Rattle.grep_session.specs.Laws.{AreAlike, EditsAreDetermined, MemorySavesEditSteps}
 pub use Rattle.grep_session.specs.Listed.{ListedParts}
-pub use Rattle.grep_session.specs.Marks.{AreFit, Fits, MarksGiven, Watched, known_marks, lost, mark_at, new_mark, touched, whole_mark}
+pub use Rattle.grep_session.specs.Marks.{AreFit, IsFit, MarksAfter, MarksGiven, Watched, known_marks, mark_at}
+pub use Rattle.line_marks.specs.Stretches.{Fits, Keeps, Marked, Splices, lost, new_mark, whole_mark}
 pub use Rattle.grep_session.specs.Touched.{Costs, CostsAccepted, CostsAs, NeedsNoMemory, PartsCost, PartsCostOf, PartsSearchCost, TakesSteps, Touched, Touches, all_lines, pairs_cost, parts_alone, searched_by, touched_by_flag}
 pub use Rattle.grep_session.specs.Working.Again.{AreReadable, ReadsAgain, read_as}
 pub use Rattle.grep_session.specs.Working.Changed.{ChangeCost, CostAnew, CostOfEach, HasChanged, HasNewParts, IsWithin, NewPartsCost, SearchesEach, SearchesOne, TakesAtMost, WasFileKept, WasKept, searched_for}
-pub use Rattle.grep_session.specs.Working.Columns.{AddsColumn, AddsColumns, AreAllParts, AreDecided, AreLeft, AreMatches, ArePartsAgain, CostsParts, Grows, IsAdded, IsNextLine, KeepsAll, first_sought, has_new_parts, left_numbers, next_line_cost}
+pub use Rattle.grep_session.specs.Working.Columns.{AddsColumn, AddsColumns, AddsLater, AreAllParts, AreDecided, AreLeft, AreMatches, ArePartsAgain, CostsParts, Grows, IsAdded, IsNextLine, KeepsAll, first_sought, has_new_parts, later_numbers, left_numbers, next_line_cost, past_sought, sought}
 pub use Rattle.grep_session.specs.Working.Counts.{SelectedFrom}
 pub use Rattle.grep_session.specs.Working.Effects.{LosesAll}
 pub use Rattle.grep_session.specs.Working.Found.{IsColumn, chunks_of, chunks_of_files, lines_of_files}
@@ -41,14 +42,13 @@ pub use Rattle.grep_session.specs.Working.ListedParts.{listed_spans}
 pub use Rattle.grep_session.specs.Working.PatternRefusals.{RefusesFirst, reported_at, reported_by}
 pub use Rattle.grep_session.specs.Working.Report.{FileFits, LinesFit, OnLine, PartsFit, Reports, ReportsMessages, any_missing, any_selected, around_rows, end_of, end_with, file_rows, has_selected, has_selected_in, is_faulty, is_selected, matches_none, part_rows, report_rows, reported_from, reported_like, row, rows_after_laws, rows_as, rows_from, rows_with, selected_count, selected_rows, shown_rows, some_selected, status_by_files, status_given, text_rows}
 pub use Rattle.grep_session.specs.Working.Rooms.{KeepAtMost}
-pub use Rattle.grep_session.specs.Working.Sessions.{IsSession, LosesMarks, inputs_of}
+pub use Rattle.grep_session.specs.Working.Sessions.{IsSession, LosesMarks, SplicesMark, inputs_of, watched_of}
 pub use Rattle.grep_session.specs.declared.change.Change.{Change}
-pub use Rattle.grep_session.specs.declared.change.Change.TheVariants.{Added, Dropped, PartsOnly, Rebuild}
+pub use Rattle.grep_session.specs.declared.change.Change.TheVariants.{Added, Dropped, PartsOnly, Rebuild, Replaced}
 pub use Rattle.grep_session.specs.declared.fault.EditFault.{EditFault}
 pub use Rattle.grep_session.specs.declared.fault.EditFault.TheVariants.{FileIsMissing, LineHasNewline, Memory, NoSuchFile, NoSuchPattern, OutOfRange, Pattern, TooManyPatterns}
 pub use Rattle.grep_session.specs.declared.hit.Hit.{Hit}
 pub use Rattle.grep_session.specs.declared.kept.KeptFile.{KeptFile}
-pub use Rattle.grep_session.specs.declared.mark.Mark.{Mark}
 pub use Rattle.grep_session.specs.declared.session.Session.TheInside.{Inside}
 pub use Rattle.line_chunks.specs.Working.Chunks.{FitColumns, FitsColumn, KeptLine, all_of, is_matched, line_text, line_without, matched_count, no_line, seen, with_column, with_columns}
 pub use Rattle.line_chunks.specs.Working.Finds.{AreBelow, FoundIn, finds_at, is_paired, lowered, numbers_at, without}

@@ -10,6 +10,8 @@ pub mod ReadingLemmas
 pub mod AllPatternsRead
 pub mod DroppingLemmas
 pub mod AddingLemmas
+pub mod ReplacingLemmas
+pub mod PuttingLemmas
 pub mod SurvivingLemmas
 pub mod FindsLemmas
 pub mod StepLemmas

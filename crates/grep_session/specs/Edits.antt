@@ -37,6 +37,8 @@ pub data Edit : Type 0 where
   -- adds the patterns of this list at the end; removes the pattern of this number
   AddPatterns : Text → Edit
   DropPattern : ℕ → Edit
+  -- puts this text in the place of the pattern of this number
+  ChangePattern : ℕ → Text → Edit
   SetFlag : Flag → Bool → Edit
   SetSyntax : Syntax → Edit
   -- sets how many lines are shown around selected ones, or that none are
@@ -147,6 +149,11 @@ Applies (AddPatterns list) old outcome =
     (with_patterns (old.patterns ++ list_of list) old) outcome)
 Applies (DropPattern p) old outcome =
     IfHolds (p < length old.patterns) (outcome ≡ Ok (with_patterns (remove old.patterns p) old))
+    (outcome ≡ Err NoSuchPattern)
+Applies (ChangePattern p text) old outcome =
+    IfHolds (p < length old.patterns)
+    (Reads old.syntax old.options.ignore_case (text ∷ [])
+    (with_patterns (slice_set old.patterns p text) old) outcome)
     (outcome ≡ Err NoSuchPattern)
 Applies (SetFlag flag on) old outcome =
     Reads old.syntax (with_option flag on old.options).ignore_case old.patterns

@@ -10,78 +10,61 @@ use Rattle.grep_core.specs.Files.{File, Inputs}
 use Rattle.grep_core.specs.Run.{file_at}
 use Rattle.grep_session.specs.declared.fault.EditFault.{EditFault}
 use Rattle.grep_session.specs.Edits.{Edit, AddFile, AddMissing, DropFile, Splice, AddPatterns}
-use Rattle.grep_session.specs.Edits.{DropPattern, SetFlag, SetSyntax, SetContext, option_of}
-use Rattle.grep_session.specs.Edits.{no_inputs}
-use Rattle.grep_session.specs.declared.mark.Mark.{Mark}
+use Rattle.grep_session.specs.Edits.{DropPattern, ChangePattern, SetFlag, SetSyntax, SetContext}
+use Rattle.grep_session.specs.Edits.{option_of, no_inputs}
+use Rattle.line_marks.specs.Stretches.{Marked, Fits, Splices, whole_mark, new_mark, lost}
 
 -- what an editor sees of a session: its inputs, a mark for each file, and how many states each of
 -- its patterns may keep
 pub record Watched : Type 0 where
   pub inputs : Inputs
-  pub marks : List Mark
+  pub marks : List Marked
   pub states : ℕ
 
 -- a new session, of which each pattern may keep so many states
 abbrev pub new_watched : ℕ → Watched
 new_watched states = record { inputs = no_inputs; marks = []; states = states }
 
--- the mark of a file that was reported with this number of lines: all of them are untouched at its
--- front, and all at its back
-abbrev pub whole_mark : ℕ → Mark
-whole_mark lines = record { front = lines; back = lines; known = lines }
-
 -- the marks where all changes are reported
-abbrev pub known_marks : List File → List Mark
+abbrev pub known_marks : List File → List Marked
 known_marks files = map (λ file. whole_mark (length file.lines)) files
 
 abbrev pub all_known : Watched → Watched
 all_known old = record old { marks = known_marks old.inputs.files }
 
--- the mark of a file that was not reported yet
-abbrev pub new_mark : Mark
-new_mark = record { front = 0; back = 0; known = 0 }
+abbrev pub mark_at : List Marked → ℕ → Marked
+mark_at marks k = get_or marks k (whole_mark 0)
 
-abbrev pub mark_at : List Mark → ℕ → Mark
-mark_at marks k = get_or marks k new_mark
+-- the marks are of files that have so many lines now, and their stretches are within these
+abbrev pub IsFit : File → Marked → Type 0
+IsFit file mark =
+    (mark.lines ≡ length file.lines) × Fits mark.known mark.lines mark.stretches
 
--- at most `front` lines at the front and `back` lines at the back are untouched
-abbrev pub touched : ℕ → ℕ → Mark → Mark
-touched front back mark = record mark { front = min mark.front front; back = min mark.back back }
-
--- no line is untouched
-abbrev pub lost : Mark → Mark
-lost mark = record mark { front = 0; back = 0 }
-
--- no line of the file is touched; or the untouched lines at its front and at its back do not
--- overlap, neither in the known lines nor in the present ones
-abbrev pub Fits : ℕ → Mark → Type 0
-Fits lines mark =
-    (mark ≡ whole_mark lines)
-    ⊎ ((mark.front + mark.back ≤ mark.known) × (mark.front + mark.back ≤ lines))
-
-abbrev pub AreFit : List File → List Mark → Type 0
-AreFit files marks = AllZip (λ file mark. Fits (length file.lines) mark) files marks
+abbrev pub AreFit : List File → List Marked → Type 0
+AreFit files marks = AllZip IsFit files marks
 
 -- after a change of one of these options other lines may be selected, or other parts listed
-abbrev pub marks_by_flag : Flag → List Mark → List Mark
+abbrev pub marks_by_flag : Flag → List Marked → List Marked
 marks_by_flag IgnoreCase marks = map lost marks
 marks_by_flag OnlyMatching marks = map lost marks
 marks_by_flag InvertMatch marks = map lost marks
 marks_by_flag LineRegexp marks = map lost marks
 marks_by_flag _ marks = marks
 
--- the marks that an accepted edit leaves: of a splice the lines before it and after it are
--- untouched; where other lines may be selected, or other parts listed, none are
-abbrev pub MarksAfter : Edit → Watched → List Mark → Type 0
-MarksAfter (AddFile name lines) old marks = marks ≡ old.marks ++ new_mark ∷ []
-MarksAfter (AddMissing name) old marks = marks ≡ old.marks ++ new_mark ∷ []
+-- the marks that an accepted edit leaves: a splice leaves the other lines of its file untouched;
+-- where other lines may be selected, or other parts listed, no line is
+abbrev pub MarksAfter : Edit → Watched → List Marked → Type 0
+MarksAfter (AddFile name lines) old marks = marks ≡ old.marks ++ new_mark (length lines) ∷ []
+MarksAfter (AddMissing name) old marks = marks ≡ old.marks ++ new_mark 0 ∷ []
 MarksAfter (DropFile k) old marks = marks ≡ remove old.marks k
 MarksAfter (Splice k start count lines) old marks =
-    marks ≡ slice_set old.marks k
-    (touched start (length (file_at old.inputs.files k).lines - (start + count))
-    (mark_at old.marks k))
+    (mark : Marked) × Splices start count (length lines) (mark_at old.marks k) mark ×
+    (marks ≡ slice_set old.marks k mark)
 MarksAfter (AddPatterns list) old marks = marks ≡ map lost old.marks
 MarksAfter (DropPattern p) old marks = marks ≡ map lost old.marks
+MarksAfter (ChangePattern p text) old marks =
+    IfHolds (text ≡ get_or old.inputs.patterns p []) (marks ≡ old.marks)
+    (marks ≡ map lost old.marks)
 MarksAfter (SetFlag flag on) old marks =
     IfHolds (option_of flag old.inputs.options ≡ on) (marks ≡ old.marks)
     (marks ≡ marks_by_flag flag old.marks)
@@ -90,6 +73,6 @@ MarksAfter (SetSyntax syntax) old marks =
 MarksAfter (SetContext context) old marks = marks ≡ old.marks
 
 -- the marks that an edit leaves: a refused one touches nothing
-abbrev pub MarksGiven : {T : Type 0} → Edit → Watched → List Mark → Result T EditFault → Type 0
+abbrev pub MarksGiven : {T : Type 0} → Edit → Watched → List Marked → Result T EditFault → Type 0
 MarksGiven edit old marks (Ok done) = MarksAfter edit old marks
 MarksGiven edit old marks (Err fault) = marks ≡ old.marks

@@ -20,8 +20,8 @@ use Rattle.grep_core.specs.Files.{Inputs, AreMeant, Matched}
 use Rattle.re_syntax.specs.Profile.{most_patterns}
 use Rattle.grep_session.specs.declared.fault.EditFault.{EditFault}
 use Rattle.grep_session.specs.Edits.{Edit, AddFile, AddMissing, DropFile, Splice, AddPatterns}
-use Rattle.grep_session.specs.Edits.{DropPattern, SetFlag, SetSyntax, SetContext, option_of}
-use Rattle.grep_session.specs.Edits.{HasPlace, Applies}
+use Rattle.grep_session.specs.Edits.{DropPattern, ChangePattern, SetFlag, SetSyntax, SetContext}
+use Rattle.grep_session.specs.Edits.{option_of, HasPlace, Applies}
 
 -- what an edit has searched: each of `paired` by that number of patterns, and the parts of those of
 -- `lines` that some pattern matches after it
@@ -64,6 +64,12 @@ Touches (DropPattern p) old touched =
     × (lines : List Text) ×
     Chosen (λ line. Matches e line old.options.line_regexp) (all_lines old) lines
     × (touched ≡ parts_alone lines)
+Touches (ChangePattern p text) old touched =
+    IfHolds (text ≡ get_or old.patterns p []) (touched ≡ nothing_touched)
+    ((both : List Expression) ×
+    AreMeant old.syntax old.options (get_or old.patterns p [] ∷ text ∷ []) both
+    × (lines : List Text) × Chosen (Matched both old.options) (all_lines old) lines
+    × (touched ≡ record { patterns = 1; paired = all_lines old; lines = lines }))
 Touches (SetFlag flag on) old touched =
     IfHolds (option_of flag old.options ≡ on) (touched ≡ nothing_touched)
     (touched ≡ touched_by_flag flag old)
@@ -149,6 +155,8 @@ NeedsNoMemory (Splice k start count lines) old =
     (lines ≡ []) ⊎ ((HasPlace old.files k start count → ⊥) ⊎ (All HasNoNewline lines → ⊥))
 NeedsNoMemory (AddPatterns list) old = most_patterns < length old.patterns + length (list_of list)
 NeedsNoMemory (DropPattern p) old = (old.options.only_matching ≡ false) ⊎ (length old.patterns ≤ p)
+NeedsNoMemory (ChangePattern p text) old =
+    (text ≡ get_or old.patterns p []) ⊎ (length old.patterns ≤ p)
 NeedsNoMemory (SetFlag flag on) old =
     is_of_output flag ⊎ ((option_of flag old.options ≡ on) ⊎ ((flag ≡ OnlyMatching) × (on ≡ false)))
 NeedsNoMemory (SetSyntax syntax) old = syntax ≡ old.syntax

@@ -11,4 +11,6 @@ pub enum Change {
     Added(usize),
     /// The pattern with this number was removed.
     Dropped(usize),
+    /// Another pattern has this number.
+    Replaced(usize),
 }

@@ -1,6 +1,6 @@
 //! What is found in all lines after a change of the patterns, chunk by chunk. Where patterns were
-//! added or removed, only the added ones are searched for, and the parts of the lines that one of
-//! these matches.
+//! added, removed or replaced, only the new ones are searched for, and the parts of the lines that
+//! one of these matches.
 ghost use Rattle.std.specs.Prelude.{◌≡◌, ◌≤◌, [], List, length, map, All, IsTrue};
 ghost use Rattle.std.specs.Prelude.{IfOk, OnErr, vec_capacity};
 ghost use Rattle.re_syntax.specs.Expression.{Expression};
@@ -36,6 +36,7 @@ fn is_same(change: Change, old: &Matches, new: &Matches) -> bool
         Change::Rebuild => false,
         Change::PartsOnly => false,
         Change::Dropped(_) => false,
+        Change::Replaced(_) => false,
     }
 }
 

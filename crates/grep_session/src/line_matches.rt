@@ -7,7 +7,8 @@ ghost use Rattle.re_search.specs.Searches.{AllAnswer, AddsAtMost};
 ghost use Rattle.line_chunks.specs.Working.Chunks.{line_text};
 ghost use Rattle.line_chunks.specs.Working.Finds.{AreBelow};
 ghost use Rattle.grep_session.specs.Working.Changed.{IsWithin};
-ghost use Rattle.grep_session.specs.Working.Columns.{first_sought, AreLeft, AddsColumn, AreMatches};
+ghost use Rattle.grep_session.specs.Working.Columns.{first_sought, past_sought, AreLeft, AddsColumn};
+ghost use Rattle.grep_session.specs.Working.Columns.{AddsLater, AreMatches};
 ghost use Rattle.re_search.specs.Searches.{SameMatchers};
 
 use crate::change::Change;
@@ -54,10 +55,25 @@ fn first_sought(change: Change, many: usize) -> usize
         Change::PartsOnly => many,
         Change::Added(first) => first,
         Change::Dropped(_) => many,
+        Change::Replaced(p) => p,
     }
 }
 
-/// The old pairs that stay after a change.
+/// Of so many patterns, the number after the last that is searched for after a change.
+fn past_sought(change: Change, many: usize) -> usize
+    requires { IsWithin change many }
+    ensures { result ≡ past_sought change many }
+{
+    match change {
+        Change::Rebuild => many,
+        Change::PartsOnly => many,
+        Change::Added(_) => many,
+        Change::Dropped(_) => many,
+        Change::Replaced(p) => p + 1,
+    }
+}
+
+/// The old pairs that stay after a change: of patterns before those that are searched for.
 fn left_matches(
     search: &SearchContext,
     change: Change,
@@ -75,6 +91,35 @@ fn left_matches(
             let mut matches = old.copied(search.alloc)?;
             matches.drop_number(p);
             Ok(matches)
+        }
+        Change::Replaced(p) => {
+            let mut matches = old.copied(search.alloc)?;
+            matches.keep_before(p);
+            Ok(matches)
+        }
+    }
+}
+
+/// Adds the old pairs that stay after a change of patterns after those that are searched for.
+fn add_later(
+    search: &SearchContext,
+    change: Change,
+    size: usize,
+    old: &Matches,
+    matches: &mut Matches,
+) -> Result<(), AllocError>
+    requires { AreBelow size old.now }
+    ensures { IfOk result (λ _. AddsLater change size old.now matches.old matches.new) }
+{
+    match change {
+        Change::Rebuild => Ok(()),
+        Change::PartsOnly => Ok(()),
+        Change::Added(_) => Ok(()),
+        Change::Dropped(_) => Ok(()),
+        Change::Replaced(p) => {
+            let mut later = old.copied(search.alloc)?;
+            later.keep_after(p);
+            matches.append(later)
         }
     }
 }
@@ -97,13 +142,16 @@ pub fn find_matches<M: LineMatch>(
         (map M.expression matchers.old) old.now) }
     ensures same_matchers { SameMatchers M.expression M.whole M.room matchers.old matchers.new }
     ensures steps { AddsAtMost
-        ((length matchers.old - first_sought change (length matchers.old))
+        ((past_sought change (length matchers.old) - first_sought change (length matchers.old))
         * length (terminated (map line_text chunk.now))) meter.old meter.new }
 {
-    let mut matches = left_matches(search, change, chunk.len(), old)?;
+    let size = chunk.len();
+    let mut matches = left_matches(search, change, size, old)?;
     let first = first_sought(change, matchers.len());
-    for number in first..matchers.len() {
+    let past = past_sought(change, matchers.len());
+    for number in first..past {
         add_column(&mut matchers[number], number, chunk, &mut matches, meter)?;
     }
+    add_later(search, change, size, old, &mut matches)?;
     Ok(matches)
 }

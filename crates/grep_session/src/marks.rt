@@ -1,10 +1,12 @@
 //! The marks of all files.
-ghost use Rattle.std.specs.Prelude.{◌≡◌, ◌<◌, ◌++◌, ◌∷◌, [], length, map, IfOk, OnErr, slice_set};
+ghost use Rattle.std.specs.Prelude.{◌≡◌, ◌+◌, ◌-◌, ◌<◌, ◌≤◌, ◌++◌, ◌∷◌, [], length, map, IfOk, OnErr};
+ghost use Rattle.line_marks.specs.Stretches.{lost, new_mark, whole_mark};
 ghost use Rattle.grep_session.specs.Working.Kept.{kept_file};
-ghost use Rattle.grep_session.specs.Marks.{lost, new_mark, touched, mark_at, known_marks};
+ghost use Rattle.grep_session.specs.Working.Sessions.{SplicesMark};
+ghost use Rattle.grep_session.specs.Marks.{mark_at};
 
 use crate::kept::KeptFile;
-use crate::mark::Mark;
+use line_marks::Mark;
 use std::alloc::AllocError;
 
 /// Leaves no line of these files untouched.
@@ -12,8 +14,7 @@ fn lose_each(marks: &mut [Mark])
     ensures { marks.new ≡ map lost marks.old }
 {
     for mark in marks.iter_mut() {
-        mark.front = 0;
-        mark.back = 0;
+        mark.lose();
     }
 }
 
@@ -24,33 +25,34 @@ pub fn lose_all(marks: &mut Vec<Mark>)
     lose_each(marks);
 }
 
-/// Makes each mark whole: all lines of all files are known.
-fn know_each(files: &[KeptFile], marks: &mut [Mark])
-    requires { length marks.old ≡ length files.now }
-    ensures { marks.new ≡ known_marks (map kept_file files.now) }
+/// Makes each mark whole: all changes of these files are reported.
+fn know_each(marks: &mut [Mark])
+    ensures { marks.new ≡ map (λ mark. whole_mark mark.lines) marks.old }
 {
-    for (k, mark) in marks.iter_mut().enumerate() {
-        *mark = Mark::whole(files[k].line_count());
+    for mark in marks.iter_mut() {
+        mark.report();
     }
 }
 
-/// Makes each mark whole: all lines of all files are known.
-pub fn know_all(files: &[KeptFile], marks: &mut Vec<Mark>)
-    requires { length marks.old.items ≡ length files.now }
-    ensures { marks.new.items ≡ known_marks (map kept_file files.now) }
+/// Makes each mark whole: all changes of all files are reported.
+pub fn know_all(marks: &mut Vec<Mark>)
+    ensures { marks.new.items ≡ map (λ mark. whole_mark mark.lines) marks.old.items }
 {
-    know_each(files, marks);
+    know_each(marks);
 }
 
-/// Leaves at most `front` lines at the front and `back` lines at the back of file `k` untouched.
-pub fn touch(marks: &mut Vec<Mark>, k: usize, front: usize, back: usize)
-    requires { k < length marks.old.items }
-    ensures { marks.new.items ≡
-        slice_set marks.old.items k (touched front back (mark_at marks.old.items k)) }
+/// Notes that `count` lines of file `k` from line `start` on were replaced, and that it has `lines`
+/// lines now.
+pub fn touch(marks: &mut Vec<Mark>, k: usize, start: usize, count: usize, lines: usize)
+    requires inside { k < length marks.old.items }
+    requires within { start + count ≤ (mark_at marks.old.items k).lines }
+    requires rest { (mark_at marks.old.items k).lines - count ≤ lines }
+    ensures { SplicesMark k start count (lines - ((mark_at marks.old.items k).lines - count))
+        marks.old.items marks.new.items }
 {
     let mark = &mut marks[k];
-    mark.front = mark.front.min(front);
-    mark.back = mark.back.min(back);
+    let added = lines - (mark.lines() - count);
+    mark.splice(start, count, added);
 }
 
 /// Adds a file, of which no line was reported yet. If memory runs out, all stays as it is.
@@ -60,12 +62,13 @@ pub fn push_file(
     file: KeptFile,
 ) -> Result<(), AllocError>
     ensures ok { IfOk result (λ _. (files.new.items ≡ files.old.items ++ file ∷ []) ×
-        (marks.new.items ≡ marks.old.items ++ new_mark ∷ [])) }
+        (marks.new.items ≡ marks.old.items ++ new_mark (length (kept_file file).lines) ∷ [])) }
     ensures err { OnErr result
         ((files.new.items ≡ files.old.items) × (marks.new.items ≡ marks.old.items)) }
 {
+    let lines = file.line_count();
     marks.try_reserve(1)?;
     files.push(file)?;
-    let _ = marks.push(Mark::whole(0));
+    let _ = marks.push(Mark::new(lines));
     Ok(())
 }

@@ -1,5 +1,5 @@
 //! The matchers of patterns.
-ghost use Rattle.std.specs.Prelude.{◌≡◌, ◌≤◌, map, IfOk, IfErr};
+ghost use Rattle.std.specs.Prelude.{◌≡◌, ◌≤◌, [], ◌∷◌, map, IfOk, IfErr};
 ghost use Rattle.re_syntax.specs.Profile.{most_states};
 ghost use Rattle.grep_core.specs.Working.MatcherLists.{AreMatchers};
 ghost use Rattle.grep_session.specs.Working.PatternRefusals.{RefusesFirst, reported_at};
@@ -19,6 +19,33 @@ fn fault_at(place: usize, fault: PatternFault) -> EditFault
     match fault.kind {
         FaultKind::Memory => EditFault::Memory,
         _ => EditFault::Pattern(place, fault),
+    }
+}
+
+/// A matcher for the text.
+///
+/// # Errors
+///
+/// `EditFault::Pattern` with place 0 if it is not a valid pattern, and why; or `EditFault::Memory`.
+pub fn read_matcher(
+    alloc: Global,
+    text: &[u8],
+    syntax: Syntax,
+    options: &Options,
+    states: usize,
+) -> Result<Matcher, EditFault>
+    requires some { 1 ≤ states }
+    requires few { states ≤ most_states }
+    ensures ok { IfOk result
+        (λ matcher. AreMatchers syntax options.now (text.now ∷ []) (matcher ∷ [])) }
+    ensures rooms { IfOk result (λ matcher. KeepAtMost states (matcher ∷ [])) }
+    ensures err { IfErr result (RefusesFirst syntax options.now.ignore_case (text.now ∷ [])) }
+{
+    let fold = options.ignore_case;
+    let whole = options.line_regexp;
+    match Matcher::new(alloc, text, syntax, fold, whole, states) {
+        Ok(matcher) => Ok(matcher),
+        Err(fault) => Err(fault_at(0, fault)),
     }
 }
 

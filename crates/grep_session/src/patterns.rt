@@ -1,6 +1,6 @@
 //! The texts of a pattern list, and their place in a session.
 ghost use Rattle.std.specs.Prelude.{◌≡◌, ◌≤◌, ◌<◌, ◌+◌, ◌++◌, length, map, vec_len};
-ghost use Rattle.std.specs.Prelude.{vec_capacity, MatchBool, IfOk, OnErr};
+ghost use Rattle.std.specs.Prelude.{vec_capacity, MatchBool, IfOk, OnErr, slice_set};
 ghost use Rattle.re_syntax.specs.Lines.{list_of};
 ghost use Rattle.re_syntax.specs.Profile.{most_patterns};
 
@@ -28,6 +28,21 @@ pub fn too_many(old: usize, list: &[u8]) -> bool
         (old + length (list_of list.now) ≤ most_patterns) }
 {
     split_list(list).nth(MOST_PATTERNS - old).is_some()
+}
+
+/// Whether two texts are the same.
+pub fn is_text(old: &[u8], new: &[u8]) -> bool
+    ensures { MatchBool result (new.now ≡ old.now) (new.now ≡ old.now → ⊥) }
+{
+    new == old
+}
+
+/// Puts a text in the place of another.
+pub fn put_text(texts: &mut Vec<Vec<u8>>, p: usize, text: Vec<u8>)
+    requires { p < length texts.old.items }
+    ensures { texts.new.items ≡ slice_set texts.old.items p text }
+{
+    texts[p] = text;
 }
 
 /// Makes room for texts.

@@ -1,6 +1,6 @@
-//! A pattern is removed, and the later ones move up.
+//! A pattern is removed, and the later ones move up; or another is put in its place.
 ghost use Rattle.std.specs.Prelude.{◌≡◌, ◌<◌, List, length, map, false, All, ◌≤◌, vec_len};
-ghost use Rattle.std.specs.Prelude.{vec_capacity};
+ghost use Rattle.std.specs.Prelude.{vec_capacity, get_or, slice_set};
 ghost use Rattle.re_syntax.specs.Expression.{Expression};
 ghost use Rattle.grep_core.specs.declared.options.Options.{Options};
 ghost use Rattle.grep_session.specs.Working.Kept.{IsFileKept, kept_file};
@@ -8,6 +8,7 @@ ghost use Rattle.std.specs.List.{remove, insert};
 
 use crate::kept::KeptFile;
 use re_search::Matcher;
+use std::mem::replace;
 
 /// Removes pattern `p` from what is kept of a file.
 fn drop_in_file(file: &mut KeptFile, p: usize)
@@ -51,4 +52,21 @@ pub fn put_back(matchers: &mut Vec<Matcher>, p: usize, gone: Matcher)
     ensures { matchers.new.items ≡ insert matchers.old.items p gone }
 {
     let _ = matchers.insert(p, gone);
+}
+
+/// Puts a matcher in the place of another, and returns that one.
+pub fn exchange(matchers: &mut Vec<Matcher>, p: usize, new: Matcher) -> Matcher
+    requires { p < length matchers.old.items }
+    ensures items { matchers.new.items ≡ slice_set matchers.old.items p new }
+    ensures gone { result ≡ get_or matchers.old.items p result }
+{
+    replace(&mut matchers[p], new)
+}
+
+/// Puts a replaced matcher back in its place.
+pub fn put_again(matchers: &mut Vec<Matcher>, p: usize, gone: Matcher)
+    requires { p < length matchers.old.items }
+    ensures { matchers.new.items ≡ slice_set matchers.old.items p gone }
+{
+    matchers[p] = gone;
 }

@@ -3,7 +3,6 @@ ghost use Rattle.std.specs.Prelude.{◌≡◌, ◌≢◌, ◌+◌, ◌-◌, ◌�
 ghost use Rattle.std.specs.Prelude.{OnErr, []};
 ghost use Rattle.std.specs.List.{splice};
 ghost use Rattle.std.specs.Option.{option_map};
-ghost use Rattle.grep_core.specs.Run.{file_at};
 ghost use Rattle.grep_session.specs.declared.fault.EditFault.TheVariants.{Memory};
 ghost use Rattle.grep_session.specs.Working.Kept.{kept_lines, kept_file};
 ghost use Rattle.grep_session.specs.Working.SplicePlaces.{PlaceGives};
@@ -13,16 +12,9 @@ use crate::fault::EditFault;
 use crate::kept::{FileLines, KeptFile};
 use std::alloc::{AllocError, Global};
 
-/// Whether file `k` has `count` lines from `start` on, and how many lines come after these.
-pub fn find_place(
-    files: &[KeptFile],
-    k: usize,
-    start: usize,
-    count: usize,
-) -> Result<usize, EditFault>
+/// Whether file `k` has `count` lines from `start` on.
+pub fn find_place(files: &[KeptFile], k: usize, start: usize, count: usize) -> Result<(), EditFault>
     ensures place { PlaceGives (map kept_file files.now) k start count result }
-    ensures back { IfOk result (λ back.
-        back ≡ length (file_at (map kept_file files.now) k).lines - (start + count)) }
     ensures reported { IfErr result (λ fault. fault ≢ Memory) }
 {
     if k >= files.len() {
@@ -38,7 +30,7 @@ pub fn find_place(
     if count > after {
         return Err(EditFault::OutOfRange);
     }
-    Ok(after - count)
+    Ok(())
 }
 
 /// Replaces lines of a file with others. Without new lines nothing is allocated.

@@ -1,16 +1,19 @@
 //! A session.
 ghost use Rattle.std.specs.Prelude.{◌≡◌, ◌≢◌, ◌≤◌, ◌<◌, Ok, false, length, map};
-ghost use Rattle.std.specs.Prelude.{IsTrue, IfErr};
+ghost use Rattle.std.specs.Prelude.{IsTrue, IfErr, [], ◌∷◌, get_or};
+ghost use Rattle.grep_core.specs.Working.MatcherLists.{AreMatchers};
+ghost use Rattle.grep_session.specs.Working.Rooms.{KeepAtMost};
 ghost use Rattle.grep_session.specs.declared.fault.EditFault.TheVariants.{Memory};
 ghost use Rattle.grep_session.specs.Edits.{Edit, AddFile, AddMissing, DropFile, Splice};
-ghost use Rattle.grep_session.specs.Edits.{AddPatterns, DropPattern, SetFlag, SetSyntax};
-ghost use Rattle.grep_session.specs.Edits.{SetContext, EditGives, Applies};
+ghost use Rattle.grep_session.specs.Edits.{AddPatterns, DropPattern, ChangePattern, SetFlag};
+ghost use Rattle.grep_session.specs.Edits.{SetSyntax, SetContext, EditGives, Applies};
 ghost use Rattle.grep_session.specs.Edits.{with_patterns};
 ghost use Rattle.std.specs.List.{remove};
 ghost use Rattle.re_syntax.specs.Profile.{most_states};
 ghost use Rattle.grep_session.specs.Touched.{TakesSteps, NeedsNoMemory, Touches, searched_by};
 ghost use Rattle.grep_session.specs.Touched.{parts_alone, all_lines};
-ghost use Rattle.grep_session.specs.Marks.{new_watched, all_known, lost, MarksGiven};
+ghost use Rattle.line_marks.specs.Stretches.{lost};
+ghost use Rattle.grep_session.specs.Marks.{new_watched, all_known, MarksGiven};
 ghost use Rattle.grep_session.specs.Working.Sessions.{LosesMarks};
 ghost use Rattle.grep_session.specs.Working.Again.{ReadsAgain, AreReadable, read_as};
 
@@ -21,16 +24,18 @@ use crate::change::Change;
 use crate::columns::find_columns;
 use crate::fault::EditFault;
 use crate::kept::KeptFile;
-use crate::mark::Mark;
 use crate::marks::{know_all, lose_all, push_file, touch};
 use crate::new_lines::NewLines;
 use crate::options::{Effect, effect_of, is_same, option_of, with_option};
-use crate::pattern_matchers::read_matchers;
-use crate::patterns::{add_matchers, add_texts, reserve_texts, texts_of, too_many};
-use crate::removal::{drop_column, put_back};
+use crate::pattern_matchers::{read_matcher, read_matchers};
+use crate::patterns::{
+    add_matchers, add_texts, is_text, put_text, reserve_texts, texts_of, too_many,
+};
+use crate::removal::{drop_column, exchange, put_again, put_back};
 use crate::replaced_lines::{find_place, put_in};
 use crate::search::search_new;
 use grep_core::{Context, Flag, Options};
+use line_marks::Mark;
 use re_search::{Matcher, Meter, Syntax};
 use std::alloc::Global;
 use std::marker::Model;
@@ -177,10 +182,10 @@ impl Session {
         ensures memory { NeedsNoMemory (Splice k start count lines) self.old.inputs →
             IfErr result (λ fault. fault ≢ Memory) }
     {
-        let back = match find_place(&self.files, k, start, count) {
-            Ok(back) => back,
+        match find_place(&self.files, k, start, count) {
+            Ok(()) => {}
             Err(fault) => return Err(fault),
-        };
+        }
         let kept = match search_new(self.alloc, &mut self.matchers, &self.options, lines, meter) {
             Ok(kept) => kept,
             Err(_) => return Err(EditFault::Memory),
@@ -189,7 +194,8 @@ impl Session {
             Ok(()) => {}
             Err(_) => return Err(EditFault::Memory),
         }
-        touch(&mut self.marks, k, start, back);
+        let many = self.files[k].line_count();
+        touch(&mut self.marks, k, start, count, many);
         Ok(())
     }
 
@@ -354,7 +360,7 @@ impl Session {
     pub fn know_all(&mut self)
         ensures { self.new ≡ all_known self.old }
     {
-        know_all(&self.files, &mut self.marks);
+        know_all(&mut self.marks);
     }
 
     /// Adds the patterns of a list after the others. Only the new patterns are searched for, and
@@ -467,6 +473,90 @@ impl Session {
             }
         }
         self.texts.remove(p);
+        lose_all(&mut self.marks);
+        Ok(())
+    }
+
+    /// Puts another text in the place of pattern `p`. All lines are searched for it alone, and
+    /// under `-o` the parts of the lines that the old or the new pattern matches. Where the text is
+    /// the same, nothing is searched or allocated. The text is one pattern, whatever its bytes are:
+    /// no line has a newline, so nothing matches one in it.
+    ///
+    /// # Errors
+    ///
+    /// `EditFault::NoSuchPattern`, `EditFault::Pattern` with place 0 if the text is not a valid
+    /// pattern, or `EditFault::Memory`.
+    pub fn change_pattern(
+        &mut self,
+        p: usize,
+        text: Vec<u8>,
+        meter: &mut Meter,
+    ) -> Result<(), EditFault>
+        ensures gives { EditGives (ChangePattern p text.items) self.old.inputs self.new.inputs
+            result }
+        ensures same_states { self.new.states ≡ self.old.states }
+        ensures marks { MarksGiven (ChangePattern p text.items) self.old self.new.marks result }
+        ensures steps { TakesSteps (ChangePattern p text.items) self.old.inputs meter.old
+            meter.new }
+        ensures memory { NeedsNoMemory (ChangePattern p text.items) self.old.inputs →
+            IfErr result (λ fault. fault ≢ Memory) }
+    {
+        if p >= self.texts.len() {
+            return Err(EditFault::NoSuchPattern);
+        }
+        if is_text(&self.texts[p], &text) {
+            return Ok(());
+        }
+        let matcher = match read_matcher(
+            self.alloc,
+            &text,
+            self.syntax,
+            &self.options,
+            self.states,
+        ) {
+            Ok(matcher) => matcher,
+            Err(fault) => return Err(fault),
+        };
+        self.replace_pattern(p, text, matcher, meter)
+    }
+
+    /// Puts another text and its matcher in the place of pattern `p`.
+    fn replace_pattern(
+        &mut self,
+        p: usize,
+        text: Vec<u8>,
+        matcher: Matcher,
+        meter: &mut Meter,
+    ) -> Result<(), EditFault>
+        requires within { p < length self.old.inputs.patterns }
+        requires other { text.items ≢ get_or self.old.inputs.patterns p [] }
+        requires is_new { AreMatchers self.old.inputs.syntax self.old.inputs.options
+            (text.items ∷ []) (matcher ∷ []) }
+        requires few { KeepAtMost self.old.states (matcher ∷ []) }
+        ensures gives { EditGives (ChangePattern p text.items) self.old.inputs self.new.inputs
+            result }
+        ensures same_states { self.new.states ≡ self.old.states }
+        ensures marks { MarksGiven (ChangePattern p text.items) self.old self.new.marks result }
+        ensures steps { TakesSteps (ChangePattern p text.items) self.old.inputs meter.old
+            meter.new }
+    {
+        let gone = exchange(&mut self.matchers, p, matcher);
+        let change = Change::Replaced(p);
+        match find_columns(
+            self.alloc,
+            &mut self.matchers,
+            &self.options,
+            change,
+            &mut self.files,
+            meter,
+        ) {
+            Ok(()) => {}
+            Err(_) => {
+                put_again(&mut self.matchers, p, gone);
+                return Err(EditFault::Memory);
+            }
+        }
+        put_text(&mut self.texts, p, text);
         lose_all(&mut self.marks);
         Ok(())
     }

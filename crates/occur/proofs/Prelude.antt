@@ -16,7 +16,7 @@ pub use Rattle.clap.specs.declared.builder.command.Command.TheViews.{out-Command
 pub use Rattle.clap.specs.declared.builder.value_parser.ValueParser.{ValueParser}
 pub use Rattle.clap.specs.declared.builder.value_parser.ValueParser.TheVariants.{Unsigned}
 pub use Rattle.clap.specs.declared.error.kind.ErrorKind.{ErrorKind}
-pub use Rattle.clap.specs.declared.error.kind.ErrorKind.TheVariants.{DisplayHelp}
+pub use Rattle.clap.specs.declared.error.kind.ErrorKind.TheVariants.{DisplayHelp, DisplayVersion}
 pub use Rattle.clap.specs.declared.parser.matches.ArgMatches.{ArgMatches}
 pub use Rattle.clap.specs.declared.parser.matches.Found.{Found}
 pub use Rattle.clap.specs.declared.parser.matches.MatchedArg.{MatchedArg}
@@ -24,7 +24,7 @@ pub use Rattle.grep_cmd.specs.Lines.{newline}
 pub use Rattle.grep_core.specs.Row.{colon, head, output_line}
 pub use Rattle.grep_core.specs.Written.{Writes}
 pub use Rattle.occur.specs.Exit.{cannot_open}
-pub use Rattle.occur.specs.Words.{AsksForHelp, ExplainsAmong, HasStates, IsChosenBy, Reads, form_words, is_no_option, is_operand, occur_app, script_rule, states_rule, texts_of}
+pub use Rattle.occur.specs.Words.{AsksFor, ExplainsAmong, HasStates, IsChosenBy, Reads, form_words, is_no_option, is_operand, occur_app, script_rule, states_rule, texts_of}
 pub use Rattle.occur.specs.declared.words.OccurFault.{OccurFault}
 pub use Rattle.occur.specs.declared.words.ScriptRequest.{ScriptRequest}
 pub use Rattle.std.proofs.Common.{All, Bool, Bor, Err, IfOk, IsSomeAnd, List, None, Ok, Option, Result, Some, [], ap, append-nil, append_assoc, ap₂, arith, bytes_eq, codes, cond, false, find, inl, inr, is_some, length, map, ne_eqb, not, option_map, refl, rules, slice_index_or, subst, suc, sym, true, true≢false, unwrap_or, zero, ℕ, ◌++◌, ◌+◌, ◌<◌, ◌==◌, ◌^◌, ◌∙◌, ◌∷◌, ◌≡◌, ◌≤◌}

@@ -1,7 +1,7 @@
 -- How the program reports its faults, and its exit status.
 use Rattle.std.specs.Prelude.{◌≡◌, ◌≢◌, ℕ, [], ◌∷◌, ◌++◌, codes, Option, Result, Ok, Err}
 use Rattle.clap.specs.declared.error.kind.ErrorKind.{ErrorKind}
-use Rattle.clap.specs.declared.error.kind.ErrorKind.TheVariants.{DisplayHelp}
+use Rattle.clap.specs.declared.error.kind.ErrorKind.TheVariants.{DisplayHelp, DisplayVersion}
 use Rattle.grep_core.specs.Buffer.{BufferedWriter, all_contents}
 use Rattle.grep_core.specs.Meters.{Steps}
 use Rattle.grep_core.specs.Run.{Writer}
@@ -74,7 +74,8 @@ module _ {W : Type 0} (contents : W → Option Text) (failures waiting : W → �
     pub ends : EndsScript ended old.messages reported found
     pub sends : SendsMessages reported new.messages new.waiting found status
 
--- refused words have status 2, those that ask for help status 0
+-- refused words have status 2, those that ask for help or the version status 0
 abbrev pub words_status : ErrorKind → ℕ
 words_status DisplayHelp = 0
+words_status DisplayVersion = 0
 words_status _ = 2

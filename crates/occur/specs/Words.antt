@@ -10,7 +10,8 @@ use Rattle.clap.specs.Kinds.{Kinds, IsAmong}
 use Rattle.clap.specs.declared.builder.action.ArgAction.TheVariants.{Set}
 use Rattle.clap.specs.declared.builder.value_parser.ValueParser.TheVariants.{Unsigned}
 use Rattle.clap.specs.declared.error.Error.{Error}
-use Rattle.clap.specs.declared.error.kind.ErrorKind.TheVariants.{DisplayHelp, OutOfMemory}
+use Rattle.clap.specs.declared.error.kind.ErrorKind.{ErrorKind}
+use Rattle.clap.specs.declared.error.kind.ErrorKind.TheVariants.{OutOfMemory}
 use Rattle.clap.specs.declared.parser.matches.Found.{Found}
 use Rattle.grep_utility.specs.Folder.{is_standard}
 use Rattle.occur.specs.declared.words.ScriptRequest.{ScriptRequest}
@@ -34,9 +35,13 @@ states_rule = record (new_rule (codes "states")) {
 abbrev pub script_rule : Rule
 script_rule = record (new_rule (codes "script")) { action = Some Set; value_names = 1 }
 
--- the command, to which its library adds the option --help
+-- the command has a version
+abbrev pub with_version : App → App
+with_version a = record a { top = record a.top { has_version = true } }
+
+-- the command, to which its library adds the options --help and --version
 abbrev pub occur_app : App
-occur_app = with_rule (with_rule (new_app (codes "occur")) states_rule) script_rule
+occur_app = with_rule (with_rule (with_version (new_app (codes "occur"))) states_rule) script_rule
 
 -- a number of states was found, as the text of a number
 abbrev pub HasStates : Found → Type 0
@@ -96,8 +101,8 @@ Reads number script (Err fault.Memory) = ⊤
 Reads number script (Err (fault.Words error)) =
     IsSomeAnd number (λ text. IsUnsignedIn 1 65536 text → ⊥)
 
--- the words ask for help, unless memory runs out
-abbrev pub AsksForHelp : Result ScriptRequest OccurFault → Type 0
-AsksForHelp (Ok request) = ⊥
-AsksForHelp (Err fault.Memory) = ⊤
-AsksForHelp (Err (fault.Words error)) = kind_of error ≡ DisplayHelp
+-- the words ask for this, help or the version, unless memory runs out
+abbrev pub AsksFor : ErrorKind → Result ScriptRequest OccurFault → Type 0
+AsksFor kind (Ok request) = ⊥
+AsksFor kind (Err fault.Memory) = ⊤
+AsksFor kind (Err (fault.Words error)) = kind_of error ≡ kind

@@ -84,12 +84,14 @@ pub fn end_script<M: CountedWrite>(messages: &mut M, ended: Result<ScriptEnd, Sc
     }
 }
 
-/// The exit status when the words choose no script to run. Asking for help is no fault.
+/// The exit status when the words choose no script to run. Asking for help or the version is no
+/// fault.
 pub fn words_status(error: &Error) -> u8
     ensures { result ≡ words_status (kind_of error.now) }
 {
     match error.kind() {
         ErrorKind::DisplayHelp => 0,
+        ErrorKind::DisplayVersion => 0,
         _ => FAILED,
     }
 }

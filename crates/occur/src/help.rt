@@ -14,6 +14,7 @@ The script has a command on each line. The lines or patterns that a command coun
   splice K START REMOVE COUNT  the next COUNT lines in place of REMOVE lines of file K
   patterns COUNT               new patterns, the next COUNT lines
   drop P                       takes pattern P away
+  pattern P                    the next line in place of pattern P
   flag LETTER on|off           sets an option of grep: c, i, l, n, o, q, s, v or x
   context BEFORE AFTER         shows so many lines around selected ones
   context off                  shows no others
@@ -21,9 +22,10 @@ The script has a command on each line. The lines or patterns that a command coun
   show                         asks what grep finds now
   changes                      asks what changed of the lines found, since the last time
   page FIRST COUNT             asks for COUNT of the lines found, from number FIRST on
+  version                      asks for the version of occur, and that of scripts
 
 An edit is answered by 'ok' or 'refused CAUSE'; show by grep's output after 'o ', its messages after
-'e ' and 'status N'; changes and page by rows for an editor, and 'status N'.
+'e ' and 'status N'; changes and page by rows for an editor, and 'status N'; version by one line.
 
 Exit status: 0; 1 if a command was refused; 2 after an error.
 See the manual page for more: man occur"

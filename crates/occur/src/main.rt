@@ -63,8 +63,8 @@ fn run_on_devices<R: CountedRead, W: CountedWrite, M: CountedWrite>(
     send_messages(messages, found)
 }
 
-/// Prints the help or the error when no script is run, and returns the exit status. If the help
-/// could not be written, that is reported.
+/// Prints the help, the version or the error when no script is run, and returns the exit status. If
+/// the help or the version could not be written, that is reported.
 fn report_words(rt: &HostRuntime, error: &Error) -> u8 {
     match error.print(rt) {
         Ok(()) => words_status(error),
@@ -77,7 +77,8 @@ fn report_words(rt: &HostRuntime, error: &Error) -> u8 {
 ///
 /// # Errors
 ///
-/// The exit status, where they ask for no script. Their help was printed, or the cause reported.
+/// The exit status, where they ask for no script. The help or the version was printed, or the cause
+/// reported.
 fn read_words(rt: &HostRuntime) -> Result<ScriptRequest, u8>
     ensures least { IfOk result (λ request. 1 ≤ request.states) }
     ensures most { IfOk result (λ request. request.states ≤ most_states) }

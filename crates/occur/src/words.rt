@@ -3,7 +3,7 @@ ghost use Rattle.std.specs.Prelude.{[], ◌∷◌, ◌≡◌, ◌≤◌, IfOk, O
 ghost use Rattle.std.specs.Prelude.{string_bytes, true};
 ghost use Rattle.clap.specs.Words.{Text, app_of, fault_of, found_of, matches_of, rows_of};
 ghost use Rattle.clap.specs.Words.{rule_of};
-ghost use Rattle.occur.specs.Words.{AsksForHelp, HasStates, IsChosenBy, Explains, ExplainsAmong};
+ghost use Rattle.occur.specs.Words.{AsksFor, HasStates, IsChosenBy, Explains, ExplainsAmong};
 ghost use Rattle.occur.specs.Words.{occur_app};
 ghost use Rattle.occur.specs.Words.{Reads, form_words, is_no_option, script_file, script_rule};
 ghost use Rattle.occur.specs.Words.{states_rule, texts_of};
@@ -12,6 +12,7 @@ ghost use Rattle.occur.specs.declared.words.OccurFault.TheVariants.{Memory};
 use crate::help::{ABOUT, commands_help};
 use clap::error::ErrorKind;
 use clap::{Arg, ArgAction, ArgMatches, Command, value_parser};
+use grep_cmd::VERSION;
 use std::alloc::{AllocError, Global};
 use thiserror::Error;
 
@@ -42,7 +43,7 @@ impl ScriptRequest {
 /// Why the words ask for nothing.
 #[derive(Debug, Drop, Error)]
 pub enum OccurFault {
-    /// The command refuses the words, or they ask for help.
+    /// The command refuses the words, or they ask for help or the version.
     #[error("{0}")]
     Words(clap::Error),
     /// Memory ran out.
@@ -94,11 +95,12 @@ fn script_operand<'a>(alloc: Global) -> Arg<'a>
         .help("The file that has the script; without it, standard input")
 }
 
-/// The command with its option and its operand.
+/// The command with its version, its option and its operand.
 fn occur_command<'a>(alloc: Global) -> Result<Command<'a>, AllocError>
     ensures { IfOk result (λ command. app_of command ≡ occur_app) }
 {
     Command::new(alloc, "occur")
+        .version(VERSION)
         .about(ABOUT)
         .after_help(commands_help())
         .arg(states_option(alloc))?
@@ -144,7 +146,9 @@ pub fn occur_words(alloc: Global, words: &[String]) -> Result<ScriptRequest, Occ
         → texts_of words.now ≡ form_words name number script
         → is_no_option number ≡ true → is_no_option script ≡ true → Reads number script result }
     ensures help { (name : Text) → texts_of words.now ≡ name ∷ codes "--help" ∷ []
-        → AsksForHelp result }
+        → AsksFor ErrorKind.DisplayHelp result }
+    ensures version { (name : Text) → texts_of words.now ≡ name ∷ codes "--version" ∷ []
+        → AsksFor ErrorKind.DisplayVersion result }
 
     // For any words: the request and faults that clap defines for this command.
     ensures chosen { IfOk result (IsChosenBy (matches_of occur_app (texts_of words.now))) }

@@ -15,6 +15,7 @@ pub enum Edit {
     Splice(usize, usize, usize, &'static [u8]),
     AddPatterns(&'static [u8]),
     DropPattern(usize),
+    ChangePattern(usize, &'static str),
     SetFlag(Flag, bool),
     SetSyntax(Syntax),
     SetContext(Option<Context>),
@@ -51,11 +52,12 @@ fn lines_of(alloc: Global, text: &[u8]) -> Result<Vec<Vec<u8>>, AllocError> {
     Ok(lines)
 }
 
-/// The name and the lines of an edit.
+/// The name or the pattern, and the lines of an edit.
 fn texts_of(edit: Edit) -> (&'static str, &'static [u8]) {
     match edit {
         Edit::AddFile(name, text) => (name, text),
         Edit::AddMissing(name) => (name, b""),
+        Edit::ChangePattern(_, text) => (text, b""),
         Edit::Splice(_, _, _, text) => ("", text),
         _ => ("", b""),
     }
@@ -90,6 +92,7 @@ pub fn make_edit(
         }
         Edit::AddPatterns(list) => session.add_patterns(list, meter),
         Edit::DropPattern(p) => session.drop_pattern(p, meter),
+        Edit::ChangePattern(p, _) => session.change_pattern(p, name, meter),
         Edit::SetFlag(flag, on) => session.set_flag(flag, on, meter),
         Edit::SetSyntax(syntax) => session.set_syntax(syntax, meter),
         Edit::SetContext(context) => {

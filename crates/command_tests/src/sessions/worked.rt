@@ -1,7 +1,8 @@
 //! Sessions whose rows were worked out by hand, with their steps.
 use super::edits::Answer;
 use super::edits::Edit::{
-    AddFile, AddMissing, AddPatterns, DropFile, DropPattern, SetContext, SetFlag, SetSyntax, Splice,
+    AddFile, AddMissing, AddPatterns, ChangePattern, DropFile, DropPattern, SetContext, SetFlag,
+    SetSyntax, Splice,
 };
 use super::harness::{
     ANY, DONE, FILE_IS_MISSING, LINE_HAS_NEWLINE, NO_SUCH_FILE, OUT_OF_RANGE, Row,
@@ -11,6 +12,8 @@ use grep_core::Flag::{IgnoreCase, InvertMatch, LineNumber, LineRegexp, OnlyMatch
 use grep_session::EditFault;
 use re_search::Syntax::{Extended, Fixed};
 use re_syntax::{FaultKind, PatternFault};
+
+const NO_SUCH_PATTERN: Answer = Err(EditFault::NoSuchPattern);
 
 const UNCLOSED_GROUP: Answer = Err(EditFault::Pattern(
     0,
@@ -97,6 +100,34 @@ static TOUCHED: [Row; 14] = [
     (Splice(0, 1, 1, b"xyz\n"), DONE, b"", b"", 1, 8),
     (AddPatterns(b"["), UNCLOSED_BRACKET, b"", b"", 1, 0),
     (DropFile(0), DONE, b"", b"", 1, 0),
+];
+
+/// Only the lines are searched that have to be, by the new pattern alone; under `-o` for the parts
+/// of those that the old or the new one matches.
+static ANOTHER_PATTERN: [Row; 9] = [
+    (AddFile("f", b"ab\nbc\nca\n"), DONE, b"", b"", 1, 0),
+    (AddPatterns(b"b\nc"), DONE, b"ab\nbc\nca\n", b"", 0, 18),
+    (ChangePattern(1, "ca*"), DONE, b"ab\nbc\nca\n", b"", 0, 9),
+    (ChangePattern(1, "ca*"), DONE, b"ab\nbc\nca\n", b"", 0, 0),
+    (ChangePattern(0, "x"), DONE, b"bc\nca\n", b"", 0, 9),
+    (
+        ChangePattern(2, "x"),
+        NO_SUCH_PATTERN,
+        b"bc\nca\n",
+        b"",
+        0,
+        0,
+    ),
+    (
+        ChangePattern(0, "["),
+        UNCLOSED_BRACKET,
+        b"bc\nca\n",
+        b"",
+        0,
+        0,
+    ),
+    (SetFlag(OnlyMatching, true), DONE, b"c\nca\n", b"", 0, 24),
+    (ChangePattern(1, "a"), DONE, b"a\na\n", b"", 0, 33),
 ];
 
 /// Branches and repetitions of basic expressions have their parts.
@@ -244,12 +275,13 @@ static NEWLINES: [Row; 8] = [
 ];
 
 /// The sessions.
-pub fn sessions() -> [&'static [Row]; 9] {
+pub fn sessions() -> [&'static [Row]; 10] {
     [
         &ONE_LINE_COMES,
         &ANOTHER_SYNTAX,
         &MEANINGS,
         &TOUCHED,
+        &ANOTHER_PATTERN,
         &BRANCHES,
         &PARTS,
         &LINEAR,

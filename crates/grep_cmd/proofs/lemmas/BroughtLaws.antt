@@ -1,5 +1,5 @@
 -- The steps of a script bring no more bytes than its lines have.
-use Rattle.grep_cmd.proofs.Prelude.{◌≡◌, ℕ, ◌+◌, ◌≤◌, Bool, true, false, List, [], ◌∷◌, ◌++◌, length, codes, bytes_eq, nat_eq, Option, Some, None, refl, sym, ap, subst, inl, inr, arith, if◌then◌else◌, option_map, sum_by, Text, joined, Flag, Ending, Edit, AddFile, AddMissing, DropFile, Splice, DropPattern, SetFlag, SetSyntax, SetContext, number_of, name_of, flag_of, switch_of, syntax_of, Command, edits, counts, shows, lists_changes, lists_page, file_from, file_command, missing_command, close_command, splice_from, splice_command, patterns_from, patterns_command, drop_command, flag_from, flag_command, syntax_command, context_from, context_command, show_command, changes_command, page_from, page_command, listing_command, unnamed_command, command_of, Step, does, reports, reports_changes, reports_page, is_bad, IsStep, IsUnfinished, Steps, words_of, bytes_of, sum_by-append, sum_by-cons}
+use Rattle.grep_cmd.proofs.Prelude.{◌≡◌, ℕ, ◌+◌, ◌≤◌, Bool, true, false, List, [], ◌∷◌, ◌++◌, length, codes, bytes_eq, nat_eq, Option, Some, None, refl, sym, ap, subst, inl, inr, arith, if◌then◌else◌, option_map, sum_by, Text, joined, Flag, Ending, Edit, AddFile, AddMissing, DropFile, Splice, DropPattern, ChangePattern, SetFlag, SetSyntax, SetContext, number_of, name_of, flag_of, switch_of, syntax_of, Command, edits, counts, shows, lists_changes, lists_page, asks_version, file_from, file_command, missing_command, close_command, splice_from, splice_command, patterns_from, patterns_command, drop_command, pattern_command, flag_from, flag_command, syntax_command, context_from, context_command, show_command, changes_command, page_from, page_command, version_command, asking_command, unnamed_command, command_of, Step, does, reports, reports_changes, reports_page, tells_version, is_bad, IsStep, IsUnfinished, Steps, words_of, bytes_of, sum_by-append, sum_by-cons}
 use Rattle.grep_session.specs.Edits.{AddPatterns}
 
 -- one for a step, and the bytes of the lines that it puts into a file
@@ -34,6 +34,9 @@ few_changes taken step is = few_as taken step reports_changes is.1 (omega arith)
 
 few_page : (first count : ℕ) → Few (Some (lists_page first count))
 few_page first count taken step is = few_as taken step (reports_page first count) is.1 (omega arith)
+
+few_version : Few (Some asks_version)
+few_version taken step is = few_as taken step tells_version is.1 (omega arith)
 
 few_if : (b : Bool) (x y : Option Command) → Few x → Few y → Few (if b then x else y)
 few_if true x y p q = p
@@ -93,6 +96,15 @@ few_drop [] = few_none
 few_drop (pattern ∷ []) = few_map DropPattern (λ p. refl) (number_of pattern)
 few_drop (pattern ∷ more ∷ rest) = few_none
 
+few_pattern_from : (found : Option ℕ) → Few (option_map (λ p. counts 1 (λ lines. ChangePattern p (joined lines))) found)
+few_pattern_from None = few_none
+few_pattern_from (Some p) = few_counted 1 (λ lines. ChangePattern p (joined lines)) (λ taken. omega arith)
+
+few_pattern : (given : List Text) → Few (pattern_command given)
+few_pattern [] = few_none
+few_pattern (pattern ∷ []) = few_pattern_from (number_of pattern)
+few_pattern (pattern ∷ more ∷ rest) = few_none
+
 few_flag_from : (flag : Option Flag) (on : Option Bool) → Few (flag_from flag on)
 few_flag_from None on = few_none
 few_flag_from (Some flag) None = few_none
@@ -139,25 +151,31 @@ few_page_command (first ∷ []) = few_none
 few_page_command (first ∷ count ∷ []) = few_page_from (number_of first) (number_of count)
 few_page_command (first ∷ count ∷ more ∷ rest) = few_none
 
+few_version_command : (given : List Text) → Few (version_command given)
+few_version_command [] = few_version
+few_version_command (word ∷ rest) = few_none
+
 module _ (word : Text) (given : List Text) where
   abbrev is_word : Text → Bool
   is_word name = bytes_eq word name
 
-  few_listing : Few (listing_command word given)
-  few_listing =
-      few_if (is_word (codes "changes")) (changes_command given) _ (few_changes_command given)
-      (few_if (is_word (codes "page")) (page_command given) None (few_page_command given) few_none)
+  few_asking : Few (asking_command word given)
+  few_asking =
+      few_if (is_word (codes "show")) (show_command given) _ (few_show given)
+      (few_if (is_word (codes "changes")) (changes_command given) _ (few_changes_command given)
+      (few_if (is_word (codes "page")) (page_command given) _ (few_page_command given)
+      (few_if (is_word (codes "version")) (version_command given) None (few_version_command given) few_none)))
 
   few_unnamed : Few (unnamed_command word given)
   few_unnamed =
-      few_if (is_word (codes "show")) (show_command given) _ (few_show given)
-      (few_if (is_word (codes "splice")) (splice_command given) _ (few_splice given)
+      few_if (is_word (codes "splice")) (splice_command given) _ (few_splice given)
       (few_if (is_word (codes "close")) (close_command given) _ (few_close given)
       (few_if (is_word (codes "patterns")) (patterns_command given) _ (few_patterns given)
       (few_if (is_word (codes "drop")) (drop_command given) _ (few_drop given)
+      (few_if (is_word (codes "pattern")) (pattern_command given) _ (few_pattern given)
       (few_if (is_word (codes "flag")) (flag_command given) _ (few_flag given)
       (few_if (is_word (codes "syntax")) (syntax_command given) _ (few_syntax given)
-      (few_if (is_word (codes "context")) (context_command given) (listing_command word given) (few_context given) few_listing)))))))
+      (few_if (is_word (codes "context")) (context_command given) (asking_command word given) (few_context given) few_asking)))))))
 
 few_command : (words : List Text) → Few (command_of words)
 unfolding command_of

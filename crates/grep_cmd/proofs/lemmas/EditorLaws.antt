@@ -1,5 +1,5 @@
 -- The lists that an editor makes by the replies alone follow, and are the present hits.
-use Rattle.grep_cmd.proofs.Prelude.{◌≡◌, ℕ, ◌+◌, ◌<◌, ◌≤◌, ◌^◌, min, true, false, true≢false, List, [], ◌∷◌, ◌++◌, length, take, drop, get_or, codes, Result, Ok, Err, refl, sym, ap, subst, ◌∙◌, inl, inr, arith, append_assoc, ◌-◌, list_any, sum_by, Text, Status, IfHolds, File, Inputs, EditFault, Edit, Mark, View, AreHits, Watched, new_watched, IsChange, all_after, FollowsFile, Follows, view_after, AreFit, changes_rows, total_row, page_row, page_rows, all_hits, all_known, Step, does, reports, reports_changes, reports_page, is_bad, is_truncated, AreShown, with_margin, status_line, ReportsChanges, RepliesTo, Replies, IsAnswered, AnswersScript, cause, reply_to, IsHeld, bytes_of, has_status, EndsWithStatus, IsOneReply, ReadsChanges, ListsAfter, ListsAfterAll, ArePresent, Took, EditorsFollow, or_parts, All-nil, sum_by-cons}
+use Rattle.grep_cmd.proofs.Prelude.{◌≡◌, ℕ, ◌+◌, ◌<◌, ◌≤◌, ◌^◌, min, true, false, true≢false, List, [], ◌∷◌, ◌++◌, length, take, drop, get_or, codes, Result, Ok, Err, refl, sym, ap, subst, ◌∙◌, inl, inr, arith, append_assoc, ◌-◌, list_any, sum_by, Text, Status, IfHolds, File, Inputs, EditFault, Edit, Marked, View, AreHits, Watched, new_watched, ChangesFile, all_after, FollowsFile, Follows, view_after, AreFit, changes_rows, total_row, page_row, page_rows, all_hits, all_known, Step, does, reports, reports_changes, reports_page, tells_version, is_bad, is_truncated, AreShown, with_margin, status_line, ReportsChanges, RepliesTo, Replies, IsAnswered, AnswersScript, cause, reply_to, IsHeld, bytes_of, has_status, EndsWithStatus, IsOneReply, ReadsChanges, ListsAfter, ListsAfterAll, ArePresent, Took, EditorsFollow, or_parts, All-nil, sum_by-cons}
 use Rattle.grep_core.specs.declared.status.Status.TheVariants as status
 use Rattle.grep_session.proofs.lemmas.FitLemmas.{known_fit}
 use Rattle.grep_live.proofs.lemmas.CarryLemmas.{edits_carry}
@@ -35,6 +35,7 @@ is_one_reply reports_changes before after reply r = ends_with (changes_rows 0 r.
 is_one_reply (reports_page first count) before after reply (r, same) =
     let all = all_hits 0 r.view in
     ends_with (total_row (min (length all) (2 ^ 64 - 1)) ∷ page_rows first count all) r.status reply r.is (none_mapped has_status page_row (take count (drop first all)) (λ row. refl))
+is_one_reply tells_version before after reply r = ap length r.0
 is_one_reply is_bad before after reply r = ap length r.0
 is_one_reply is_truncated before after reply r = ap length r.0
 
@@ -68,6 +69,7 @@ reply_cut (does edit) a b s t p q e = cut_same a b s t (p ∙ sym q) e
 reply_cut reports a b s t p q e = status_cut a b s t p q e
 reply_cut reports_changes a b s t p q e = status_cut a b s t p q e
 reply_cut (reports_page first count) a b s t p q e = status_cut a b s t p q e
+reply_cut tells_version a b s t p q e = cut_same a b s t (p ∙ sym q) e
 reply_cut is_bad a b s t p q e = cut_same a b s t (p ∙ sym q) e
 reply_cut is_truncated a b s t p q e = cut_same a b s t (p ∙ sym q) e
 
@@ -93,7 +95,7 @@ module _ (before after : Watched) (reply : List Text) (view new : View) where
   -- the lists are those that the reported changes make
   read_as : (r : ReportsChanges before after reply) → Follows before view → ListsAfter reports_changes reply view new → all_after r.changes view ≡ new
   read_as r f (changes, reads, n) =
-      let files = (three-length (IsChange r.es before.inputs.options) before.inputs.files before.marks r.changes r.are_changes).1 in
+      let files = (three-length (ChangesFile r.es before.inputs.options) before.inputs.files before.marks r.changes r.are_changes).1 in
       let lists = (three-length (FollowsFile before.inputs) before.inputs.files before.marks view f).1 in
       let long : length changes ≡ length r.changes = reads.one_each ∙ sym lists ∙ files in
       let held = subst (λ (n : ℕ). n < 2 ^ 64) (sym reads.one_each) reads.held.0 in
@@ -108,6 +110,7 @@ module _ (before after : Watched) (reply : List Text) (view new : View) where
   step_follows reports_changes r f l =
       (subst (λ (w : Watched). AreFit w.inputs.files w.marks) (sym r.leaves) (known_fit before.inputs.files), subst (Follows after) (read_as r f.1 l) (r.follows view f.1))
   step_follows (reports_page first count) r f l = still r.1 l f
+  step_follows tells_version r f l = still r.1 l f
   step_follows is_bad r f l = still r.1 l f
   step_follows is_truncated r f l = still r.1 l f
 
@@ -189,6 +192,7 @@ lists_one reports_changes reply view a b (xs, x, p) (ys, y, q) =
     let held = subst IsHeld (sym x.one_each) x.held.0 in
     p ∙ one_reading xs ys x.status y.status view (x.one_each ∙ sym y.one_each) held x.held.1 (sym x.is ∙ y.is) ∙ sym q
 lists_one (reports_page first count) reply view a b p q = p ∙ sym q
+lists_one tells_version reply view a b p q = p ∙ sym q
 lists_one is_bad reply view a b p q = p ∙ sym q
 lists_one is_truncated reply view a b p q = p ∙ sym q
 
@@ -207,6 +211,7 @@ within_step n (does edit) before after reply w r = within_after n edit before af
 within_step n reports before after reply w r = subst (IsWithin (n + 1)) (sym r.1) (within_wider n (n + 1) (omega arith) before w)
 within_step n reports_changes before after reply w r = subst (IsWithin (n + 1)) (sym r.leaves) (within_wider n (n + 1) (omega arith) (all_known before) (within_known n before w))
 within_step n (reports_page first count) before after reply w r = subst (IsWithin (n + 1)) (sym r.1) (within_wider n (n + 1) (omega arith) before w)
+within_step n tells_version before after reply w r = subst (IsWithin (n + 1)) (sym r.1) (within_wider n (n + 1) (omega arith) before w)
 within_step n is_bad before after reply w r = subst (IsWithin (n + 1)) (sym r.1) (within_wider n (n + 1) (omega arith) before w)
 within_step n is_truncated before after reply w r = subst (IsWithin (n + 1)) (sym r.1) (within_wider n (n + 1) (omega arith) before w)
 
@@ -215,11 +220,11 @@ module _ (n : ℕ) (held : IsHeld n) (before after : Watched) (reply : List Text
   can_edit edit (Ok done) e = (view_after edit view, inl (e, refl))
   can_edit edit (Err fault) e = (view, inr (λ ok. refused_is_not_ok fault (sym e ∙ ok), refl))
 
-  can_read : IsWithin n before → Follows before view → (r : ReportsChanges before after reply) → ReadsChanges reply view r.changes
-  can_read w f r =
-      let files = three-length (IsChange r.es before.inputs.options) before.inputs.files before.marks r.changes r.are_changes in
+  can_read : IsWithin n before → Stands before view → (r : ReportsChanges before after reply) → ReadsChanges reply view r.changes
+  can_read w (fit, f) r =
+      let files = three-length (ChangesFile r.es before.inputs.options) before.inputs.files before.marks r.changes r.are_changes in
       let lists = three-length (FollowsFile before.inputs) before.inputs.files before.marks view f in
-      let all = changes_held r.es before.inputs.options n held before.inputs.files before.marks r.changes w.files w.marks r.are_changes in
+      let all = changes_held r.es before.inputs.options n held before.inputs.files before.marks r.changes w.files w.marks fit r.are_changes in
       record {
         status = r.status;
         is = r.is;
@@ -227,11 +232,12 @@ module _ (n : ℕ) (held : IsHeld n) (before after : Watched) (reply : List Text
         held = (omega (arith, held, w.few, lists.0, lists.1), all);
       }
 
-  can_step : (step : Step) → IsWithin n before → Follows before view → RepliesTo step before reply after → (new : View) × ListsAfter step reply view new
+  can_step : (step : Step) → IsWithin n before → Stands before view → RepliesTo step before reply after → (new : View) × ListsAfter step reply view new
   can_step (does edit) w f r = can_edit edit r.0 r.2
   can_step reports w f r = (view, refl)
   can_step reports_changes w f r = (all_after r.changes view, (r.changes, can_read w f r, refl))
   can_step (reports_page first count) w f r = (view, refl)
+  can_step tells_version w f r = (view, refl)
   can_step is_bad w f r = (view, refl)
   can_step is_truncated w f r = (view, refl)
 
@@ -239,13 +245,13 @@ can_from : (steps : List Step) (n : ℕ) (before end : Watched) (replies : List 
 can_from [] n before end replies view held w f r = (view, (r.0, refl))
 can_from (step ∷ steps) n before end replies view held w f (reply, between, rest, r, more, e) =
     let total = sum_by-cons brought step steps in
-    let here = can_step n (omega (arith, held)) before between reply view step w f.1 r in
+    let here = can_step n (omega (arith, held)) before between reply view step w f r in
     let next = step_follows before between reply view here.0 step r f here.1 in
     let later = can_from steps (n + brought step) between end rest here.0 (omega (arith, held, total)) (within_step n step before between reply w r) next more in
     (later.0, (reply, here.0, rest, e, is_one_reply step before between reply r, here.1, later.1))
 
 new_within : (states : ℕ) → IsWithin 0 (new_watched states)
-new_within states = record { few = omega arith; files = All-nil (λ (file : File). bytes_of file.lines ≤ 0); marks = All-nil (λ (mark : Mark). (mark.front ≤ 0) × (mark.known ≤ 0)) }
+new_within states = record { few = omega arith; files = All-nil (λ (file : File). bytes_of file.lines ≤ 0); marks = All-nil (λ (mark : Marked). mark.known ≤ 0) }
 
 can_take : (states : ℕ) (script : File) (replies rest : List Text) → bytes_of script.lines < 2 ^ 64 → (a : AnswersScript states script replies rest) → (view : View) × Took states a.steps replies a.after view
 can_take states script replies rest few a =

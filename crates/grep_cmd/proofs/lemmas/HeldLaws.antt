@@ -1,8 +1,9 @@
 -- Where the steps of a script bring few bytes, the numbers of all changes can be held.
-use Rattle.grep_cmd.proofs.Prelude.{◌≡◌, ℕ, zero, suc, ◌+◌, ◌-◌, ◌<◌, ◌≤◌, Bool, true, false, List, [], ◌∷◌, ◌++◌, length, map, take, drop, get_or, All, MatchBool, Result, Ok, Err, refl, sym, ap, subst, inl, inr, arith, length-append, length-set, length-drop, length-take, slice_set, slice_range, remove, splice, sum_by, Text, Expression, ArePartsFrom, AreParts, Flag, Count, IgnoreCase, FilesWithMatches, LineNumber, OnlyMatching, Quiet, NoMessages, InvertMatch, LineRegexp, Options, File, Inputs, file_at, EditFault, Edit, AddFile, AddMissing, DropFile, Splice, DropPattern, SetFlag, SetSyntax, SetContext, Applies, EditGives, with_files, spliced, whole_file, missing_file, ListedParts, Mark, AllThree, Hit, HitOf, HitsFrom, Watched, whole_mark, new_mark, mark_at, touched, lost, marks_by_flag, MarksAfter, MarksGiven, Change, IsChange, all_known, does, IsHeld, IsHeldPart, IsHeldHit, IsHeldChange, bytes_of, cases_lt, take-take, All-nil, All-cons, All-head, All-tail, All-append, All-set, All-weaker, All-take, All-drop, All-map, All-get_or, sum_by-append, sum_by-cons, sum_by-take-drop, sum_by-take-le, get_or-le-sum_by}
+use Rattle.grep_cmd.proofs.Prelude.{◌≡◌, ℕ, zero, suc, ◌+◌, ◌-◌, ◌<◌, ◌≤◌, Bool, true, false, List, [], ◌∷◌, ◌++◌, length, map, take, drop, get_or, All, MatchBool, Result, Ok, Err, refl, sym, ap, subst, inl, inr, arith, length-append, length-set, length-drop, length-take, slice_set, slice_range, remove, splice, sum_by, Text, Expression, ArePartsFrom, AreParts, Flag, Count, IgnoreCase, FilesWithMatches, LineNumber, OnlyMatching, Quiet, NoMessages, InvertMatch, LineRegexp, Options, File, Inputs, file_at, EditFault, Edit, AddFile, AddMissing, DropFile, Splice, DropPattern, ChangePattern, SetFlag, SetSyntax, SetContext, Applies, EditGives, with_files, spliced, whole_file, missing_file, ListedParts, Marked, Stretch, Fits, AllThree, Hit, HitOf, HitsFrom, Watched, whole_mark, new_mark, mark_at, lost, marks_by_flag, IsFit, AreFit, MarksAfter, MarksGiven, Change, AreChanges, ChangesFile, all_known, does, IsHeld, IsHeldPart, IsHeldHit, IsHeldChange, bytes_of, cases_lt, take-take, All-nil, All-cons, All-head, All-tail, All-append, All-set, All-weaker, All-take, All-drop, All-map, All-get_or, sum_by-append, sum_by-cons, sum_by-take-drop, sum_by-take-le, get_or-le-sum_by}
 use Rattle.grep_session.specs.Edits.{AddPatterns}
-use Rattle.grep_live.proofs.lemmas.CarryLemmas.{added_file, added_missing, added_patterns, context_set, dropped_pattern, file_dropped, option_set, refused_same, splice_accepted, syntax_set}
+use Rattle.grep_live.proofs.lemmas.CarryLemmas.{added_file, added_missing, added_patterns, changed_pattern, context_set, dropped_pattern, file_dropped, option_set, refused_same, splice_accepted, syntax_set}
 use Rattle.grep_cmd.proofs.lemmas.BroughtLaws.{brought}
+use Rattle.grep_cmd.proofs.lemmas.ReadingLaws.{AreHeldChanges}
 
 get_or_past : {A : Type 0} (xs : List A) (k : ℕ) (d : A) → length xs ≤ k → get_or xs k d ≡ d
 get_or_past [] k d past = refl
@@ -14,8 +15,8 @@ get_or_past (x ∷ xs) (suc k) d past = get_or_past xs k d (omega (arith, past))
 abbrev FileWithin : ℕ → File → Type 0
 FileWithin n file = bytes_of file.lines ≤ n
 
-abbrev MarkWithin : ℕ → Mark → Type 0
-MarkWithin n mark = (mark.front ≤ n) × (mark.known ≤ n)
+abbrev MarkWithin : ℕ → Marked → Type 0
+MarkWithin n mark = mark.known ≤ n
 
 pub record IsWithin (n : ℕ) (state : Watched) : Type 0 where
   pub few : length state.inputs.files ≤ n
@@ -26,8 +27,8 @@ module _ (n m : ℕ) (more : n ≤ m) where
   files_wider : (files : List File) → All (FileWithin n) files → All (FileWithin m) files
   files_wider files within = All-weaker (FileWithin n) (FileWithin m) (λ file few. omega (arith, more, few)) files within
 
-  marks_wider : (marks : List Mark) → All (MarkWithin n) marks → All (MarkWithin m) marks
-  marks_wider marks within = All-weaker (MarkWithin n) (MarkWithin m) (λ mark few. (omega (arith, more, few.0), omega (arith, more, few.1))) marks within
+  marks_wider : (marks : List Marked) → All (MarkWithin n) marks → All (MarkWithin m) marks
+  marks_wider marks within = All-weaker (MarkWithin n) (MarkWithin m) (λ mark few. omega (arith, more, few)) marks within
 
   pub within_wider : (state : Watched) → IsWithin n state → IsWithin m state
   within_wider state w = record { few = omega (arith, more, w.few); files = files_wider state.inputs.files w.files; marks = marks_wider state.marks w.marks }
@@ -85,6 +86,7 @@ module _ (n : ℕ) (old new : Inputs) (within : FilesWithin n old.files) where
   files_after (Splice k start count lines) a = files_spliced k start count lines (splice_accepted k start count lines old new a).is
   files_after (AddPatterns list) a = files_same (ap (λ (i : Inputs). i.files) (added_patterns list old new a))
   files_after (DropPattern p) a = files_same (ap (λ (i : Inputs). i.files) (dropped_pattern p old new a))
+  files_after (ChangePattern p text) a = files_same (ap (λ (i : Inputs). i.files) (changed_pattern p text old new a))
   files_after (SetFlag flag on) a = files_same (ap (λ (i : Inputs). i.files) (option_set flag on old new a))
   files_after (SetSyntax syntax) a = files_same (ap (λ (i : Inputs). i.files) (syntax_set syntax old new a))
   files_after (SetContext context) a = files_same (ap (λ (i : Inputs). i.files) (context_set context old new a))
@@ -92,10 +94,10 @@ module _ (n : ℕ) (old new : Inputs) (within : FilesWithin n old.files) where
 -- ---- the marks after an edit
 
 module _ (n : ℕ) where
-  lost_within : (marks : List Mark) → All (MarkWithin n) marks → All (MarkWithin n) (map lost marks)
-  lost_within marks within = All-map (MarkWithin n) lost marks (All-weaker (MarkWithin n) (λ (mark : Mark). MarkWithin n (lost mark)) (λ mark few. (omega arith, few.1)) marks within)
+  lost_within : (marks : List Marked) → All (MarkWithin n) marks → All (MarkWithin n) (map lost marks)
+  lost_within marks within = All-map (MarkWithin n) lost marks (All-weaker (MarkWithin n) (λ (mark : Marked). MarkWithin n (lost mark)) (λ mark few. few) marks within)
 
-  flag_within : (flag : Flag) (marks : List Mark) → All (MarkWithin n) marks → All (MarkWithin n) (marks_by_flag flag marks)
+  flag_within : (flag : Flag) (marks : List Marked) → All (MarkWithin n) marks → All (MarkWithin n) (marks_by_flag flag marks)
   flag_within Count marks within = within
   flag_within IgnoreCase marks within = lost_within marks within
   flag_within FilesWithMatches marks within = within
@@ -106,30 +108,29 @@ module _ (n : ℕ) where
   flag_within InvertMatch marks within = lost_within marks within
   flag_within LineRegexp marks within = lost_within marks within
 
-  mark_within : (marks : List Mark) (k : ℕ) → All (MarkWithin n) marks → MarkWithin n (mark_at marks k)
+  mark_within : (marks : List Marked) (k : ℕ) → All (MarkWithin n) marks → MarkWithin n (mark_at marks k)
   mark_within marks k within = elim (cases_lt k (length marks)) [
-    | inl inside ↦ All-get_or (MarkWithin n) marks k new_mark inside within
-    | inr outside ↦ subst (MarkWithin n) (sym (get_or_past marks k new_mark outside)) (omega arith, omega arith)
+    | inl inside ↦ All-get_or (MarkWithin n) marks k (whole_mark 0) inside within
+    | inr outside ↦ subst (MarkWithin n) (sym (get_or_past marks k (whole_mark 0) outside)) (omega arith)
   ]
 
-  marks_as : (a b : List Mark) → a ≡ b → All (MarkWithin n) b → All (MarkWithin n) a
+  marks_as : (a b : List Marked) → a ≡ b → All (MarkWithin n) b → All (MarkWithin n) a
   marks_as a b e within = subst (All (MarkWithin n)) (sym e) within
 
-  added_within : (marks : List Mark) → All (MarkWithin n) marks → All (MarkWithin n) (marks ++ new_mark ∷ [])
-  added_within marks within = All-append (MarkWithin n) marks (new_mark ∷ []) within (All-cons (MarkWithin n) new_mark [] (omega arith, omega arith) (All-nil (MarkWithin n)))
+  added_within : (marks : List Marked) (lines : ℕ) → All (MarkWithin n) marks → All (MarkWithin n) (marks ++ new_mark lines ∷ [])
+  added_within marks lines within = All-append (MarkWithin n) marks (new_mark lines ∷ []) within (All-cons (MarkWithin n) (new_mark lines) [] (omega arith) (All-nil (MarkWithin n)))
 
-  marks_after : (edit : Edit) (old : Watched) (marks : List Mark) → All (MarkWithin n) old.marks → MarksAfter edit old marks → All (MarkWithin n) marks
-  marks_after (AddFile name lines) old marks within m = marks_as marks (old.marks ++ new_mark ∷ []) m (added_within old.marks within)
-  marks_after (AddMissing name) old marks within m = marks_as marks (old.marks ++ new_mark ∷ []) m (added_within old.marks within)
+  marks_after : (edit : Edit) (old : Watched) (marks : List Marked) → All (MarkWithin n) old.marks → MarksAfter edit old marks → All (MarkWithin n) marks
+  marks_after (AddFile name lines) old marks within m = marks_as marks (old.marks ++ new_mark (length lines) ∷ []) m (added_within old.marks (length lines) within)
+  marks_after (AddMissing name) old marks within m = marks_as marks (old.marks ++ new_mark 0 ∷ []) m (added_within old.marks 0 within)
   marks_after (DropFile k) old marks within m =
       marks_as marks (remove old.marks k) m (All-append (MarkWithin n) (take k old.marks) (drop (suc k) old.marks) (All-take (MarkWithin n) k old.marks within) (All-drop (MarkWithin n) (suc k) old.marks within))
-  marks_after (Splice k start count lines) old marks within m =
-      let mark = mark_at old.marks k in
-      let few = mark_within old.marks k within in
-      let new = touched start (length (file_at old.inputs.files k).lines - (start + count)) mark in
-      marks_as marks (slice_set old.marks k new) m (All-set (MarkWithin n) old.marks k new (omega (arith, few.0), few.1) within)
+  marks_after (Splice k start count lines) old marks within (mark, s, is) =
+      marks_as marks (slice_set old.marks k mark) is (All-set (MarkWithin n) old.marks k mark (omega (arith, s.known, mark_within old.marks k within)) within)
   marks_after (AddPatterns list) old marks within m = marks_as marks (map lost old.marks) m (lost_within old.marks within)
   marks_after (DropPattern p) old marks within m = marks_as marks (map lost old.marks) m (lost_within old.marks within)
+  marks_after (ChangePattern p text) old marks within (inl (same, m)) = marks_as marks old.marks m within
+  marks_after (ChangePattern p text) old marks within (inr (other, m)) = marks_as marks (map lost old.marks) m (lost_within old.marks within)
   marks_after (SetFlag flag on) old marks within (inl (same, m)) = marks_as marks old.marks m within
   marks_after (SetFlag flag on) old marks within (inr (other, m)) = marks_as marks (marks_by_flag flag old.marks) m (flag_within flag old.marks within)
   marks_after (SetSyntax syntax) old marks within (inl (same, m)) = marks_as marks old.marks m within
@@ -189,35 +190,44 @@ module _ (es : List Expression) (options : Options) (n : ℕ) (held : IsHeld n) 
       subst (λ (l : List Hit). All IsHeldHit l × (length l ≤ suc (length lines))) (sym joined)
       (All-append IsHeldHit front rest here.0 later.0, omega (arith, here.1, later.1, length-append front rest))
 
-  change_held : (file : File) (mark : Mark) (change : Change) → FileWithin n file → MarkWithin n mark → IsChange es options file mark change → IsHeldChange change
-  change_held file mark change few marked c =
-      let lines = file.lines in
-      let slice = slice_range lines change.front (change.front + change.added) in
-      let line_count = lines_few lines in
-      let long : length slice ≤ length lines - change.front = omega (arith, length-take (change.front + change.added - change.front) (drop change.front lines), length-drop change.front lines) in
-      let wide : All LineWithin lines = All-weaker (λ (line : Text). length line + 1 ≤ bytes_of lines) LineWithin (λ line b. omega (arith, b, few)) lines (each_line lines) in
-      let some : All LineWithin slice = All-take LineWithin (change.front + change.added - change.front) (drop change.front lines) (All-drop LineWithin change.front lines wide) in
-      let hits = hits_held change.front slice change.come (omega (arith, long, line_count, few, c.is_front, marked.0)) some c.are_hits in
-      record {
-        front = omega (arith, held, c.is_front, marked.0);
-        removed = omega (arith, held, c.is_removed, marked.1);
-        added = omega (arith, held, c.is_added, line_count, few);
-        count = omega (arith, held, hits.1, long, line_count, few);
+  stretches_held : (first old new : ℕ) (lines : List Text) (stretches : List Stretch) (changes : List Change) → Fits old new stretches → old ≤ n → length lines ≡ new → first + new ≤ n → All LineWithin lines → AreChanges es options first lines stretches changes → AreHeldChanges changes
+  stretches_held first old new lines [] changes fits few long inside wide c = subst AreHeldChanges (sym c) (All-nil IsHeldChange)
+  stretches_held first old new lines (stretch ∷ more) [] fits few long inside wide c = absurd c
+  stretches_held first old new lines (stretch ∷ more) (change ∷ changes) (older, newer, was, is, rest) few long inside wide (is_front, is_removed, is_added, are_hits, others) =
+      let past = stretch.kept + stretch.added in
+      let front = first + stretch.kept in
+      let slice = slice_range lines stretch.kept past in
+      let short : length slice ≤ stretch.added = omega (arith, length-take (past - stretch.kept) (drop stretch.kept lines)) in
+      let some : All LineWithin slice = All-take LineWithin (past - stretch.kept) (drop stretch.kept lines) (All-drop LineWithin stretch.kept lines wide) in
+      let hits = hits_held front slice change.come (omega (arith, short, is, inside)) some are_hits in
+      let here : IsHeldChange change = record {
+        front = omega (arith, held, is_front, is, inside);
+        removed = omega (arith, held, is_removed, was, few);
+        added = omega (arith, held, is_added, is, inside);
+        count = omega (arith, held, hits.1, short, is, inside);
         hits = hits.0;
-      }
+      } in
+      let left : length (drop past lines) ≡ newer = omega (arith, length-drop past lines, long, is) in
+      All-cons IsHeldChange change changes here (stretches_held (first + past) older newer (drop past lines) more changes rest (omega (arith, was, few)) left (omega (arith, is, inside)) (All-drop LineWithin past lines wide) others)
 
-  pub changes_held : (files : List File) (marks : List Mark) (changes : List Change) → All (FileWithin n) files → All (MarkWithin n) marks → AllThree (IsChange es options) files marks changes → All IsHeldChange changes
-  changes_held [] [] [] few marked c = All-nil IsHeldChange
-  changes_held [] [] (change ∷ changes) few marked c = absurd c
-  changes_held [] (mark ∷ marks) changes few marked c = absurd c
-  changes_held (file ∷ files) [] changes few marked c = absurd c
-  changes_held (file ∷ files) (mark ∷ marks) [] few marked c = absurd c
-  changes_held (file ∷ files) (mark ∷ marks) (change ∷ changes) few marked c =
-      let here = change_held file mark change (All-head (FileWithin n) file files few) (All-head (MarkWithin n) mark marks marked) c.0 in
-      All-cons IsHeldChange change changes here (changes_held files marks changes (All-tail (FileWithin n) file files few) (All-tail (MarkWithin n) mark marks marked) c.1)
+  file_held : (file : File) (mark : Marked) (changes : List Change) → FileWithin n file → MarkWithin n mark → IsFit file mark → ChangesFile es options file mark changes → AreHeldChanges changes
+  file_held file mark changes few marked fit c =
+      let lines = file.lines in
+      let wide : All LineWithin lines = All-weaker (λ (line : Text). length line + 1 ≤ bytes_of lines) LineWithin (λ line b. omega (arith, b, few)) lines (each_line lines) in
+      stretches_held 0 mark.known mark.lines lines mark.stretches changes fit.1 marked (omega (arith, fit.0)) (omega (arith, fit.0, lines_few lines, few)) wide c
+
+  pub changes_held : (files : List File) (marks : List Marked) (changes : List (List Change)) → All (FileWithin n) files → All (MarkWithin n) marks → AreFit files marks → AllThree (ChangesFile es options) files marks changes → All AreHeldChanges changes
+  changes_held [] [] [] few marked fit c = All-nil AreHeldChanges
+  changes_held [] [] (change ∷ changes) few marked fit c = absurd c
+  changes_held [] (mark ∷ marks) changes few marked fit c = absurd fit
+  changes_held (file ∷ files) [] changes few marked fit c = absurd fit
+  changes_held (file ∷ files) (mark ∷ marks) [] few marked fit c = absurd c
+  changes_held (file ∷ files) (mark ∷ marks) (change ∷ changes) few marked fit c =
+      let here = file_held file mark change (All-head (FileWithin n) file files few) (All-head (MarkWithin n) mark marks marked) fit.0 c.0 in
+      All-cons AreHeldChanges change changes here (changes_held files marks changes (All-tail (FileWithin n) file files few) (All-tail (MarkWithin n) mark marks marked) fit.1 c.1)
 
 -- the state after the changes were reported
 pub within_known : (n : ℕ) (old : Watched) → IsWithin n old → IsWithin n (all_known old)
 within_known n old w =
-    let known = All-weaker (FileWithin n) (λ (file : File). MarkWithin n (whole_mark (length file.lines))) (λ file few. (omega (arith, lines_few file.lines, few), omega (arith, lines_few file.lines, few))) old.inputs.files w.files in
+    let known = All-weaker (FileWithin n) (λ (file : File). MarkWithin n (whole_mark (length file.lines))) (λ file few. omega (arith, lines_few file.lines, few)) old.inputs.files w.files in
     record { few = w.few; files = w.files; marks = All-map (MarkWithin n) (λ (file : File). whole_mark (length file.lines)) old.inputs.files known }

@@ -1,5 +1,5 @@
 -- The rows of changes are read in one way.
-use Rattle.grep_cmd.proofs.Prelude.{◌≡◌, ℕ, zero, suc, ◌+◌, ◌/◌, ◌%◌, ◌^◌, ◌<◌, ◌≤◌, Bool, true, false, cond, eqb, List, [], ◌∷◌, ◌++◌, length, map, get_or, All, refl, sym, ap, subst, ◌∙◌, inl, inr, arith, append_assoc, length-append, pow-suc, lt-ltb, ne_eqb, if◌then◌else◌, decimal, digits_onto, digit_glyph, digits_value, Text, Status, Hit, View, Change, is_idle, spliced_hits, all_after, spaced, part_text, more_parts, parts_text, hit_row, change_row, changes_rows, status_line, IsHeld, IsHeldPart, IsHeldHit, IsHeldChange, cases_lt, decimal_is_IsNumeral_wide, length-decimal-le, All-head, All-tail}
+use Rattle.grep_cmd.proofs.Prelude.{◌≡◌, ℕ, zero, suc, ◌+◌, ◌/◌, ◌%◌, ◌^◌, ◌<◌, ◌≤◌, Bool, true, false, cond, eqb, List, [], ◌∷◌, ◌++◌, length, map, get_or, All, refl, sym, ap, subst, ◌∙◌, inl, inr, arith, append_assoc, length-append, pow-suc, lt-ltb, ne_eqb, if◌then◌else◌, decimal, digits_onto, digit_glyph, digits_value, Text, Status, Hit, View, Change, is_idle, spliced_hits, after_each, all_after, spaced, part_text, more_parts, parts_text, flat_map, hit_row, change_row, change_rows, changes_rows, status_line, IsHeld, IsHeldPart, IsHeldHit, IsHeldChange, cases_lt, decimal_is_IsNumeral_wide, length-decimal-le, All-cons, All-head, All-tail}
 use Rattle.std.specs.Fmt.{digits}
 
 -- ---- lists
@@ -226,56 +226,97 @@ file_read k j x y held e =
 
 -- ---- changes
 
--- the first row of later files is none of an earlier one
-later_rows : (k j : ℕ) (xs : List Change) (y : Change) (rest : List Text) → j < k → k + length xs ≤ 2 ^ 64 → changes_rows k xs ≡ change_row j y ∷ rest → ⊥
-later_rows k j [] y rest below fits e = none_is_some (change_row j y) rest e
-later_rows k j (x ∷ xs) y rest below fits e = by_idle (later_rows (k + 1) j xs y rest (omega arith) (omega (arith, fits))) (is_idle x) e
+-- the changes that have rows
+abbrev busy : List Change → List Change
+busy [] = []
+busy (x ∷ xs) = if is_idle x then busy xs else x ∷ busy xs
+
+-- their rows, and what they make of a list
+abbrev rows_each : ℕ → List Change → List Text
+rows_each k [] = []
+rows_each k (x ∷ xs) = (change_row k x ∷ map hit_row x.come) ++ rows_each k xs
+
+abbrev spliced_each : List Change → List Hit → List Hit
+spliced_each [] hits = hits
+spliced_each (x ∷ xs) hits = spliced_each xs (spliced_hits x.front x.removed x.added x.come hits)
+
+busy_rows : (k : ℕ) (xs : List Change) → flat_map (change_rows k) xs ≡ rows_each k (busy xs)
+busy_rows k [] = refl
+busy_rows k (x ∷ xs) = by_idle (is_idle x) (busy_rows k xs)
   where
-    by_idle : (changes_rows (k + 1) xs ≡ change_row j y ∷ rest → ⊥) → (idle : Bool) → (if idle then [] else change_row k x ∷ map hit_row x.come) ++ changes_rows (k + 1) xs ≡ change_row j y ∷ rest → ⊥
-    by_idle later true same = later same
-    by_idle later false same =
-        let number : k ≡ j = file_read k j x y (omega (arith, fits)) (first_same (change_row k x) (change_row j y) (map hit_row x.come ++ changes_rows (k + 1) xs) rest same) in
+    by_idle : (idle : Bool) → flat_map (change_rows k) xs ≡ rows_each k (busy xs) → (if idle then [] else change_row k x ∷ map hit_row x.come) ++ flat_map (change_rows k) xs ≡ rows_each k (if idle then busy xs else x ∷ busy xs)
+    by_idle true rest = rest
+    by_idle false rest = ap (λ l. (change_row k x ∷ map hit_row x.come) ++ l) rest
+
+busy_after : (xs : List Change) (hits : List Hit) → after_each xs hits ≡ spliced_each (busy xs) hits
+busy_after [] hits = refl
+busy_after (x ∷ xs) hits = by_idle (is_idle x) (busy_after xs)
+  where
+    by_idle : (idle : Bool) → ((old : List Hit) → after_each xs old ≡ spliced_each (busy xs) old) → after_each xs (if idle then hits else spliced_hits x.front x.removed x.added x.come hits) ≡ spliced_each (if idle then busy xs else x ∷ busy xs) hits
+    by_idle true rest = rest hits
+    by_idle false rest = rest (spliced_hits x.front x.removed x.added x.come hits)
+
+busy_held : (xs : List Change) → All IsHeldChange xs → All IsHeldChange (busy xs)
+busy_held [] held = held
+busy_held (x ∷ xs) held = by_idle (is_idle x) (busy_held xs (All-tail IsHeldChange x xs held))
+  where
+    by_idle : (idle : Bool) → All IsHeldChange (busy xs) → All IsHeldChange (if idle then busy xs else x ∷ busy xs)
+    by_idle true rest = rest
+    by_idle false rest = All-cons IsHeldChange x (busy xs) (All-head IsHeldChange x xs held) rest
+
+-- the first row of later files is none of an earlier one
+later_rows : (k j : ℕ) (files : List (List Change)) (y : Change) (rest : List Text) → j < k → k + length files ≤ 2 ^ 64 → changes_rows k files ≡ change_row j y ∷ rest → ⊥
+later_rows k j [] y rest below fits e = none_is_some (change_row j y) rest e
+later_rows k j (xs ∷ files) y rest below fits e = by_busy (later_rows (k + 1) j files y rest (omega arith) (omega (arith, fits))) (busy xs) (sym (ap (λ l. l ++ changes_rows (k + 1) files) (busy_rows k xs)) ∙ e)
+  where
+    by_busy : (changes_rows (k + 1) files ≡ change_row j y ∷ rest → ⊥) → (bs : List Change) → rows_each k bs ++ changes_rows (k + 1) files ≡ change_row j y ∷ rest → ⊥
+    by_busy later [] same = later same
+    by_busy later (x ∷ bs) same =
+        let number : k ≡ j = file_read k j x y (omega (arith, fits)) (first_same (change_row k x) (change_row j y) ((map hit_row x.come ++ rows_each k bs) ++ changes_rows (k + 1) files) rest same) in
         omega (arith, below, number)
 
--- what a change makes of a list, by whether it is idle
-abbrev after_if : Bool → Change → List Hit → List Hit
-after_if idle change hits = if idle then hits else spliced_hits change.front change.removed change.added change.come hits
-
-abbrev rows_if : Bool → ℕ → Change → List Text
-rows_if idle k change = if idle then [] else change_row k change ∷ map hit_row change.come
-
 -- the rows of one file and of all later ones, read in two ways
-module _ (k : ℕ) (x y : Change) (xs ys : List Change) (hits : List Hit) (long : length xs ≡ length ys) (fits : k + 1 + length xs ≤ 2 ^ 64) (held : IsHeldChange x) where
-  busy_read : change_row k x ∷ map hit_row x.come ++ changes_rows (k + 1) xs ≡ change_row k y ∷ map hit_row y.come ++ changes_rows (k + 1) ys →
-      (after_if false x hits ≡ after_if false y hits) × (changes_rows (k + 1) xs ≡ changes_rows (k + 1) ys)
-  busy_read e =
-      let row = first_same (change_row k x) (change_row k y) (map hit_row x.come ++ changes_rows (k + 1) xs) (map hit_row y.come ++ changes_rows (k + 1) ys) e in
-      let rows = rest_same (change_row k x) (change_row k y) (map hit_row x.come ++ changes_rows (k + 1) xs) (map hit_row y.come ++ changes_rows (k + 1) ys) e in
-      let same = numbers_read k k x y (omega (arith, fits)) held row in
+module _ (k : ℕ) (files others : List (List Change)) (long : length files ≡ length others) (fits : k + 1 + length files ≤ 2 ^ 64) where
+  abbrev rest_a : List Text
+  rest_a = changes_rows (k + 1) files
+
+  abbrev rest_b : List Text
+  rest_b = changes_rows (k + 1) others
+
+  one_file : (xs ys : List Change) (hits : List Hit) → All IsHeldChange xs → rows_each k xs ++ rest_a ≡ rows_each k ys ++ rest_b → (spliced_each xs hits ≡ spliced_each ys hits) × (rest_a ≡ rest_b)
+  one_file [] [] hits held e = (refl, e)
+  one_file [] (y ∷ ys) hits held e = absurd (later_rows (k + 1) k files y ((map hit_row y.come ++ rows_each k ys) ++ rest_b) (omega arith) fits e)
+  one_file (x ∷ xs) [] hits held e = absurd (later_rows (k + 1) k others x ((map hit_row x.come ++ rows_each k xs) ++ rest_a) (omega arith) (omega (arith, fits, long)) (sym e))
+  one_file (x ∷ xs) (y ∷ ys) hits held e =
+      let held_x = All-head IsHeldChange x xs held in
+      let left = (map hit_row x.come ++ rows_each k xs) ++ rest_a in
+      let right = (map hit_row y.come ++ rows_each k ys) ++ rest_b in
+      let row = first_same (change_row k x) (change_row k y) left right e in
+      let rows = sym (append_assoc (map hit_row x.come) (rows_each k xs) rest_a) ∙ rest_same (change_row k x) (change_row k y) left right e ∙ append_assoc (map hit_row y.come) (rows_each k ys) rest_b in
+      let same = numbers_read k k x y (omega (arith, fits)) held_x row in
       let front : x.front ≡ y.front = ap (λ (l : List ℕ). get_or l 1 0) same in
       let removed : x.removed ≡ y.removed = ap (λ (l : List ℕ). get_or l 2 0) same in
       let added : x.added ≡ y.added = ap (λ (l : List ℕ). get_or l 3 0) same in
       let count : length x.come ≡ length y.come = ap (λ (l : List ℕ). get_or l 4 0) same in
-      let both = hits_read x.come y.come (changes_rows (k + 1) xs) (changes_rows (k + 1) ys) count held.hits rows in
-      ((λ i. spliced_hits (front i) (removed i) (added i) (both.0 i) hits), both.1)
+      let both = hits_read x.come y.come (rows_each k xs ++ rest_a) (rows_each k ys ++ rest_b) count held_x.hits rows in
+      let more = one_file xs ys (spliced_hits x.front x.removed x.added x.come hits) (All-tail IsHeldChange x xs held) both.1 in
+      (more.0 ∙ ap (spliced_each ys) (λ i. spliced_hits (front i) (removed i) (added i) (both.0 i) hits), more.1)
 
-  one_file : (a b : Bool) → rows_if a k x ++ changes_rows (k + 1) xs ≡ rows_if b k y ++ changes_rows (k + 1) ys →
-      (after_if a x hits ≡ after_if b y hits) × (changes_rows (k + 1) xs ≡ changes_rows (k + 1) ys)
-  one_file true true e = (refl, e)
-  one_file true false e = absurd (later_rows (k + 1) k xs y (map hit_row y.come ++ changes_rows (k + 1) ys) (omega arith) fits e)
-  one_file false true e = absurd (later_rows (k + 1) k ys x (map hit_row x.come ++ changes_rows (k + 1) xs) (omega arith) (omega (arith, fits, long)) (sym e))
-  one_file false false e = busy_read e
+abbrev pub AreHeldChanges : List Change → Type 0
+AreHeldChanges own = All IsHeldChange own
 
-all_read : (k : ℕ) (a b : List Change) (view : View) → length a ≡ length b → k + length a ≤ 2 ^ 64 → All IsHeldChange a → changes_rows k a ≡ changes_rows k b → all_after a view ≡ all_after b view
+all_read : (k : ℕ) (a b : List (List Change)) (view : View) → length a ≡ length b → k + length a ≤ 2 ^ 64 → All AreHeldChanges a → changes_rows k a ≡ changes_rows k b → all_after a view ≡ all_after b view
 all_read k [] [] view l fits held e = refl
 all_read k [] (y ∷ ys) view l fits held e = absurd (omega (arith, l))
 all_read k (x ∷ xs) [] view l fits held e = absurd (omega (arith, l))
 all_read k (x ∷ xs) (y ∷ ys) [] l fits held e = refl
 all_read k (x ∷ xs) (y ∷ ys) (hits ∷ view) l fits held e =
-    let here = one_file k x y xs ys hits (omega (arith, l)) (omega (arith, fits)) (All-head IsHeldChange x xs held) (is_idle x) (is_idle y) e in
-    let more = all_read (k + 1) xs ys view (omega (arith, l)) (omega (arith, fits)) (All-tail IsHeldChange x xs held) here.1 in
-    λ i. here.0 i ∷ more i
+    let rows : rows_each k (busy x) ++ changes_rows (k + 1) xs ≡ rows_each k (busy y) ++ changes_rows (k + 1) ys = ap (λ l. l ++ changes_rows (k + 1) xs) (sym (busy_rows k x)) ∙ e ∙ ap (λ l. l ++ changes_rows (k + 1) ys) (busy_rows k y) in
+    let here = one_file k xs ys (omega (arith, l)) (omega (arith, fits)) (busy x) (busy y) hits (busy_held x (All-head AreHeldChanges x xs held)) rows in
+    let same : after_each x hits ≡ after_each y hits = busy_after x hits ∙ here.0 ∙ sym (busy_after y hits) in
+    let more = all_read (k + 1) xs ys view (omega (arith, l)) (omega (arith, fits)) (All-tail AreHeldChanges x xs held) here.1 in
+    λ i. same i ∷ more i
 
 -- changes whose numbers can be held, and others with the same rows and status, make the same lists
-pub one_reading : (a b : List Change) (s t : Status) (view : View) → length a ≡ length b → IsHeld (length a) → All IsHeldChange a → changes_rows 0 a ++ status_line s ∷ [] ≡ changes_rows 0 b ++ status_line t ∷ [] → all_after a view ≡ all_after b view
+pub one_reading : (a b : List (List Change)) (s t : Status) (view : View) → length a ≡ length b → IsHeld (length a) → All AreHeldChanges a → changes_rows 0 a ++ status_line s ∷ [] ≡ changes_rows 0 b ++ status_line t ∷ [] → all_after a view ≡ all_after b view
 one_reading a b s t view l fits held e = all_read 0 a b view l (omega (arith, fits)) held (last_cut (changes_rows 0 a) (changes_rows 0 b) (status_line s) (status_line t) e)

@@ -1,5 +1,5 @@
 -- Rows of a reply, none of which passes a test.
-use Rattle.grep_cmd.proofs.Prelude.{◌≡◌, ℕ, ◌+◌, true, false, Bool, ◌||◌, List, [], ◌∷◌, ◌++◌, map, refl, ap, ◌∙◌, if◌then◌else◌, list_any, Text, Hit, Change, is_idle, hit_row, change_row, change_rows, changes_rows, list_any-append}
+use Rattle.grep_cmd.proofs.Prelude.{◌≡◌, ℕ, ◌+◌, true, false, Bool, ◌||◌, List, [], ◌∷◌, ◌++◌, map, refl, ap, ◌∙◌, if◌then◌else◌, flat_map, list_any, Text, Hit, Change, is_idle, hit_row, change_row, change_rows, changes_rows, list_any-append}
 
 module _ (test : Text → Bool) where
   -- no row that is made of a value
@@ -19,7 +19,11 @@ module _ (test : Text → Bool) where
         by_idle true = refl
         by_idle false = ap (λ b. b || list_any test (map hit_row change.come)) (of_changes k change) ∙ none_mapped hit_row change.come of_hits
 
+    none_file : (k : ℕ) (changes : List Change) → list_any test (flat_map (change_rows k) changes) ≡ false
+    none_file k [] = refl
+    none_file k (change ∷ changes) = none_joined (change_rows k change) (flat_map (change_rows k) changes) (none_change k change) (none_file k changes)
+
     -- the rows of what changed
-    pub none_changes : (k : ℕ) (changes : List Change) → list_any test (changes_rows k changes) ≡ false
+    pub none_changes : (k : ℕ) (changes : List (List Change)) → list_any test (changes_rows k changes) ≡ false
     none_changes k [] = refl
-    none_changes k (change ∷ changes) = none_joined (change_rows k change) (changes_rows (k + 1) changes) (none_change k change) (none_changes (k + 1) changes)
+    none_changes k (own ∷ changes) = none_joined (flat_map (change_rows k) own) (changes_rows (k + 1) changes) (none_file k own) (none_changes (k + 1) changes)

@@ -3,16 +3,19 @@ use Rattle.std.specs.Prelude.{List}
 use Rattle.re_syntax.specs.Bytes.{Text}
 use Rattle.re_syntax.specs.Lines.{joined}
 use Rattle.grep_session.specs.Edits.{Edit, AddFile, AddMissing, DropFile, Splice, AddPatterns}
-use Rattle.grep_session.specs.Edits.{DropPattern, SetFlag, SetSyntax, SetContext}
+use Rattle.grep_session.specs.Edits.{DropPattern, ChangePattern, SetFlag, SetSyntax, SetContext}
 use Rattle.grep_cmd.specs.declared.script.command.LineEdit.{LineEdit}
 use Rattle.grep_cmd.specs.declared.script.command.LineEdit.TheVariants as line_edit
 use Rattle.grep_cmd.specs.declared.script.command.FileEdit.{FileEdit}
 use Rattle.grep_cmd.specs.declared.script.command.FileEdit.TheVariants as file_edit
+use Rattle.grep_cmd.specs.declared.script.command.PatternEdit.{PatternEdit}
+use Rattle.grep_cmd.specs.declared.script.command.PatternEdit.TheVariants as pattern_edit
 use Rattle.grep_cmd.specs.declared.script.command.CountedEdit.{CountedEdit}
 use Rattle.grep_cmd.specs.declared.script.command.CountedEdit.TheVariants as counted
 use Rattle.grep_cmd.specs.declared.script.command.Command as declared
 use Rattle.grep_cmd.specs.declared.script.command.Command.TheVariants as command
 use Rattle.grep_cmd.specs.Script.{Command, edits, counts, shows, lists_changes, lists_page}
+use Rattle.grep_cmd.specs.Script.{asks_version}
 
 abbrev pub line_meant : LineEdit → Edit
 line_meant (line_edit.AddMissing name) = AddMissing name.items
@@ -26,9 +29,13 @@ abbrev pub file_meant : FileEdit → List Text → Edit
 file_meant (file_edit.Add name) lines = AddFile name.items lines
 file_meant (file_edit.Splice file start removed) lines = Splice file start removed lines
 
+abbrev pub pattern_meant : PatternEdit → Text → Edit
+pattern_meant pattern_edit.Add list = AddPatterns list
+pattern_meant (pattern_edit.Change pattern) list = ChangePattern pattern list
+
 abbrev pub counted_meant : CountedEdit → List Text → Edit
 counted_meant (counted.PutLines edit) lines = file_meant edit lines
-counted_meant counted.AddPatterns lines = AddPatterns (joined lines)
+counted_meant (counted.PutPatterns edit) lines = pattern_meant edit (joined lines)
 
 abbrev pub meant : declared.Command → Command
 meant (command.Edit edit) = edits (line_meant edit)
@@ -36,3 +43,4 @@ meant (command.Counted counts_lines) = counts counts_lines.count (counted_meant 
 meant command.Show = shows
 meant command.Changes = lists_changes
 meant (command.Page first count) = lists_page first count
+meant command.Version = asks_version

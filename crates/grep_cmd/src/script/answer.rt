@@ -5,7 +5,7 @@ ghost use Rattle.re_syntax.specs.Lines.{joined};
 ghost use Rattle.grep_core.specs.Reading.{IsOneLineAndFew};
 ghost use Rattle.grep_core.specs.Working.Numbered.{HasHanded};
 ghost use Rattle.grep_session.specs.declared.fault.EditFault.TheVariants.{Memory};
-ghost use Rattle.grep_session.specs.Edits.{EditGives, AddPatterns};
+ghost use Rattle.grep_session.specs.Edits.{EditGives};
 ghost use Rattle.grep_session.specs.Touched.{NeedsNoMemory, TakesSteps};
 ghost use Rattle.grep_cmd.specs.Script.{line_command, counts};
 ghost use Rattle.grep_cmd.specs.declared.script.command.CountedEdit.{CountedEdit};
@@ -13,19 +13,19 @@ ghost use Rattle.grep_cmd.specs.declared.script.reply.Answer.{Answer};
 ghost use Rattle.grep_cmd.specs.Show.{AreShown};
 ghost use Rattle.grep_cmd.specs.Lists.{ReportsChanges, ReportsPage};
 ghost use Rattle.grep_session.specs.Marks.{MarksGiven, Watched};
-ghost use Rattle.grep_cmd.specs.Replies.{reply_to};
+ghost use Rattle.grep_cmd.specs.Replies.{reply_to, version_line};
 ghost use Rattle.grep_cmd.specs.Working.Answered.{AnswersLine, Replied, answer_for};
-ghost use Rattle.grep_cmd.specs.Working.Commands.{line_meant, counted_meant};
+ghost use Rattle.grep_cmd.specs.Working.Commands.{line_meant, pattern_meant, counted_meant};
 
 use crate::reports::{show, show_changes, show_page};
-use crate::script::ScriptFault;
 use crate::script::command::{
-    Command, CountedCommand, CountedEdit, FileEdit, LineEdit, read_command,
+    Command, CountedCommand, CountedEdit, FileEdit, LineEdit, PatternEdit, read_command,
 };
 use crate::script::counted::take_lines;
 use crate::script::pattern_lines::{join_lines, take_texts};
 use crate::script::reply::{Answer, write_reply};
-use grep_core::{CountedRead, CountedWrite, Lines, WriteFault, write_line};
+use crate::script::{ScriptFault, VERSION};
+use grep_core::{CountedRead, CountedWrite, Lines, WriteFault, write_line, write_line_after};
 use grep_session::{EditFault, Meter, Session};
 use std::alloc::{AllocError, Global};
 
@@ -51,32 +51,56 @@ fn make_edit(session: &mut Session, edit: LineEdit, meter: &mut Meter) -> Result
     }
 }
 
-/// Adds the patterns that the lines are. They are joined first; the allocation for that may fail.
-fn add_patterns(
+/// Makes an edit of patterns by a list.
+fn put_list(
+    session: &mut Session,
+    edit: PatternEdit,
+    list: Vec<u8>,
+    meter: &mut Meter,
+) -> Result<(), EditFault>
+    ensures gives { EditGives (pattern_meant edit list.items) session.old.inputs session.new.inputs
+        result }
+    ensures same_states { session.new.states ≡ session.old.states }
+    ensures marks { MarksGiven (pattern_meant edit list.items) session.old session.new.marks
+        result }
+    ensures steps { TakesSteps (pattern_meant edit list.items) session.old.inputs meter.old
+        meter.new }
+    ensures memory { NeedsNoMemory (pattern_meant edit list.items) session.old.inputs →
+        IfErr result (λ fault. fault ≢ Memory) }
+{
+    match edit {
+        PatternEdit::Add => session.add_patterns(&list, meter),
+        PatternEdit::Change(pattern) => session.change_pattern(pattern, list, meter),
+    }
+}
+
+/// Makes an edit of patterns by the lines. They are joined first; the allocation for that may fail.
+fn put_patterns(
     alloc: Global,
     session: &mut Session,
+    edit: PatternEdit,
     lines: Vec<Vec<u8>>,
     meter: &mut Meter,
 ) -> Result<Result<(), EditFault>, AllocError>
     ensures gives { IfOk result
         (λ answer.
-        EditGives (AddPatterns (joined (map (λ l. l.items) lines.items))) session.old.inputs
+        EditGives (pattern_meant edit (joined (map (λ l. l.items) lines.items))) session.old.inputs
         session.new.inputs answer) }
     ensures same_states { IfOk result (λ _. session.new.states ≡ session.old.states) }
     ensures marks { IfOk result
         (λ answer.
-        MarksGiven (AddPatterns (joined (map (λ l. l.items) lines.items))) session.old
+        MarksGiven (pattern_meant edit (joined (map (λ l. l.items) lines.items))) session.old
         session.new.marks answer) }
     ensures steps { IfOk result
-        (λ _. TakesSteps (AddPatterns (joined (map (λ l. l.items) lines.items))) session.old.inputs
-        meter.old meter.new) }
+        (λ _. TakesSteps (pattern_meant edit (joined (map (λ l. l.items) lines.items)))
+        session.old.inputs meter.old meter.new) }
     ensures idle { IfErr result (λ _. meter.new ≡ meter.old) }
     ensures memory { IfOk result
-        (λ answer. NeedsNoMemory (AddPatterns (joined (map (λ l. l.items) lines.items))) session.old.inputs →
-        IfErr answer (λ fault. fault ≢ Memory)) }
+        (λ answer. NeedsNoMemory (pattern_meant edit (joined (map (λ l. l.items) lines.items)))
+        session.old.inputs → IfErr answer (λ fault. fault ≢ Memory)) }
 {
     let list = join_lines(alloc, &lines)?;
-    Ok(session.add_patterns(&list, meter))
+    Ok(put_list(session, edit, list, meter))
 }
 
 /// Writes the reply to an edit that was answered so.
@@ -149,18 +173,30 @@ fn reply_to_page<W: CountedWrite>(
     }
 }
 
-/// Takes the lines that a command counts, adds the patterns that they are, and writes the reply.
+/// Writes the version.
+fn reply_to_version<W: CountedWrite>(out: &mut W) -> Result<Answer, ScriptFault>
+    ensures { Replied W.contents W.failures out.old out.new (version_line ∷ [])
+        Answer.Accepted result }
+{
+    match write_line_after(out, b"occur ", VERSION.as_bytes()) {
+        Ok(()) => Ok(Answer::Accepted),
+        Err(WriteFault) => Err(ScriptFault::Write),
+    }
+}
+
+/// Takes the lines that a command counts, edits patterns by them, and writes the reply.
 fn answer_patterns<R: CountedRead, W: CountedWrite>(
     alloc: Global,
     lines: &mut Lines<R>,
     count: usize,
+    edit: PatternEdit,
     session: &mut Session,
     meter: &mut Meter,
     out: &mut W,
 ) -> Result<Answer, ScriptFault>
     ensures answers { (reader : R) (handed : List Text) (line : Text) →
         HasHanded R.remaining R.failures reader lines.old handed
-        → line_command line ≡ Some (counts count (counted_meant CountedEdit.AddPatterns))
+        → line_command line ≡ Some (counts count (counted_meant (CountedEdit.PutPatterns edit)))
         → AnswersLine R.remaining R.failures reader handed line lines.new meter.old meter.new session.old session.new
         W.contents W.failures out.old out.new result }
     ensures held { IsOneLineAndFew lines.old.lines.ahead → IsOneLineAndFew lines.new.lines.ahead }
@@ -171,7 +207,7 @@ fn answer_patterns<R: CountedRead, W: CountedWrite>(
         Ok(None) => return reply_with(b"refused Truncated", Answer::Truncated, out),
         Err(fault) => return Err(fault),
     };
-    match add_patterns(alloc, session, taken, meter) {
+    match put_patterns(alloc, session, edit, taken, meter) {
         Ok(answer) => reply_to_edit(answer, out),
         Err(_) => Err(ScriptFault::Memory),
     }
@@ -199,8 +235,8 @@ fn answer_counted<R: CountedRead, W: CountedWrite>(
     let CountedCommand { count, edit } = counted;
     let edit = match edit {
         CountedEdit::PutLines(edit) => edit,
-        CountedEdit::AddPatterns => {
-            return answer_patterns(alloc, lines, count, session, meter, out);
+        CountedEdit::PutPatterns(edit) => {
+            return answer_patterns(alloc, lines, count, edit, session, meter, out);
         }
     };
     let taken = match take_lines(alloc, lines, count, out) {
@@ -243,6 +279,7 @@ pub fn answer_command<R: CountedRead, W: CountedWrite>(
         Ok(Some(Command::Show)) => reply_to_show(session, out),
         Ok(Some(Command::Changes)) => reply_to_changes(session, out),
         Ok(Some(Command::Page(first, count))) => reply_to_page(session, first, count, out),
+        Ok(Some(Command::Version)) => reply_to_version(out),
         Ok(None) => reply_with(b"refused BadCommand", Answer::Refused, out),
         Err(_) => Err(ScriptFault::Memory),
     }

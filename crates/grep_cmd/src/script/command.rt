@@ -3,11 +3,11 @@ ghost use Rattle.std.specs.Prelude.{◌≡◌, [], Some, IfOk, IfErr, option_map
 ghost use Rattle.grep_utility.specs.Words.{number_of};
 ghost use Rattle.grep_cmd.specs.Script.{name_of, flag_of, switch_of, syntax_of, file_command};
 ghost use Rattle.grep_cmd.specs.Script.{missing_command, close_command, splice_command};
-ghost use Rattle.grep_cmd.specs.Script.{patterns_command, drop_command, flag_command};
-ghost use Rattle.grep_cmd.specs.Script.{syntax_command, no_context, context_from};
+ghost use Rattle.grep_cmd.specs.Script.{patterns_command, pattern_command, drop_command};
+ghost use Rattle.grep_cmd.specs.Script.{flag_command, syntax_command, no_context, context_from};
 ghost use Rattle.grep_cmd.specs.Script.{context_command, show_command, unnamed_command};
 ghost use Rattle.grep_cmd.specs.Script.{line_command, changes_command, page_command};
-ghost use Rattle.grep_cmd.specs.Script.{listing_command, AsksForMemory};
+ghost use Rattle.grep_cmd.specs.Script.{version_command, asking_command, AsksForMemory};
 ghost use Rattle.grep_cmd.specs.Working.Commands.{meant};
 
 use crate::script::line_words::{LineWords, words_of};
@@ -46,13 +46,22 @@ pub enum FileEdit {
     },
 }
 
+/// An edit of patterns by lines of the script.
+#[derive(Drop)]
+pub enum PatternEdit {
+    /// The lines are new patterns.
+    Add,
+    /// The line takes the place of the pattern of this number.
+    Change(usize),
+}
+
 /// An edit that takes lines of the script.
 #[derive(Drop)]
 pub enum CountedEdit {
     /// The lines are put into a file.
     PutLines(FileEdit),
     /// The lines are patterns.
-    AddPatterns,
+    PutPatterns(PatternEdit),
 }
 
 /// An edit with the number of the next lines that it takes.
@@ -73,6 +82,8 @@ pub enum Command {
     Changes,
     /// A page: the number of its first hit, and of its hits.
     Page(usize, usize),
+    /// The version.
+    Version,
 }
 
 /// The name that the word is.
@@ -194,7 +205,7 @@ fn read_patterns(words: LineWords<'_>) -> Option<Command>
     if count == 0 {
         return None;
     }
-    let edit = CountedEdit::AddPatterns;
+    let edit = CountedEdit::PutPatterns(PatternEdit::Add);
     Some(Command::Counted(CountedCommand { count, edit }))
 }
 
@@ -204,6 +215,15 @@ fn read_drop(words: LineWords<'_>) -> Option<Command>
 {
     let pattern = read_number(words.only()?)?;
     Some(Command::Edit(LineEdit::DropPattern(pattern)))
+}
+
+/// `pattern P`, which counts one line
+fn read_pattern(words: LineWords<'_>) -> Option<Command>
+    ensures { option_map meant result ≡ pattern_command words.entry }
+{
+    let pattern = read_number(words.only()?)?;
+    let edit = CountedEdit::PutPatterns(PatternEdit::Change(pattern));
+    Some(Command::Counted(CountedCommand { count: 1, edit }))
 }
 
 /// `flag LETTER on` or `off`
@@ -291,15 +311,32 @@ fn read_page(words: LineWords<'_>) -> Option<Command>
     Some(Command::Page(first, count))
 }
 
-/// The command of this word and those that follow it, where it asks what an editor lists.
-fn read_listing(word: &[u8], words: LineWords<'_>) -> Option<Command>
-    ensures { option_map meant result ≡ listing_command word.now words.entry }
+/// `version`
+fn read_version(words: LineWords<'_>) -> Option<Command>
+    ensures { option_map meant result ≡ version_command words.entry }
 {
+    let mut words = words;
+    match words.next() {
+        Some(_) => None,
+        None => Some(Command::Version),
+    }
+}
+
+/// The command of this word and those that follow it, where it is no edit.
+fn read_asking(word: &[u8], words: LineWords<'_>) -> Option<Command>
+    ensures { option_map meant result ≡ asking_command word.now words.entry }
+{
+    if word == b"show".as_slice() {
+        return read_show(words);
+    }
     if word == b"changes".as_slice() {
         return read_changes(words);
     }
     if word == b"page".as_slice() {
         return read_page(words);
+    }
+    if word == b"version".as_slice() {
+        return read_version(words);
     }
     None
 }
@@ -308,9 +345,6 @@ fn read_listing(word: &[u8], words: LineWords<'_>) -> Option<Command>
 fn read_unnamed(word: &[u8], words: LineWords<'_>) -> Option<Command>
     ensures { option_map meant result ≡ unnamed_command word.now words.entry }
 {
-    if word == b"show".as_slice() {
-        return read_show(words);
-    }
     if word == b"splice".as_slice() {
         return read_splice(words);
     }
@@ -323,6 +357,9 @@ fn read_unnamed(word: &[u8], words: LineWords<'_>) -> Option<Command>
     if word == b"drop".as_slice() {
         return read_drop(words);
     }
+    if word == b"pattern".as_slice() {
+        return read_pattern(words);
+    }
     if word == b"flag".as_slice() {
         return read_flag_command(words);
     }
@@ -332,7 +369,7 @@ fn read_unnamed(word: &[u8], words: LineWords<'_>) -> Option<Command>
     if word == b"context".as_slice() {
         return read_context(words);
     }
-    read_listing(word, words)
+    read_asking(word, words)
 }
 
 /// The command of a line, where it is one. The allocation for its name may fail.

@@ -1,10 +1,10 @@
 -- What each edit leaves: marks that fit, and views that follow.
-use Rattle.grep_live.proofs.Prelude.{◌≡◌, ℕ, ◌+◌, ◌-◌, ◌<◌, ◌≤◌, Bool, List, [], ◌∷◌, ◌++◌, length, map, take, drop, Result, Ok, Err, refl, sym, ap, subst, ◌∙◌, inl, inr, arith, drop_all, cases_lt, Option, slice_set, remove, splice, Syntax, Text, list_of, Expression, Flag, Count, IgnoreCase, FilesWithMatches, LineNumber, OnlyMatching, Quiet, NoMessages, InvertMatch, LineRegexp, Context, Options, IfHolds, File, Inputs, AreMeant, Selected, file_at, EditFault, NoSuchFile, FileIsMissing, OutOfRange, LineHasNewline, NoSuchPattern, Pattern, TooManyPatterns, Memory, Edit, AddFile, AddMissing, DropFile, Splice, AddPatterns, DropPattern, SetFlag, SetSyntax, SetContext, Applies, EditGives, Reads, with_option, with_files, with_patterns, with_context, whole_file, missing_file, spliced, ListedParts, Mark, AllThree, Hit, View, HitsFrom, hits_before, hits_from, Watched, new_mark, mark_at, touched, lost, marks_by_flag, MarksAfter, FollowsFile, Follows, view_after, EditsCarry, Fits, AreFit}
+use Rattle.grep_live.proofs.Prelude.{◌≡◌, ℕ, zero, suc, ◌+◌, ◌<◌, ◌≤◌, Bool, List, [], ◌∷◌, ◌++◌, length, map, get_or, Result, Ok, Err, refl, sym, ap, subst, ◌∙◌, inl, inr, arith, cases_lt, Option, slice_set, remove, splice, Syntax, Text, list_of, Expression, Flag, Count, IgnoreCase, FilesWithMatches, LineNumber, OnlyMatching, Quiet, NoMessages, InvertMatch, LineRegexp, Context, IfHolds, File, Inputs, AreMeant, Selected, file_at, EditFault, NoSuchFile, FileIsMissing, OutOfRange, LineHasNewline, NoSuchPattern, Pattern, TooManyPatterns, Memory, Edit, AddFile, AddMissing, DropFile, Splice, AddPatterns, DropPattern, ChangePattern, SetFlag, SetSyntax, SetContext, Applies, EditGives, Reads, with_option, with_files, with_patterns, with_context, whole_file, missing_file, spliced, ListedParts, Marked, Splices, AllThree, AreWithin, Hit, HitOf, View, moved, hits_at, Watched, new_mark, whole_mark, mark_at, lost, marks_by_flag, MarksAfter, FollowsFile, Follows, view_after, EditsCarry, IsFit, AreFit}
 use Rattle.grep_session.proofs.lemmas.AllPatternsRead.{with_same}
-use Rattle.grep_session.proofs.lemmas.FitLemmas.{fit_added, fit_at, fit_dropped, fit_lose, fit_spliced}
+use Rattle.grep_session.proofs.lemmas.FitLemmas.{fit_added, fit_dropped, fit_lose, fit_spliced}
 use Rattle.grep_live.proofs.lemmas.ListLemmas.{three-append, three-remove, three-set, three-map, three-weaker}
-use Rattle.grep_live.proofs.lemmas.HitLemmas.{before_none, hits_from_none}
-use Rattle.grep_live.proofs.lemmas.MarkLemmas.{spliced_front, spliced_back}
+use Rattle.grep_live.proofs.lemmas.HitLemmas.{HitBy, moved_again, one_moved}
+use Rattle.grep_live.proofs.lemmas.MarkLemmas.{kept_line, none_kept}
 
 -- ---- outcomes
 
@@ -24,6 +24,11 @@ accepted_if a b f (inr (p, e)) = absurd (not_refused a f e)
 accepted_unless : {E P Q : Type 0} (a : Inputs) (f : E) → IfHolds P (◌≡◌ {A = Result Inputs E} (Ok a) (Err f)) Q → (P → ⊥) × Q
 accepted_unless a f (inl (p, e)) = absurd (not_refused a f e)
 accepted_unless a f (inr (p, q)) = (p, q)
+
+-- an accepted edit that is refused unless P holds
+accepted_where : {E P Q : Type 0} (a : Inputs) (f : E) → IfHolds P Q (◌≡◌ {A = Result Inputs E} (Ok a) (Err f)) → P × Q
+accepted_where a f (inl both) = both
+accepted_where a f (inr (p, e)) = absurd (not_refused a f e)
 
 accepted_read : (syntax : Syntax) (fold : Bool) (texts : List Text) (a b : Inputs) → Reads syntax fold texts b (Ok a) → a ≡ b
 accepted_read syntax fold texts a b (inl (readable, e)) = same_inputs a b e
@@ -48,6 +53,16 @@ added_patterns list old new a =
 
 pub dropped_pattern : (p : ℕ) (old new : Inputs) → Applies (DropPattern p) old (Ok new) → new ≡ with_patterns (remove old.patterns p) old
 dropped_pattern p old new a = (accepted_if new (with_patterns (remove old.patterns p) old) NoSuchPattern a).1
+
+pub changed_pattern : (p : ℕ) (text : Text) (old new : Inputs) → Applies (ChangePattern p text) old (Ok new) → new ≡ with_patterns (slice_set old.patterns p text) old
+changed_pattern p text old new a =
+    accepted_read old.syntax old.options.ignore_case (text ∷ []) new (with_patterns (slice_set old.patterns p text) old) (accepted_where new NoSuchPattern a).1
+
+-- a pattern that is changed to itself
+changed_to_itself : (patterns : List Text) (p : ℕ) (text : Text) → p < length patterns → text ≡ get_or patterns p [] → slice_set patterns p text ≡ patterns
+changed_to_itself [] p text below same = absurd (omega (arith, below))
+changed_to_itself (t ∷ ts) zero text below same = ap (λ (l : Text). l ∷ ts) same
+changed_to_itself (t ∷ ts) (suc p) text below same = ap (λ (ls : List Text). t ∷ ls) (changed_to_itself ts p text (omega (arith, below)) same)
 
 pub option_set : (flag : Flag) (on : Bool) (old new : Inputs) → Applies (SetFlag flag on) old (Ok new) → new ≡ record old { options = with_option flag on old.options }
 option_set flag on old new a =
@@ -78,43 +93,43 @@ splice_accepted k start count lines old new a =
 
 -- ---- one file
 
--- no line after the last has a hit
-nothing_after : (es : List Expression) (options : Options) (first : ℕ) (lines : List Text) (hits : List Hit) → length lines ≤ first → hits ≡ [] → HitsFrom es options first (drop first lines) hits
-nothing_after es options first lines hits l e = subst (λ (t : List Text). HitsFrom es options first t hits) (sym (drop_all first lines l)) e
-
 -- a list that has only to be in order
-lost_file : (i j : Inputs) (file : File) (mark : Mark) (hits : List Hit) → FollowsFile i file mark hits → FollowsFile j file (lost mark) hits
-lost_file i j file mark hits f = record {
+lost_file : (i j : Inputs) (file : File) (mark : Marked) (hits : List Hit) → IsFit file mark → FollowsFile i file mark hits → FollowsFile j file (lost mark) hits
+lost_file i j file mark hits fit f = record {
   in_order = f.in_order;
-  in_front = (λ es meant. before_none 0 0 mark.known hits f.in_order (omega arith));
-  in_back = (λ es meant. nothing_after es j.options (length file.lines - 0) file.lines (hits_from (mark.known - 0) (length file.lines - 0) hits) (omega arith) (hits_from_none 0 (mark.known - 0) mark.known (length file.lines - 0) hits f.in_order (omega arith)));
+  untouched = (λ es meant old new keeps inside. absurd (none_kept mark.known mark.lines old new keeps (omega (arith, inside, fit.0))));
 }
 
 -- the list of a file that was not reported
-new_file : (i : Inputs) (file : File) → FollowsFile i file new_mark []
+new_file : (i : Inputs) (file : File) → FollowsFile i file (new_mark (length file.lines)) []
 new_file i file = record {
   in_order = tt;
-  in_front = (λ es meant. refl);
-  in_back = (λ es meant. nothing_after es i.options (length file.lines - 0) file.lines [] (omega arith) refl);
+  untouched = (λ es meant old new keeps inside. absurd (none_kept 0 (length file.lines) old new keeps inside));
 }
 
 -- the list of a file in which lines were replaced
-spliced_file : (i : Inputs) (file : File) (mark : Mark) (hits : List Hit) (come : List Text) (start count : ℕ) → start + count ≤ length file.lines → Fits (length file.lines) mark → FollowsFile i file mark hits →
-    FollowsFile i (record file { lines = splice file.lines start (start + count) come }) (touched start (length file.lines - (start + count)) mark) hits
-spliced_file i file mark hits come start count within fits f = record {
-  in_order = f.in_order;
-  in_front = (λ es meant. spliced_front (Selected es i.options) (ListedParts es i.options) file.lines come start count mark hits within (f.in_front es meant));
-  in_back = (λ es meant. spliced_back (Selected es i.options) (ListedParts es i.options) file.lines come start count mark hits within fits (f.in_back es meant));
+spliced_file : (i : Inputs) (file : File) (mark new : Marked) (hits : List Hit) (come : List Text) (start count : ℕ) → start + count ≤ length file.lines → Splices start count (length come) mark new → FollowsFile i file mark hits →
+    FollowsFile i (record file { lines = splice file.lines start (start + count) come }) new hits
+spliced_file i file mark new hits come start count within s f = record {
+  in_order = subst (λ (n : ℕ). AreWithin 0 n hits) (sym s.known) f.in_order;
+  untouched = (λ es meant old now keeps inside.
+      let was = s.only old now keeps in
+      let line = kept_line file.lines come start count was.0 now within was.2 inside in
+      let S = Selected es i.options in
+      let P = ListedParts es i.options in
+      let text = get_or (splice file.lines start (start + count) come) now [] in
+      let there : HitBy S P (was.0, text) (map (moved old was.0) (hits_at old hits)) =
+      subst (λ (t : Text). HitBy S P (was.0, t) (map (moved old was.0) (hits_at old hits))) (sym line.1) (f.untouched es meant old was.0 was.1 line.0) in
+      subst (HitBy S P (now, text)) (moved_again old was.0 now (hits_at old hits)) (one_moved S P was.0 was.0 now now text (map (moved old was.0) (hits_at old hits)) (omega arith) there));
 }
 
 -- the same under inputs for which the patterns mean the same and lines have the same hits
 same_file : (i j : Inputs) → ((es : List Expression) → AreMeant j.syntax j.options j.patterns es → AreMeant i.syntax i.options i.patterns es) →
-    ((es : List Expression) (n : ℕ) (lines : List Text) (hits : List Hit) → HitsFrom es i.options n lines hits → HitsFrom es j.options n lines hits) →
-    (file : File) (mark : Mark) (hits : List Hit) → FollowsFile i file mark hits → FollowsFile j file mark hits
+    ((es : List Expression) (line : ℕ × Text) (hits : List Hit) → HitOf es i.options line hits → HitOf es j.options line hits) →
+    (file : File) (mark : Marked) (hits : List Hit) → FollowsFile i file mark hits → FollowsFile j file mark hits
 same_file i j back same file mark hits f = record {
   in_order = f.in_order;
-  in_front = (λ es meant. same es 0 (take mark.front file.lines) (hits_before mark.front hits) (f.in_front es (back es meant)));
-  in_back = (λ es meant. let first = length file.lines - mark.back in same es first (drop first file.lines) (hits_from (mark.known - mark.back) first hits) (f.in_back es (back es meant)));
+  untouched = (λ es meant old new keeps inside. same es (new, get_or file.lines new []) (map (moved old new) (hits_at old hits)) (f.untouched es (back es meant) old new keeps inside));
 }
 
 -- ---- all files
@@ -126,51 +141,48 @@ IsLeft old new change = AreFit new.inputs.files new.marks × ((view : View) → 
 module _ (old : Watched) (fit : AreFit old.inputs.files old.marks) where
   -- views under other inputs with the same files
   same_views : (inputs : Inputs) → ((es : List Expression) → AreMeant inputs.syntax inputs.options inputs.patterns es → AreMeant old.inputs.syntax old.inputs.options old.inputs.patterns es) →
-      ((es : List Expression) (n : ℕ) (lines : List Text) (hits : List Hit) → HitsFrom es old.inputs.options n lines hits → HitsFrom es inputs.options n lines hits) →
+      ((es : List Expression) (line : ℕ × Text) (hits : List Hit) → HitOf es old.inputs.options line hits → HitOf es inputs.options line hits) →
       (view : View) → Follows old view → AllThree (FollowsFile inputs) old.inputs.files old.marks view
   same_views inputs back same view h = three-weaker (FollowsFile old.inputs) (FollowsFile inputs) (same_file old.inputs inputs back same) old.inputs.files old.marks view h
 
-  left_added : (file : File) → IsLeft old (record { inputs = with_files (old.inputs.files ++ file ∷ []) old.inputs; marks = old.marks ++ new_mark ∷ []; states = old.states }) (λ view. view ++ [] ∷ [])
+  left_added : (file : File) → IsLeft old (record { inputs = with_files (old.inputs.files ++ file ∷ []) old.inputs; marks = old.marks ++ new_mark (length file.lines) ∷ []; states = old.states }) (λ view. view ++ [] ∷ [])
   left_added file =
       let inputs = with_files (old.inputs.files ++ file ∷ []) old.inputs in (
         fit_added old.inputs.files old.marks fit file,
-        (λ view h. three-append (FollowsFile inputs) old.inputs.files old.marks view file new_mark [] (same_views inputs (λ es m. m) (λ es n l hits x. x) view h) (new_file inputs file)),
+        (λ view h. three-append (FollowsFile inputs) old.inputs.files old.marks view file (new_mark (length file.lines)) [] (same_views inputs (λ es m. m) (λ es line hits x. x) view h) (new_file inputs file)),
       )
 
   left_dropped : (k : ℕ) → IsLeft old (record { inputs = with_files (remove old.inputs.files k) old.inputs; marks = remove old.marks k; states = old.states }) (λ view. remove view k)
   left_dropped k =
       let inputs = with_files (remove old.inputs.files k) old.inputs in (
         fit_dropped old.inputs.files old.marks fit k,
-        (λ view h. three-remove (FollowsFile inputs) old.inputs.files old.marks view k (same_views inputs (λ es m. m) (λ es n l hits x. x) view h)),
+        (λ view h. three-remove (FollowsFile inputs) old.inputs.files old.marks view k (same_views inputs (λ es m. m) (λ es line hits x. x) view h)),
       )
 
-  left_spliced : (k start count : ℕ) (come : List Text) → k < length old.inputs.files → start + count ≤ length (file_at old.inputs.files k).lines →
-      IsLeft old (record { inputs = with_files (spliced old.inputs.files k start count come) old.inputs; marks = slice_set old.marks k (touched start (length (file_at old.inputs.files k).lines - (start + count)) (mark_at old.marks k)); states = old.states }) (λ view. view)
-  left_spliced k start count come inside within =
+  left_spliced : (k start count : ℕ) (come : List Text) (mark : Marked) → k < length old.inputs.files → start + count ≤ length (file_at old.inputs.files k).lines → Splices start count (length come) (mark_at old.marks k) mark →
+      IsLeft old (record { inputs = with_files (spliced old.inputs.files k start count come) old.inputs; marks = slice_set old.marks k mark; states = old.states }) (λ view. view)
+  left_spliced k start count come mark inside within s =
       let inputs = with_files (spliced old.inputs.files k start count come) old.inputs in
       let file = file_at old.inputs.files k in
       let none = file_at [] k in
-      let mark = mark_at old.marks k in
-      let new_file = record file { lines = splice file.lines start (start + count) come } in
-      let new_mark_there = touched start (length file.lines - (start + count)) mark in
-      let fits : Fits (length file.lines) mark = fit_at old.inputs.files old.marks fit k inside in (
-        fit_spliced old.inputs.files old.marks fit k start count come inside within,
-        (λ view h. three-set (FollowsFile inputs) old.inputs.files old.marks view k new_file none new_mark_there new_mark (λ hits f. spliced_file inputs file mark hits come start count within fits f) (same_views inputs (λ es m. m) (λ es n l hits x. x) view h)),
+      let new_file = record file { lines = splice file.lines start (start + count) come } in (
+        fit_spliced old.inputs.files old.marks fit k start count come inside within mark s,
+        (λ view h. three-set (FollowsFile inputs) old.inputs.files old.marks view k new_file none mark (whole_mark 0) (λ hits f. spliced_file inputs file (mark_at old.marks k) mark hits come start count within s f) (same_views inputs (λ es m. m) (λ es line hits x. x) view h)),
       )
 
   left_lost : (inputs : Inputs) → inputs.files ≡ old.inputs.files → IsLeft old (record { inputs = inputs; marks = map lost old.marks; states = old.states }) (λ view. view)
   left_lost inputs same = (
     fit_lose old.inputs.files inputs.files old.marks (map lost old.marks) same refl fit,
-    (λ view h. subst (λ files. AllThree (FollowsFile inputs) files (map lost old.marks) view) (sym same) (three-map (FollowsFile old.inputs) (FollowsFile inputs) lost (lost_file old.inputs inputs) old.inputs.files old.marks view h)),
+    (λ view h. subst (λ files. AllThree (FollowsFile inputs) files (map lost old.marks) view) (sym same) (three-map (FollowsFile old.inputs) (FollowsFile inputs) IsFit lost (lost_file old.inputs inputs) old.inputs.files old.marks view fit h)),
   )
 
   -- an option by which no list changes
   left_option : (flag : Flag) (on : Bool) → IsLeft old (record { inputs = record old.inputs { options = with_option flag on old.inputs.options }; marks = marks_by_flag flag old.marks; states = old.states }) (λ view. view)
-  left_option Count on = (fit, same_views (record old.inputs { options = with_option Count on old.inputs.options }) (λ es m. m) (λ es n l hits x. x))
-  left_option FilesWithMatches on = (fit, same_views (record old.inputs { options = with_option FilesWithMatches on old.inputs.options }) (λ es m. m) (λ es n l hits x. x))
-  left_option LineNumber on = (fit, same_views (record old.inputs { options = with_option LineNumber on old.inputs.options }) (λ es m. m) (λ es n l hits x. x))
-  left_option Quiet on = (fit, same_views (record old.inputs { options = with_option Quiet on old.inputs.options }) (λ es m. m) (λ es n l hits x. x))
-  left_option NoMessages on = (fit, same_views (record old.inputs { options = with_option NoMessages on old.inputs.options }) (λ es m. m) (λ es n l hits x. x))
+  left_option Count on = (fit, same_views (record old.inputs { options = with_option Count on old.inputs.options }) (λ es m. m) (λ es line hits x. x))
+  left_option FilesWithMatches on = (fit, same_views (record old.inputs { options = with_option FilesWithMatches on old.inputs.options }) (λ es m. m) (λ es line hits x. x))
+  left_option LineNumber on = (fit, same_views (record old.inputs { options = with_option LineNumber on old.inputs.options }) (λ es m. m) (λ es line hits x. x))
+  left_option Quiet on = (fit, same_views (record old.inputs { options = with_option Quiet on old.inputs.options }) (λ es m. m) (λ es line hits x. x))
+  left_option NoMessages on = (fit, same_views (record old.inputs { options = with_option NoMessages on old.inputs.options }) (λ es m. m) (λ es line hits x. x))
   left_option IgnoreCase on = left_lost (record old.inputs { options = with_option IgnoreCase on old.inputs.options }) refl
   left_option OnlyMatching on = left_lost (record old.inputs { options = with_option OnlyMatching on old.inputs.options }) refl
   left_option InvertMatch on = left_lost (record old.inputs { options = with_option InvertMatch on old.inputs.options }) refl
@@ -180,18 +192,18 @@ module _ (old : Watched) (fit : AreFit old.inputs.files old.marks) where
   left_same : IsLeft old old (λ view. view)
   left_same = (fit, (λ view h. h))
 
-  left_flag : (flag : Flag) (on : Bool) (marks : List Mark) → MarksAfter (SetFlag flag on) old marks → IsLeft old (record { inputs = record old.inputs { options = with_option flag on old.inputs.options }; marks = marks; states = old.states }) (λ view. view)
+  left_flag : (flag : Flag) (on : Bool) (marks : List Marked) → MarksAfter (SetFlag flag on) old marks → IsLeft old (record { inputs = record old.inputs { options = with_option flag on old.inputs.options }; marks = marks; states = old.states }) (λ view. view)
   left_flag flag on marks (inl (same, e)) =
       let options : with_option flag on old.inputs.options ≡ old.inputs.options = ap (λ b. with_option flag b old.inputs.options) (sym same) ∙ with_same flag old.inputs.options in
       subst (λ (w : Watched). IsLeft old w (λ view. view)) (λ i. record { inputs = record old.inputs { options = sym options i }; marks = sym e i; states = old.states }) left_same
   left_flag flag on marks (inr (other, e)) =
-      subst (λ (m : List Mark). IsLeft old (record { inputs = record old.inputs { options = with_option flag on old.inputs.options }; marks = m; states = old.states }) (λ view. view)) (sym e) (left_option flag on)
+      subst (λ (m : List Marked). IsLeft old (record { inputs = record old.inputs { options = with_option flag on old.inputs.options }; marks = m; states = old.states }) (λ view. view)) (sym e) (left_option flag on)
 
-  left_syntax : (syntax : Syntax) (marks : List Mark) → MarksAfter (SetSyntax syntax) old marks → IsLeft old (record { inputs = record old.inputs { syntax = syntax }; marks = marks; states = old.states }) (λ view. view)
+  left_syntax : (syntax : Syntax) (marks : List Marked) → MarksAfter (SetSyntax syntax) old marks → IsLeft old (record { inputs = record old.inputs { syntax = syntax }; marks = marks; states = old.states }) (λ view. view)
   left_syntax syntax marks (inl (same, e)) =
       subst (λ (w : Watched). IsLeft old w (λ view. view)) (λ i. record { inputs = record old.inputs { syntax = sym same i }; marks = sym e i; states = old.states }) left_same
   left_syntax syntax marks (inr (other, e)) =
-      subst (λ (m : List Mark). IsLeft old (record { inputs = record old.inputs { syntax = syntax }; marks = m; states = old.states }) (λ view. view)) (sym e) (left_lost (record old.inputs { syntax = syntax }) refl)
+      subst (λ (m : List Marked). IsLeft old (record { inputs = record old.inputs { syntax = syntax }; marks = m; states = old.states }) (λ view. view)) (sym e) (left_lost (record old.inputs { syntax = syntax }) refl)
 
   -- where inputs and marks are these
   as_these : (new these : Watched) (change : View → View) → new.inputs ≡ these.inputs → new.marks ≡ these.marks → IsLeft old these change → IsLeft old new change
@@ -200,21 +212,27 @@ module _ (old : Watched) (fit : AreFit old.inputs.files old.marks) where
   left_accepted : (edit : Edit) (new : Watched) → Applies edit old.inputs (Ok new.inputs) → MarksAfter edit old new.marks → IsLeft old new (view_after edit)
   left_accepted (AddFile name lines) new a m =
       let file = whole_file name lines in
-      as_these new (record { inputs = with_files (old.inputs.files ++ file ∷ []) old.inputs; marks = old.marks ++ new_mark ∷ []; states = old.states }) (λ view. view ++ [] ∷ []) (added_file name lines old.inputs new.inputs a) m (left_added file)
+      as_these new (record { inputs = with_files (old.inputs.files ++ file ∷ []) old.inputs; marks = old.marks ++ new_mark (length file.lines) ∷ []; states = old.states }) (λ view. view ++ [] ∷ []) (added_file name lines old.inputs new.inputs a) m (left_added file)
   left_accepted (AddMissing name) new a m =
       let file = missing_file name in
-      as_these new (record { inputs = with_files (old.inputs.files ++ file ∷ []) old.inputs; marks = old.marks ++ new_mark ∷ []; states = old.states }) (λ view. view ++ [] ∷ []) (added_missing name old.inputs new.inputs a) m (left_added file)
+      as_these new (record { inputs = with_files (old.inputs.files ++ file ∷ []) old.inputs; marks = old.marks ++ new_mark (length file.lines) ∷ []; states = old.states }) (λ view. view ++ [] ∷ []) (added_missing name old.inputs new.inputs a) m (left_added file)
   left_accepted (DropFile k) new a m =
       as_these new (record { inputs = with_files (remove old.inputs.files k) old.inputs; marks = remove old.marks k; states = old.states }) (λ view. remove view k) (file_dropped k old.inputs new.inputs a) m (left_dropped k)
-  left_accepted (Splice k start count lines) new a m =
+  left_accepted (Splice k start count lines) new a (mark, s, is) =
       let put = splice_accepted k start count lines old.inputs new.inputs a in
-      as_these new (record { inputs = with_files (spliced old.inputs.files k start count lines) old.inputs; marks = slice_set old.marks k (touched start (length (file_at old.inputs.files k).lines - (start + count)) (mark_at old.marks k)); states = old.states }) (λ view. view) put.is m (left_spliced k start count lines put.inside put.within)
+      as_these new (record { inputs = with_files (spliced old.inputs.files k start count lines) old.inputs; marks = slice_set old.marks k mark; states = old.states }) (λ view. view) put.is is (left_spliced k start count lines mark put.inside put.within s)
   left_accepted (AddPatterns list) new a m =
       let inputs = with_patterns (old.inputs.patterns ++ list_of list) old.inputs in
       as_these new (record { inputs = inputs; marks = map lost old.marks; states = old.states }) (λ view. view) (added_patterns list old.inputs new.inputs a) m (left_lost inputs refl)
   left_accepted (DropPattern p) new a m =
       let inputs = with_patterns (remove old.inputs.patterns p) old.inputs in
       as_these new (record { inputs = inputs; marks = map lost old.marks; states = old.states }) (λ view. view) (dropped_pattern p old.inputs new.inputs a) m (left_lost inputs refl)
+  left_accepted (ChangePattern p text) new a (inl (same, m)) =
+      let itself = changed_to_itself old.inputs.patterns p text (accepted_where new.inputs NoSuchPattern a).0 same in
+      as_these new old (λ view. view) (changed_pattern p text old.inputs new.inputs a ∙ ap (λ ps. with_patterns ps old.inputs) itself) m left_same
+  left_accepted (ChangePattern p text) new a (inr (other, m)) =
+      let inputs = with_patterns (slice_set old.inputs.patterns p text) old.inputs in
+      as_these new (record { inputs = inputs; marks = map lost old.marks; states = old.states }) (λ view. view) (changed_pattern p text old.inputs new.inputs a) m (left_lost inputs refl)
   left_accepted (SetFlag flag on) new a m =
       let inputs = record old.inputs { options = with_option flag on old.inputs.options } in
       as_these new (record { inputs = inputs; marks = new.marks; states = old.states }) (λ view. view) (option_set flag on old.inputs new.inputs a) refl (left_flag flag on new.marks m)
@@ -224,7 +242,7 @@ module _ (old : Watched) (fit : AreFit old.inputs.files old.marks) where
   left_accepted (SetContext context) new a m =
       let inputs = with_context context old.inputs in
       as_these new (record { inputs = inputs; marks = old.marks; states = old.states }) (λ view. view) (context_set context old.inputs new.inputs a) m
-      (fit, same_views inputs (λ es m. m) (λ es n l hits x. x))
+      (fit, same_views inputs (λ es m. m) (λ es line hits x. x))
 
 -- a refused edit leaves the inputs
 pub refused_same : (T : Type 0) (edit : Edit) (old new : Inputs) (fault : EditFault) → EditGives {T = T} edit old new (Err fault) → new ≡ old

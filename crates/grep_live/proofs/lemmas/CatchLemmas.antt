@@ -1,48 +1,167 @@
 -- What is reported makes each view that follows the present hits, and it follows then.
-use Rattle.grep_live.proofs.Prelude.{◌≡◌, ℕ, ◌+◌, ◌-◌, ◌<◌, ◌≤◌, List, [], ◌∷◌, length, map, take, drop, Option, Result, Ok, Err, refl, sym, subst, arith, slice_range, MatchResult, Text, Expression, Status, File, Inputs, Selected, StatusOf, written, file_at, Writes, IsStatusOfInputs, ListedParts, Mark, AllThree, Hit, View, HitsFrom, Hits, AreHits, Watched, whole_mark, mark_at, Change, IsChange, AreWithin, hits_before, hits_from, after, all_after, FollowsFile, Follows, changes_rows, all_known, WritesChanges, Fits, AreFit, Mean}
+use Rattle.grep_live.proofs.Prelude.{◌≡◌, ℕ, ◌+◌, ◌-◌, ◌<◌, ◌≤◌, Bool, true, false, if◌then◌else◌, nat_eq, ◌&&◌, List, [], ◌∷◌, length, map, take, drop, get_or, Option, Result, Ok, Err, ◌⊎◌, inl, inr, refl, sym, ap, subst, ◌∙◌, arith, cases_lt, nat_tests, slice_range, MatchResult, Text, Expression, Status, Options, File, Inputs, Selected, StatusOf, written, Writes, IsStatusOfInputs, ListedParts, Marked, Stretch, Fits, Keeps, AllThree, Hit, View, HitOf, HitsFrom, Hits, AreHits, Watched, whole_mark, Change, AreChanges, ChangesFile, is_idle, AreWithin, moved, hits_at, spliced_hits, after, after_each, all_after, FollowsFile, Follows, changes_rows, all_known, WritesChanges, IsFit, AreFit, Mean, drop-drop, get_or-take, get_or-drop, length-take, length-take-le, length-drop}
 use Rattle.grep_core.proofs.lemmas.LawsHold.{means_one}
-use Rattle.grep_session.proofs.lemmas.FitLemmas.{as_many, fit_at}
-use Rattle.grep_live.proofs.lemmas.HitLemmas.{by_within, first_hits, last_hits}
+use Rattle.grep_live.proofs.lemmas.HitLemmas.{within_wider, HitBy, by_within, line_hits, hits_by_line, at_same, spliced_within, spliced_before, spliced_among, spliced_after}
 use Rattle.grep_live.proofs.lemmas.ListingLemmas.{HitsFrom-exist}
-use Rattle.grep_live.proofs.lemmas.MarkLemmas.{after_change, fits_front}
 
--- ---- marks of reported files
+idle_is : (removed added : ℕ) → (nat_eq removed 0 && nat_eq added 0) ≡ true → (removed ≡ 0) × (added ≡ 0)
+idle_is removed added e =
+    let none_removed : removed ≡ 0 = grind (arith, nat_tests) in
+    let none_added : added ≡ 0 = grind (arith, nat_tests) in
+    (none_removed, none_added)
 
--- a mark's untouched front is of the file's lines
-pub marked_front : (files : List File) (marks : List Mark) (k : ℕ) → AreFit files marks → k < length marks → (mark_at marks k).front ≤ length (file_at files k).lines
-marked_front files marks k fit inside =
-    let many = as_many files marks fit in
-    fits_front (length (file_at files k).lines) (mark_at marks k) (fit_at files marks fit k (omega arith))
+-- ---- a list that is right up to a place
 
--- ---- changes
+-- before place n there are the present hits, and from it on those of the lines that are kept
+record CaughtUp (es : List Expression) (options : Options) (lines : List Text) (n many : ℕ) (stretches : List Stretch) (hits : List Hit) : Type 0 where
+  in_order : AreWithin 0 many hits
+  fits : (old : ℕ) × (new : ℕ) × (many ≡ n + old) × (length lines ≡ n + new) × Fits old new stretches
+  done : (p : ℕ) → p < n → HitOf es options (p, get_or lines p []) (hits_at p hits)
+  kept : (old new p q : ℕ) → p ≡ n + old → q ≡ n + new → Keeps stretches old new → q < length lines → HitOf es options (q, get_or lines q []) (map (moved p q) (hits_at p hits))
+
+module _ (es : List Expression) (options : Options) where
+  -- the hits of a change are among the lines that were added
+  pub come_within : (front kept past : ℕ) (lines : List Text) (come : List Hit) → HitsFrom es options front (slice_range lines kept past) come → AreWithin front (front + (past - kept)) come
+  come_within front kept past lines come h =
+      let put = slice_range lines kept past in
+      within_wider front front (front + length put) (front + (past - kept)) come (omega arith) (omega (arith, length-take (past - kept) (drop kept lines))) (by_within (Selected es options) (ListedParts es options) front put come h)
+
+  -- there are changes of a file
+  some_changes : (first : ℕ) (lines : List Text) (stretches : List Stretch) → (changes : List Change) × AreChanges es options first lines stretches changes
+  some_changes first lines [] = ([], refl)
+  some_changes first lines (stretch ∷ more) =
+      let past = stretch.kept + stretch.added in
+      let come = HitsFrom-exist es options (first + stretch.kept) (slice_range lines stretch.kept past) in
+      let rest = some_changes (first + past) (drop past lines) more in
+      let change : Change = record { front = first + stretch.kept; removed = stretch.removed; added = stretch.added; come = come.0 } in
+      (change ∷ rest.0, (refl, refl, refl, come.1, rest.1))
+
+  module _ (lines : List Text) where
+    module _ (n many : ℕ) (stretch : Stretch) (more : List Stretch) (hits : List Hit) (s : CaughtUp es options lines n many (stretch ∷ more) hits) where
+      -- the lines up to the stretch
+      up_to : (p : ℕ) → p < n + stretch.kept → HitOf es options (p, get_or lines p []) (hits_at p hits)
+      up_to p l = by_place (cases_lt p n)
+        where
+          by_place : (p < n) ⊎ (n ≤ p) → HitOf es options (p, get_or lines p []) (hits_at p hits)
+          by_place (inl h) = s.done p h
+          by_place (inr h) =
+              subst (HitOf es options (p, get_or lines p [])) (at_same p hits) (s.kept (p - n) (p - n) p p (omega arith) (omega arith) (inl (omega arith, refl)) (omega (arith, l, s.fits.3, s.fits.4.3)))
+
+      module _ (change : Change) (is_front : change.front ≡ n + stretch.kept) (is_removed : change.removed ≡ stretch.removed) (is_added : change.added ≡ stretch.added)
+          (are_hits : HitsFrom es options (n + stretch.kept) (slice_range (drop n lines) stretch.kept (stretch.kept + stretch.added)) change.come) where
+        abbrev Next : List Hit → Type 0
+        Next hits = CaughtUp es options lines (n + (stretch.kept + stretch.added)) (many - change.removed + change.added) more hits
+
+        next_fits : (old : ℕ) × (new : ℕ) × (many - change.removed + change.added ≡ n + (stretch.kept + stretch.added) + old) × (length lines ≡ n + (stretch.kept + stretch.added) + new) × Fits old new more
+        next_fits = (s.fits.4.0, s.fits.4.1, omega (arith, is_removed, is_added, s.fits.2, s.fits.4.2), omega (arith, s.fits.3, s.fits.4.3), s.fits.4.4)
+
+        next_idle : change.removed ≡ 0 → change.added ≡ 0 → Next hits
+        next_idle r a =
+            let same : many ≡ many - change.removed + change.added = omega (arith, r, a) in
+            record {
+              in_order = subst (λ (m : ℕ). AreWithin 0 m hits) same s.in_order;
+              fits = next_fits;
+              done = (λ p l. up_to p (omega (arith, l, a, is_added)));
+              kept = (λ old new p q e f keeps inside.
+                  s.kept (stretch.kept + stretch.removed + old) (stretch.kept + stretch.added + new) p q (omega (arith, e, r, a, is_removed, is_added)) (omega (arith, f)) (inr (old, new, refl, refl, keeps)) inside);
+            }
+
+        between : AreWithin change.front (change.front + change.added) change.come
+        between =
+            let far : (n + stretch.kept) + ((stretch.kept + stretch.added) - stretch.kept) ≤ change.front + change.added = omega (arith, is_front, is_added) in
+            within_wider change.front (n + stretch.kept) ((n + stretch.kept) + ((stretch.kept + stretch.added) - stretch.kept)) (change.front + change.added) change.come (omega (arith, is_front)) far
+            (come_within (n + stretch.kept) stretch.kept (stretch.kept + stretch.added) (drop n lines) change.come are_hits)
+
+        -- the lines of the stretch
+        among : (p : ℕ) → n + stretch.kept ≤ p → p < n + stretch.kept + stretch.added → HitOf es options (p, get_or lines p []) (hits_at p change.come)
+        among p l h =
+            let i = p - (n + stretch.kept) in
+            let many = (stretch.kept + stretch.added) - stretch.kept in
+            let rest = drop stretch.kept (drop n lines) in
+            let there : n + (stretch.kept + i) ≡ p = omega arith in
+            let long : many ≤ length rest = omega (arith, s.fits.3, s.fits.4.3, length-drop stretch.kept (drop n lines), length-drop n lines) in
+            let inside : i < length (take many rest) = omega (arith, l, h, length-take-le many rest long) in
+            let text : get_or (take many rest) i [] ≡ get_or lines p [] =
+            get_or-take many rest i [] (omega (arith, l, h)) ∙ get_or-drop stretch.kept (drop n lines) i [] ∙ get_or-drop n lines (stretch.kept + i) [] ∙ ap (λ m. get_or lines m []) there in
+            subst (λ (t : Text). HitOf es options (p, t) (hits_at p change.come)) text (line_hits (Selected es options) (ListedParts es options) (n + stretch.kept) (take many rest) change.come are_hits i p (omega arith) inside)
+
+        abbrev spliced : List Hit
+        spliced = spliced_hits change.front change.removed change.added change.come hits
+
+        done_busy : (p : ℕ) → p < n + (stretch.kept + stretch.added) → HitOf es options (p, get_or lines p []) (hits_at p spliced)
+        done_busy p l = by_place (cases_lt p change.front)
+          where
+            by_place : (p < change.front) ⊎ (change.front ≤ p) → HitOf es options (p, get_or lines p []) (hits_at p spliced)
+            by_place (inl h) =
+                subst (HitOf es options (p, get_or lines p [])) (sym (spliced_before change.front change.removed change.added many change.come hits s.in_order between p h)) (up_to p (omega (arith, h, is_front)))
+            by_place (inr h) =
+                subst (HitOf es options (p, get_or lines p [])) (sym (spliced_among change.front change.removed change.added many change.come hits s.in_order between p h (omega (arith, l, is_front, is_added)))) (among p (omega (arith, h, is_front)) (omega (arith, l)))
+
+        next_busy : Next spliced
+        next_busy = record {
+          in_order = spliced_within change.front change.removed change.added many change.come hits s.in_order between (omega (arith, is_front, is_removed, s.fits.2, s.fits.4.2));
+          fits = next_fits;
+          done = done_busy;
+          kept = (λ old new p q e f keeps inside.
+              let was = n + (stretch.kept + stretch.removed + old) in
+              subst (HitOf es options (q, get_or lines q [])) (sym (spliced_after change.front change.removed change.added many change.come hits s.in_order between p was q (omega (arith, e, is_front, is_added)) (omega (arith, e, is_front, is_removed, is_added))))
+              (s.kept (stretch.kept + stretch.removed + old) (stretch.kept + stretch.added + new) was q refl (omega (arith, f)) (inr (old, new, refl, refl, keeps)) inside));
+        }
+
+        next : Next (after change hits)
+        next = by_idle (is_idle change) refl
+          where
+            by_idle : (b : Bool) → is_idle change ≡ b → Next (if b then hits else spliced)
+            by_idle true e = let none = idle_is change.removed change.added e in next_idle none.0 none.1
+            by_idle false e = next_busy
+
+    -- all was made
+    at_end : (n many : ℕ) (hits : List Hit) → CaughtUp es options lines n many [] hits → Hits es options lines hits
+    at_end n many hits s =
+        let whole : many ≡ 0 + length lines = omega (arith, s.fits.2, s.fits.3, s.fits.4) in
+        hits_by_line (Selected es options) (ListedParts es options) 0 lines hits (subst (λ (m : ℕ). AreWithin 0 m hits) whole s.in_order)
+        (λ i p e l.
+        let same : p ≡ i = omega (arith, e) in
+        subst (λ (m : ℕ). HitOf es options (p, get_or lines m []) (hits_at p hits)) same (by_place p (omega (arith, same, l)) (cases_lt p n)))
+      where
+        by_place : (p : ℕ) → p < length lines → (p < n) ⊎ (n ≤ p) → HitOf es options (p, get_or lines p []) (hits_at p hits)
+        by_place p l (inl h) = s.done p h
+        by_place p l (inr h) = subst (HitOf es options (p, get_or lines p [])) (at_same p hits) (s.kept (p - n) (p - n) p p (omega arith) (omega arith) refl l)
+
+    catch_up : (stretches : List Stretch) (changes : List Change) (n many : ℕ) (hits : List Hit) → CaughtUp es options lines n many stretches hits → AreChanges es options n (drop n lines) stretches changes → Hits es options lines (after_each changes hits)
+    catch_up [] changes n many hits s c = subst (λ (l : List Change). Hits es options lines (after_each l hits)) (sym c) (at_end n many hits s)
+    catch_up (stretch ∷ more) [] n many hits s c = absurd c
+    catch_up (stretch ∷ more) (change ∷ changes) n many hits s (is_front, is_removed, is_added, are_hits, rest) =
+        let past = stretch.kept + stretch.added in
+        let later : AreChanges es options (n + past) (drop (n + past) lines) more changes = subst (λ (l : List Text). AreChanges es options (n + past) l more changes) (drop-drop past n lines) rest in
+        catch_up more changes (n + past) (many - change.removed + change.added) (after change hits) (next n many stretch more hits s change is_front is_removed is_added are_hits) later
 
 module _ (es : List Expression) (inputs : Inputs) where
-  pub changes_exist : (files : List File) (marks : List Mark) → AreFit files marks → (changes : List Change) × AllThree (IsChange es inputs.options) files marks changes
+  pub changes_exist : (files : List File) (marks : List Marked) → AreFit files marks → (changes : List (List Change)) × AllThree (ChangesFile es inputs.options) files marks changes
   changes_exist [] [] fit = ([], tt)
   changes_exist [] (mark ∷ marks) fit = absurd fit
   changes_exist (file ∷ files) [] fit = absurd fit
   changes_exist (file ∷ files) (mark ∷ marks) fit =
-      let added = length file.lines - mark.front - mark.back in
-      let come = HitsFrom-exist es inputs.options mark.front (slice_range file.lines mark.front (mark.front + added)) in
+      let own = some_changes es inputs.options 0 file.lines mark.stretches in
       let more = changes_exist files marks fit.1 in
-      let change : Change = record { front = mark.front; removed = mark.known - mark.front - mark.back; added = added; come = come.0 } in
-      (change ∷ more.0, (record { is_front = refl; is_removed = refl; is_added = refl; are_hits = come.1 }, more.1))
+      (own.0 ∷ more.0, (own.1, more.1))
 
-  -- a view of one file that follows, after its change
-  one_catches : (meant : Mean inputs es) (file : File) (mark : Mark) (change : Change) (hits : List Hit) → Fits (length file.lines) mark → IsChange es inputs.options file mark change → FollowsFile inputs file mark hits → Hits es inputs.options file.lines (after change hits)
-  one_catches meant file mark change hits fits c f =
+  -- a view of one file that follows, after its changes
+  one_catches : (meant : Mean inputs es) (file : File) (mark : Marked) (changes : List Change) (hits : List Hit) → IsFit file mark → ChangesFile es inputs.options file mark changes → FollowsFile inputs file mark hits → Hits es inputs.options file.lines (after_each changes hits)
+  one_catches meant file mark changes hits fit c f =
       let lines = file.lines in
-      let added = length lines - mark.front - mark.back in
-      let moved : HitsFrom es inputs.options mark.front (slice_range lines mark.front (mark.front + change.added)) change.come =
-      subst (λ (n : ℕ). HitsFrom es inputs.options n (slice_range lines n (n + change.added)) change.come) c.is_front c.are_hits in
-      let cut : (mark.front + change.added) - mark.front ≡ added = omega (arith, c.is_added) in
-      let between : HitsFrom es inputs.options mark.front (take added (drop mark.front lines)) change.come = subst (λ (n : ℕ). HitsFrom es inputs.options mark.front (take n (drop mark.front lines)) change.come) cut moved in
-      let now : Hits es inputs.options lines (after (record { front = mark.front; removed = mark.known - mark.front - mark.back; added = added; come = change.come }) hits) =
-      after_change (Selected es inputs.options) (ListedParts es inputs.options) lines mark change.come hits fits f.in_order (f.in_front es meant) (f.in_back es meant) between in
-      let is : change ≡ record { front = mark.front; removed = mark.known - mark.front - mark.back; added = added; come = change.come } = λ i. record { front = c.is_front i; removed = c.is_removed i; added = c.is_added i; come = change.come } in
-      subst (λ (d : Change). Hits es inputs.options lines (after d hits)) (sym is) now
+      let start : CaughtUp es inputs.options lines 0 mark.known mark.stretches hits = record {
+        in_order = f.in_order;
+        fits = (mark.known, mark.lines, omega arith, omega (arith, fit.0), fit.1);
+        done = (λ p l. absurd (omega (arith, l)));
+        kept = (λ old new p q e g keeps inside.
+            let was : old ≡ p = omega (arith, e) in
+            let is : new ≡ q = omega (arith, g) in
+            subst (λ (z : ℕ × ℕ). HitOf es inputs.options (z.1, get_or lines z.1 []) (map (moved z.0 z.1) (hits_at z.0 hits))) (λ i. (was i, is i)) (f.untouched es meant old new keeps (omega (arith, inside, is))));
+      } in
+      catch_up es inputs.options lines mark.stretches changes 0 mark.known hits start c
 
-  pub all_catch : (meant : Mean inputs es) (files : List File) (marks : List Mark) (changes : List Change) (view : View) → AreFit files marks → AllThree (IsChange es inputs.options) files marks changes → AllThree (FollowsFile inputs) files marks view →
+  pub all_catch : (meant : Mean inputs es) (files : List File) (marks : List Marked) (changes : List (List Change)) (view : View) → AreFit files marks → AllThree (ChangesFile es inputs.options) files marks changes → AllThree (FollowsFile inputs) files marks view →
       AreHits es inputs.options files (all_after changes view)
   all_catch meant [] [] [] [] fit c f = tt
   all_catch meant [] [] [] (hits ∷ view) fit c f = absurd f
@@ -59,16 +178,18 @@ module _ (es : List Expression) (inputs : Inputs) where
   one_follows : (meant : Mean inputs es) (file : File) (hits : List Hit) → Hits es inputs.options file.lines hits → FollowsFile inputs file (whole_mark (length file.lines)) hits
   one_follows meant file hits h =
       let n = length file.lines in
+      let lines = file.lines in
       let S = Selected es inputs.options in
       let P = ListedParts es inputs.options in
-      let same = λ (ds : List Expression) (m : Mean inputs ds). means_one inputs.syntax inputs.options inputs.patterns es ds meant m in
-      let front = first_hits S P 0 n n file.lines hits (omega arith) h in
-      let back = last_hits S P 0 (n - n) (n - n) (n - n) file.lines hits (omega arith) h in
       let whole : 0 + n ≡ n = omega arith in
       record {
-        in_order = subst (λ (m : ℕ). AreWithin 0 m hits) whole (by_within S P 0 file.lines hits h);
-        in_front = (λ ds m. subst (λ (xs : List Expression). HitsFrom xs inputs.options 0 (take n file.lines) (hits_before n hits)) (same ds m) front);
-        in_back = (λ ds m. subst (λ (xs : List Expression). HitsFrom xs inputs.options (n - n) (drop (n - n) file.lines) (hits_from (n - n) (n - n) hits)) (same ds m) back);
+        in_order = subst (λ (m : ℕ). AreWithin 0 m hits) whole (by_within S P 0 lines hits h);
+        untouched = (λ ds m old new keeps inside.
+            let is : ◌≡◌ {A = ℕ} new (0 + new) = omega arith in
+            let here : HitOf es inputs.options (new, get_or lines new []) (map (moved new new) (hits_at new hits)) =
+            subst (HitOf es inputs.options (new, get_or lines new [])) (sym (at_same new hits)) (line_hits S P 0 lines hits h new new is inside) in
+            subst (λ (xs : List Expression). HitOf xs inputs.options (new, get_or lines new []) (map (moved old new) (hits_at old hits))) (means_one inputs.syntax inputs.options inputs.patterns es ds meant m)
+            (subst (λ (o : ℕ). HitOf es inputs.options (new, get_or lines new []) (map (moved o new) (hits_at o hits))) keeps here));
       }
 
   pub all_follow : (meant : Mean inputs es) (files : List File) (view : View) → AreHits es inputs.options files view → AllThree (FollowsFile inputs) files (map (λ file. whole_mark (length file.lines)) files) view
@@ -81,7 +202,7 @@ module _ (es : List Expression) (inputs : Inputs) where
 
 module _ {W : Type 0} (contents : W → Option Text) (failures : W → ℕ) (margin : Text) (begun ended : W) (old new : Watched) (status : Status) where
   pub writes_all : (E : Type 0) (result : Result Status E) → AreFit old.inputs.files old.marks → IsStatusOfInputs old.inputs status →
-      ((es : List Expression) → Mean old.inputs es → (changes : List Change) → AllThree (IsChange es old.inputs.options) old.inputs.files old.marks changes → Writes contents failures begun ended (written margin (changes_rows 0 changes)) result) →
+      ((es : List Expression) → Mean old.inputs es → (changes : List (List Change)) → AllThree (ChangesFile es old.inputs.options) old.inputs.files old.marks changes → Writes contents failures begun ended (written margin (changes_rows 0 changes)) result) →
       MatchResult result (λ answer. (answer ≡ status) × (new ≡ all_known old)) (λ _. new ≡ old) → WritesChanges contents failures margin begun ended old new result
   writes_all E (Ok answer) fit is wrote left =
       let es = is.gives.es in

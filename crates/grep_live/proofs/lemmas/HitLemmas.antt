@@ -1,7 +1,5 @@
--- Lists of hits that are cut at a place, moved and joined.
-use Rattle.grep_live.proofs.Prelude.{◌≡◌, ℕ, zero, suc, ◌+◌, ◌-◌, ◌<◌, ◌≤◌, false, cond, List, [], ◌∷◌, ◌++◌, length, map, take, drop, ◌⊎◌, refl, sym, ap, subst, ◌∙◌, inl, inr, arith, cases_lt, lt-ltb, le-ltb, le-leb, nat_tests, map-append, filter-append, nat_lt, nat_le, filter, enumerate_from, IfHolds, EachGives, Text, Hit, AreWithin, hits_before, moved, hits_from}
-use Rattle.grep_core.proofs.lemmas.ChooseLaws.{EachGives-append}
-use Rattle.grep_core.proofs.lemmas.MoreLines.{enumerate_from-append}
+-- Lists of hits by their places: cut, moved and joined, and the hits of lines.
+use Rattle.grep_live.proofs.Prelude.{◌≡◌, ℕ, zero, suc, ◌+◌, ◌-◌, ◌<◌, ◌≤◌, true, false, cond, List, [], ◌∷◌, ◌++◌, length, map, get_or, ◌⊎◌, refl, sym, ap, subst, ◌∙◌, inl, inr, arith, cases_lt, lt-ltb, le-ltb, le-leb, nat_tests, append-nil, filter-append, nat_lt, nat_le, nat_eq, filter, enumerate_from, IfHolds, EachGives, Text, Hit, AreWithin, hits_before, moved, hits_from, spliced_hits, hits_at}
 
 -- ---- hits by their places
 
@@ -18,7 +16,7 @@ from_place from hits = filter (λ hit. nat_le from hit.place) hits
 from_yes : (b : ℕ) (hit : Hit) (more : List Hit) → b ≤ hit.place → from_place b (hit ∷ more) ≡ hit ∷ from_place b more
 from_yes b hit more h = ap (λ t. cond t (hit ∷ from_place b more) (from_place b more)) (le-leb b hit.place h)
 
-pub lt-leb : (a b : ℕ) → b < a → nat_le a b ≡ false
+lt-leb : (a b : ℕ) → b < a → nat_le a b ≡ false
 lt-leb a b h = grind (arith, nat_tests)
 
 from_no : (b : ℕ) (hit : Hit) (more : List Hit) → hit.place < b → from_place b (hit ∷ more) ≡ from_place b more
@@ -30,15 +28,6 @@ pub within_wider : (a b c d : ℕ) (hits : List Hit) → a ≤ b → c ≤ d →
 within_wider a b c d [] h k w = tt
 within_wider a b c d (hit ∷ more) h k w = (omega (arith, w.0), omega (arith, w.1), within_wider (hit.place + 1) (hit.place + 1) c d more (omega arith) k w.2)
 
--- all are before the end
-pub before_all : (a b c : ℕ) (hits : List Hit) → AreWithin a c hits → c ≤ b → hits_before b hits ≡ hits
-before_all a b c [] w h = refl
-before_all a b c (hit ∷ more) w h = before_yes b hit more (omega (arith, w.1)) ∙ ap (λ l. hit ∷ l) (before_all (hit.place + 1) b c more w.2 h)
-
-pub before_none : (a b c : ℕ) (hits : List Hit) → AreWithin a c hits → b ≤ a → hits_before b hits ≡ []
-before_none a b c [] w h = refl
-before_none a b c (hit ∷ more) w h = before_no b hit more (omega (arith, w.0)) ∙ before_none (hit.place + 1) b c more w.2 (omega (arith, w.0))
-
 from_all : (a b c : ℕ) (hits : List Hit) → AreWithin a c hits → b ≤ a → from_place b hits ≡ hits
 from_all a b c [] w h = refl
 from_all a b c (hit ∷ more) w h = from_yes b hit more (omega (arith, w.0)) ∙ ap (λ l. hit ∷ l) (from_all (hit.place + 1) b c more w.2 (omega (arith, w.0)))
@@ -47,68 +36,19 @@ from_none : (a b c : ℕ) (hits : List Hit) → AreWithin a c hits → c ≤ b �
 from_none a b c [] w h = refl
 from_none a b c (hit ∷ more) w h = from_no b hit more (omega (arith, w.1)) ∙ from_none (hit.place + 1) b c more w.2 h
 
--- none is from a place on
-pub hits_from_none : (a b c m : ℕ) (hits : List Hit) → AreWithin a c hits → c ≤ b → hits_from b m hits ≡ []
-hits_from_none a b c m hits w h = ap (map (moved b m)) (from_none a b c hits w h)
+-- joined, the ones after the others
+within_joined : (a b c : ℕ) (xs ys : List Hit) → AreWithin a b xs → AreWithin b c ys → a ≤ b → b ≤ c → AreWithin a c (xs ++ ys)
+within_joined a b c [] ys w v l m = within_wider a b c c ys l (omega arith) v
+within_joined a b c (hit ∷ more) ys w v l m = (w.0, omega (arith, w.1), within_joined (hit.place + 1) b c more ys w.2 v (omega (arith, w.1)) m)
 
--- cut at a place and joined again
-split_at : (a b c : ℕ) (hits : List Hit) → AreWithin a c hits → hits_before b hits ++ from_place b hits ≡ hits
-split_at a b c [] w = refl
-split_at a b c (hit ∷ more) w = by_place (split_at (hit.place + 1) b c more w.2) (cases_lt hit.place b)
+-- the hits before a place, in order
+before_within : (a b c : ℕ) (hits : List Hit) → AreWithin a c hits → AreWithin a b (hits_before b hits)
+before_within a b c [] w = tt
+before_within a b c (hit ∷ more) w = by_place (before_within (hit.place + 1) b c more w.2) (cases_lt hit.place b)
   where
-    by_place : hits_before b more ++ from_place b more ≡ more → (hit.place < b) ⊎ (b ≤ hit.place) → hits_before b (hit ∷ more) ++ from_place b (hit ∷ more) ≡ hit ∷ more
-    by_place rest (inl h) = (λ i. before_yes b hit more h i ++ from_no b hit more h i) ∙ ap (λ l. hit ∷ l) rest
-    by_place rest (inr h) =
-        let none : hits_before b more ≡ [] = before_none (hit.place + 1) b c more w.2 (omega arith) in
-        let all : from_place b more ≡ more = from_all (hit.place + 1) b c more w.2 (omega arith) in
-        let first : hits_before b (hit ∷ more) ≡ [] = before_no b hit more h ∙ none in
-        let second : from_place b (hit ∷ more) ≡ hit ∷ more = from_yes b hit more h ∙ ap (λ l. hit ∷ l) all in
-        λ i. first i ++ second i
-
--- ---- cut twice
-
-pub before_before : (a b : ℕ) (hits : List Hit) → a ≤ b → hits_before a (hits_before b hits) ≡ hits_before a hits
-before_before a b [] h = refl
-before_before a b (hit ∷ more) h = by_place (before_before a b more h) (cases_lt hit.place b) (cases_lt hit.place a)
-  where
-    by_place : hits_before a (hits_before b more) ≡ hits_before a more → (hit.place < b) ⊎ (b ≤ hit.place) → (hit.place < a) ⊎ (a ≤ hit.place) → hits_before a (hits_before b (hit ∷ more)) ≡ hits_before a (hit ∷ more)
-    by_place rest (inl p) (inl q) = ap (hits_before a) (before_yes b hit more p) ∙ before_yes a hit (hits_before b more) q ∙ ap (λ l. hit ∷ l) rest ∙ sym (before_yes a hit more q)
-    by_place rest (inl p) (inr q) = ap (hits_before a) (before_yes b hit more p) ∙ before_no a hit (hits_before b more) q ∙ rest ∙ sym (before_no a hit more q)
-    by_place rest (inr p) q = ap (hits_before a) (before_no b hit more p) ∙ rest ∙ sym (before_no a hit more (omega arith))
-
--- the place of a hit that is moved twice
-moved_twice : (f a j m : ℕ) (hit : Hit) → f + j ≤ hit.place → moved (a + j) m (moved f a hit) ≡ moved (f + j) m hit
-moved_twice f a j m hit h =
-    let same : m + ((a + (hit.place - f)) - (a + j)) ≡ m + (hit.place - (f + j)) = omega arith in
-    ap (λ p. record hit { place = p }) same
-
--- the hits from a place on, cut again at a later one
-pub from_from : (f a j m : ℕ) (hits : List Hit) → hits_from (a + j) m (hits_from f a hits) ≡ hits_from (f + j) m hits
-from_from f a j m [] = refl
-from_from f a j m (hit ∷ more) = by_place (from_from f a j m more) (cases_lt hit.place f) (cases_lt hit.place (f + j))
-  where
-    by_place : hits_from (a + j) m (hits_from f a more) ≡ hits_from (f + j) m more → (hit.place < f) ⊎ (f ≤ hit.place) → (hit.place < f + j) ⊎ (f + j ≤ hit.place) →
-        hits_from (a + j) m (hits_from f a (hit ∷ more)) ≡ hits_from (f + j) m (hit ∷ more)
-    by_place rest (inl p) q =
-        ap (λ l. hits_from (a + j) m (map (moved f a) l)) (from_no f hit more p) ∙ rest ∙ ap (map (moved (f + j) m)) (sym (from_no (f + j) hit more (omega arith)))
-    by_place rest (inr p) (inl q) =
-        ap (λ l. hits_from (a + j) m (map (moved f a) l)) (from_yes f hit more p)
-        ∙ ap (map (moved (a + j) m)) (from_no (a + j) (moved f a hit) (hits_from f a more) (omega arith))
-        ∙ rest
-        ∙ ap (map (moved (f + j) m)) (sym (from_no (f + j) hit more q))
-    by_place rest (inr p) (inr q) =
-        ap (λ l. hits_from (a + j) m (map (moved f a) l)) (from_yes f hit more p)
-        ∙ ap (map (moved (a + j) m)) (from_yes (a + j) (moved f a hit) (hits_from f a more) (omega arith))
-        ∙ (λ i. moved_twice f a j m hit q i ∷ rest i)
-        ∙ ap (map (moved (f + j) m)) (sym (from_yes (f + j) hit more q))
-
--- hits that stay at their places
-moved_nowhere : (b c : ℕ) (hits : List Hit) → AreWithin b c hits → map (moved b b) hits ≡ hits
-moved_nowhere b c [] w = refl
-moved_nowhere b c (hit ∷ more) w =
-    let same : b + (hit.place - b) ≡ hit.place = omega (arith, w.0) in
-    let rest = moved_nowhere b c more (within_wider b (hit.place + 1) c c more (omega (arith, w.0)) (omega arith) w.2) in
-    λ i. record hit { place = same i } ∷ rest i
+    by_place : AreWithin (hit.place + 1) b (hits_before b more) → (hit.place < b) ⊎ (b ≤ hit.place) → AreWithin a b (hits_before b (hit ∷ more))
+    by_place rest (inl h) = subst (AreWithin a b) (sym (before_yes b hit more h)) (w.0, h, rest)
+    by_place rest (inr h) = subst (AreWithin a b) (sym (before_no b hit more h)) (within_wider a (hit.place + 1) b b (hits_before b more) (omega (arith, w.0)) (omega arith) rest)
 
 -- the hits from a place on, in order
 from_within : (a b c : ℕ) (hits : List Hit) → AreWithin a c hits → AreWithin b c (from_place b hits)
@@ -121,10 +61,190 @@ from_within a b c (hit ∷ more) w = by_place (from_within (hit.place + 1) b c m
         let all : from_place b more ≡ more = from_all (hit.place + 1) b c more w.2 (omega arith) in
         subst (AreWithin b c) (sym (from_yes b hit more h ∙ ap (λ l. hit ∷ l) all)) (h, w.1, w.2)
 
--- hits in order, cut at a place and joined again, are the same
-pub cut_and_joined : (a b c : ℕ) (hits : List Hit) → AreWithin a c hits → hits_before b hits ++ hits_from b b hits ≡ hits
-cut_and_joined a b c hits w =
-    ap (λ l. hits_before b hits ++ l) (moved_nowhere b c (from_place b hits) (from_within a b c hits w)) ∙ split_at a b c hits w
+-- moved, in order
+moved_within : (g t a c : ℕ) (hits : List Hit) → g ≤ a → AreWithin a c hits → AreWithin (t + (a - g)) (t + (c - g)) (map (moved g t) hits)
+moved_within g t a c [] l w = tt
+moved_within g t a c (hit ∷ more) l w =
+    let next : t + ((hit.place + 1) - g) ≡ (t + (hit.place - g)) + 1 = omega (arith, w.0) in
+    (omega (arith, w.0), omega (arith, w.0, w.1), subst (λ (n : ℕ). AreWithin n (t + (c - g)) (map (moved g t) more)) next (moved_within g t (hit.place + 1) c more (omega (arith, w.0)) w.2))
+
+-- the hits from a place on, where the line there moves, in order
+from_moved_within : (g t a c : ℕ) (hits : List Hit) → AreWithin a c hits → AreWithin t (t + (c - g)) (hits_from g t hits)
+from_moved_within g t a c hits w =
+    let same : t + (g - g) ≡ t = omega arith in
+    subst (λ (n : ℕ). AreWithin n (t + (c - g)) (hits_from g t hits)) same (moved_within g t g c (from_place g hits) (omega arith) (from_within a g c hits w))
+
+-- ---- the hits at a place
+
+-- two places
+three_ways : (a b : ℕ) → (a ≡ b) ⊎ ((a < b) ⊎ (b < a))
+three_ways a b = by_low (cases_lt a b) (cases_lt b a)
+  where
+    by_low : (a < b) ⊎ (b ≤ a) → (b < a) ⊎ (a ≤ b) → (a ≡ b) ⊎ ((a < b) ⊎ (b < a))
+    by_low (inl h) q = inr (inl h)
+    by_low (inr h) (inl q) = inr (inr q)
+    by_low (inr h) (inr q) = inl (omega arith)
+
+same_place : (a b : ℕ) → a ≡ b → nat_eq a b ≡ true
+same_place a b h = grind (arith, nat_tests)
+
+other_place : (a b : ℕ) → (a < b) ⊎ (b < a) → nat_eq a b ≡ false
+other_place a b (inl h) = grind (arith, nat_tests)
+other_place a b (inr h) = grind (arith, nat_tests)
+
+at_yes : (p : ℕ) (hit : Hit) (more : List Hit) → hit.place ≡ p → hits_at p (hit ∷ more) ≡ hit ∷ hits_at p more
+at_yes p hit more h = ap (λ t. cond t (hit ∷ hits_at p more) (hits_at p more)) (same_place hit.place p h)
+
+at_no : (p : ℕ) (hit : Hit) (more : List Hit) → (hit.place < p) ⊎ (p < hit.place) → hits_at p (hit ∷ more) ≡ hits_at p more
+at_no p hit more h = ap (λ t. cond t (hit ∷ hits_at p more) (hits_at p more)) (other_place hit.place p h)
+
+-- there are none before the first
+pub at_low : (p a c : ℕ) (hits : List Hit) → AreWithin a c hits → p < a → hits_at p hits ≡ []
+at_low p a c [] w h = refl
+at_low p a c (hit ∷ more) w h = at_no p hit more (inr (omega (arith, w.0))) ∙ at_low p (hit.place + 1) c more w.2 (omega (arith, w.0))
+
+-- there are none after the last
+pub at_high : (p a c : ℕ) (hits : List Hit) → AreWithin a c hits → c ≤ p → hits_at p hits ≡ []
+at_high p a c [] w h = refl
+at_high p a c (hit ∷ more) w h = at_no p hit more (inl (omega (arith, w.1))) ∙ at_high p (hit.place + 1) c more w.2 h
+
+at_before : (p f : ℕ) (hits : List Hit) → p < f → hits_at p (hits_before f hits) ≡ hits_at p hits
+at_before p f [] h = refl
+at_before p f (hit ∷ more) h = by_place (at_before p f more h) (cases_lt hit.place f)
+  where
+    by_place : hits_at p (hits_before f more) ≡ hits_at p more → (hit.place < f) ⊎ (f ≤ hit.place) → hits_at p (hits_before f (hit ∷ more)) ≡ hits_at p (hit ∷ more)
+    by_place rest (inl q) = ap (hits_at p) (before_yes f hit more q) ∙ ap (λ l. cond (nat_eq hit.place p) (hit ∷ l) l) rest
+    by_place rest (inr q) = ap (hits_at p) (before_no f hit more q) ∙ rest ∙ sym (at_no p hit more (inr (omega arith)))
+
+at_from_place : (p b : ℕ) (hits : List Hit) → b ≤ p → hits_at p (from_place b hits) ≡ hits_at p hits
+at_from_place p b [] h = refl
+at_from_place p b (hit ∷ more) h = by_place (at_from_place p b more h) (cases_lt hit.place b)
+  where
+    by_place : hits_at p (from_place b more) ≡ hits_at p more → (hit.place < b) ⊎ (b ≤ hit.place) → hits_at p (from_place b (hit ∷ more)) ≡ hits_at p (hit ∷ more)
+    by_place rest (inl q) = ap (hits_at p) (from_no b hit more q) ∙ rest ∙ sym (at_no p hit more (inl (omega arith)))
+    by_place rest (inr q) = ap (hits_at p) (from_yes b hit more q) ∙ ap (λ l. cond (nat_eq hit.place p) (hit ∷ l) l) rest
+
+at_moved_from : (g t x : ℕ) (hits : List Hit) → hits_at (t + x) (hits_from g t hits) ≡ map (moved g t) (hits_at (g + x) hits)
+at_moved_from g t x [] = refl
+at_moved_from g t x (hit ∷ more) = by_place (at_moved_from g t x more) (cases_lt hit.place g)
+  where
+    by_way : hits_at (t + x) (hits_from g t more) ≡ map (moved g t) (hits_at (g + x) more) → g ≤ hit.place → (hit.place ≡ g + x) ⊎ ((hit.place < g + x) ⊎ (g + x < hit.place)) →
+        hits_at (t + x) (moved g t hit ∷ hits_from g t more) ≡ map (moved g t) (hits_at (g + x) (hit ∷ more))
+    by_way rest q (inl e) = at_yes (t + x) (moved g t hit) (hits_from g t more) (omega (arith, e)) ∙ ap (λ l. moved g t hit ∷ l) rest ∙ ap (map (moved g t)) (sym (at_yes (g + x) hit more e))
+    by_way rest q (inr (inl e)) = at_no (t + x) (moved g t hit) (hits_from g t more) (inl (omega (arith, e))) ∙ rest ∙ ap (map (moved g t)) (sym (at_no (g + x) hit more (inl e)))
+    by_way rest q (inr (inr e)) = at_no (t + x) (moved g t hit) (hits_from g t more) (inr (omega (arith, e))) ∙ rest ∙ ap (map (moved g t)) (sym (at_no (g + x) hit more (inr e)))
+
+    by_place : hits_at (t + x) (hits_from g t more) ≡ map (moved g t) (hits_at (g + x) more) → (hit.place < g) ⊎ (g ≤ hit.place) → hits_at (t + x) (hits_from g t (hit ∷ more)) ≡ map (moved g t) (hits_at (g + x) (hit ∷ more))
+    by_place rest (inl q) = ap (λ l. hits_at (t + x) (map (moved g t) l)) (from_no g hit more q) ∙ rest ∙ ap (map (moved g t)) (sym (at_no (g + x) hit more (inl (omega arith))))
+    by_place rest (inr q) = ap (λ l. hits_at (t + x) (map (moved g t) l)) (from_yes g hit more q) ∙ by_way rest q (three_ways hit.place (g + x))
+
+-- the hits at a place, and those after it
+at_and_after : (n c : ℕ) (hits : List Hit) → AreWithin n c hits → hits_at n hits ++ from_place (n + 1) hits ≡ hits
+at_and_after n c [] w = refl
+at_and_after n c (hit ∷ more) w = by_place (three_ways hit.place n)
+  where
+    none : hits_at n more ≡ []
+    none = at_low n (hit.place + 1) c more w.2 (omega (arith, w.0))
+
+    by_place : (hit.place ≡ n) ⊎ ((hit.place < n) ⊎ (n < hit.place)) → hits_at n (hit ∷ more) ++ from_place (n + 1) (hit ∷ more) ≡ hit ∷ more
+    by_place (inl e) =
+        let here : hits_at n (hit ∷ more) ≡ hit ∷ [] = at_yes n hit more e ∙ ap (λ l. hit ∷ l) none in
+        let after : from_place (n + 1) (hit ∷ more) ≡ more = from_no (n + 1) hit more (omega (arith, e)) ∙ from_all (hit.place + 1) (n + 1) c more w.2 (omega (arith, e)) in
+        λ i. here i ++ after i
+    by_place (inr (inl e)) =
+        let never : ⊥ = omega (arith, e, w.0) in
+        absurd never
+    by_place (inr (inr e)) =
+        let here : hits_at n (hit ∷ more) ≡ [] = at_no n hit more (inr e) ∙ none in
+        let after : from_place (n + 1) (hit ∷ more) ≡ hit ∷ more = from_yes (n + 1) hit more (omega (arith, e)) ∙ ap (λ l. hit ∷ l) (from_all (hit.place + 1) (n + 1) c more w.2 (omega (arith, e))) in
+        λ i. here i ++ after i
+
+-- where there is no other place, they are all at it
+at_all : (n : ℕ) (hits : List Hit) → AreWithin n (n + 1) hits → hits_at n hits ≡ hits
+at_all n hits w = sym (append-nil (hits_at n hits)) ∙ ap (λ l. hits_at n hits ++ l) (sym (from_none n (n + 1) (n + 1) hits w (omega arith))) ∙ at_and_after n (n + 1) hits w
+
+-- ---- hits that move
+
+-- moved once and again
+pub moved_again : (a b c : ℕ) (hits : List Hit) → map (moved b c) (map (moved a b) hits) ≡ map (moved a c) hits
+moved_again a b c [] = refl
+moved_again a b c (hit ∷ more) =
+    let same : c + ((b + (hit.place - a)) - b) ≡ c + (hit.place - a) = omega arith in
+    let rest = moved_again a b c more in
+    λ i. record hit { place = same i } ∷ rest i
+
+-- the hits at a place, moved once and again
+at_moved : (p f t b q : ℕ) (hits : List Hit) → t + (p - f) ≡ b → map (moved b q) (map (moved f t) (hits_at p hits)) ≡ map (moved p q) (hits_at p hits)
+at_moved p f t b q [] e = refl
+at_moved p f t b q (hit ∷ more) e = by_place (at_moved p f t b q more e) (three_ways hit.place p)
+  where
+    by_place : map (moved b q) (map (moved f t) (hits_at p more)) ≡ map (moved p q) (hits_at p more) → (hit.place ≡ p) ⊎ ((hit.place < p) ⊎ (p < hit.place)) →
+        map (moved b q) (map (moved f t) (hits_at p (hit ∷ more))) ≡ map (moved p q) (hits_at p (hit ∷ more))
+    by_place rest (inl h) =
+        let same : q + ((t + (hit.place - f)) - b) ≡ q + (hit.place - p) = omega (arith, h, e) in
+        ap (λ l. map (moved b q) (map (moved f t) l)) (at_yes p hit more h) ∙ (λ i. record hit { place = same i } ∷ rest i) ∙ ap (map (moved p q)) (sym (at_yes p hit more h))
+    by_place rest (inr h) = ap (λ l. map (moved b q) (map (moved f t) l)) (at_no p hit more h) ∙ rest ∙ ap (map (moved p q)) (sym (at_no p hit more h))
+
+-- the hits at a place that stays
+pub at_same : (p : ℕ) (hits : List Hit) → map (moved p p) (hits_at p hits) ≡ hits_at p hits
+at_same p [] = refl
+at_same p (hit ∷ more) = by_place (at_same p more) (three_ways hit.place p)
+  where
+    by_place : map (moved p p) (hits_at p more) ≡ hits_at p more → (hit.place ≡ p) ⊎ ((hit.place < p) ⊎ (p < hit.place)) → map (moved p p) (hits_at p (hit ∷ more)) ≡ hits_at p (hit ∷ more)
+    by_place rest (inl h) =
+        let same : p + (hit.place - p) ≡ hit.place = omega (arith, h) in
+        ap (map (moved p p)) (at_yes p hit more h) ∙ (λ i. record hit { place = same i } ∷ rest i) ∙ sym (at_yes p hit more h)
+    by_place rest (inr h) = ap (map (moved p p)) (at_no p hit more h) ∙ rest ∙ sym (at_no p hit more h)
+
+-- ---- lines that were replaced
+
+module _ (f r a many : ℕ) (come hits : List Hit) (within : AreWithin 0 many hits) (between : AreWithin f (f + a) come) where
+  -- the hits are in order
+  pub spliced_within : f + r ≤ many → AreWithin 0 (many - r + a) (spliced_hits f r a come hits)
+  spliced_within l =
+      let far : (f + a) + (many - (f + r)) ≡ many - r + a = omega arith in
+      let last : AreWithin (f + a) (many - r + a) (hits_from (f + r) (f + a) hits) = subst (λ (n : ℕ). AreWithin (f + a) n (hits_from (f + r) (f + a) hits)) far (from_moved_within (f + r) (f + a) 0 many hits within) in
+      within_joined 0 f (many - r + a) (hits_before f hits) (come ++ hits_from (f + r) (f + a) hits) (before_within 0 f many hits within)
+      (within_joined f (f + a) (many - r + a) come (hits_from (f + r) (f + a) hits) between last (omega arith) (omega arith)) (omega arith) (omega arith)
+
+  cut_at : (p : ℕ) → hits_at p (spliced_hits f r a come hits) ≡ hits_at p (hits_before f hits) ++ (hits_at p come ++ hits_at p (hits_from (f + r) (f + a) hits))
+  cut_at p =
+      let test = λ (hit : Hit). nat_eq hit.place p in
+      filter-append test (hits_before f hits) (come ++ hits_from (f + r) (f + a) hits) ∙ ap (λ l. hits_at p (hits_before f hits) ++ l) (filter-append test come (hits_from (f + r) (f + a) hits))
+
+  none_first : (p : ℕ) → f ≤ p → hits_at p (hits_before f hits) ≡ []
+  none_first p l = at_high p 0 f (hits_before f hits) (before_within 0 f many hits within) l
+
+  none_last : (p : ℕ) → p < f + a → hits_at p (hits_from (f + r) (f + a) hits) ≡ []
+  none_last p l = at_low p (f + a) ((f + a) + (many - (f + r))) (hits_from (f + r) (f + a) hits) (from_moved_within (f + r) (f + a) 0 many hits within) l
+
+  -- at a place before the lines
+  pub spliced_before : (p : ℕ) → p < f → hits_at p (spliced_hits f r a come hits) ≡ hits_at p hits
+  spliced_before p l =
+      let first = at_before p f hits l in
+      let mid = at_low p f (f + a) come between l in
+      let last = none_last p (omega arith) in
+      cut_at p ∙ (λ i. first i ++ (mid i ++ last i)) ∙ append-nil (hits_at p hits)
+
+  -- at one of the lines
+  pub spliced_among : (p : ℕ) → f ≤ p → p < f + a → hits_at p (spliced_hits f r a come hits) ≡ hits_at p come
+  spliced_among p l h =
+      let first = none_first p l in
+      let last = none_last p h in
+      cut_at p ∙ (λ i. first i ++ (hits_at p come ++ last i)) ∙ append-nil (hits_at p come)
+
+  -- at a place after them, with the line there
+  pub spliced_after : (p old q : ℕ) → f + a ≤ p → old + (f + a) ≡ p + (f + r) → map (moved p q) (hits_at p (spliced_hits f r a come hits)) ≡ map (moved old q) (hits_at old hits)
+  spliced_after p old q l e =
+      let x = p - (f + a) in
+      let there : (f + a) + x ≡ p = omega arith in
+      let was : (f + r) + x ≡ old = omega (arith, e) in
+      let first = none_first p (omega arith) in
+      let mid = at_high p f (f + a) come between l in
+      let last : hits_at p (hits_from (f + r) (f + a) hits) ≡ map (moved (f + r) (f + a)) (hits_at old hits) =
+      ap (λ n. hits_at n (hits_from (f + r) (f + a) hits)) (sym there) ∙ at_moved_from (f + r) (f + a) x hits ∙ ap (λ n. map (moved (f + r) (f + a)) (hits_at n hits)) was in
+      let is : hits_at p (spliced_hits f r a come hits) ≡ map (moved (f + r) (f + a)) (hits_at old hits) = cut_at p ∙ (λ i. first i ++ (mid i ++ last i)) in
+      ap (map (moved p q)) is ∙ at_moved old (f + r) (f + a) p q hits (omega (arith, e))
 
 -- ---- the hits of lines: S says which lines are selected, and P which parts are listed of one
 
@@ -152,58 +272,41 @@ module _ (S : Text → Type 0) (P : Text → List (ℕ × ℕ) → Type 0) where
           subst (AreWithin n (n + suc (length lines))) (sym (joined ∙ ap (λ l. l ++ rest) is))
           (within_wider n (n + 1) (n + suc (length lines)) (n + suc (length lines)) rest (omega arith) (omega arith) (wide w))
 
+  -- those of one line
+  one_within : (n : ℕ) (line : Text) (hits : List Hit) → HitBy (n, line) hits → AreWithin n (n + 1) hits
+  one_within n line hits (inl (selected, (parts, known, is))) = subst (AreWithin n (n + 1)) (sym is) (omega arith, omega arith, tt)
+  one_within n line hits (inr (passed, is)) = subst (AreWithin n (n + 1)) (sym is) tt
+
+  -- line by line: at each place there are the hits of its line
+  pub line_hits : (n : ℕ) (lines : List Text) (hits : List Hit) → By n lines hits → (i p : ℕ) → p ≡ n + i → i < length lines → HitBy (p, get_or lines i []) (hits_at p hits)
+  line_hits n [] hits h i p e l = absurd (omega (arith, l))
+  line_hits n (line ∷ lines) hits (front, rest, first, more, joined) zero p e l =
+      let here : n ≡ p = omega (arith, e) in
+      let none : hits_at n rest ≡ [] = at_low n (n + 1) ((n + 1) + length lines) rest (by_within (n + 1) lines rest more) (omega arith) in
+      let all : hits_at n front ≡ front = at_all n front (one_within n line front first) in
+      let is : hits_at n hits ≡ front = ap (hits_at n) joined ∙ filter-append (λ hit. nat_eq hit.place n) front rest ∙ (λ j. all j ++ none j) ∙ append-nil front in
+      subst (λ (m : ℕ). HitBy (m, line) (hits_at m hits)) here (subst (HitBy (n, line)) (sym is) first)
+  line_hits n (line ∷ lines) hits (front, rest, first, more, joined) (suc i) p e l =
+      let none : hits_at p front ≡ [] = at_high p n (n + 1) front (one_within n line front first) (omega (arith, e)) in
+      let is : hits_at p hits ≡ hits_at p rest = ap (hits_at p) joined ∙ filter-append (λ hit. nat_eq hit.place p) front rest ∙ ap (λ x. x ++ hits_at p rest) none in
+      subst (HitBy (p, get_or lines i [])) (sym is) (line_hits (n + 1) lines rest more i p (omega (arith, e)) (omega (arith, l)))
+
+  pub hits_by_line : (n : ℕ) (lines : List Text) (hits : List Hit) → AreWithin n (n + length lines) hits → ((i p : ℕ) → p ≡ n + i → i < length lines → HitBy (p, get_or lines i []) (hits_at p hits)) → By n lines hits
+  hits_by_line n [] [] w f = refl
+  hits_by_line n [] (hit ∷ more) w f = absurd (omega (arith, w.0, w.1))
+  hits_by_line n (line ∷ lines) hits w f =
+      let rest = from_place (n + 1) hits in
+      let far : n + suc (length lines) ≡ (n + 1) + length lines = omega arith in
+      let later : AreWithin (n + 1) ((n + 1) + length lines) rest = subst (λ (m : ℕ). AreWithin (n + 1) m rest) far (from_within n (n + 1) (n + suc (length lines)) hits w) in (
+        hits_at n hits,
+        rest,
+        f 0 n (omega arith) (omega arith),
+        hits_by_line (n + 1) lines rest later (λ i p e l. subst (HitBy (p, get_or lines i [])) (sym (at_from_place p (n + 1) hits (omega (arith, e)))) (f (suc i) p (omega (arith, e)) (omega (arith, l)))),
+        sym (at_and_after n (n + suc (length lines)) hits w),
+      )
+
   -- a hit of one line, moved with it
-  one_moved : (n a b m : ℕ) (line : Text) (hits : List Hit) → m ≡ b + (n - a) → HitBy (n, line) hits → HitBy (m, line) (map (moved a b) hits)
+  pub one_moved : (n a b m : ℕ) (line : Text) (hits : List Hit) → m ≡ b + (n - a) → HitBy (n, line) hits → HitBy (m, line) (map (moved a b) hits)
   one_moved n a b m line hits e (inl (selected, (parts, known, is))) =
       inl (selected, (parts, known, ap (map (moved a b)) is ∙ (λ i. record { place = sym e i; text = line; parts = parts } ∷ [])))
   one_moved n a b m line hits e (inr (passed, is)) = inr (passed, ap (map (moved a b)) is)
-
-  -- lines that move
-  pub by_moved : (n a b m : ℕ) (lines : List Text) (hits : List Hit) → a ≤ n → m ≡ b + (n - a) → By n lines hits → By m lines (map (moved a b) hits)
-  by_moved n a b m [] hits l e h = ap (map (moved a b)) h
-  by_moved n a b m (line ∷ lines) hits l e (front, rest, first, more, joined) = (
-    map (moved a b) front,
-    map (moved a b) rest,
-    one_moved n a b m line front e first,
-    by_moved (n + 1) a b (m + 1) lines rest (omega arith) (omega arith) more,
-    ap (map (moved a b)) joined ∙ map-append (moved a b) front rest,
-  )
-
-  -- a hit of one line, where what is cut off begins after it
-  one_before : (n b : ℕ) (line : Text) (hits : List Hit) → n < b → HitBy (n, line) hits → HitBy (n, line) (hits_before b hits)
-  one_before n b line hits l (inl (selected, (parts, known, is))) =
-      inl (selected, (parts, known, ap (hits_before b) is ∙ before_yes b (record { place = n; text = line; parts = parts }) [] l))
-  one_before n b line hits l (inr (passed, is)) = inr (passed, ap (hits_before b) is)
-
-  one_from : (n b : ℕ) (line : Text) (hits : List Hit) → n < b → HitBy (n, line) hits → from_place b hits ≡ []
-  one_from n b line hits l (inl (selected, (parts, known, is))) = ap (from_place b) is ∙ from_no b (record { place = n; text = line; parts = parts }) [] l
-  one_from n b line hits l (inr (passed, is)) = ap (from_place b) is
-
-  -- the hits of the first lines
-  pub first_hits : (n j b : ℕ) (lines : List Text) (hits : List Hit) → b ≡ n + j → By n lines hits → By n (take j lines) (hits_before b hits)
-  first_hits n zero b lines hits e h = before_none n b (n + length lines) hits (by_within n lines hits h) (omega arith)
-  first_hits n (suc j) b [] hits e h = ap (hits_before b) h
-  first_hits n (suc j) b (line ∷ lines) hits e (front, rest, first, more, joined) = (
-    hits_before b front,
-    hits_before b rest,
-    one_before n b line front (omega arith) first,
-    first_hits (n + 1) j b lines rest (omega arith) more,
-    ap (hits_before b) joined ∙ filter-append (λ hit. nat_lt hit.place b) front rest,
-  )
-
-  -- the hits of the last lines, where these move
-  pub last_hits : (n j b m : ℕ) (lines : List Text) (hits : List Hit) → b ≡ n + j → By n lines hits → By m (drop j lines) (hits_from b m hits)
-  last_hits n zero b m lines hits e h =
-      let all : from_place b hits ≡ hits = from_all n b (n + length lines) hits (by_within n lines hits h) (omega arith) in
-      subst (λ l. By m lines (map (moved b m) l)) (sym all) (by_moved n b m m lines hits (omega arith) (omega arith) h)
-  last_hits n (suc j) b m [] hits e h = ap (hits_from b m) h
-  last_hits n (suc j) b m (line ∷ lines) hits e (front, rest, first, more, joined) =
-      let none : from_place b front ≡ [] = one_from n b line front (omega arith) first in
-      let same : from_place b hits ≡ from_place b rest = ap (from_place b) joined ∙ filter-append (λ hit. nat_le b hit.place) front rest ∙ ap (λ l. l ++ from_place b rest) none in
-      subst (λ l. By m (drop j lines) (map (moved b m) l)) (sym same) (last_hits (n + 1) j b m lines rest (omega arith) more)
-
-  -- the hits of lines and of those after them
-  pub joined_hits : (n m : ℕ) (xs ys : List Text) (us vs : List Hit) → m ≡ n + length xs → By n xs us → By m ys vs → By n (xs ++ ys) (us ++ vs)
-  joined_hits n m xs ys us vs e h k =
-      let there : By (n + length xs) ys vs = subst (λ p. By p ys vs) e k in
-      subst (λ l. EachGives HitBy l (us ++ vs)) (sym (enumerate_from-append n xs ys)) (EachGives-append HitBy (enumerate_from n xs) (enumerate_from (n + length xs) ys) us vs h there)

@@ -1,5 +1,5 @@
 -- Three lists of which a relation holds place by place.
-use Rattle.grep_live.proofs.Prelude.{◌≡◌, ℕ, zero, suc, ◌<◌, List, [], ◌∷◌, ◌++◌, length, map, get_or, refl, ap, arith, set, remove, AllThree}
+use Rattle.grep_live.proofs.Prelude.{◌≡◌, ℕ, zero, suc, ◌<◌, List, [], ◌∷◌, ◌++◌, length, map, get_or, refl, ap, arith, set, remove, AllZip, AllThree}
 
 module _ {A B C : Type 0} (R : A → B → C → Type 0) where
   pub three-append : (xs : List A) (ys : List B) (zs : List C) (x : A) (y : B) (z : C) → AllThree R xs ys zs → R x y z → AllThree R (xs ++ x ∷ []) (ys ++ y ∷ []) (zs ++ z ∷ [])
@@ -31,13 +31,14 @@ module _ {A B C : Type 0} (R : A → B → C → Type 0) where
   three-set (a ∷ xs) (b ∷ ys) (c ∷ zs) (suc k) x dx y dy step h = (h.0, three-set xs ys zs k x dx y dy step h.1)
 
 -- another relation holds, of other elements of the second list
-pub three-map : {A B C : Type 0} (R Q : A → B → C → Type 0) (f : B → B) → ((x : A) (y : B) (z : C) → R x y z → Q x (f y) z) → (xs : List A) (ys : List B) (zs : List C) → AllThree R xs ys zs → AllThree Q xs (map f ys) zs
-three-map R Q f step [] [] [] h = tt
-three-map R Q f step [] [] (c ∷ zs) h = absurd h
-three-map R Q f step [] (b ∷ ys) zs h = absurd h
-three-map R Q f step (a ∷ xs) [] zs h = absurd h
-three-map R Q f step (a ∷ xs) (b ∷ ys) [] h = absurd h
-three-map R Q f step (a ∷ xs) (b ∷ ys) (c ∷ zs) h = (step a b c h.0, three-map R Q f step xs ys zs h.1)
+pub three-map : {A B C : Type 0} (R Q : A → B → C → Type 0) (Z : A → B → Type 0) (f : B → B) → ((x : A) (y : B) (z : C) → Z x y → R x y z → Q x (f y) z) →
+    (xs : List A) (ys : List B) (zs : List C) → AllZip Z xs ys → AllThree R xs ys zs → AllThree Q xs (map f ys) zs
+three-map R Q Z f step [] [] [] fit h = tt
+three-map R Q Z f step [] [] (c ∷ zs) fit h = absurd h
+three-map R Q Z f step [] (b ∷ ys) zs fit h = absurd fit
+three-map R Q Z f step (a ∷ xs) [] zs fit h = absurd fit
+three-map R Q Z f step (a ∷ xs) (b ∷ ys) [] fit h = absurd h
+three-map R Q Z f step (a ∷ xs) (b ∷ ys) (c ∷ zs) fit h = (step a b c fit.0 h.0, three-map R Q Z f step xs ys zs fit.1 h.1)
 
 pub three-weaker : {A B C : Type 0} (R Q : A → B → C → Type 0) → ((x : A) (y : B) (z : C) → R x y z → Q x y z) → (xs : List A) (ys : List B) (zs : List C) → AllThree R xs ys zs → AllThree Q xs ys zs
 three-weaker R Q step [] [] [] h = tt

@@ -1,10 +1,12 @@
 -- Only what changed is reported.
-use Rattle.grep_live.proofs.Prelude.{◌≡◌, ℕ, zero, suc, ◌+◌, ◌-◌, ◌<◌, ◌≤◌, Bool, List, [], ◌∷◌, ◌++◌, length, map, take, drop, get_or, Result, Ok, Err, ◌⊎◌, refl, sym, ap, subst, ◌∙◌, inl, inr, arith, set, cases_eq, append-nil, length-append, length-map, length-set, length-take, get_or-take, get_or-set_same, get_or-set_other, get_or_append_left, slice_range, slice_set, nat_eq, ◌&&◌, IfOk, remove, splice, Text, Expression, Flag, Count, IgnoreCase, FilesWithMatches, LineNumber, OnlyMatching, Quiet, NoMessages, InvertMatch, LineRegexp, Options, File, Inputs, Selected, file_at, EditFault, Edit, AddFile, AddMissing, DropFile, Splice, AddPatterns, DropPattern, SetFlag, SetSyntax, SetContext, Applies, EditGives, whole_file, missing_file, spliced, Attempt, ListedParts, Mark, AllThree, Hit, Watched, whole_mark, new_mark, mark_at, touched, marks_by_flag, MarksAfter, MarksGiven, Change, IsChange, AreWithin, change_rows, changes_rows, all_known, change_at, IsBetween, OneSplice, LeavesHits, LeavesEnds, EachLeavesEnds, OnlyTouched}
+use Rattle.grep_live.proofs.Prelude.{◌≡◌, ℕ, zero, suc, ◌+◌, ◌-◌, ◌<◌, ◌≤◌, Bool, true, List, [], ◌∷◌, ◌++◌, length, map, take, drop, get_or, Result, Ok, Err, ◌⊎◌, refl, sym, ap, subst, ◌∙◌, inl, inr, arith, set, cases_eq, cases_lt, append-nil, length-append, length-map, length-set, length-take, get_or-take, get_or-set_same, get_or-set_other, get_or_append_left, slice_set, nat_eq, ◌&&◌, if◌then◌else◌, flat_map, IfOk, remove, splice, Text, Expression, Flag, Count, IgnoreCase, FilesWithMatches, LineNumber, OnlyMatching, Quiet, NoMessages, InvertMatch, LineRegexp, Options, File, Inputs, file_at, EditFault, Edit, AddFile, AddMissing, DropFile, Splice, AddPatterns, DropPattern, ChangePattern, SetFlag, SetSyntax, SetContext, Applies, EditGives, whole_file, missing_file, spliced, option_of, Attempt, Marked, Stretch, Fits, IsAfter, IsBefore, Keeps, Moves, Splices, AllThree, Hit, Watched, whole_mark, new_mark, mark_at, marks_by_flag, IsFit, AreFit, MarksAfter, MarksGiven, Change, AreChanges, ChangesFile, AreWithin, hit_row, change_row, change_rows, changes_rows, all_known, changes_at, AreBetween, OneSplice, LeavesHits, LeavesEnds, EachLeavesEnds, OnlyTouched}
+use Rattle.std.specs.Bool.{⊤}
 use Rattle.std.proofs.lemmas.List.{get_or-map}
+use Rattle.grep_session.proofs.lemmas.FitLemmas.{fit_at, known_fit}
 use Rattle.grep_live.proofs.lemmas.ListLemmas.{three-at}
-use Rattle.grep_live.proofs.lemmas.HitLemmas.{within_wider, by_within}
-use Rattle.grep_session.proofs.lemmas.FitLemmas.{length-splice}
-use Rattle.grep_live.proofs.lemmas.CarryLemmas.{added_file, added_missing, context_set, file_dropped, option_set, refused_same, splice_accepted, syntax_set}
+use Rattle.grep_live.proofs.lemmas.HitLemmas.{within_wider}
+use Rattle.grep_live.proofs.lemmas.CarryLemmas.{added_file, added_missing, changed_pattern, context_set, edits_carry, file_dropped, option_set, refused_same, splice_accepted, syntax_set}
+use Rattle.grep_live.proofs.lemmas.CatchLemmas.{come_within}
 use Rattle.grep_live.proofs.lemmas.TwiceLemmas.{one_silent, all_silent}
 
 -- ---- hits in the order of their places
@@ -14,114 +16,248 @@ within_few : (a b : ℕ) (hits : List Hit) → AreWithin a b hits → length hit
 within_few a b [] w = omega arith
 within_few a b (hit ∷ more) w = omega (arith, w.0, w.1, within_few (hit.place + 1) b more w.2)
 
--- where there is no place, there is no hit
-within_none : (a b c d : ℕ) (hits : List Hit) → AreWithin a b hits → b ≤ a → AreWithin c d hits
-within_none a b c d [] w l = tt
-within_none a b c d (hit ∷ more) w l =
-    let none : ⊥ = omega (arith, w.0, w.1) in
-    absurd none
+-- ---- the ends of a file
 
--- ---- the change of one file
+-- the first stretch comes after the first lines, where it follows the line before place n
+abbrev FrontLeft : ℕ → ℕ → List Stretch → Type 0
+FrontLeft front n [] = ⊤
+FrontLeft front n (stretch ∷ more) = front ≤ n + stretch.kept
 
--- all lines are untouched; or the first `front` and the last `back` are, of `known` lines and of the `lines` that are there now
-abbrev AreUntouched : ℕ → ℕ → ℕ → ℕ → Mark → Type 0
-AreUntouched front back known lines mark =
-    (mark.known ≡ known) × ((mark ≡ whole_mark lines) ⊎ ((front ≤ mark.front) × (back ≤ mark.back) × (mark.front + mark.back ≤ known) × (mark.front + mark.back ≤ lines)))
+-- of these lines the last ones come after all stretches
+abbrev BackLeft : ℕ → ℕ → List Stretch → Type 0
+BackLeft back lines [] = ⊤
+BackLeft back lines (stretch ∷ more) = (later : ℕ) × (lines ≡ stretch.kept + stretch.added + later) × (back ≤ later) × BackLeft back later more
 
-module _ (es : List Expression) (options : Options) where
-  -- the hits of a change are among the added lines
-  change_within : (file : File) (mark : Mark) (change : Change) → IsChange es options file mark change → AreWithin mark.front (mark.front + (length file.lines - mark.front - mark.back)) change.come
-  change_within file mark change c =
-      let lines = slice_range file.lines change.front (change.front + change.added) in
-      let long : length lines ≤ change.added = omega (arith, length-take (change.front + change.added - change.front) (drop change.front file.lines)) in
-      within_wider mark.front change.front (change.front + length lines) (mark.front + (length file.lines - mark.front - mark.back)) change.come (omega (arith, c.is_front)) (omega (arith, c.is_front, c.is_added, long))
-      (by_within (Selected es options) (ListedParts es options) change.front lines change.come c.are_hits)
+front_left : (front : ℕ) (stretches : List Stretch) → ((place : ℕ) → place < front → IsBefore stretches place) → FrontLeft front 0 stretches
+front_left front [] h = tt
+front_left front (stretch ∷ more) h = by_place (cases_lt stretch.kept front)
+  where
+    by_place : (stretch.kept < front) ⊎ (front ≤ stretch.kept) → front ≤ 0 + stretch.kept
+    by_place (inl l) = absurd (omega (arith, h stretch.kept l))
+    by_place (inr l) = omega (arith, l)
 
-  -- a change replaces no untouched line, and has no hit among them
-  between_ends : (front back known : ℕ) (file : File) (mark : Mark) (change : Change) → AreUntouched front back known (length file.lines) mark → IsChange es options file mark change → IsBetween front back known (length file.lines) change
-  between_ends front back known file mark change (same, inl e) c =
-      let is_front : mark.front ≡ length file.lines = ap (λ m. m.front) e in
-      let is_known : mark.known ≡ length file.lines = ap (λ m. m.known) e in
-      let removed : change.removed ≡ 0 = omega (arith, c.is_removed, is_front, is_known) in
-      let added : change.added ≡ 0 = omega (arith, c.is_added, is_front) in
-      record {
-        replaces = inl (λ i. nat_eq (removed i) 0 && nat_eq (added i) 0);
-        hits = within_none mark.front (mark.front + (length file.lines - mark.front - mark.back)) front (length file.lines - back) change.come (change_within file mark change c) (omega (arith, is_front));
-      }
-  between_ends front back known file mark change (same, inr (first, last, before, now)) c =
-      record {
-        replaces = inr (omega (arith, first, c.is_front), omega (arith, same, last, before, c.is_front, c.is_removed), omega (arith, last, now, c.is_front, c.is_added));
-        hits = within_wider front mark.front (mark.front + (length file.lines - mark.front - mark.back)) (length file.lines - back) change.come first (omega (arith, now, last)) (change_within file mark change c);
-      }
+further_on : (front n : ℕ) (stretches : List Stretch) → front ≤ n → FrontLeft front n stretches
+further_on front n [] l = tt
+further_on front n (stretch ∷ more) l = omega (arith, l)
 
-  -- the change of a file in which lines were replaced
-  splice_change : (file : File) (start count : ℕ) (come : List Text) (change : Change) → start + count ≤ length file.lines →
-      IsChange es options (record file { lines = splice file.lines start (start + count) come }) (touched start (length file.lines - (start + count)) (whole_mark (length file.lines))) change →
-      (change.front ≡ start) × (change.removed ≡ count) × (change.added ≡ length come) × (length change.come ≤ length come)
-  splice_change file start count come change within c =
-      let new = record file { lines = splice file.lines start (start + count) come } in
-      let mark = touched start (length file.lines - (start + count)) (whole_mark (length file.lines)) in
-      let long = length-splice file.lines come start count within in
-      let few = within_few mark.front (mark.front + (length new.lines - mark.front - mark.back)) change.come (change_within new mark change c) in
-      (omega (arith, c.is_front), omega (arith, c.is_removed), omega (arith, c.is_added, long), omega (arith, few, long))
+back_left : (back lines place : ℕ) (stretches : List Stretch) → lines ≡ place + back → IsAfter stretches place → BackLeft back lines stretches
+back_left back lines place [] e h = tt
+back_left back lines place (stretch ∷ more) e (later, is, after) = (later + back, omega (arith, e, is), omega arith, back_left back (later + back) later more refl after)
+
+-- these last lines were known
+back_known : (back known lines : ℕ) (stretches : List Stretch) → Fits known lines stretches → BackLeft back lines stretches → back ≤ lines → back ≤ known
+back_known back known lines [] fits b l = omega (arith, fits, l)
+back_known back known lines (stretch ∷ more) (old, new, was, is, fits) (later, there, low, rest) l =
+    let same : later ≡ new = omega (arith, there, is) in
+    let left = back_known back old new more fits (subst (λ (n : ℕ). BackLeft back n more) same rest) (omega (arith, low, same)) in
+    omega (arith, was, left)
+
+-- the changes of a file whose ends are left
+changes_between : (es : List Expression) (options : Options) (front back now : ℕ) (stretches : List Stretch) (changes : List Change) (n many old new : ℕ) (lines : List Text) → many ≡ n + old → now ≡ n + new → Fits old new stretches →
+    FrontLeft front n stretches → BackLeft back new stretches → AreChanges es options n lines stretches changes → AreBetween front back many now changes
+changes_between es options front back now [] changes n many old new lines was is fits f b c =
+    let same : now ≡ many = omega (arith, was, is, fits) in
+    subst (AreBetween front back many now) (sym c) same
+changes_between es options front back now (stretch ∷ more) [] n many old new lines was is fits f b c = absurd c
+changes_between es options front back now (stretch ∷ more) (change ∷ changes) n many old new lines was is (older, newer, left, there, fits) f (later, at, low, rest) (is_front, is_removed, is_added, are_hits, others) =
+    let past = stretch.kept + stretch.added in
+    let same : later ≡ newer = omega (arith, at, there) in
+    let back_rest : BackLeft back newer more = subst (λ (m : ℕ). BackLeft back m more) same rest in
+    let known : back ≤ older = back_known back older newer more fits back_rest (omega (arith, low, same)) in
+    let after = many - change.removed + change.added in
+    let after_is : after ≡ (n + past) + older = omega (arith, was, left, is_removed, is_added) in
+    let hits : AreWithin (n + stretch.kept) ((n + stretch.kept) + (past - stretch.kept)) change.come = come_within es options (n + stretch.kept) stretch.kept past lines change.come are_hits in (
+      omega (arith, f, is_front),
+      omega (arith, is_front, is_removed, was, left, known),
+      within_wider front (n + stretch.kept) ((n + stretch.kept) + (past - stretch.kept)) (after - back) change.come f (omega (arith, after_is, known)) hits,
+      changes_between es options front back now more changes (n + past) after older newer (drop past lines) after_is (omega (arith, is, there)) fits (further_on front (n + past) more (omega (arith, f))) back_rest others,
+    )
 
 -- ---- one splice
 
+-- a change of nothing has no rows
+rows_none : (k : ℕ) (change : Change) → change.removed ≡ 0 → change.added ≡ 0 → change_rows k change ≡ []
+rows_none k change r a =
+    let idle : (nat_eq change.removed 0 && nat_eq change.added 0) ≡ true = λ i. nat_eq (r i) 0 && nat_eq (a i) 0 in
+    ap (λ b. if b then [] else change_row k change ∷ map hit_row change.come) idle
+
 -- where all files but one are as they were reported, rows are written of this one alone
-rows_of_one : (es : List Expression) (options : Options) (n k : ℕ) (files : List File) (changes : List Change) (file : File) (mark : Mark) → k < length files →
-    AllThree (IsChange es options) (set files k file) (set (map (λ file. whole_mark (length file.lines)) files) k mark) changes → changes_rows n changes ≡ change_rows (n + k) (change_at changes k)
+rows_of_one : (es : List Expression) (options : Options) (n k : ℕ) (files : List File) (changes : List (List Change)) (file : File) (mark : Marked) → k < length files →
+    AllThree (ChangesFile es options) (set files k file) (set (map (λ file. whole_mark (length file.lines)) files) k mark) changes → changes_rows n changes ≡ flat_map (change_rows (n + k)) (changes_at changes k)
 rows_of_one es options n k [] changes file mark l c = absurd (omega arith)
 rows_of_one es options n zero (first ∷ files) [] file mark l c = absurd c
 rows_of_one es options n zero (first ∷ files) (change ∷ changes) file mark l c =
     let same : n ≡ n + 0 = omega arith in
-    ap (λ rows. change_rows n change ++ rows) (all_silent es options (n + 1) files changes c.1) ∙ append-nil (change_rows n change) ∙ ap (λ m. change_rows m change) same
+    ap (λ rows. flat_map (change_rows n) change ++ rows) (all_silent es options (n + 1) files changes c.1) ∙ append-nil (flat_map (change_rows n) change) ∙ ap (λ m. flat_map (change_rows m) change) same
 rows_of_one es options n (suc k) (first ∷ files) [] file mark l c = absurd c
 rows_of_one es options n (suc k) (first ∷ files) (change ∷ changes) file mark l c =
     let same : (n + 1) + k ≡ n + suc k = omega arith in
     ap (λ rows. rows ++ changes_rows (n + 1) changes) (one_silent es options n first change c.0)
     ∙ rows_of_one es options (n + 1) k files changes file mark (omega arith) c.1
-    ∙ ap (λ m. change_rows m (change_at changes k)) same
+    ∙ ap (λ m. flat_map (change_rows m) (changes_at changes k)) same
 
 -- the mark of a file that was reported as it is
-known_at : (files : List File) (k : ℕ) → k < length files → mark_at (map (λ file. whole_mark (length file.lines)) files) k ≡ whole_mark (length (file_at files k).lines)
-known_at files k inside = get_or-map (λ (file : File). whole_mark (length file.lines)) files k (file_at [] k) new_mark inside
+pub known_at : (files : List File) (k : ℕ) → k < length files → mark_at (map (λ file. whole_mark (length file.lines)) files) k ≡ whole_mark (length (file_at files k).lines)
+known_at files k inside = get_or-map (λ (file : File). whole_mark (length file.lines)) files k (file_at [] k) (whole_mark 0) inside
+
+-- what a splice replaced, by the lines that it keeps of a file that was reported
+module _ (start count added kept removed put : ℕ) where
+  -- nothing was replaced, or these lines by so many
+  abbrev IsSpliced : Type 0
+  IsSpliced = ((removed ≡ 0) × (put ≡ 0) × (count ≡ 0) × (added ≡ 0)) ⊎ ((kept ≡ start) × (removed ≡ count) × (put ≡ added))
+
+  -- the line is kept by the stretch
+  abbrev Stayed : ℕ → ℕ → Type 0
+  Stayed line now = ((line < kept) × (now ≡ line)) ⊎ ((past : ℕ) × (line ≡ kept + removed + past) × (now ≡ kept + put + past))
+
+  module _ (only : (line now : ℕ) → Stayed line now → Moves start count added line now) (all : (line now : ℕ) → Moves start count added line now → Stayed line now) where
+    kept_before_start : kept < start → IsSpliced
+    kept_before_start l = by_stretch (all kept kept (inl (l, refl)))
+      where
+        by_start : removed ≡ 0 → put ≡ 0 → Moves start count added start start → IsSpliced
+        by_start r p (inl (h, e)) = absurd (omega (arith, h))
+        by_start r p (inr (past, e, f)) = inl (r, p, omega (arith, e), omega (arith, f))
+
+        by_stretch : Stayed kept kept → IsSpliced
+        by_stretch (inl (h, e)) = absurd (omega (arith, h))
+        by_stretch (inr (past, e, f)) =
+            let r : removed ≡ 0 = omega (arith, e) in
+            let p : put ≡ 0 = omega (arith, f) in
+            by_start r p (only start start (inr (start - kept, omega (arith, r, l), omega (arith, p, l))))
+
+    start_before_kept : start < kept → IsSpliced
+    start_before_kept l = by_start (only start start (inl (l, refl)))
+      where
+        by_stretch : count ≡ 0 → added ≡ 0 → Stayed kept kept → IsSpliced
+        by_stretch c a (inl (h, e)) = absurd (omega (arith, h))
+        by_stretch c a (inr (past, e, f)) = inl (omega (arith, e), omega (arith, f), c, a)
+
+        by_start : Moves start count added start start → IsSpliced
+        by_start (inl (h, e)) = absurd (omega (arith, h))
+        by_start (inr (past, e, f)) =
+            let c : count ≡ 0 = omega (arith, e) in
+            let a : added ≡ 0 = omega (arith, f) in
+            by_stretch c a (all kept kept (inr (kept - start, omega (arith, c, l), omega (arith, a, l))))
+
+    same_start : kept ≡ start → IsSpliced
+    same_start k =
+        by_both (only (kept + removed) (kept + put) (inr (0, omega arith, omega arith))) (all (start + count) (start + added) (inr (0, omega arith, omega arith)))
+      where
+        by_both : Moves start count added (kept + removed) (kept + put) → Stayed (start + count) (start + added) → IsSpliced
+        by_both (inl (h, e)) q = absurd (omega (arith, h, k))
+        by_both (inr (past, e, f)) (inl (h, g)) = absurd (omega (arith, h, k))
+        by_both (inr (past, e, f)) (inr (more, g, h)) = inr (k, omega (arith, e, g, k), omega (arith, e, f, g, h, k))
+
+    pub pinned : IsSpliced
+    pinned = by_place (cases_lt kept start) (cases_lt start kept)
+      where
+        by_place : (kept < start) ⊎ (start ≤ kept) → (start < kept) ⊎ (kept ≤ start) → IsSpliced
+        by_place (inl l) q = kept_before_start l
+        by_place (inr l) (inl m) = start_before_kept m
+        by_place (inr l) (inr m) = same_start (omega arith)
+
+-- a line that a splice of a reported file keeps
+module _ (start count added n : ℕ) (mark : Marked) (s : Splices start count added (whole_mark n) mark) where
+  only_moves : (line now : ℕ) → Keeps mark.stretches line now → Moves start count added line now
+  only_moves line now keeps =
+      let was = s.only line now keeps in
+      subst (λ (m : ℕ). Moves start count added m now) was.1 was.2
+
+  all_moves : (line now : ℕ) → Moves start count added line now → Keeps mark.stretches line now
+  all_moves line now moves = s.all (omega arith) line line now refl moves
+
+-- one stretch, with the lines after it in the same order
+module _ (stretch : Stretch) (line now : ℕ) where
+  stayed : Keeps (stretch ∷ []) line now → ((line < stretch.kept) × (now ≡ line)) ⊎ ((past : ℕ) × (line ≡ stretch.kept + stretch.removed + past) × (now ≡ stretch.kept + stretch.added + past))
+  stayed (inl h) = inl h
+  stayed (inr (past, later, was, is, same)) = inr (past, was, omega (arith, is, same))
+
+  keeps_one : ((line < stretch.kept) × (now ≡ line)) ⊎ ((past : ℕ) × (line ≡ stretch.kept + stretch.removed + past) × (now ≡ stretch.kept + stretch.added + past)) → Keeps (stretch ∷ []) line now
+  keeps_one (inl h) = inl h
+  keeps_one (inr (past, was, is)) = inr (past, past, was, is, refl)
+
+-- the rows of one file in which lines were replaced
+record ReportsFile (k start count added : ℕ) (changes : List Change) : Type 0 where
+  come : List Hit
+  rows : flat_map (change_rows k) changes ≡ change_rows k (record { front = start; removed = count; added = added; come = come })
+  few_hits : length come ≤ added
+
+nothing_put : (k start count added : ℕ) (changes : List Change) → count ≡ 0 → added ≡ 0 → flat_map (change_rows k) changes ≡ [] → ReportsFile k start count added changes
+nothing_put k start count added changes c a none = record {
+  come = [];
+  rows = none ∙ sym (rows_none k (record { front = start; removed = count; added = added; come = [] }) c a);
+  few_hits = omega arith;
+}
+
+reports_file : (es : List Expression) (options : Options) (k start count added n : ℕ) (lines : List Text) (mark : Marked) (stretches : List Stretch) (changes : List Change) → mark.stretches ≡ stretches → Splices start count added (whole_mark n) mark →
+    AreChanges es options 0 lines stretches changes → ReportsFile k start count added changes
+reports_file es options k start count added n lines mark [] changes is s c =
+    by_start (only_moves start count added n mark s start start (subst (λ (l : List Stretch). Keeps l start start) (sym is) refl))
+  where
+    by_start : Moves start count added start start → ReportsFile k start count added changes
+    by_start (inl (h, e)) = absurd (omega (arith, h))
+    by_start (inr (past, e, f)) = nothing_put k start count added changes (omega (arith, e)) (omega (arith, f)) (ap (flat_map (change_rows k)) c)
+reports_file es options k start count added n lines mark (stretch ∷ []) [] is s c = absurd c
+reports_file es options k start count added n lines mark (stretch ∷ []) (change ∷ changes) is s (is_front, is_removed, is_added, are_hits, none) =
+    by_way (pinned start count added stretch.kept stretch.removed stretch.added
+    (λ line now h. only_moves start count added n mark s line now (subst (λ (l : List Stretch). Keeps l line now) (sym is) (keeps_one stretch line now h)))
+    (λ line now h. stayed stretch line now (subst (λ (l : List Stretch). Keeps l line now) is (all_moves start count added n mark s line now h))))
+  where
+    alone : flat_map (change_rows k) (change ∷ changes) ≡ change_rows k change
+    alone = ap (λ l. flat_map (change_rows k) (change ∷ l)) none ∙ append-nil (change_rows k change)
+
+    by_way : IsSpliced start count added stretch.kept stretch.removed stretch.added → ReportsFile k start count added (change ∷ changes)
+    by_way (inl (r, p, c, a)) = nothing_put k start count added (change ∷ changes) c a (alone ∙ rows_none k change (is_removed ∙ r) (is_added ∙ p))
+    by_way (inr (f, r, a)) =
+        let first : change.front ≡ start = omega (arith, is_front, f) in
+        let few = within_few (0 + stretch.kept) ((0 + stretch.kept) + ((stretch.kept + stretch.added) - stretch.kept)) change.come (come_within es options (0 + stretch.kept) stretch.kept (stretch.kept + stretch.added) lines change.come are_hits) in
+        record {
+          come = change.come;
+          rows = alone ∙ ap (change_rows k) (λ i. record { front = first i; removed = (is_removed ∙ r) i; added = (is_added ∙ a) i; come = change.come });
+          few_hits = omega (arith, few, a);
+        }
+reports_file es options k start count added n lines mark (stretch ∷ (other ∷ more)) changes is s c =
+    let many : length mark.stretches ≡ suc (suc (length more)) = ap length is in
+    absurd (omega (arith, many, s.one_more))
 
 pub one_splice : OneSplice
-one_splice old new k start count lines es changes applies marked are =
+one_splice old new k start count lines es changes applies (mark, s, marked) are =
     let put = splice_accepted k start count lines old.inputs new.inputs applies in
     let files = old.inputs.files in
     let marks = (all_known old).marks in
     let options = old.inputs.options in
     let file = file_at files k in
-    let left = length file.lines - (start + count) in
+    let n = length file.lines in
     let new_file = record file { lines = splice file.lines start (start + count) lines } in
-    let mark = touched start left (mark_at marks k) in
-    let here : AllThree (IsChange es options) (set files k new_file) (set marks k mark) changes =
-    subst (λ (w : Watched). AllThree (IsChange es w.inputs.options) w.inputs.files w.marks changes) (λ i. record { inputs = put.is i; marks = marked i; states = new.states }) are in
-    let there = three-at (IsChange es options) (set files k new_file) (set marks k mark) changes k (file_at [] k) new_mark (change_at [] k) (omega (arith, put.inside, length-set files k new_file)) here in
+    let here : AllThree (ChangesFile es options) (set files k new_file) (set marks k mark) changes =
+    subst (λ (w : Watched). AllThree (ChangesFile es w.inputs.options) w.inputs.files w.marks changes) (λ i. record { inputs = put.is i; marks = marked i; states = new.states }) are in
+    let there = three-at (ChangesFile es options) (set files k new_file) (set marks k mark) changes k (file_at [] k) (whole_mark 0) [] (omega (arith, put.inside, length-set files k new_file)) here in
     let is_file : get_or (set files k new_file) k (file_at [] k) ≡ new_file = get_or-set_same files k new_file (file_at [] k) put.inside in
-    let is_mark : get_or (set marks k mark) k new_mark ≡ touched start left (whole_mark (length file.lines)) =
-    get_or-set_same marks k mark new_mark (omega (arith, put.inside, length-map files (λ (file : File). whole_mark (length file.lines)))) ∙ ap (touched start left) (known_at files k put.inside) in
-    let change : IsChange es options new_file (touched start left (whole_mark (length file.lines))) (change_at changes k) =
-    subst (λ (m : Mark). IsChange es options new_file m (change_at changes k)) is_mark (subst (λ (f : File). IsChange es options f (get_or (set marks k mark) k new_mark) (change_at changes k)) is_file there) in
-    let is = splice_change es options file start count lines (change_at changes k) put.within change in
+    let is_mark : get_or (set marks k mark) k (whole_mark 0) ≡ mark = get_or-set_same marks k mark (whole_mark 0) (omega (arith, put.inside, length-map files (λ (file : File). whole_mark (length file.lines)))) in
+    let change : ChangesFile es options new_file mark (changes_at changes k) =
+    subst (λ (m : Marked). ChangesFile es options new_file m (changes_at changes k)) is_mark (subst (λ (f : File). ChangesFile es options f (get_or (set marks k mark) k (whole_mark 0)) (changes_at changes k)) is_file there) in
+    let own : Splices start count (length lines) (whole_mark n) mark = subst (λ (m : Marked). Splices start count (length lines) m mark) (known_at files k put.inside) s in
+    let is = reports_file es options k start count (length lines) n new_file.lines mark mark.stretches (changes_at changes k) refl own change in
     let same : 0 + k ≡ k = omega arith in
     record {
-      of_one_file = rows_of_one es options 0 k files changes new_file mark put.inside here ∙ ap (λ m. change_rows m (change_at changes k)) same;
-      is_front = is.0;
-      is_removed = is.1;
-      is_added = is.2;
-      few_hits = is.3;
+      come = is.come;
+      rows = rows_of_one es options 0 k files changes new_file mark put.inside here ∙ ap (λ m. flat_map (change_rows m) (changes_at changes k)) same ∙ is.rows;
+      few_hits = is.few_hits;
     }
 
 -- ---- edits that leave lines of a file as they are
 
+-- no line among the first and the last ones was replaced, of a file that had so many lines
+abbrev AreUntouched : ℕ → ℕ → ℕ → Marked → Type 0
+AreUntouched front back known mark =
+    (mark.known ≡ known) × ((mark.stretches ≡ []) ⊎ (back ≤ mark.lines)) × ((place : ℕ) → place < front → IsBefore mark.stretches place) × ((past : ℕ) → IsAfter mark.stretches ((mark.lines - back) + past))
+
 -- file k is there with its mark, and its ends are untouched
-abbrev EndsUntouched : ℕ → ℕ → ℕ → ℕ → List File → List Mark → Type 0
-EndsUntouched k front back known files marks = (k < length files) × (k < length marks) × AreUntouched front back known (length (file_at files k).lines) (mark_at marks k)
+abbrev EndsUntouched : ℕ → ℕ → ℕ → ℕ → List File → List Marked → Type 0
+EndsUntouched k front back known files marks = (k < length files) × (k < length marks) × AreUntouched front back known (mark_at marks k)
 
 -- an element before one that is removed
-kept_before : {A : Type 0} (xs : List A) (k other : ℕ) (d : A) → k < other → k < length xs → (k < length (remove xs other)) × (get_or (remove xs other) k d ≡ get_or xs k d)
+pub kept_before : {A : Type 0} (xs : List A) (k other : ℕ) (d : A) → k < other → k < length xs → (k < length (remove xs other)) × (get_or (remove xs other) k d ≡ get_or xs k d)
 kept_before xs k other d l h =
     let long : k < length (take other xs) = omega (arith, length-take other xs) in (
       omega (arith, long, length-append (take other xs) (drop (suc other) xs)),
@@ -129,7 +265,7 @@ kept_before xs k other d l h =
     )
 
 -- the marks after an option was set that changes no hit
-left_by_flag : (flag : Flag) (marks : List Mark) → LeavesHits flag → marks_by_flag flag marks ≡ marks
+left_by_flag : (flag : Flag) (marks : List Marked) → LeavesHits flag → marks_by_flag flag marks ≡ marks
 left_by_flag Count marks h = refl
 left_by_flag IgnoreCase marks h = absurd h
 left_by_flag FilesWithMatches marks h = refl
@@ -140,116 +276,129 @@ left_by_flag NoMessages marks h = refl
 left_by_flag InvertMatch marks h = absurd h
 left_by_flag LineRegexp marks h = absurd h
 
-flag_leaves : (k front back : ℕ) (flag : Flag) (on : Bool) (old : Watched) (marks : List Mark) → LeavesEnds k front back (SetFlag flag on) old.inputs → MarksAfter (SetFlag flag on) old marks → marks ≡ old.marks
-flag_leaves k front back flag on old marks h (inl (same, e)) = e
-flag_leaves k front back flag on old marks (inl h) (inr (other, e)) = e ∙ left_by_flag flag old.marks h
-flag_leaves k front back flag on old marks (inr h) (inr (other, e)) = absurd (other h)
+pub flag_leaves : (flag : Flag) (on : Bool) (old : Watched) (marks : List Marked) → LeavesHits flag ⊎ (option_of flag old.inputs.options ≡ on) → MarksAfter (SetFlag flag on) old marks → marks ≡ old.marks
+flag_leaves flag on old marks h (inl (same, e)) = e
+flag_leaves flag on old marks (inl h) (inr (other, e)) = e ∙ left_by_flag flag old.marks h
+flag_leaves flag on old marks (inr h) (inr (other, e)) = absurd (other h)
 
 module _ (k front back known : ℕ) where
-  -- other lists with the same file and mark at this place
-  same_ends : (files new : List File) (marks more : List Mark) → k < length new → k < length more → file_at new k ≡ file_at files k → mark_at more k ≡ mark_at marks k → EndsUntouched k front back known files marks → EndsUntouched k front back known new more
-  same_ends files new marks more a b is_file is_mark u = (
-    a,
-    b,
-    subst (λ (f : File). AreUntouched front back known (length f.lines) (mark_at more k)) (sym is_file) (subst (AreUntouched front back known (length (file_at files k).lines)) (sym is_mark) u.2),
-  )
+  -- other lists with the same mark at this place
+  same_ends : (files new : List File) (marks more : List Marked) → k < length new → k < length more → mark_at more k ≡ mark_at marks k → EndsUntouched k front back known files marks → EndsUntouched k front back known new more
+  same_ends files new marks more a b is_mark u = (a, b, subst (AreUntouched front back known) (sym is_mark) u.2)
 
   -- lists that are these
-  as_these : (files new : List File) (marks more : List Mark) → new ≡ files → more ≡ marks → EndsUntouched k front back known files marks → EndsUntouched k front back known new more
+  as_these : (files new : List File) (marks more : List Marked) → new ≡ files → more ≡ marks → EndsUntouched k front back known files marks → EndsUntouched k front back known new more
   as_these files new marks more f m u = subst (λ (l : List File). EndsUntouched k front back known l more) (sym f) (subst (EndsUntouched k front back known files) (sym m) u)
 
-  ends_added : (files : List File) (marks : List Mark) (file : File) (mark : Mark) → EndsUntouched k front back known files marks → EndsUntouched k front back known (files ++ file ∷ []) (marks ++ mark ∷ [])
+  ends_added : (files : List File) (marks : List Marked) (file : File) (mark : Marked) → EndsUntouched k front back known files marks → EndsUntouched k front back known (files ++ file ∷ []) (marks ++ mark ∷ [])
   ends_added files marks file mark u =
-      same_ends files (files ++ file ∷ []) marks (marks ++ mark ∷ []) (omega (arith, u.0, length-append files (file ∷ []))) (omega (arith, u.1, length-append marks (mark ∷ [])))
-      (get_or_append_left files (file ∷ []) (file_at [] k) k u.0) (get_or_append_left marks (mark ∷ []) new_mark k u.1) u
+      same_ends files (files ++ file ∷ []) marks (marks ++ mark ∷ []) (omega (arith, u.0, length-append files (file ∷ []))) (omega (arith, u.1, length-append marks (mark ∷ []))) (get_or_append_left marks (mark ∷ []) (whole_mark 0) k u.1) u
 
-  ends_dropped : (files : List File) (marks : List Mark) (other : ℕ) → k < other → EndsUntouched k front back known files marks → EndsUntouched k front back known (remove files other) (remove marks other)
+  ends_dropped : (files : List File) (marks : List Marked) (other : ℕ) → k < other → EndsUntouched k front back known files marks → EndsUntouched k front back known (remove files other) (remove marks other)
   ends_dropped files marks other l u =
       let file = kept_before files k other (file_at [] k) l u.0 in
-      let mark = kept_before marks k other new_mark l u.1 in
-      same_ends files (remove files other) marks (remove marks other) file.0 mark.0 file.1 mark.1 u
+      let mark = kept_before marks k other (whole_mark 0) l u.1 in
+      same_ends files (remove files other) marks (remove marks other) file.0 mark.0 mark.1 u
 
   -- lines of another file were replaced
-  ends_apart : (files : List File) (marks : List Mark) (other : ℕ) (file : File) (mark : Mark) → (other ≡ k → ⊥) → EndsUntouched k front back known files marks → EndsUntouched k front back known (set files other file) (set marks other mark)
+  ends_apart : (files : List File) (marks : List Marked) (other : ℕ) (file : File) (mark : Marked) → (other ≡ k → ⊥) → EndsUntouched k front back known files marks → EndsUntouched k front back known (set files other file) (set marks other mark)
   ends_apart files marks other file mark apart u =
-      same_ends files (set files other file) marks (set marks other mark) (omega (arith, u.0, length-set files other file)) (omega (arith, u.1, length-set marks other mark))
-      (get_or-set_other files other k file (file_at [] k) (λ e. apart (sym e))) (get_or-set_other marks other k mark new_mark (λ e. apart (sym e))) u
+      same_ends files (set files other file) marks (set marks other mark) (omega (arith, u.0, length-set files other file)) (omega (arith, u.1, length-set marks other mark)) (get_or-set_other marks other k mark (whole_mark 0) (λ e. apart (sym e))) u
 
   -- lines of this file between its ends were replaced
-  touched_between : (start count lines new : ℕ) (mark : Mark) → front ≤ start → start + count + back ≤ lines → start + (lines - (start + count)) ≤ new → AreUntouched front back known lines mark → AreUntouched front back known new (touched start (lines - (start + count)) mark)
-  touched_between start count lines new mark a b l (same, inl e) =
-      let is_front : mark.front ≡ lines = ap (λ m. m.front) e in
-      let is_back : mark.back ≡ lines = ap (λ m. m.back) e in
-      let is_known : mark.known ≡ lines = ap (λ m. m.known) e in
-      (same, inr (omega (arith, a, b, is_front), omega (arith, b, is_back), omega (arith, b, same, is_known), omega (arith, l)))
-  touched_between start count lines new mark a b l (same, inr (first, last, before, now)) =
-      (same, inr (omega (arith, a, first), omega (arith, b, last), omega (arith, before), omega (arith, l)))
+  touched_between : (start count added : ℕ) (old new : Marked) → front ≤ start → start + count + back ≤ old.lines → Splices start count added old new → AreUntouched front back known old → AreUntouched front back known new
+  touched_between start count added old new a b s (same, some, before, after) = (
+    s.known ∙ same,
+    inr (omega (arith, b, s.lines)),
+    (λ place l. s.before place (omega (arith, l, a)) (before place l)),
+    (λ past.
+        let x = (old.lines - back - (start + count)) + past in
+        let was : (old.lines - back) + past ≡ start + count + x = omega (arith, b) in
+        let is : start + added + x ≡ (new.lines - back) + past = omega (arith, b, s.lines) in
+        subst (IsAfter new.stretches) is (s.after x (subst (IsAfter old.stretches) was (after past)))),
+  )
 
-  ends_here : (files : List File) (marks : List Mark) (start count : ℕ) (come : List Text) → front ≤ start → start + count + back ≤ length (file_at files k).lines → EndsUntouched k front back known files marks →
-      EndsUntouched k front back known (spliced files k start count come) (slice_set marks k (touched start (length (file_at files k).lines - (start + count)) (mark_at marks k)))
-  ends_here files marks start count come a b u =
-      let file = file_at files k in
-      let new_file = record file { lines = splice file.lines start (start + count) come } in
-      let mark = touched start (length file.lines - (start + count)) (mark_at marks k) in
-      let is_file : new_file ≡ file_at (set files k new_file) k = sym (get_or-set_same files k new_file (file_at [] k) u.0) in
-      let is_mark : mark ≡ mark_at (set marks k mark) k = sym (get_or-set_same marks k mark new_mark u.1) in
-      let left : AreUntouched front back known (length new_file.lines) mark = touched_between start count (length file.lines) (length new_file.lines) (mark_at marks k) a b (omega (arith, length-splice file.lines come start count (omega (arith, b)))) u.2 in (
-        omega (arith, u.0, length-set files k new_file),
-        omega (arith, u.1, length-set marks k mark),
-        subst (λ (f : File). AreUntouched front back known (length f.lines) (mark_at (set marks k mark) k)) is_file (subst (AreUntouched front back known (length new_file.lines)) is_mark left),
-      )
+  ends_here : (files : List File) (marks : List Marked) (file : File) (start count added : ℕ) (mark : Marked) → front ≤ start → start + count + back ≤ (mark_at marks k).lines → Splices start count added (mark_at marks k) mark → EndsUntouched k front back known files marks →
+      EndsUntouched k front back known (set files k file) (set marks k mark)
+  ends_here files marks file start count added mark a b s u =
+      let is_mark : mark ≡ mark_at (set marks k mark) k = sym (get_or-set_same marks k mark (whole_mark 0) u.1) in
+      (omega (arith, u.0, length-set files k file), omega (arith, u.1, length-set marks k mark), subst (AreUntouched front back known) is_mark (touched_between start count added (mark_at marks k) mark a b s u.2))
 
-  ends_spliced : (other start count : ℕ) (come : List Text) (old new : Watched) → LeavesEnds k front back (Splice other start count come) old.inputs → Applies (Splice other start count come) old.inputs (Ok new.inputs) → MarksAfter (Splice other start count come) old new.marks →
+  ends_spliced : (other start count : ℕ) (come : List Text) (old new : Watched) → AreFit old.inputs.files old.marks → LeavesEnds k front back (Splice other start count come) old.inputs → Applies (Splice other start count come) old.inputs (Ok new.inputs) → MarksAfter (Splice other start count come) old new.marks →
       EndsUntouched k front back known old.inputs.files old.marks → EndsUntouched k front back known new.inputs.files new.marks
-  ends_spliced other start count come old new h a m u =
-      as_these (spliced old.inputs.files other start count come) new.inputs.files (slice_set old.marks other (touched start (length (file_at old.inputs.files other).lines - (start + count)) (mark_at old.marks other))) new.marks
-      (ap (λ (i : Inputs). i.files) (splice_accepted other start count come old.inputs new.inputs a).is) m (by_file h (cases_eq other k))
+  ends_spliced other start count come old new fit h a (mark, s, is) u =
+      as_these (spliced old.inputs.files other start count come) new.inputs.files (slice_set old.marks other mark) new.marks (ap (λ (i : Inputs). i.files) (splice_accepted other start count come old.inputs new.inputs a).is) is (by_file h (cases_eq other k))
     where
-      apart : (other ≡ k → ⊥) → EndsUntouched k front back known (spliced old.inputs.files other start count come) (slice_set old.marks other (touched start (length (file_at old.inputs.files other).lines - (start + count)) (mark_at old.marks other)))
-      apart e = ends_apart old.inputs.files old.marks other (record (file_at old.inputs.files other) { lines = splice (file_at old.inputs.files other).lines start (start + count) come }) (touched start (length (file_at old.inputs.files other).lines - (start + count)) (mark_at old.marks other)) e u
+      apart : (other ≡ k → ⊥) → EndsUntouched k front back known (spliced old.inputs.files other start count come) (slice_set old.marks other mark)
+      apart e = ends_apart old.inputs.files old.marks other (record (file_at old.inputs.files other) { lines = splice (file_at old.inputs.files other).lines start (start + count) come }) mark e u
 
-      by_file : LeavesEnds k front back (Splice other start count come) old.inputs → (other ≡ k) ⊎ (other ≡ k → ⊥) →
-          EndsUntouched k front back known (spliced old.inputs.files other start count come) (slice_set old.marks other (touched start (length (file_at old.inputs.files other).lines - (start + count)) (mark_at old.marks other)))
+      here : (o : ℕ) → o ≡ k → front ≤ start → start + count + back ≤ length (file_at old.inputs.files k).lines → Splices start count (length come) (mark_at old.marks o) mark → EndsUntouched k front back known (spliced old.inputs.files o start count come) (slice_set old.marks o mark)
+      here o e first within s =
+          let own : Splices start count (length come) (mark_at old.marks k) mark = subst (λ (m : ℕ). Splices start count (length come) (mark_at old.marks m) mark) e s in
+          let lines : (mark_at old.marks k).lines ≡ length (file_at old.inputs.files k).lines = (fit_at old.inputs.files old.marks fit k u.0).0 in
+          subst (λ (m : ℕ). EndsUntouched k front back known (spliced old.inputs.files m start count come) (slice_set old.marks m mark)) (sym e)
+          (ends_here old.inputs.files old.marks (record (file_at old.inputs.files k) { lines = splice (file_at old.inputs.files k).lines start (start + count) come }) start count (length come) mark first (omega (arith, within, lines)) own u)
+
+      by_file : LeavesEnds k front back (Splice other start count come) old.inputs → (other ≡ k) ⊎ (other ≡ k → ⊥) → EndsUntouched k front back known (spliced old.inputs.files other start count come) (slice_set old.marks other mark)
       by_file (inl e) q = apart e
       by_file (inr p) (inr e) = apart e
-      by_file (inr (first, last)) (inl e) =
-          subst (λ (o : ℕ). EndsUntouched k front back known (spliced old.inputs.files o start count come) (slice_set old.marks o (touched start (length (file_at old.inputs.files o).lines - (start + count)) (mark_at old.marks o)))) (sym e)
-          (ends_here old.inputs.files old.marks start count come first last u)
+      by_file (inr (first, last)) (inl e) = here other e first last s
 
-  ends_accepted : (edit : Edit) (old new : Watched) → LeavesEnds k front back edit old.inputs → Applies edit old.inputs (Ok new.inputs) → MarksAfter edit old new.marks → EndsUntouched k front back known old.inputs.files old.marks → EndsUntouched k front back known new.inputs.files new.marks
-  ends_accepted (AddFile name lines) old new h a m u =
+  ends_accepted : (edit : Edit) (old new : Watched) → AreFit old.inputs.files old.marks → LeavesEnds k front back edit old.inputs → Applies edit old.inputs (Ok new.inputs) → MarksAfter edit old new.marks → EndsUntouched k front back known old.inputs.files old.marks → EndsUntouched k front back known new.inputs.files new.marks
+  ends_accepted (AddFile name lines) old new fit h a m u =
       let file = whole_file name lines in
+      let mark = new_mark (length lines) in
       let is = added_file name lines old.inputs new.inputs a in
-      as_these (old.inputs.files ++ file ∷ []) new.inputs.files (old.marks ++ new_mark ∷ []) new.marks (ap (λ (i : Inputs). i.files) is) m (ends_added old.inputs.files old.marks file new_mark u)
-  ends_accepted (AddMissing name) old new h a m u =
+      as_these (old.inputs.files ++ file ∷ []) new.inputs.files (old.marks ++ mark ∷ []) new.marks (ap (λ (i : Inputs). i.files) is) m (ends_added old.inputs.files old.marks file mark u)
+  ends_accepted (AddMissing name) old new fit h a m u =
       let file = missing_file name in
       let is = added_missing name old.inputs new.inputs a in
-      as_these (old.inputs.files ++ file ∷ []) new.inputs.files (old.marks ++ new_mark ∷ []) new.marks (ap (λ (i : Inputs). i.files) is) m (ends_added old.inputs.files old.marks file new_mark u)
-  ends_accepted (DropFile other) old new h a m u =
+      as_these (old.inputs.files ++ file ∷ []) new.inputs.files (old.marks ++ new_mark 0 ∷ []) new.marks (ap (λ (i : Inputs). i.files) is) m (ends_added old.inputs.files old.marks file (new_mark 0) u)
+  ends_accepted (DropFile other) old new fit h a m u =
       let is = file_dropped other old.inputs new.inputs a in
       as_these (remove old.inputs.files other) new.inputs.files (remove old.marks other) new.marks (ap (λ (i : Inputs). i.files) is) m (ends_dropped old.inputs.files old.marks other h u)
-  ends_accepted (Splice other start count lines) old new h a m u = ends_spliced other start count lines old new h a m u
-  ends_accepted (AddPatterns list) old new h a m u = absurd h
-  ends_accepted (DropPattern p) old new h a m u = absurd h
-  ends_accepted (SetFlag flag on) old new h a m u =
+  ends_accepted (Splice other start count lines) old new fit h a m u = ends_spliced other start count lines old new fit h a m u
+  ends_accepted (AddPatterns list) old new fit h a m u = absurd h
+  ends_accepted (DropPattern p) old new fit h a m u = absurd h
+  ends_accepted (ChangePattern p text) old new fit h a m u =
+      let is = changed_pattern p text old.inputs new.inputs a in
+      let same : new.marks ≡ old.marks = elim m [ inl e ↦ e.1 | inr e ↦ absurd (e.0 h) ] in
+      as_these old.inputs.files new.inputs.files old.marks new.marks (ap (λ (i : Inputs). i.files) is) same u
+  ends_accepted (SetFlag flag on) old new fit h a m u =
       let is = option_set flag on old.inputs new.inputs a in
-      as_these old.inputs.files new.inputs.files old.marks new.marks (ap (λ (i : Inputs). i.files) is) (flag_leaves k front back flag on old new.marks h m) u
-  ends_accepted (SetSyntax syntax) old new h a m u =
+      as_these old.inputs.files new.inputs.files old.marks new.marks (ap (λ (i : Inputs). i.files) is) (flag_leaves flag on old new.marks h m) u
+  ends_accepted (SetSyntax syntax) old new fit h a m u =
       let is = syntax_set syntax old.inputs new.inputs a in
       let same : new.marks ≡ old.marks = elim m [ inl e ↦ e.1 | inr e ↦ absurd (e.0 h) ] in
       as_these old.inputs.files new.inputs.files old.marks new.marks (ap (λ (i : Inputs). i.files) is) same u
-  ends_accepted (SetContext context) old new h a m u =
+  ends_accepted (SetContext context) old new fit h a m u =
       as_these old.inputs.files new.inputs.files old.marks new.marks (ap (λ (i : Inputs). i.files) (context_set context old.inputs new.inputs a)) m u
 
-  ends_given : (edit : Edit) (answer : Result (Unit {0}) EditFault) (old new : Watched) → EditGives edit old.inputs new.inputs answer → MarksGiven edit old new.marks answer → IfOk answer (λ _. LeavesEnds k front back edit old.inputs) →
+  ends_given : (edit : Edit) (answer : Result (Unit {0}) EditFault) (old new : Watched) → AreFit old.inputs.files old.marks → EditGives edit old.inputs new.inputs answer → MarksGiven edit old new.marks answer → IfOk answer (λ _. LeavesEnds k front back edit old.inputs) →
       EndsUntouched k front back known old.inputs.files old.marks → EndsUntouched k front back known new.inputs.files new.marks
-  ends_given edit (Ok done) old new g m h u = ends_accepted edit old new h g m u
-  ends_given edit (Err fault) old new g m h u =
+  ends_given edit (Ok done) old new fit g m h u = ends_accepted edit old new fit h g m u
+  ends_given edit (Err fault) old new fit g m h u =
       as_these old.inputs.files new.inputs.files old.marks new.marks (ap (λ (i : Inputs). i.files) (refused_same (Unit {0}) edit old.inputs new.inputs fault g)) m u
 
-  ends_left : (tried : List Attempt) (old new : Watched) → EachLeavesEnds k front back tried old new → EndsUntouched k front back known old.inputs.files old.marks → EndsUntouched k front back known new.inputs.files new.marks
-  ends_left [] old new same u = subst (λ (w : Watched). EndsUntouched k front back known w.inputs.files w.marks) (sym same) u
-  ends_left (attempt ∷ more) old new (between, gives, marked, leaves, rest) u = ends_left more between new rest (ends_given attempt.edit attempt.answer old between gives marked leaves u)
+  ends_left : (tried : List Attempt) (old new : Watched) → AreFit old.inputs.files old.marks → EachLeavesEnds k front back tried old new → EndsUntouched k front back known old.inputs.files old.marks →
+      AreFit new.inputs.files new.marks × EndsUntouched k front back known new.inputs.files new.marks
+  ends_left [] old new fit same u = subst (λ (w : Watched). AreFit w.inputs.files w.marks × EndsUntouched k front back known w.inputs.files w.marks) (sym same) (fit, u)
+  ends_left (attempt ∷ more) old new fit (between, gives, marked, leaves, rest) u =
+      let next = (edits_carry attempt.edit attempt.answer old between fit gives marked).fit in
+      ends_left more between new next rest (ends_given attempt.edit attempt.answer old between fit gives marked leaves u)
+
+-- a file of which the ends are untouched
+module _ (es : List Expression) (options : Options) (front back known : ℕ) where
+  ends_reported : (file : File) (mark : Marked) (changes : List Change) → IsFit file mark → AreUntouched front back known mark → ChangesFile es options file mark changes → AreBetween front back known (length file.lines) changes
+  ends_reported file mark changes fit (same, some, before, after) c = by_stretches some
+    where
+      by_back : BackLeft back mark.lines mark.stretches → AreBetween front back known (length file.lines) changes
+      by_back b =
+          changes_between es options front back (length file.lines) mark.stretches changes 0 known mark.known mark.lines file.lines (omega (arith, same)) (omega (arith, fit.0)) fit.1 (front_left front mark.stretches before) b c
+
+      by_stretches : (mark.stretches ≡ []) ⊎ (back ≤ mark.lines) → AreBetween front back known (length file.lines) changes
+      by_stretches (inl none) = by_back (subst (BackLeft back mark.lines) (sym none) tt)
+      by_stretches (inr l) = by_back (back_left back mark.lines ((mark.lines - back) + 0) mark.stretches (omega (arith, l)) (after 0))
 
 pub only_touched : OnlyTouched
 only_touched tried old new k front back es changes inside leave are =
@@ -258,6 +407,7 @@ only_touched tried old new k front back es changes inside leave are =
     let known = length (file_at files k).lines in
     let long : k < length marks = omega (arith, inside, length-map files (λ (file : File). whole_mark (length file.lines))) in
     let whole : mark_at marks k ≡ whole_mark known = known_at files k inside in
-    let left = ends_left k front back known tried (all_known old) new leave (inside, long, (ap (λ m. m.known) whole, inl whole)) in
-    let change = three-at (IsChange es new.inputs.options) new.inputs.files new.marks changes k (file_at [] k) new_mark (change_at [] k) left.0 are in
-    between_ends es new.inputs.options front back known (file_at new.inputs.files k) (mark_at new.marks k) (change_at changes k) left.2 change
+    let begun : AreUntouched front back known (mark_at marks k) = subst (AreUntouched front back known) (sym whole) (refl, inl refl, (λ place l. tt), (λ past. tt)) in
+    let left = ends_left k front back known tried (all_known old) new (known_fit files) leave (inside, long, begun) in
+    let change = three-at (ChangesFile es new.inputs.options) new.inputs.files new.marks changes k (file_at [] k) (whole_mark 0) [] left.1.0 are in
+    ends_reported es new.inputs.options front back known (file_at new.inputs.files k) (mark_at new.marks k) (changes_at changes k) (fit_at new.inputs.files new.marks left.0 k left.1.0) left.1.2 change

@@ -1,15 +1,11 @@
 -- Of files whose changes were all reported no row is written.
-use Rattle.grep_live.proofs.Prelude.{◌≡◌, ℕ, ◌+◌, true, List, [], ◌∷◌, ◌++◌, length, map, refl, ap, arith, if◌then◌else◌, nat_eq, ◌&&◌, Expression, Options, File, AllThree, whole_mark, Change, IsChange, is_idle, hit_row, change_row, change_rows, changes_rows, NothingTwice}
+use Rattle.grep_live.proofs.Prelude.{◌≡◌, ℕ, ◌+◌, List, [], ◌∷◌, ◌++◌, length, map, refl, ap, flat_map, Expression, Options, File, AllThree, whole_mark, Change, ChangesFile, change_rows, changes_rows, NothingTwice}
 
 module _ (es : List Expression) (options : Options) where
-  pub one_silent : (k : ℕ) (file : File) (change : Change) → IsChange es options file (whole_mark (length file.lines)) change → change_rows k change ≡ []
-  one_silent k file change c =
-      let removed : change.removed ≡ 0 = omega (arith, c.is_removed) in
-      let added : change.added ≡ 0 = omega (arith, c.is_added) in
-      let idle : is_idle change ≡ true = λ i. nat_eq (removed i) 0 && nat_eq (added i) 0 in
-      ap (λ b. if b then [] else change_row k change ∷ map hit_row change.come) idle
+  pub one_silent : (k : ℕ) (file : File) (changes : List Change) → ChangesFile es options file (whole_mark (length file.lines)) changes → flat_map (change_rows k) changes ≡ []
+  one_silent k file changes c = ap (flat_map (change_rows k)) c
 
-  pub all_silent : (k : ℕ) (files : List File) (changes : List Change) → AllThree (IsChange es options) files (map (λ file. whole_mark (length file.lines)) files) changes → changes_rows k changes ≡ []
+  pub all_silent : (k : ℕ) (files : List File) (changes : List (List Change)) → AllThree (ChangesFile es options) files (map (λ file. whole_mark (length file.lines)) files) changes → changes_rows k changes ≡ []
   all_silent k [] [] c = refl
   all_silent k [] (change ∷ changes) c = absurd c
   all_silent k (file ∷ files) [] c = absurd c

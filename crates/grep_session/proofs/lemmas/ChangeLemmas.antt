@@ -1,5 +1,5 @@
 -- What is found in a line after a change of the patterns.
-use Rattle.grep_session.proofs.Prelude.{◌≡◌, ℕ, zero, suc, ◌+◌, ◌<◌, ◌≤◌, Bool, true, false, not, ◌==◌, nat_tests, ◌||◌, List, [], ◌∷◌, ◌++◌, inl, inr, length, map, take, drop, length-take, nat_eq, nat_lt, get_or, MatchBool, Decides, Any, refl, sym, ap, subst, ◌∙◌, All, Option, None, Some, IfSome, arith, remove, list_any, Text, Expression, Holds, Matches, IsFound, ArePartsFrom, AreParts, Options, Matched, Rebuild, PartsOnly, Added, Dropped, KeptFile, KeptLine, without, Change, Span, ArePartsAgain, first_sought, has_new_parts, left_numbers, HasChanged, HasNewParts, IsWithin, WasKept, WasFileKept, kept_lines, AreMatching, AddsMatching, ArePartsKept, IsKept, span_places, drop-length, append-nil, length-append, false≢true}
+use Rattle.grep_session.proofs.Prelude.{◌≡◌, ℕ, zero, suc, ◌+◌, ◌<◌, ◌≤◌, Bool, true, false, not, ◌==◌, nat_tests, ◌||◌, List, [], ◌∷◌, ◌++◌, inl, inr, length, map, take, drop, length-take, nat_eq, nat_lt, get_or, MatchBool, Decides, Any, refl, sym, ap, subst, ◌∙◌, All, Option, None, Some, IfSome, arith, remove, list_any, Text, Expression, Holds, Matches, IsFound, ArePartsFrom, AreParts, Options, Matched, Rebuild, PartsOnly, Added, Dropped, Replaced, KeptFile, KeptLine, without, Change, Span, ArePartsAgain, first_sought, has_new_parts, left_numbers, later_numbers, sought, filter, slice_set, append_assoc, take_all, HasChanged, HasNewParts, IsWithin, WasKept, WasFileKept, kept_lines, AreMatching, AddsMatching, ArePartsKept, IsKept, span_places, drop-length, append-nil, length-append, false≢true}
 use Rattle.std.specs.Bool.{⊤}
 use Rattle.re_syntax.proofs.lemmas.Decisions.{Any-first, Any-later, Any-cases, Any-none}
 use Rattle.re_syntax.proofs.lemmas.SomeOfJoined.{Any-single}
@@ -8,6 +8,8 @@ use Rattle.grep_session.proofs.lemmas.DroppingLemmas.{AreMatching-drop, eq_same,
 use Rattle.grep_session.proofs.lemmas.ColumnLemmas.{front_and_rest}
 use Rattle.grep_session.proofs.lemmas.FindingLemmas.{AreMatching-append}
 use Rattle.grep_session.proofs.lemmas.FindsLemmas.{no_parts}
+use Rattle.grep_session.proofs.lemmas.ReplacingLemmas.{matching_before, matching_after, put_alone, parts_replaced}
+use Rattle.std.proofs.lemmas.List.{set_split, length-set, get_or-set_same}
 use Rattle.grep_session.proofs.lemmas.SurvivingLemmas.{same_parts, found_matches, none_match, parts_survive}
 
 -- ---- the numbers of those that match
@@ -127,6 +129,64 @@ module _ (p : ℕ) (es before changed : List Expression) (options : Options) (li
   went_stay : list_any (λ n. nat_eq n p) line.found.numbers ≡ false → (ps : List (ℕ × ℕ)) → AreParts before line.text options.line_regexp ps → AreParts es line.text options.line_regexp ps
   went_stay off ps are = subst (λ l. AreParts l line.text options.line_regexp ps) (sym h.3) (parts_without line.text options.line_regexp before p h.0 h.1 (λ m. false≢true (sym off ∙ removed_decides.1 m)) 0 ps are)
 
+-- ---- a line with another expression in the place of one
+
+decided_pair : {A : Type 0} (P : A → Type 0) (x y : A) (a b : Bool) → Decides a (P x) → Decides b (P y) → Decides (a || b) (Any P (x ∷ y ∷ []))
+decided_pair P x y true b d e = decided_yes (Any-first P x (y ∷ []) (d.0 refl))
+decided_pair P x y false b d e = (
+  (λ t. Any-later P x (y ∷ []) (Any-first P y [] (e.0 t))),
+  (λ some. elim (Any-cases P x (y ∷ []) some) [ inl m ↦ absurd (false≢true (d.1 m)) | inr l ↦ e.1 (Any-single P y l) ]),
+)
+
+module _ (p : ℕ) (es before changed : List Expression) (options : Options) (line : KeptLine) (h : HasChanged (Replaced p) es before changed) (k : IsKept before options line) (mid new : List ℕ)
+    (a : AddsMatching line.text options.line_regexp p (sought (Replaced p) es) (left_numbers (Replaced p) line.found.numbers) mid) (later : new ≡ mid ++ later_numbers (Replaced p) line.found.numbers) where
+  -- the numbers are right
+  put_numbers : AreMatching line.text options.line_regexp 0 es new
+  put_numbers =
+      let text = line.text in
+      let entire = options.line_regexp in
+      let old = line.found.numbers in
+      let come = h.1 in
+      let place : 0 + p ≡ p = omega arith in
+      let next : 0 + suc p ≡ p + length (come ∷ []) = omega arith in
+      let many : p ≡ 0 + length (take p before) = omega (arith, length-take p before, h.2) in
+      let low = filter (λ n. nat_lt n p) old in
+      let high = filter (λ n. nat_lt p n) old in
+      let first = subst (λ q. AreMatching text entire 0 (take p before) (filter (λ n. nat_lt n q) old)) place (matching_before text entire 0 p before old k.matching) in
+      let last = subst (λ n. AreMatching text entire n (drop (suc p) before) high) next (subst (λ q. AreMatching text entire (0 + suc p) (drop (suc p) before) (filter (λ n. nat_lt q n) old)) place (matching_after text entire 0 p before old k.matching)) in
+      let alone : sought (Replaced p) es ≡ come ∷ [] = ap (sought (Replaced p)) h.4 ∙ put_alone before p come h.2 in
+      let one = subst (λ l. AreMatching text entire p l a.found) alone a.are_found in
+      let rest = AreMatching-append text entire p (come ∷ []) (drop (suc p) before) a.found high one last in
+      let all = AreMatching-append text entire 0 (take p before) (come ∷ drop (suc p) before) low (a.found ++ high) first (subst (λ n. AreMatching text entire n (come ∷ drop (suc p) before) (a.found ++ high)) many rest) in
+      let whole : take p before ++ come ∷ drop (suc p) before ≡ es = sym (h.4 ∙ set_split before p come h.2) in
+      let numbers : low ++ (a.found ++ high) ≡ new = sym (later ∙ ap (λ l. l ++ high) a.added ∙ append_assoc low a.found high) in
+      subst (AreMatching text entire 0 es) numbers (subst (λ l. AreMatching text entire 0 l (low ++ (a.found ++ high))) whole all)
+
+  -- whether the old expression or the new one matches it
+  put_pair : Decides (list_any (λ n. nat_eq n p) line.found.numbers || list_any (λ n. nat_eq n p) new) (Matched (h.0 ∷ h.1 ∷ []) options line.text)
+  put_pair =
+      let text = line.text in
+      let entire = options.line_regexp in
+      let place : 0 + p ≡ p = omega arith in
+      let inside : p < length es = omega (arith, h.2, ap length h.4, length-set before p h.1) in
+      let was = subst (λ q. Decides (list_any (λ n. nat_eq n q) line.found.numbers) (Matches (get_or before p h.0) text entire)) place (number_decides text entire 0 p before line.found.numbers h.0 h.2 k.matching) in
+      let is = subst (λ q. Decides (list_any (λ n. nat_eq n q) new) (Matches (get_or es p h.1) text entire)) place (number_decides text entire 0 p es new h.1 inside put_numbers) in
+      let there : get_or es p h.1 ≡ h.1 = ap (λ (l : List Expression). get_or l p h.1) h.4 ∙ get_or-set_same before p h.1 h.1 h.2 in
+      decided_pair (λ e. Matches e text entire) h.0 h.1 _ _
+      (subst (λ e. Decides (list_any (λ n. nat_eq n p) line.found.numbers) (Matches e text entire)) (sym h.3) was)
+      (subst (λ e. Decides (list_any (λ n. nat_eq n p) new) (Matches e text entire)) there is)
+
+  put_verdict : Decides (list_any (λ n. nat_eq n p) line.found.numbers || list_any (λ n. nat_eq n p) new) (Matched changed options line.text)
+  put_verdict = subst (λ c. Decides (list_any (λ n. nat_eq n p) line.found.numbers || list_any (λ n. nat_eq n p) new) (Matched c options line.text)) (sym h.5) put_pair
+
+  -- the parts stay where neither matches
+  put_stay : (list_any (λ n. nat_eq n p) line.found.numbers || list_any (λ n. nat_eq n p) new) ≡ false → (ps : List (ℕ × ℕ)) → AreParts before line.text options.line_regexp ps → AreParts es line.text options.line_regexp ps
+  put_stay off ps are =
+      let P : Expression → Type 0 = λ e. Matches e line.text options.line_regexp in
+      let not_old : P (get_or before p h.0) → ⊥ = λ m. false≢true (sym off ∙ put_pair.1 (Any-first P h.0 (h.1 ∷ []) (subst P (sym h.3) m))) in
+      let not_new : P h.1 → ⊥ = λ m. false≢true (sym off ∙ put_pair.1 (Any-later P h.0 (h.1 ∷ []) (Any-first P h.1 [] m))) in
+      subst (λ l. AreParts l line.text options.line_regexp ps) (sym h.4) (parts_replaced line.text options.line_regexp before p h.0 h.1 h.2 not_old not_new 0 ps are)
+
 -- ---- a line with more expressions
 
 module _ (line : Text) (entire : Bool) where
@@ -191,6 +251,11 @@ adds_nothing line entire first fs old new none a =
     let nothing : a.found ≡ [] = subst (λ gs. AreMatching line entire first gs a.found) none a.are_found in
     a.added ∙ ap (λ l. old ++ l) nothing ∙ append-nil old
 
+-- where no number is later, and all expressions from the first on are searched for
+adds_alone : (line : Text) (entire : Bool) (first : ℕ) (es : List Expression) (old mid new : List ℕ) → AddsMatching line entire first (drop first (take (length es) es)) old mid → new ≡ mid ++ [] → AddsMatching line entire first (drop first es) old new
+adds_alone line entire first es old mid new a later =
+    subst (AddsMatching line entire first (drop first es) old) (sym (later ∙ append-nil mid)) (subst (λ l. AddsMatching line entire first (drop first l) old mid) (take_all (length es) es (omega arith)) a)
+
 module _ (es before changed : List Expression) (options : Options) (line : KeptLine) (new : List ℕ) where
   -- the numbers of a line, and whether its parts are searched, are right; kept parts stay the parts
   -- where they are not
@@ -200,31 +265,37 @@ module _ (es before changed : List Expression) (options : Options) (line : KeptL
     pub stay : has_new_parts change line.found.numbers new ≡ false → (ps : List (ℕ × ℕ)) → AreParts before line.text options.line_regexp ps → AreParts es line.text options.line_regexp ps
     pub kept : has_new_parts change line.found.numbers new ≡ false → ArePartsKept before options line.text line.found.spans
 
-  pub line_changes : (change : Change) → IsWithin change (length es) → HasChanged change es before changed → WasKept change before options line
-      → AddsMatching line.text options.line_regexp (first_sought change (length es)) (drop (first_sought change (length es)) es) (left_numbers change line.found.numbers) new → LineChanges change
-  line_changes Rebuild within h k a = record {
+  pub line_changes : (change : Change) → IsWithin change (length es) → HasChanged change es before changed → WasKept change before options line → (mid : List ℕ)
+      → AddsMatching line.text options.line_regexp (first_sought change (length es)) (sought change es) (left_numbers change line.found.numbers) mid → new ≡ mid ++ later_numbers change line.found.numbers → LineChanges change
+  line_changes Rebuild within h k mid b later = let a = adds_alone line.text options.line_regexp 0 es [] mid new b later in record {
     matching = subst (AreMatching line.text options.line_regexp 0 es) (sym a.added) a.are_found;
     decided = decided_yes tt;
     stay = λ off. absurd (false≢true (sym off));
     kept = λ off. absurd (false≢true (sym off));
   }
-  line_changes PartsOnly within h k a = record {
+  line_changes PartsOnly within h k mid b later = let a = adds_alone line.text options.line_regexp (length es) es line.found.numbers mid new b later in record {
     matching = subst (AreMatching line.text options.line_regexp 0 es) (sym (adds_nothing line.text options.line_regexp (length es) (drop (length es) es) line.found.numbers new (none_after es) a))
         (subst (λ fs. AreMatching line.text options.line_regexp 0 fs line.found.numbers) h k);
     decided = decided_yes tt;
     stay = λ off. absurd (false≢true (sym off));
     kept = λ off. absurd (false≢true (sym off));
   }
-  line_changes (Added first) within h k a = record {
+  line_changes (Added first) within h k mid b later = let a = adds_alone line.text options.line_regexp first es line.found.numbers mid new b later in record {
     matching = came_numbers first es before changed options line h k new a within;
     decided = came_verdict first es before changed options line h k new a;
     stay = came_stay first es before changed options line h k new a;
     kept = λ off. k.parts;
   }
-  line_changes (Dropped p) within h k a = record {
+  line_changes (Dropped p) within h k mid b later = let a = adds_alone line.text options.line_regexp (length es) es (without p line.found.numbers) mid new b later in record {
     matching = subst (AreMatching line.text options.line_regexp 0 es) (sym (adds_nothing line.text options.line_regexp (length es) (drop (length es) es) (without p line.found.numbers) new (none_after es) a)) (went_numbers p es before changed options line h k);
     decided = went_verdict p es before changed options line h k;
     stay = went_stay p es before changed options line h k;
+    kept = λ off. k.parts;
+  }
+  line_changes (Replaced p) within h k mid a later = record {
+    matching = put_numbers p es before changed options line h k mid new a later;
+    decided = put_verdict p es before changed options line h k mid new a later;
+    stay = put_stay p es before changed options line h k mid new a later;
     kept = λ off. k.parts;
   }
 

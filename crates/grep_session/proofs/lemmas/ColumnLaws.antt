@@ -1,8 +1,8 @@
 -- What is found in the lines of a chunk after a change, from what is found in each line.
-use Rattle.grep_session.proofs.Prelude.{◌≡◌, ℕ, ◌+◌, ◌-◌, ◌*◌, ◌<◌, ◌==◌, Bool, true, false, not, Decides, List, [], ◌∷◌, ◌++◌, All, length, map, drop, get_or, refl, sym, ap, subst, ◌∙◌, arith, length-append, append-nil, false≢true, nat_tests, length-map, length-drop, nil_from_length, get_or_default, All-append, Text, Expression, newline, terminated, Span, AddsAtMost, search_cost, Steps, Adds, Options, FoundIn, finds_at, is_paired, numbers_at, Matched, AreBelow, KeptLine, no_line, line_text, seen, Change, Rebuild, PartsOnly, Added, Dropped, ChangeCost, CostOfEach, HasChanged, HasNewParts, IsWithin, NewPartsCost, SearchesEach, WasKept, searched_for, AreAllParts, AreDecided, AreMatches, Grows, IsAdded, KeepsAll, first_sought, has_new_parts, left_numbers, AddsMatching, IsKept}
+use Rattle.grep_session.proofs.Prelude.{◌≡◌, ℕ, ◌+◌, ◌-◌, ◌*◌, ◌<◌, ◌==◌, Bool, true, false, not, Decides, List, [], ◌∷◌, ◌++◌, All, length, map, drop, get_or, refl, sym, ap, subst, ◌∙◌, arith, length-append, append-nil, append_assoc, false≢true, nat_tests, length-map, length-drop, nil_from_length, get_or_default, All-append, Text, Expression, newline, terminated, Span, AddsAtMost, search_cost, Steps, Adds, Options, FoundIn, finds_at, is_paired, numbers_at, Matched, AreBelow, KeptLine, no_line, line_text, seen, Change, Rebuild, PartsOnly, Added, Dropped, Replaced, ChangeCost, CostOfEach, HasChanged, HasNewParts, IsWithin, NewPartsCost, SearchesEach, WasKept, searched_for, AreAllParts, AreDecided, AreMatches, Grows, IsAdded, KeepsAll, first_sought, has_new_parts, later_numbers, left_numbers, past_sought, sought, AddsMatching, IsKept}
 use Rattle.std.proofs.Math.ListN.{get_or-map}
 use Rattle.re_meter.proofs.lemmas.Adding.{all_both}
-use Rattle.line_chunks.proofs.lemmas.PairLaws.{lt_no}
+use Rattle.line_chunks.proofs.lemmas.PairLaws.{lt_no, numbers_at-append}
 use Rattle.line_chunks.proofs.lemmas.SeenLaws.{length-seen, line_seen}
 use Rattle.grep_session.proofs.lemmas.ChangeLemmas.{LineChanges, line_changes, line_right, some_decides}
 use Rattle.grep_session.proofs.lemmas.StepLemmas.{NewPartsCost-exists, each_none, each_front}
@@ -31,8 +31,10 @@ module _ (change : Change) (es before changed : List Expression) (options : Opti
       let high : k < length (map line_text lines) = omega (arith, inside, length-map lines line_text) in
       let text : get_or (map line_text lines) k [] ≡ line_text line = get_or-map line_text lines k no_line in
       let left : numbers_at k m.left ≡ left_numbers change line.found.numbers = m.are_left.numbers k ∙ ap (left_numbers change) (own k inside) in
-      let adds = subst (λ t. AddsMatching t options.line_regexp first (drop first es) (numbers_at k m.left) (numbers_at k new)) text (m.adds.numbers k high) in
-      line_changes es before changed options line (numbers_at k new) change within h (all k no_line inside) (subst (λ ns. AddsMatching line.text options.line_regexp first (drop first es) ns (numbers_at k new)) left adds)
+      let adds = subst (λ t. AddsMatching t options.line_regexp first (sought change es) (numbers_at k m.left) (numbers_at k m.mid)) text (m.adds.numbers k high) in
+      let later : numbers_at k new ≡ numbers_at k m.mid ++ later_numbers change line.found.numbers =
+      ap (numbers_at k) m.later.added ∙ numbers_at-append k m.mid m.later.more ∙ ap (λ ns. numbers_at k m.mid ++ ns) (m.later.numbers k ∙ ap (later_numbers change) (own k inside)) in
+      line_changes es before changed options line (numbers_at k new) change within h (all k no_line inside) (numbers_at k m.mid) (subst (λ ns. AddsMatching line.text options.line_regexp first (sought change es) ns (numbers_at k m.mid)) left adds) later
 
   -- whether some expression matches them, and whether their parts are searched anew, is known
   pub column_decides : AreDecided change changed es options (map line_text lines) old new
@@ -74,18 +76,22 @@ module _ (change : Change) (es before changed : List Expression) (options : Opti
       keeps Rebuild a k = absurd a
       keeps PartsOnly a k = absurd a
       keeps (Dropped p) a k = absurd a
+      keeps (Replaced p) a k = absurd a
 
       none_added : new ≡ old
       none_added =
           let left : m.left ≡ old = keeps change added m.are_left.all in
-          let nothing : m.adds.more ≡ [] = none_more old m.adds.more (same ∙ ap length m.adds.added ∙ ap (λ l. length (l ++ m.adds.more)) left) in
-          m.adds.added ∙ (λ i. left i ++ nothing i) ∙ append-nil old
+          let more = m.adds.more ++ m.later.more in
+          let whole : new ≡ old ++ more = m.later.added ∙ ap (λ l. l ++ m.later.more) m.adds.added ∙ append_assoc m.left m.adds.more m.later.more ∙ ap (λ l. l ++ more) left in
+          let nothing : more ≡ [] = none_more old more (same ∙ ap length whole) in
+          whole ∙ ap (λ l. old ++ l) nothing ∙ append-nil old
 
       few_numbers : (c : Change) → IsAdded c → (ns ms : List ℕ) → ns ≡ ms → has_new_parts c ms ns ≡ false
       few_numbers (Added first) a ns ms e = lt_no (length ms) (length ns) (omega (arith, ap length e))
       few_numbers Rebuild a ns ms e = absurd a
       few_numbers PartsOnly a ns ms e = absurd a
       few_numbers (Dropped p) a ns ms e = absurd a
+      few_numbers (Replaced p) a ns ms e = absurd a
 
 -- ---- steps
 
@@ -118,25 +124,29 @@ module _ (change : Change) (changed es : List Expression) (options : Options) wh
       chunk_steps texts begun ended ended few (each_front C (NewPartsCost-exists change changed es options) [] texts texts ended ended refl (each_none C ended))
 
 -- so many patterns are searched for
-pub sought_count : (change : Change) (es before changed : List Expression) (many : ℕ) → many ≡ length es → HasChanged change es before changed → many - first_sought change many ≡ searched_for change changed
+pub sought_count : (change : Change) (es before changed : List Expression) (many : ℕ) → many ≡ length es → HasChanged change es before changed → past_sought change many - first_sought change many ≡ searched_for change changed
 sought_count Rebuild es before changed many same h = omega (arith, same, ap length h)
 sought_count PartsOnly es before changed many same h = omega arith
 sought_count (Added first) es before changed many same h = omega (arith, same, ap length h.1, length-drop first es)
 sought_count (Dropped p) es before changed many same h = omega arith
+sought_count (Replaced p) es before changed many same h = omega arith
 
 -- ---- the pairs of a chunk after a change
 
 module _ (change : Change) (texts : List Text) (entire : Bool) (es : List Expression) (old new : List (ℕ × ℕ)) (m : AreMatches change texts entire es old new) where
   -- they are of its lines
   pub matches_below : AreBelow (length texts) new
-  matches_below = subst (AreBelow (length texts)) (sym m.adds.added) (All-append (λ (pair : ℕ × ℕ). pair.0 < length texts) m.left m.adds.more m.are_left.within m.adds.within)
+  matches_below =
+      let below = subst (AreBelow (length texts)) (sym m.adds.added) (All-append (λ (pair : ℕ × ℕ). pair.0 < length texts) m.left m.adds.more m.are_left.within m.adds.within) in
+      subst (AreBelow (length texts)) (sym m.later.added) (All-append (λ (pair : ℕ × ℕ). pair.0 < length texts) m.mid m.later.more below m.later.within)
 
   -- where patterns were added they are the old ones and more
   pub matches_grow : Grows change old new
   matches_grow = by_change change m.are_left.all
     where
       by_change : (c : Change) → KeepsAll c old m.left → Grows c old new
-      by_change (Added first) left = (m.adds.more, m.adds.added ∙ ap (λ l. l ++ m.adds.more) left)
+      by_change (Added first) left = (m.adds.more ++ m.later.more, m.later.added ∙ ap (λ l. l ++ m.later.more) m.adds.added ∙ append_assoc m.left m.adds.more m.later.more ∙ ap (λ l. l ++ (m.adds.more ++ m.later.more)) left)
       by_change Rebuild left = tt
       by_change PartsOnly left = tt
       by_change (Dropped p) left = tt
+      by_change (Replaced p) left = tt

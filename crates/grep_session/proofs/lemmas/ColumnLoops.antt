@@ -1,5 +1,5 @@
 -- The lines of a chunk that an expression matches, noted one after the other.
-use Rattle.grep_session.proofs.Prelude.{◌≡◌, ℕ, zero, suc, take, drop, length-take, length-drop, ◌+◌, ◌<◌, ◌≤◌, Bool, List, [], ◌∷◌, ◌++◌, inl, inr, length, get_or, refl, sym, ap, subst, ◌∙◌, arith, append-nil, append_assoc, if◌then◌else◌, Some, ◌⊎◌, Text, Expression, Matches, numbers_at, AreBelow, Change, Rebuild, PartsOnly, Added, Dropped, IsWithin, AddsColumn, IsNextLine, first_sought, AddsMatching, cases_lt, All-push, All-nil, All-append}
+use Rattle.grep_session.proofs.Prelude.{◌≡◌, ℕ, zero, suc, take, drop, length-take, length-drop, ◌+◌, ◌<◌, ◌≤◌, Bool, List, [], ◌∷◌, ◌++◌, inl, inr, length, get_or, refl, sym, ap, subst, ◌∙◌, arith, append-nil, append_assoc, if◌then◌else◌, Some, ◌⊎◌, Text, Expression, Matches, numbers_at, AreBelow, Change, Rebuild, PartsOnly, Added, Dropped, Replaced, IsWithin, AddsColumn, IsNextLine, first_sought, past_sought, AddsMatching, cases_lt, All-push, All-nil, All-append}
 use Rattle.line_chunks.proofs.lemmas.PairLaws.{eq_yes, eq_no, numbers_at-append}
 use Rattle.grep_session.proofs.lemmas.FindingLemmas.{adds_one_matching, passes_one_matching, adds_none_matching, adds_more_matching}
 
@@ -97,9 +97,10 @@ module _ (texts : List Text) (entire : Bool) where
       let many : length (take number es) ≡ number = omega (arith, length-take number es, high) in
       columns_more first number (drop first (take number es)) (e ∷ []) (drop first (take (number + 1) es)) old mid new (omega (arith, length-drop first (take number es), many, low)) (ap (drop first) next ∙ drop_push first (take number es) e (omega (arith, low, many))) a b
 
--- the first expression that is searched for is one of all, or the place after them
-pub sought_within : (change : Change) (many : ℕ) → IsWithin change many → first_sought change many ≤ many
-sought_within Rebuild many h = omega arith
-sought_within PartsOnly many h = omega arith
-sought_within (Added first) many h = h
-sought_within (Dropped p) many h = omega arith
+-- the expressions that are searched for are some of all
+pub sought_within : (change : Change) (many : ℕ) → IsWithin change many → (first_sought change many ≤ past_sought change many) × (past_sought change many ≤ many)
+sought_within Rebuild many h = (omega arith, omega arith)
+sought_within PartsOnly many h = (omega arith, omega arith)
+sought_within (Added first) many h = (h, omega arith)
+sought_within (Dropped p) many h = (omega arith, omega arith)
+sought_within (Replaced p) many h = (omega arith, omega (arith, h))

@@ -1,6 +1,6 @@
 -- The laws of the definitions: an edit has one outcome for its inputs, and one cost if no
 -- allocation fails, which is the least.
-use Rattle.grep_session.proofs.Prelude.{◌≡◌, ℕ, ◌+◌, ◌*◌, ◌<◌, ◌≤◌, Bool, true, false, List, [], ◌∷◌, length, Result, Ok, Err, MatchBool, take, get_or, length-take, refl, sym, ap, subst, ◌∙◌, arith, PatternFault, Syntax, Text, Expression, Matches, list_of, AreParts, IsReadable, Options, Chosen, searches_for, search_cost, Inputs, Matched, EditFault, NoSuchFile, FileIsMissing, OutOfRange, LineHasNewline, NoSuchPattern, Pattern, TooManyPatterns, Memory, Edit, AddFile, AddMissing, DropFile, Splice, AddPatterns, DropPattern, SetFlag, SetSyntax, SetContext, Applies, Reads, IsFirstRefused, AreAlike, EditsAreDetermined, MemorySavesEditSteps, Touched, Touches, PartsSearchCost, PartsCostOf, PartsCost, Costs, CostsAs, CostsAccepted, pairs_cost, parts_alone, all_lines, get_or-take, mul-le-mul_right}
+use Rattle.grep_session.proofs.Prelude.{◌≡◌, ℕ, ◌+◌, ◌*◌, ◌<◌, ◌≤◌, Bool, true, false, List, [], ◌∷◌, length, Result, Ok, Err, MatchBool, take, get_or, length-take, refl, sym, ap, subst, ◌∙◌, arith, PatternFault, Syntax, Text, Expression, Matches, list_of, AreParts, IsReadable, Options, Chosen, searches_for, search_cost, Inputs, Matched, EditFault, NoSuchFile, FileIsMissing, OutOfRange, LineHasNewline, NoSuchPattern, Pattern, TooManyPatterns, Memory, Edit, AddFile, AddMissing, DropFile, Splice, AddPatterns, ChangePattern, DropPattern, SetFlag, SetSyntax, SetContext, Applies, Reads, IsFirstRefused, AreAlike, EditsAreDetermined, MemorySavesEditSteps, Touched, Touches, PartsSearchCost, PartsCostOf, PartsCost, Costs, CostsAs, CostsAccepted, pairs_cost, parts_alone, all_lines, get_or-take, mul-le-mul_right}
 use Rattle.re_syntax.proofs.lemmas.PartsLaws.{ArePartsFrom-unique}
 use Rattle.grep_core.proofs.lemmas.CostLaws.{refused_searches}
 use Rattle.grep_core.proofs.lemmas.ChooseLaws.{same_value, IfHolds-both, Chosen-determined}
@@ -50,6 +50,7 @@ Applies-once (Splice k start count lines) old a b p q =
     IfHolds-both p q (λ e f. alike_same a b (same_value e f)) (λ e f. alike_same a b (same_value e f)))))
 Applies-once (AddPatterns list) old a b p q = IfHolds-both p q (λ e f. alike_same a b (same_value e f)) (λ p q. Reads-once _ _ _ _ a b p q)
 Applies-once (DropPattern n) old a b p q = IfHolds-both p q (λ e f. alike_same a b (same_value e f)) (λ e f. alike_same a b (same_value e f))
+Applies-once (ChangePattern n text) old a b p q = IfHolds-both p q (λ p q. Reads-once _ _ _ _ a b p q) (λ e f. alike_same a b (same_value e f))
 Applies-once (SetFlag flag on) old a b p q = Reads-once _ _ _ _ a b p q
 Applies-once (SetSyntax syntax) old a b p q = Reads-once _ _ _ _ a b p q
 Applies-once (SetContext context) old a b p q = alike_same a b (same_value p q)
@@ -67,6 +68,10 @@ Touches-once (DropPattern n) old a b p q =
     let same : p.0 ≡ q.0 = IsMeant-determined old.syntax old.options.ignore_case (get_or old.patterns n []) p.0 q.0 p.1 q.1 in
     let lines : p.2 ≡ q.2 = Chosen-determined (λ line. Matches q.0 line old.options.line_regexp) _ p.2 q.2 (subst (λ e. Chosen (λ line. Matches e line old.options.line_regexp) _ p.2) same p.3) q.3 in
     p.4 ∙ ap parts_alone lines ∙ sym q.4
+Touches-once (ChangePattern n text) old a b p q = IfHolds-both p q same_value (λ p q.
+    let both : p.0 ≡ q.0 = means_one old.syntax old.options (get_or old.patterns n [] ∷ text ∷ []) p.0 q.0 p.1 q.1 in
+    let lines : p.2 ≡ q.2 = Chosen-determined (Matched q.0 old.options) _ p.2 q.2 (subst (λ es. Chosen (Matched es old.options) _ p.2) both p.3) q.3 in
+    p.4 ∙ ap (λ l. record { patterns = 1; paired = all_lines old; lines = l }) lines ∙ sym q.4)
 Touches-once (SetFlag flag on) old a b p q = IfHolds-both p q same_value same_value
 Touches-once (SetSyntax syntax) old a b p q = IfHolds-both p q same_value same_value
 Touches-once (SetContext context) old a b p q = same_value p q

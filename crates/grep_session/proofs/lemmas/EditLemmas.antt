@@ -85,6 +85,13 @@ module _ (start count : ℕ) (new : List KeptLine) where
   kept_put es options (Some lines) h n =
       All-append (IsKept es options) (take start lines) (new ++ drop (start + count) lines) (All-take (IsKept es options) start lines h) (All-append (IsKept es options) new (drop (start + count) lines) n (All-drop (IsKept es options) (start + count) lines h))
 
+-- the files after lines of file `k`, which is `d`, were replaced
+pub files_spliced : (start count : ℕ) (new : List KeptLine) (files : List KeptFile) (k : ℕ) (d file : KeptFile) → HasPlace (map kept_file files) k start count → d ≡ get_or files k d → file.name ≡ d.name → kept_lines file ≡ put start count new (kept_lines d)
+    → map kept_file (set files k file) ≡ spliced (map kept_file files) k start count (map line_text new)
+files_spliced start count new files k d file place at name lines =
+    files_put start count new files k d file (omega (arith, place.in_files, length-map files kept_file)) (ap (λ n. n.items) name ∙ ap (λ (f : KeptFile). f.name.items) at)
+    (lines ∙ ap (λ (f : KeptFile). put start count new (kept_lines f)) at) place.opens
+
 -- putting a file with the same name and lines in its place changes nothing
 pub files_same : (files : List KeptFile) (k : ℕ) (d file : KeptFile) → file.name.items ≡ (get_or files k d).name.items → kept_lines file ≡ kept_lines (get_or files k d) → map kept_file (set files k file) ≡ map kept_file files
 files_same files k d file name lines = map-set_same kept_file files k file d (λ i. file_with (name i) (lines i))

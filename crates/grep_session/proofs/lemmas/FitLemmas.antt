@@ -1,6 +1,6 @@
 -- Marks that fit their files, and the marks that edits leave.
-use Rattle.grep_session.proofs.Prelude.{◌≡◌, ℕ, zero, suc, ◌+◌, ◌-◌, ◌<◌, ◌≤◌, List, [], ◌∷◌, ◌++◌, length, map, take, drop, get_or, Bool, Result, Ok, Err, refl, sym, ap, subst, ◌∙◌, inl, inr, arith, append_assoc, append-nil, set, drop_more, take_more, set_at, take_all, drop_all, length-take-le, length-append, length-drop, map-append, AllZip, remove, splice, slice_set, Text, File, file_at, KeptFile, kept_file, spliced, Mark, whole_mark, new_mark, mark_at, touched, lost, known_marks, Fits, AreFit, Watched, MarksGiven, LosesMarks, LosesAll, EditFault, Syntax, Flag, SetSyntax, SetFlag, option_of}
-use Rattle.std.proofs.lemmas.List.{get_or-map}
+use Rattle.grep_session.proofs.Prelude.{◌≡◌, ℕ, zero, suc, ◌+◌, ◌-◌, ◌<◌, ◌≤◌, List, [], ◌∷◌, ◌++◌, length, map, take, drop, get_or, Bool, Result, Ok, Err, refl, sym, ap, subst, ◌∙◌, inl, inr, arith, set, length-take-le, length-append, length-drop, length-map, map-append, AllZip, remove, splice, slice_set, Text, File, file_at, KeptFile, kept_file, spliced, Marked, Splices, whole_mark, new_mark, mark_at, lost, known_marks, IsFit, AreFit, SplicesMark, Watched, MarksAfter, MarksGiven, Splice, LosesMarks, LosesAll, EditFault, Syntax, Flag, SetSyntax, SetFlag, option_of}
+use Rattle.std.proofs.lemmas.List.{get_or-map, get_or-set_same, length-set}
 use Rattle.grep_session.proofs.lemmas.DroppingLemmas.{AllZip-remove}
 
 -- ---- two lists of which a relation holds place by place
@@ -12,7 +12,7 @@ module _ {A B : Type 0} (R : A → B → Type 0) where
   zip-append (a ∷ xs) [] x y h r = absurd h
   zip-append (a ∷ xs) (b ∷ ys) x y h r = (h.0, zip-append xs ys x y h.1 r)
 
-  zip-set : (xs : List A) (ys : List B) (k : ℕ) (x : A) (y : B) → AllZip R xs ys → R x y → AllZip R (set xs k x) (set ys k y)
+  pub zip-set : (xs : List A) (ys : List B) (k : ℕ) (x : A) (y : B) → AllZip R xs ys → R x y → AllZip R (set xs k x) (set ys k y)
   zip-set [] [] k x y h r = tt
   zip-set [] (b ∷ ys) k x y h r = absurd h
   zip-set (a ∷ xs) [] k x y h r = absurd h
@@ -43,92 +43,97 @@ pub length-splice : (lines come : List Text) (start count : ℕ) → start + cou
 length-splice lines come start count h =
     omega (arith, length-append (take start lines) (come ++ drop (start + count) lines), length-append come (drop (start + count) lines), length-take-le start lines (omega arith), length-drop (start + count) lines)
 
-fits_touched : (lines new : ℕ) (start count : ℕ) (mark : Mark) → Fits lines mark → start + count ≤ lines → start + (lines - (start + count)) ≤ new → Fits new (touched start (lines - (start + count)) mark)
-fits_touched lines new start count mark (inl e) h k =
-    let front : mark.front ≡ lines = ap (λ m. m.front) e in
-    let back : mark.back ≡ lines = ap (λ m. m.back) e in
-    let known : mark.known ≡ lines = ap (λ m. m.known) e in
-    inr (omega arith, omega arith)
-fits_touched lines new start count mark (inr (a, b)) h k = inr (omega arith, omega arith)
+fits_lost : (file : File) (mark : Marked) → IsFit file mark → IsFit file (lost mark)
+fits_lost file mark fits = (fits.0, (0, 0, omega arith, omega arith, refl))
 
-fits_lost : (file : File) (mark : Mark) → Fits (length file.lines) mark → Fits (length file.lines) (lost mark)
-fits_lost file mark fits = inr (omega arith, omega arith)
+fits_new : (file : File) (mark : Marked) → mark ≡ new_mark (length file.lines) → IsFit file mark
+fits_new file mark is = subst (IsFit file) (sym is) (refl, (0, 0, refl, omega arith, refl))
 
 -- ---- the marks of all files
 
-abbrev Fit : File → Mark → Type 0
-Fit file mark = Fits (length file.lines) mark
-
-module _ (files : List File) (marks : List Mark) (fit : AreFit files marks) where
+module _ (files : List File) (marks : List Marked) (fit : AreFit files marks) where
   -- there is a mark for each file
   pub as_many : length marks ≡ length files
-  as_many = sym (zip-length Fit files marks fit)
+  as_many = sym (zip-length IsFit files marks fit)
 
-  pub fit_added : (file : File) → AreFit (files ++ file ∷ []) (marks ++ new_mark ∷ [])
-  fit_added file = zip-append Fit files marks file new_mark fit (inr (omega arith, omega arith))
+  pub fit_added : (file : File) → AreFit (files ++ file ∷ []) (marks ++ new_mark (length file.lines) ∷ [])
+  fit_added file = zip-append IsFit files marks file (new_mark (length file.lines)) fit (fits_new file (new_mark (length file.lines)) refl)
 
   pub fit_dropped : (k : ℕ) → AreFit (remove files k) (remove marks k)
-  fit_dropped k = AllZip-remove Fit files marks k fit
+  fit_dropped k = AllZip-remove IsFit files marks k fit
 
   pub fit_lost : AreFit files (map lost marks)
-  fit_lost = zip-map Fit lost fits_lost files marks fit
+  fit_lost = zip-map IsFit lost fits_lost files marks fit
 
   -- the mark of one of them
-  pub fit_at : (k : ℕ) → k < length files → Fits (length (file_at files k).lines) (mark_at marks k)
-  fit_at k inside = zip-at Fit files marks k (file_at [] k) new_mark inside fit
+  pub fit_at : (k : ℕ) → k < length files → IsFit (file_at files k) (mark_at marks k)
+  fit_at k inside = zip-at IsFit files marks k (file_at [] k) (whole_mark 0) inside fit
 
-  pub fit_spliced : (k start count : ℕ) (come : List Text) → k < length files → start + count ≤ length (file_at files k).lines →
-      AreFit (spliced files k start count come) (slice_set marks k (touched start (length (file_at files k).lines - (start + count)) (mark_at marks k)))
-  fit_spliced k start count come inside within =
+  pub fit_spliced : (k start count : ℕ) (come : List Text) → k < length files → start + count ≤ length (file_at files k).lines → (mark : Marked) → Splices start count (length come) (mark_at marks k) mark → AreFit (spliced files k start count come) (slice_set marks k mark)
+  fit_spliced k start count come inside within mark s =
       let file = file_at files k in
-      let lines = splice file.lines start (start + count) come in
-      let longer : start + (length file.lines - (start + count)) ≤ length lines = omega (arith, length-splice file.lines come start count within) in
-      zip-set Fit files marks k (record file { lines = lines }) (touched start (length file.lines - (start + count)) (mark_at marks k)) fit
-      (fits_touched (length file.lines) (length lines) start count (mark_at marks k) (fit_at k inside) within longer)
+      let many : mark.lines ≡ length (splice file.lines start (start + count) come) =
+      omega (arith, s.lines, (fit_at k inside).0, length-splice file.lines come start count within, within) in
+      zip-set IsFit files marks k (record file { lines = splice file.lines start (start + count) come }) mark fit (many, s.fits)
+
+  -- the mark of a file in which lines were replaced, so that it has `lines` lines
+  module _ (k start count : ℕ) (come : List Text) (inside : k < length files) (within : start + count ≤ length (file_at files k).lines) (lines : ℕ) (is : lines ≡ length (splice (file_at files k).lines start (start + count) come)) where
+    pub mark_within : start + count ≤ (mark_at marks k).lines
+    mark_within = omega (arith, within, (fit_at k inside).0)
+
+    pub mark_rest : (mark_at marks k).lines - count ≤ lines
+    mark_rest = omega (arith, is, length-splice (file_at files k).lines come start count within, (fit_at k inside).0)
+
+    pub mark_spliced : (more : List Marked) → SplicesMark k start count (lines - ((mark_at marks k).lines - count)) marks more → SplicesMark k start count (length come) marks more
+    mark_spliced more s =
+        let same : lines - ((mark_at marks k).lines - count) ≡ length come = omega (arith, is, length-splice (file_at files k).lines come start count within, (fit_at k inside).0, within) in
+        subst (λ added. SplicesMark k start count added marks more) same s
+
+-- how many lines a file has in which some were replaced
+pub lines_spliced : (files : List KeptFile) (old : List File) (k start count : ℕ) (come : List Text) (here : KeptFile) → k < length old → map kept_file files ≡ spliced old k start count come → here ≡ get_or files k here → length (kept_file here).lines ≡ length (splice (file_at old k).lines start (start + count) come)
+lines_spliced files old k start count come here inside all at =
+    let file = record (file_at old k) { lines = splice (file_at old k).lines start (start + count) come } in
+    let many : k < length files = omega (arith, inside, length-map files kept_file, ap length all, length-set old k file) in
+    let none = file_at [] k in
+    let one : kept_file here ≡ file = ap kept_file at ∙ sym (get_or-map kept_file files k here none many) ∙ ap (λ fs. get_or fs k none) all ∙ get_or-set_same old k file none inside in
+    ap (λ (f : File). length f.lines) one
+
+-- all changes are reported
+pub known_marks_are : (files : List File) (marks : List Marked) → AreFit files marks → map (λ (mark : Marked). whole_mark mark.lines) marks ≡ known_marks files
+known_marks_are [] [] fit = refl
+known_marks_are [] (mark ∷ marks) fit = absurd fit
+known_marks_are (file ∷ files) [] fit = absurd fit
+known_marks_are (file ∷ files) (mark ∷ marks) fit = λ i. whole_mark (fit.0.0 i) ∷ known_marks_are files marks fit.1 i
 
 pub known_fit : (files : List File) → AreFit files (known_marks files)
 known_fit [] = tt
-known_fit (file ∷ files) = (inl refl, known_fit files)
+known_fit (file ∷ files) = ((refl, refl), known_fit files)
 
 -- marks that fit, of lists that are the same
-pub fit_as : (files new : List File) (marks more : List Mark) → new ≡ files → more ≡ marks → AreFit files marks → AreFit new more
+pub fit_as : (files new : List File) (marks more : List Marked) → new ≡ files → more ≡ marks → AreFit files marks → AreFit new more
 fit_as files new marks more f m fit = subst (λ (fs : List File). AreFit fs more) (sym f) (subst (AreFit files) (sym m) fit)
 
 -- all were lost
-pub fit_lose : (files new : List File) (marks more : List Mark) → new ≡ files → more ≡ map lost marks → AreFit files marks → AreFit new more
+pub fit_lose : (files new : List File) (marks more : List Marked) → new ≡ files → more ≡ map lost marks → AreFit files marks → AreFit new more
 fit_lose files new marks more f m fit = fit_as files new (map lost marks) more f m (fit_lost files marks fit)
 
 -- a file was added
-pub fit_pushed : (files : List KeptFile) (marks : List Mark) (file : KeptFile) (new : List KeptFile) (more : List Mark) → new ≡ files ++ file ∷ [] → more ≡ marks ++ new_mark ∷ [] → AreFit (map kept_file files) marks → AreFit (map kept_file new) more
-fit_pushed files marks file new more f m fit = fit_as (map kept_file files ++ kept_file file ∷ []) (map kept_file new) (marks ++ new_mark ∷ []) more (ap (map kept_file) f ∙ map-append kept_file files (file ∷ [])) m (fit_added (map kept_file files) marks fit (kept_file file))
+pub fit_pushed : (files : List KeptFile) (marks : List Marked) (file : KeptFile) (new : List KeptFile) (more : List Marked) → new ≡ files ++ file ∷ [] → more ≡ marks ++ new_mark (length (kept_file file).lines) ∷ [] → AreFit (map kept_file files) marks → AreFit (map kept_file new) more
+fit_pushed files marks file new more f m fit = fit_as (map kept_file files ++ kept_file file ∷ []) (map kept_file new) (marks ++ new_mark (length (kept_file file).lines) ∷ []) more (ap (map kept_file) f ∙ map-append kept_file files (file ∷ [])) m (fit_added (map kept_file files) marks fit (kept_file file))
 
 -- ---- marks that edits are promised to leave
 
 -- where a new value of the syntax, or of an option, leaves no line untouched
-pub given_syntax : {T : Type 0} (syntax : Syntax) (old : Watched) (new : List Mark) (result : Result T EditFault) → (syntax ≡ old.inputs.syntax → ⊥) → LosesMarks old.marks new result → MarksGiven (SetSyntax syntax) old new result
+pub given_syntax : {T : Type 0} (syntax : Syntax) (old : Watched) (new : List Marked) (result : Result T EditFault) → (syntax ≡ old.inputs.syntax → ⊥) → LosesMarks old.marks new result → MarksGiven (SetSyntax syntax) old new result
 given_syntax syntax old new (Ok done) other loses = inr (other, loses)
 given_syntax syntax old new (Err fault) other loses = loses
 
-pub given_flag : {T : Type 0} (flag : Flag) (on : Bool) (old : Watched) (new : List Mark) (result : Result T EditFault) → (option_of flag old.inputs.options ≡ on → ⊥) → LosesAll flag → LosesMarks old.marks new result → MarksGiven (SetFlag flag on) old new result
+-- where lines were replaced
+pub given_splice : (k start count : ℕ) (lines come : List Text) (old : Watched) (new : List Marked) → come ≡ lines → SplicesMark k start count (length come) old.marks new → MarksAfter (Splice k start count lines) old new
+given_splice k start count lines come old new same s =
+    let all = subst (λ (ls : List Text). SplicesMark k start count (length ls) old.marks new) same s in
+    all
+
+pub given_flag : {T : Type 0} (flag : Flag) (on : Bool) (old : Watched) (new : List Marked) (result : Result T EditFault) → (option_of flag old.inputs.options ≡ on → ⊥) → LosesAll flag → LosesMarks old.marks new result → MarksGiven (SetFlag flag on) old new result
 given_flag flag on old new (Ok done) other all loses = inr (other, loses ∙ sym (all old.marks))
 given_flag flag on old new (Err fault) other all loses = loses
-
--- ---- marks that are made whole one after the other
-
--- the first marks are new ones, and the others as they were: one more
-pub marked_more : (news old marks : List Mark) (k : ℕ) (mark : Mark) → marks ≡ take k news ++ drop k old → k < length old → length old ≡ length news → mark ≡ get_or news k new_mark → set marks k mark ≡ take (k + 1) news ++ drop (k + 1) old
-marked_more news old marks k mark is inside same at =
-    let front = take k news in
-    let rest = drop (k + 1) old in
-    let there = get_or old k new_mark in
-    let cut : marks ≡ front ++ there ∷ rest = is ∙ ap (λ l. front ++ l) (drop_more old k new_mark inside) in
-    let long : length front ≡ k = length-take-le k news (omega arith) in
-    let more : take (k + 1) news ≡ front ++ mark ∷ [] = take_more news k new_mark (omega arith) ∙ ap (λ m. front ++ m ∷ []) (sym at) in
-    ap (λ l. set l k mark) cut ∙ set_at front there rest mark k long ∙ sym (append_assoc front (mark ∷ []) rest) ∙ ap (λ l. l ++ rest) (sym more)
-
-pub marked_all : (news old marks : List Mark) (k : ℕ) → marks ≡ take k news ++ drop k old → length old ≤ k → length old ≡ length news → marks ≡ news
-marked_all news old marks k is past same = is ∙ (λ i. take_all k news (omega arith) i ++ drop_all k old past i) ∙ append-nil news
-
--- the mark of one of them
-pub marked_at : (files : List File) (k lines : ℕ) (mark : Mark) → k < length files → mark ≡ whole_mark lines → lines ≡ length (file_at files k).lines → mark ≡ get_or (known_marks files) k new_mark
-marked_at files k lines mark inside is long = is ∙ ap whole_mark long ∙ sym (get_or-map (λ (file : File). whole_mark (length file.lines)) files k (file_at [] k) new_mark inside)

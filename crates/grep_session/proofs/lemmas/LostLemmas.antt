@@ -6,7 +6,7 @@ module _ {A : Type 0} (f : A → A) (xs : List A) where
   abbrev pub mapped_to : ℕ → List A
   mapped_to i = map f (take i xs) ++ drop i xs
 
-  pub mapped_more : (i : ℕ) (d : A) → i < length xs → set (mapped_to i) i (f (get_or (mapped_to i) i d)) ≡ mapped_to (i + 1)
+  mapped_more : (i : ℕ) (d : A) → i < length xs → set (mapped_to i) i (f (get_or (mapped_to i) i d)) ≡ mapped_to (i + 1)
   mapped_more i d h =
       let front = map f (take i xs) in
       let next = get_or xs i d in
@@ -16,6 +16,9 @@ module _ {A : Type 0} (f : A → A) (xs : List A) where
       let there : get_or (mapped_to i) i d ≡ next = ap (λ l. get_or l i d) cut ∙ get_or_at front next rest d i long in
       let more : map f (take (i + 1) xs) ≡ front ++ f next ∷ [] = ap (map f) (take_more xs i d h) ∙ map-append f (take i xs) (next ∷ []) in
       (λ j. set (cut j) i (f (there j))) ∙ set_at front next rest (f next) i long ∙ sym (append_assoc front (f next ∷ []) rest) ∙ ap (λ l. l ++ rest) (sym more)
+
+  pub mapped_next : (marks : List A) (i : ℕ) (d new : A) → marks ≡ mapped_to i → i < length xs → new ≡ f (get_or marks i d) → set marks i new ≡ mapped_to (i + 1)
+  mapped_next marks i d new same less is = ap (λ y. set marks i y) is ∙ (λ j. set (same j) i (f (get_or (same j) i d))) ∙ mapped_more i d less
 
   pub mapped_all : (i : ℕ) → length xs ≤ i → mapped_to i ≡ map f xs
   mapped_all i h = (λ j. map f (take_all i xs h j) ++ drop_all i xs h j) ∙ append-nil (map f xs)

@@ -1,5 +1,5 @@
 -- The parts of the lines of a chunk, one line after the other.
-use Rattle.grep_session.proofs.Prelude.{◌≡◌, ℕ, suc, ◌+◌, ◌<◌, ◌==◌, Bool, true, false, not, ◌&&◌, MatchBool, Decides, List, [], ◌∷◌, ◌++◌, inl, inr, length, drop, get_or, nat_lt, Result, Ok, Err, IfOk, refl, sym, ap, subst, ◌∙◌, arith, length-append, append-nil, take, add-one, drop-append_seam, drop-cons, take-suc, cases_lt, nat_tests, Text, Expression, Span, Steps, Adds, Options, is_paired, numbers_at, KeptLine, no_line, Change, Added, Matched, PartsSearchCost, HasNewParts, NewPartsCost, SearchesOne, TakesAtMost, Grows, has_new_parts, ArePartsAgain, CostsParts}
+use Rattle.grep_session.proofs.Prelude.{◌≡◌, ℕ, suc, ◌+◌, ◌<◌, ◌==◌, Bool, true, false, not, ◌&&◌, MatchBool, Decides, List, [], ◌∷◌, ◌++◌, inl, inr, length, drop, get_or, nat_lt, Result, Ok, Err, IfOk, refl, sym, ap, subst, ◌∙◌, arith, length-append, append-nil, take, add-one, drop-append_seam, drop-cons, take-suc, cases_lt, nat_tests, Text, Expression, Span, Steps, Adds, Options, is_paired, numbers_at, KeptLine, no_line, Change, Added, Replaced, list_any, nat_eq, ◌||◌, Matched, PartsSearchCost, HasNewParts, NewPartsCost, SearchesOne, TakesAtMost, Grows, has_new_parts, ArePartsAgain, CostsParts}
 use Rattle.grep_core.proofs.lemmas.CostLaws.{cost_within}
 use Rattle.line_chunks.proofs.lemmas.PairLaws.{numbers_at-append}
 use Rattle.grep_session.proofs.lemmas.ColumnLemmas.{front_and_rest}
@@ -25,6 +25,13 @@ added_marks items change first size n old new (Err e) is counted grows marked = 
 added_marks items change first size n old new (Ok marks) is counted grows marked = λ k high paired.
     let more = subst (λ (c : Change). Grows c old new) is grows in
     marked k high ∙ ap (λ m. is_paired k (drop m new)) counted ∙ grown k old more.0 new more.1 ∙ ap (λ (c : Change). has_new_parts c (numbers_at k old) (numbers_at k new)) (sym is)
+
+-- the marks of the lines that a pattern matched, or the new one in its place does
+pub replaced_marks : (change : Change) (p size : ℕ) (old new : List (ℕ × ℕ)) (marks both : List Bool) → change ≡ Replaced p → ((k : ℕ) → k < size → get_or marks k false ≡ list_any (λ n. nat_eq n p) (numbers_at k old))
+    → ((k : ℕ) → get_or both k false ≡ (get_or marks k false || list_any (λ n. nat_eq n p) (numbers_at k new)))
+    → (k : ℕ) → k < size → get_or both k false ≡ has_new_parts change (numbers_at k old) (numbers_at k new)
+replaced_marks change p size old new marks both is marked more k high =
+    more k ∙ ap (λ b. b || list_any (λ n. nat_eq n p) (numbers_at k new)) (marked k high) ∙ ap (λ (c : Change). has_new_parts c (numbers_at k old) (numbers_at k new)) (sym is)
 
 -- ---- one line
 

@@ -1,5 +1,5 @@
 -- The cost of lines, and the steps that a search of them takes.
-use Rattle.grep_session.proofs.Prelude.{◌≡◌, ℕ, ◌+◌, List, [], ◌∷◌, ◌++◌, inl, inr, length, map, Ok, refl, sym, ap, subst, ◌∙◌, append_assoc, arith, length-map, Text, Expression, Matcher, matched_expression, Steps, Adds, Options, Chosen, search_cost, Inputs, AreMeant, AreMatchers, Change, Rebuild, PartsOnly, Added, Dropped, Edit, Applies, PartsCost, PartsCostOf, Matched, TakesSteps, Touched, Touches, pairs_cost, parts_alone, searched_by, ChangeCost, CostAnew, CostOfEach, HasNewParts, NewPartsCost, SearchesEach, SearchesOne, searched_for}
+use Rattle.grep_session.proofs.Prelude.{◌≡◌, ℕ, ◌+◌, List, [], ◌∷◌, ◌++◌, inl, inr, length, map, Ok, refl, sym, ap, subst, ◌∙◌, append_assoc, arith, length-map, Text, Expression, Matcher, matched_expression, Steps, Adds, Options, Chosen, search_cost, Inputs, AreMeant, AreMatchers, Change, Rebuild, PartsOnly, Added, Dropped, Replaced, Edit, Applies, PartsCost, PartsCostOf, Matched, TakesSteps, Touched, Touches, pairs_cost, parts_alone, searched_by, ChangeCost, CostAnew, CostOfEach, HasNewParts, NewPartsCost, SearchesEach, SearchesOne, searched_for}
 use Rattle.re_meter.proofs.lemmas.Adding.{adds_none, all_both}
 use Rattle.grep_core.proofs.lemmas.CostLaws.{cost_within}
 use Rattle.grep_core.proofs.lemmas.Decided.{dec_matched}
@@ -13,6 +13,7 @@ dec_new_parts Rebuild changed options line = yes tt
 dec_new_parts PartsOnly changed options line = yes tt
 dec_new_parts (Added first) changed options line = dec_matched changed options line
 dec_new_parts (Dropped p) changed options line = dec_matched changed options line
+dec_new_parts (Replaced p) changed options line = dec_matched changed options line
 
 -- a line's parts have a cost if no allocation fails
 parts_cost_exists : (es : List Expression) (options : Options) (line : Text) → (cost : ℕ) × PartsCostOf es options line 0 cost

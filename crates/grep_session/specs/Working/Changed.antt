@@ -1,6 +1,6 @@
 -- What becomes of what is kept when patterns change, and how many steps that takes.
 use Rattle.std.specs.Prelude.{◌≡◌, ℕ, ◌+◌, ◌<◌, ◌≤◌, ⊤, List, [], ◌∷◌, length, take, drop, get_or}
-use Rattle.std.specs.Prelude.{All, IfSome}
+use Rattle.std.specs.Prelude.{All, IfSome, slice_set}
 use Rattle.std.specs.List.{remove}
 use Rattle.re_syntax.specs.Bytes.{Text}
 use Rattle.re_syntax.specs.Expression.{Expression}
@@ -11,12 +11,13 @@ use Rattle.grep_core.specs.Cost.{search_cost}
 use Rattle.grep_core.specs.Files.{Matched}
 use Rattle.grep_session.specs.declared.change.Change.{Change}
 use Rattle.grep_session.specs.declared.change.Change.TheVariants.{Rebuild, PartsOnly, Added, Dropped}
+use Rattle.grep_session.specs.declared.change.Change.TheVariants.{Replaced}
 use Rattle.grep_session.specs.declared.kept.KeptFile.{KeptFile}
 use Rattle.line_chunks.specs.Working.Chunks.{KeptLine}
 use Rattle.grep_session.specs.Touched.{PartsCostOf}
 use Rattle.grep_session.specs.Working.Kept.{AreMatching, IsKept, kept_lines}
 
--- the expressions after a change, those before it, and those that are new or were removed
+-- the expressions after a change, those before it, and those that went or are new
 abbrev pub HasChanged : Change → List Expression → List Expression → List Expression → Type 0
 HasChanged Rebuild es before changed = changed ≡ es
 HasChanged PartsOnly es before changed = before ≡ es
@@ -24,6 +25,10 @@ HasChanged (Added first) es before changed = (before ≡ take first es) × (chan
 HasChanged (Dropped p) es before changed =
     (e : Expression) × (p < length before) × (e ≡ get_or before p e) × (es ≡ remove before p) ×
     (changed ≡ e ∷ [])
+HasChanged (Replaced p) es before changed =
+    (gone : Expression) × (come : Expression) × (p < length before) ×
+    (gone ≡ get_or before p gone) × (es ≡ slice_set before p come) ×
+    (changed ≡ gone ∷ come ∷ [])
 
 -- what has to be known of a line before a change, by the expressions before it: nothing if the line
 -- is searched anew, which expressions match it if its parts are, and otherwise all that is kept
@@ -40,6 +45,7 @@ WasFileKept change before options file =
 -- the patterns that a change names are among this number of patterns
 abbrev pub IsWithin : Change → ℕ → Type 0
 IsWithin (Added first) many = first ≤ many
+IsWithin (Replaced p) many = p < many
 IsWithin _ many = ⊤
 
 -- the number of expressions by which each line is searched
@@ -48,11 +54,13 @@ searched_for Rebuild changed = length changed
 searched_for PartsOnly changed = 0
 searched_for (Added first) changed = length changed
 searched_for (Dropped p) changed = 0
+searched_for (Replaced p) changed = 1
 
--- the parts of the line are searched: if patterns were added or removed, where one of them matches
+-- the parts of the line are searched: if patterns went or are new, where one of them matches
 abbrev pub HasNewParts : Change → List Expression → Options → Text → Type 0
 HasNewParts (Added first) changed options line = Matched changed options line
 HasNewParts (Dropped p) changed options line = Matched changed options line
+HasNewParts (Replaced p) changed options line = Matched changed options line
 HasNewParts _ changed options line = ⊤
 
 -- the cost of a line's parts, where the allocation for its list of ends failed so often

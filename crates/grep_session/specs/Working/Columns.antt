@@ -1,6 +1,6 @@
 -- What is found in the lines of a chunk after a change of the patterns, and put in a column.
-use Rattle.std.specs.Prelude.{◌≡◌, ℕ, ◌<◌, ⊤, Bool, true, false, List, [], ◌++◌, All, length, drop, get_or, nat_eq, nat_lt, slice_range, ◌+◌, ◌≤◌, ◌&&◌, Option, Some, None, MatchBool}
-use Rattle.std.specs.List.{AllZip, list_any}
+use Rattle.std.specs.Prelude.{◌≡◌, ℕ, ◌<◌, ⊤, Bool, true, false, List, [], ◌++◌, All, length, drop, get_or, nat_eq, nat_lt, slice_range, ◌+◌, ◌≤◌, ◌&&◌, Option, Some, None, MatchBool, take, ◌||◌}
+use Rattle.std.specs.List.{AllZip, list_any, filter}
 use Rattle.std.specs.Bool.{Decides}
 use Rattle.re_syntax.specs.Bytes.{Text}
 use Rattle.re_syntax.specs.Expression.{Expression}
@@ -13,7 +13,7 @@ use Rattle.grep_core.specs.Files.{Matched}
 use Rattle.line_chunks.specs.Working.Finds.{FoundIn, AreBelow, is_paired, numbers_at, without}
 use Rattle.line_chunks.specs.Working.Chunks.{KeptLine, no_line, FitsColumn}
 use Rattle.grep_session.specs.declared.change.Change.{Change}
-use Rattle.grep_session.specs.declared.change.Change.TheVariants.{Rebuild, Added, Dropped}
+use Rattle.grep_session.specs.declared.change.Change.TheVariants.{Rebuild, Added, Dropped, Replaced}
 use Rattle.grep_session.specs.Touched.{PartsSearchCost}
 use Rattle.grep_session.specs.Working.Changed.{HasChanged, HasNewParts, TakesAtMost, WasKept}
 use Rattle.grep_session.specs.Working.Found.{IsColumn}
@@ -25,13 +25,29 @@ use Rattle.grep_session.specs.Working.Kept.{AddsMatching, ArePartsKept}
 abbrev pub first_sought : Change → ℕ → ℕ
 first_sought Rebuild many = 0
 first_sought (Added first) many = first
+first_sought (Replaced p) many = p
 first_sought _ many = many
 
--- the numbers that stay, of those that were kept of a line
+-- the number after the last that is searched for
+abbrev pub past_sought : Change → ℕ → ℕ
+past_sought (Replaced p) many = p + 1
+past_sought _ many = many
+
+-- those that are searched for
+abbrev pub sought : Change → List Expression → List Expression
+sought change es = drop (first_sought change (length es)) (take (past_sought change (length es)) es)
+
+-- the numbers that stay, of those that were kept of a line: those before the ones that are searched
+-- for, and those after them
 abbrev pub left_numbers : Change → List ℕ → List ℕ
 left_numbers Rebuild numbers = []
 left_numbers (Dropped p) numbers = without p numbers
+left_numbers (Replaced p) numbers = filter (λ n. nat_lt n p) numbers
 left_numbers _ numbers = numbers
+
+abbrev pub later_numbers : Change → List ℕ → List ℕ
+later_numbers (Replaced p) numbers = filter (λ n. nat_lt p n) numbers
+later_numbers _ numbers = []
 
 -- the pairs are those of `old` that stay; where patterns are added, all do
 abbrev pub KeepsAll : Change → List (ℕ × ℕ) → List (ℕ × ℕ) → Type 0
@@ -53,13 +69,21 @@ pub record AddsColumn (texts : List Text) (entire : Bool) (first : ℕ) (es : Li
   pub numbers : (k : ℕ) → k < length texts →
       AddsMatching (get_or texts k []) entire first es (numbers_at k old) (numbers_at k new)
 
+-- the pairs that stay of later patterns were added
+pub record AddsLater (change : Change) (size : ℕ) (old mid new : List (ℕ × ℕ)) : Type 0 where
+  pub more : List (ℕ × ℕ)
+  pub added : new ≡ mid ++ more
+  pub within : AreBelow size more
+  pub numbers : (k : ℕ) → numbers_at k more ≡ later_numbers change (numbers_at k old)
+
 -- the pairs that stay, and those of the expressions that are searched for after a change
 pub record AreMatches (change : Change) (texts : List Text) (entire : Bool) (es : List Expression)
     (old new : List (ℕ × ℕ)) : Type 0 where
   pub left : List (ℕ × ℕ)
+  pub mid : List (ℕ × ℕ)
   pub are_left : AreLeft change (length texts) old left
-  pub adds : AddsColumn texts entire (first_sought change (length es))
-      (drop (first_sought change (length es)) es) left new
+  pub adds : AddsColumn texts entire (first_sought change (length es)) (sought change es) left mid
+  pub later : AddsLater change (length texts) old mid new
 
 -- ---- the parts of a line
 
@@ -68,6 +92,8 @@ pub record AreMatches (change : Change) (texts : List Text) (entire : Bool) (es 
 abbrev pub has_new_parts : Change → List ℕ → List ℕ → Bool
 has_new_parts (Added first) old new = nat_lt (length old) (length new)
 has_new_parts (Dropped p) old new = list_any (λ n. nat_eq n p) old
+has_new_parts (Replaced p) old new =
+    list_any (λ n. nat_eq n p) old || list_any (λ n. nat_eq n p) new
 has_new_parts _ old new = true
 
 -- patterns are added

@@ -6,17 +6,17 @@ use Rattle.grep_core.specs.declared.options.Options.{Options}
 use Rattle.grep_core.specs.Files.{Inputs}
 use Rattle.grep_session.specs.declared.options.Effect.{Effect}
 use Rattle.grep_session.specs.declared.options.Effect.TheVariants.{Verdicts, Parts, Hits, Output}
-use Rattle.grep_session.specs.declared.mark.Mark.{Mark}
+use Rattle.line_marks.specs.Stretches.{Marked, lost}
 use Rattle.grep_session.specs.Edits.{with_option}
-use Rattle.grep_session.specs.Marks.{marks_by_flag, lost}
+use Rattle.grep_session.specs.Marks.{marks_by_flag}
 use Rattle.grep_session.specs.Touched.{touched_by_flag, searched_by, all_lines, is_of_output}
 
 -- a new value of the option leaves no line untouched; or it touches none
 abbrev pub LosesAll : Flag → Type 0
-LosesAll flag = (marks : List Mark) → marks_by_flag flag marks ≡ map lost marks
+LosesAll flag = (marks : List Marked) → marks_by_flag flag marks ≡ map lost marks
 
 abbrev pub LosesNone : Flag → Type 0
-LosesNone flag = (marks : List Mark) → marks_by_flag flag marks ≡ marks
+LosesNone flag = (marks : List Marked) → marks_by_flag flag marks ≡ marks
 
 -- a new value of the option may change which lines are matched
 pub record ChangesVerdicts (flag : Flag) : Type 0 where

@@ -1,12 +1,12 @@
 -- A session as contracts see it: the inputs that its edits have left, the marks, and the number of
 -- states.
-use Rattle.std.specs.Prelude.{◌≡◌, ◌≤◌, map, length, All, List, Result, MatchResult}
+use Rattle.std.specs.Prelude.{◌≡◌, ℕ, ◌≤◌, map, length, All, List, Result, MatchResult, slice_set}
 use Rattle.re_search.specs.Working.Matchers.{matched_expression}
 use Rattle.grep_core.specs.Files.{Inputs}
 use Rattle.grep_session.specs.declared.session.Session.TheInside.{Inside}
 use Rattle.re_syntax.specs.Profile.{most_patterns, most_states}
-use Rattle.grep_session.specs.declared.mark.Mark.{Mark}
-use Rattle.grep_session.specs.Marks.{Watched, AreFit, lost}
+use Rattle.line_marks.specs.Stretches.{Marked, Splices, lost}
+use Rattle.grep_session.specs.Marks.{Watched, AreFit, mark_at}
 use Rattle.grep_session.specs.Working.Kept.{IsFileKept, kept_file}
 use Rattle.grep_core.specs.Working.MatcherLists.{AreMatchers}
 use Rattle.grep_session.specs.Working.Rooms.{KeepAtMost}
@@ -37,5 +37,11 @@ pub record IsSession (s : Inside) : Type 0 where
   pub fit : AreFit (map kept_file s.files.items) s.marks.items
 
 -- no line of any file is left untouched, or nothing is touched
-abbrev pub LosesMarks : {T E : Type 0} → List Mark → List Mark → Result T E → Type 0
+abbrev pub LosesMarks : {T E : Type 0} → List Marked → List Marked → Result T E → Type 0
 LosesMarks old new result = MatchResult result (λ _. new ≡ map lost old) (λ _. new ≡ old)
+
+-- the mark of file `k` is that after `count` lines from line `start` on were replaced by `added`
+-- lines, and the others are as they were
+abbrev pub SplicesMark : ℕ → ℕ → ℕ → ℕ → List Marked → List Marked → Type 0
+SplicesMark k start count added old new =
+    (mark : Marked) × Splices start count added (mark_at old k) mark × (new ≡ slice_set old k mark)

@@ -13,8 +13,8 @@ ghost use Rattle.grep_session.specs.Listed.{ListedParts};
 
 use crate::caches::{Caches, kept_by};
 use crate::hit::{Hit, hit_at};
-use crate::mark::Mark;
 use crate::session::Session;
+use line_marks::Mark;
 
 impl Session {
     /// The number of files.

@@ -1,5 +1,5 @@
 -- Pairs of lines and patterns: what becomes of the numbers of each line.
-use Rattle.line_finds.proofs.Prelude.{◌≡◌, ℕ, ◌+◌, ◌-◌, ◌<◌, ◌≤◌, true, false, ◌||◌, List, [], ◌∷◌, ◌++◌, inl, inr, length, map, take, nat_eq, nat_lt, nat_le, get_or, cond, refl, sym, ap, subst, ◌∙◌, arith, append_assoc, append-nil, filter, cases_Bool, cases_lt, cases_eq, nat_tests, take_more, map-append, take-map, All-nil, All-cons, All-head, All-tail, All-append, All-weaker, Match, numbers_at, AreBelow, lowered, without, pair_of, pairs_of, is_other, lowered_pair, is_outside, moved_pair, moved_to}
+use Rattle.line_finds.proofs.Prelude.{◌≡◌, ℕ, Bool, ◌+◌, ◌-◌, ◌<◌, ◌≤◌, true, false, ◌||◌, List, [], ◌∷◌, ◌++◌, inl, inr, length, map, take, nat_eq, nat_lt, nat_le, get_or, cond, refl, sym, ap, subst, ◌∙◌, arith, append_assoc, append-nil, filter, cases_Bool, cases_lt, cases_eq, nat_tests, take_more, map-append, take-map, All-nil, All-cons, All-head, All-tail, All-append, All-weaker, Match, numbers_at, AreBelow, lowered, without, pair_of, pairs_of, is_other, lowered_pair, is_outside, moved_pair, moved_to}
 
 pub eq_yes : (n p : ℕ) → n ≡ p → nat_eq n p ≡ true
 eq_yes n p h = grind (arith, nat_tests, h)
@@ -53,6 +53,33 @@ dropped_below p size (pair ∷ pairs) h =
       | inl own ↦ rw own more
       | inr own ↦ rw own (All-cons (λ x. x.0 < size) (pair_of (lowered_pair p pair)) (pairs_of (map (lowered_pair p) (filter (is_other p) pairs))) (All-head (λ x. x.0 < size) (pair_of pair) (pairs_of pairs) h) more)
     ]
+
+-- ---- the pairs of some patterns are kept
+
+module _ (f : ℕ → Bool) where
+  pub kept_numbers : (k : ℕ) (pairs : List Match) → numbers_at k (pairs_of (filter (λ (pair : Match). f pair.number) pairs)) ≡ filter f (numbers_at k (pairs_of pairs))
+  kept_numbers k [] = refl
+  kept_numbers k (pair ∷ pairs) =
+      let more = kept_numbers k pairs in
+      elim (cases_Bool (f pair.number)) [
+        | inl own ↦ elim (cases_Bool (nat_eq pair.line k)) [
+          | inl here ↦ rw (own, here, own) (ap (λ l. pair.number ∷ l) more)
+          | inr gone ↦ rw (own, gone) more
+        ]
+        | inr own ↦ elim (cases_Bool (nat_eq pair.line k)) [
+          | inl here ↦ rw (own, here, own) more
+          | inr gone ↦ rw (own, gone) more
+        ]
+      ]
+
+  pub kept_below : (size : ℕ) (pairs : List Match) → AreBelow size (pairs_of pairs) → AreBelow size (pairs_of (filter (λ (pair : Match). f pair.number) pairs))
+  kept_below size [] h = h
+  kept_below size (pair ∷ pairs) h =
+      let more = kept_below size pairs (All-tail (λ x. x.0 < size) (pair_of pair) (pairs_of pairs) h) in
+      elim (cases_Bool (f pair.number)) [
+        | inl own ↦ rw own (All-cons (λ x. x.0 < size) (pair_of pair) (pairs_of (filter (λ (pair : Match). f pair.number) pairs)) (All-head (λ x. x.0 < size) (pair_of pair) (pairs_of pairs) h) more)
+        | inr own ↦ rw own more
+      ]
 
 -- ---- lines are removed
 

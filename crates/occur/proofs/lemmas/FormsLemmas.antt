@@ -1,5 +1,5 @@
 -- What the words choose in the forms of the manual page.
-use Rattle.occur.proofs.Prelude.{◌≡◌, ◌==◌, ◌∙◌, ap, ap₂, sym, cond, ℕ, true, false, List, [], ◌∷◌, Option, Some, None, Result, Ok, Err, IfOk, is_some, length, refl, subst, inl, inr, arith, codes, IsSomeAnd, unwrap_or, digits_value, without_leading_plus, option_map_or, bytes_eq, bundle_fault, check_fault, defaults_fault, entered_fault, flag_word_fault, other_fault, settle_fault, step_fault, turn_fault, IsAmong, Kinds, or_else, value_kinds, long_of, short_of, Shape, built, entered, matches_of, Held, Rule, Step, Waiting, Walk, after_step, first_of, finished, idle, long_or_other, nothing_held, one_of, option, plain_word, positional, settled, short_or_plain, subcommand_or_other, walk_from, word_met, IsUnsignedIn, kind_of, ErrorKind, DisplayHelp, Unsigned, AsksForHelp, IsChosenBy, Reads, ExplainsAmong, form_words, is_no_option, is_operand, occur_app, ScriptRequest, OccurFault}
+use Rattle.occur.proofs.Prelude.{◌≡◌, ◌==◌, ◌∙◌, ap, ap₂, sym, cond, ℕ, true, false, List, [], ◌∷◌, Option, Some, None, Result, Ok, Err, IfOk, is_some, length, refl, subst, inl, inr, arith, codes, IsSomeAnd, unwrap_or, digits_value, without_leading_plus, option_map_or, bytes_eq, bundle_fault, check_fault, defaults_fault, entered_fault, flag_word_fault, other_fault, settle_fault, step_fault, turn_fault, IsAmong, Kinds, or_else, value_kinds, long_of, short_of, Shape, built, entered, matches_of, Held, Rule, Step, Waiting, Walk, after_step, first_of, finished, idle, long_or_other, nothing_held, one_of, option, plain_word, positional, settled, short_or_plain, subcommand_or_other, walk_from, word_met, IsUnsignedIn, kind_of, ErrorKind, DisplayHelp, DisplayVersion, Unsigned, AsksFor, IsChosenBy, Reads, ExplainsAmong, form_words, is_no_option, is_operand, occur_app, ScriptRequest, OccurFault}
 use Rattle.clap.specs.Faults.{fault_of}
 use Rattle.clap.specs.Walk.{Text, walked}
 use Rattle.clap.proofs.OnLiterals.{clap_on_literals}
@@ -213,15 +213,28 @@ help_fault : (name : Text) → fault_of occur_app (name ∷ codes "--help" ∷ [
 unfolding clap_on_literals
 help_fault name = refl
 
--- `occur --help` asks for help
-pub reads_help : (words : List Text) (r : Result ScriptRequest OccurFault) → ExplainsAmong (fault_of occur_app words) r → (name : Text)
-    → words ≡ name ∷ codes "--help" ∷ [] → AsksForHelp r
-reads_help words (Ok request) reported_too name is =
-    let none : ◌≡◌ {A = ℕ} 0 1 = ap length (sym reported_too ∙ ap (fault_of occur_app) is ∙ help_fault name) in
+version_fault : (name : Text) → fault_of occur_app (name ∷ codes "--version" ∷ []) ≡ DisplayVersion ∷ []
+unfolding clap_on_literals
+version_fault name = refl
+
+-- words with this fault alone ask for it
+asks_for : (kinds : Kinds) (kind : ErrorKind) (r : Result ScriptRequest OccurFault) → kinds ≡ kind ∷ [] → ExplainsAmong kinds r → AsksFor kind r
+asks_for kinds kind (Ok request) only none =
+    let bad : ◌≡◌ {A = ℕ} 0 1 = ap length (sym none ∙ only) in
     absurd (omega arith)
-reads_help words (Err fault.Memory) reported_too name is = tt
-reads_help words (Err (fault.Words error)) reported_too name is =
-    elim (subst (IsAmong (kind_of error)) (ap (fault_of occur_app) is ∙ help_fault name) reported_too.1) [
+asks_for kinds kind (Err fault.Memory) only explained = tt
+asks_for kinds kind (Err (fault.Words error)) only explained =
+    elim (subst (IsAmong (kind_of error)) only explained.1) [
       | inl same ↦ same
       | inr none ↦ absurd none
     ]
+
+-- `occur --help` asks for help
+pub reads_help : (words : List Text) (r : Result ScriptRequest OccurFault) → ExplainsAmong (fault_of occur_app words) r → (name : Text)
+    → words ≡ name ∷ codes "--help" ∷ [] → AsksFor DisplayHelp r
+reads_help words r explained name is = asks_for (fault_of occur_app words) DisplayHelp r (ap (fault_of occur_app) is ∙ help_fault name) explained
+
+-- `occur --version` asks for the version
+pub reads_version : (words : List Text) (r : Result ScriptRequest OccurFault) → ExplainsAmong (fault_of occur_app words) r → (name : Text)
+    → words ≡ name ∷ codes "--version" ∷ [] → AsksFor DisplayVersion r
+reads_version words r explained name is = asks_for (fault_of occur_app words) DisplayVersion r (ap (fault_of occur_app) is ∙ version_fault name) explained

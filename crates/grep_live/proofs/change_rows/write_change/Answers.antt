@@ -1,28 +1,45 @@
-use Rattle.grep_live.proofs.Prelude.{◌≡◌, ℕ, ◌+◌, ◌-◌, refl, sym, subst, arith, nat_eq, ◌&&◌, true, false, written, GoesOut, Writes}
-use Rattle.grep_core.proofs.lemmas.RowLemmas.{goes_nowhere}
-use Rattle.grep_live.proofs.lemmas.ChangesLemmas.{reported_as, rows_idle, rows_busy}
+use Rattle.grep_live.proofs.Prelude.{◌+◌, ◌≤◌, List, drop, length, get_or, subst, drop_all, Stretch, file_at}
+use Rattle.grep_session.proofs.lemmas.Writing.{writes_err}
+use Rattle.grep_live.proofs.lemmas.ChangesLemmas.{stretches_begin, next_stretch, turn_is, changed_none, changed_on, changed_stops, changed_all}
 use Rattle.grep_live.proofs.change_rows.write_change.Goals as goal
 
-pub returns-then-is_idle : goal.returns-then-is_idle
-returns-then-is_idle g c =
-    let mark = c.args.mark.now in
-    let added = c.added_lines-added.result in
-    let far : added ≡ (mark.front + added) - mark.front = omega arith in
-    let added_is = subst (λ (n : ℕ). added ≡ n - mark.front - mark.back) c.line_count.ensures c.added_lines-added.ensures in
-    λ es meant change is.
-    let known = reported_as es c.args.session.now.inputs c.args.k mark mark.front c.removed_lines-removed.result added (mark.front + added) change is refl c.removed_lines-removed.ensures added_is refl in
-    let idle = subst (λ (n : ℕ). (nat_eq c.removed_lines-removed.result 0 && nat_eq n 0) ≡ true) far (sym c.if-is_idle.ensures) in
-    let none = rows_idle es c.args.session.now.inputs c.args.k mark.front c.removed_lines-removed.result (mark.front + added) change known idle in
-    subst (λ rows. GoesOut g.W.CountedWrite.contents g.W.CountedWrite.failures c.args.out.now c.args.out.now (written c.args.margin.now rows)) (sym none) (goes_nowhere g.W.CountedWrite.contents g.W.CountedWrite.failures c.args.out.now)
+pub loop-stretch-init : goal.loop-stretch-init
+loop-stretch-init g c = record {
+  fits = stretches_begin c.args.session.now.inputs c.args.k c.line_count-to.result c.args.mark.now c.line_count-to.ensures c.requires;
+  changes = changed_none c.args.session.now.inputs c.args.k g.W.CountedWrite.contents g.W.CountedWrite.failures c.args.margin.now c.args.mark.now c.args.out.now;
+}
+
+pub loop-stretch-preserved : goal.loop-stretch-preserved
+loop-stretch-preserved g c =
+    let i = c.loop-stretch.stretch-index in
+    let items = c.stretches-stretch-items.result.now in
+    let stretches = c.args.mark.now.stretches in
+    let none : Stretch = record { kept = 0; removed = 0; added = 0 } in
+    let is = turn_is items stretches i none c.stretches-stretch-items.ensures c.loop-stretch-test.true in
+    let lines = length (file_at c.args.session.now.inputs.files c.args.k).lines in
+    let next = next_stretch lines c.loop-stretch.rest.from c.loop-stretch.rest.to (drop i stretches) (get_or items i none) (drop (i + 1) stretches) is c.loop-stretch.invariant.fits in
+    record {
+      fits = next.left;
+      changes =
+          (λ es meant all are.
+          changed_on c.args.session.now.inputs c.args.k g.W.CountedWrite.contents g.W.CountedWrite.failures c.args.margin.now es c.args.out.now c.loop-stretch.out c.write_stretch.new.out c.loop-stretch.rest.from (get_or items i none) (drop (i + 1) stretches) all (drop i stretches) is (c.loop-stretch.invariant.changes es meant all are) (λ hits h. c.in_ok-write_stretch.ensures es meant hits h));
+    }
+
+pub returns-in_err-write_stretch : goal.returns-in_err-write_stretch
+returns-in_err-write_stretch g c =
+    let i = c.loop-stretch.stretch-index in
+    let items = c.stretches-stretch-items.result.now in
+    let stretches = c.args.mark.now.stretches in
+    let none : Stretch = record { kept = 0; removed = 0; added = 0 } in
+    let is = turn_is items stretches i none c.stretches-stretch-items.ensures c.loop-stretch-test.true in
+    λ es meant all are.
+    writes_err g.W.CountedWrite.contents g.W.CountedWrite.failures c.args.margin.now _ _ _ c.from_residual.result c.from_residual.ensures.0
+    (changed_stops c.args.session.now.inputs c.args.k g.W.CountedWrite.contents g.W.CountedWrite.failures c.args.margin.now es c.args.out.now c.loop-stretch.out c.write_stretch.new.out c.loop-stretch.rest.from (get_or items i none) (drop (i + 1) stretches) all (drop i stretches) is (c.loop-stretch.invariant.changes es meant all are) (λ hits h. c.in_err-write_stretch.ensures es meant hits h))
 
 pub returns : goal.returns
 returns g c =
-    let mark = c.args.mark.now in
-    let added = c.added_lines-added.result in
-    let far : added ≡ (mark.front + added) - mark.front = omega arith in
-    let added_is = subst (λ (n : ℕ). added ≡ n - mark.front - mark.back) c.line_count.ensures c.added_lines-added.ensures in
-    λ es meant change is.
-    let known = reported_as es c.args.session.now.inputs c.args.k mark mark.front c.removed_lines-removed.result added (mark.front + added) change is refl c.removed_lines-removed.ensures added_is refl in
-    let busy = subst (λ (n : ℕ). (nat_eq c.removed_lines-removed.result 0 && nat_eq n 0) ≡ false) far (sym c.if-is_idle.ensures) in
-    let some = rows_busy es c.args.session.now.inputs c.args.k mark.front c.removed_lines-removed.result (mark.front + added) change known busy in
-    subst (λ rows. Writes g.W.CountedWrite.contents g.W.CountedWrite.failures c.args.out.now c.write_rows.new.out (written c.args.margin.now rows) c.write_rows.result) (sym some) (c.write_rows.ensures es meant change.come known.are_hits)
+    let i = c.loop-stretch.stretch-index in
+    let stretches = c.args.mark.now.stretches in
+    let past : length stretches ≤ i = subst (λ (l : List Stretch). length l ≤ i) c.stretches-stretch-items.ensures c.loop-stretch-test.false in
+    λ es meant all are.
+    changed_all c.args.session.now.inputs c.args.k g.W.CountedWrite.contents g.W.CountedWrite.failures c.args.margin.now es c.args.out.now c.loop-stretch.out c.loop-stretch.rest.from (drop i stretches) all (drop_all i stretches past) (c.loop-stretch.invariant.changes es meant all are)

@@ -28,6 +28,12 @@ find_parts-requires-clause-new g c =
     subst (λ n. AreBelow n c.in_ok-new.new) (length-map c.args.chunk.now line_text)
     (matches_below c.args.change (map line_text c.args.chunk.now) c.args.search.now.options.line_regexp (map g.M.LineMatch.expression c.args.matchers.now) c.matches-old.result.now c.in_ok-new.new c.in_ok-new.ensures.ok)
 
+pub of-requires-clause-within : goal.of-requires-clause-within
+of-requires-clause-within g c =
+    let texts = map line_text c.args.chunk.now in
+    let size : length texts ≡ c.len.result = length-map c.args.chunk.now line_text ∙ sym c.len.ensures in
+    subst (λ n. AreBelow n c.in_ok-new.new) size (matches_below c.args.change texts c.args.search.now.options.line_regexp (map g.M.LineMatch.expression c.args.matchers.now) c.matches-old.result.now c.in_ok-new.new c.in_ok-new.ensures.ok)
+
 pub find_parts-requires-clause-grows : goal.find_parts-requires-clause-grows
 find_parts-requires-clause-grows g c =
     matches_grow c.args.change (map line_text c.args.chunk.now) c.args.search.now.options.line_regexp (map g.M.LineMatch.expression c.args.matchers.now) c.matches-old.result.now c.in_ok-new.new c.in_ok-new.ensures.ok

@@ -1,4 +1,4 @@
-use Rattle.grep_session.proofs.Prelude.{◌≡◌, ◌+◌, ◌-◌, ◌*◌, ◌<◌, ◌≤◌, length, map, take, drop, get_or, sym, ap, subst, ◌∙◌, take_all, length-take, arith, ◌∷◌, [], length-map, drop_all, terminated, AddsAtMost, line_text, AddsColumn, AreLeft, first_sought}
+use Rattle.grep_session.proofs.Prelude.{◌≡◌, ◌+◌, ◌-◌, ◌*◌, ◌<◌, ◌≤◌, length, map, take, drop, get_or, sym, ap, subst, ◌∙◌, take_all, length-take, arith, ◌∷◌, [], length-map, drop_all, terminated, AddsAtMost, line_text, AddsColumn, AddsLater, AreLeft, first_sought, past_sought}
 use Rattle.re_search.proofs.lemmas.KeptMatchers.{none_asked, one_asked}
 use Rattle.re_search.proofs.lemmas.OneMatcherMore.{one_more, value_at, within}
 use Rattle.re_meter.proofs.lemmas.Adding.{adds_none}
@@ -13,12 +13,12 @@ loop-number-init g c =
     let entire = c.args.search.now.options.line_regexp in
     let first = c.first_sought-first.result in
     let left = c.in_ok-matches.matches in
-    let size : c.len.result ≡ length texts = c.len.ensures ∙ sym (length-map c.args.chunk.now line_text) in
+    let size : c.len-size.result ≡ length texts = c.len-size.ensures ∙ sym (length-map c.args.chunk.now line_text) in
     let sought = sought_within c.args.change (length c.args.matchers.now) c.requires.within in
     let none : drop first (take first es) ≡ [] = drop_all first (take first es) (omega (arith, length-take first es)) in
     record {
       low = omega arith;
-      high = omega (arith, sought, c.first_sought-first.ensures);
+      high = omega (arith, sought.0, c.first_sought-first.ensures, c.past_sought-past.ensures);
       found = (left, subst (λ n. AreLeft c.args.change n c.args.old.now left) size c.in_ok-matches.ensures, subst (λ fs. AddsColumn texts entire first fs left left) (sym none) (columns_none texts entire first left));
       same_matchers = none_asked;
       steps = adds_none _ _ _;
@@ -34,7 +34,8 @@ loop-number-preserved g c =
     let now = c.loop-number.matchers in
     let k = c.loop-number.number in
     let d = c.index-matchers-number.result in
-    let h : k < length old = omega (arith, c.loop-number-test.true) in
+    let within_all = sought_within c.args.change (length old) c.requires.within in
+    let h : k < length old = omega (arith, c.loop-number-test.true, within_all.1, c.past_sought-past.ensures) in
     let entire = c.args.search.now.options.line_regexp in
     let texts = map line_text c.args.chunk.now in
     let first = c.first_sought-first.result in
@@ -44,7 +45,7 @@ loop-number-preserved g c =
     let bytes = length (terminated texts) in
     record {
       low = omega (arith, s.low);
-      high = omega (arith, h);
+      high = omega (arith, c.loop-number-test.true);
       found = (
         s.found.0,
         s.found.1,
@@ -64,9 +65,9 @@ returns-in_err-add_column-clause-steps g c =
     let k = c.loop-number.number in
     let first = c.first_sought-first.result in
     let many = length c.args.matchers.now in
-    let more : k - first + 1 ≤ many - first_sought c.args.change many = omega (arith, s.low, c.loop-number-test.true, c.first_sought-first.ensures) in
+    let more : k - first + 1 ≤ past_sought c.args.change many - first_sought c.args.change many = omega (arith, s.low, c.loop-number-test.true, c.first_sought-first.ensures, c.past_sought-past.ensures) in
     let bytes = length (terminated (map line_text c.args.chunk.now)) in
-    adds_for_more (k - first + 1) (many - first_sought c.args.change many) bytes 0 _ _ more (adds_once_more (k - first) bytes _ _ _ s.steps c.add_column.ensures.steps)
+    adds_for_more (k - first + 1) (past_sought c.args.change many - first_sought c.args.change many) bytes 0 _ _ more (adds_once_more (k - first) bytes _ _ _ s.steps c.add_column.ensures.steps)
 
 pub returns-clause-ok : goal.returns-clause-ok
 returns-clause-ok g c =
@@ -74,19 +75,31 @@ returns-clause-ok g c =
     let es = map g.M.LineMatch.expression c.args.matchers.now in
     let texts = map line_text c.args.chunk.now in
     let entire = c.args.search.now.options.line_regexp in
+    let first = c.first_sought-first.result in
     let many : length c.args.matchers.now ≡ length es = sym (length-map c.args.matchers.now g.M.LineMatch.expression) in
-    let place : c.first_sought-first.result ≡ first_sought c.args.change (length es) = c.first_sought-first.ensures ∙ ap (first_sought c.args.change) many in
-    let all : take c.loop-number.number es ≡ es = take_all _ _ (omega (arith, many, s.high, c.loop-number-test.false)) in
-    let adds = subst (λ fs. AddsColumn texts entire c.first_sought-first.result (drop c.first_sought-first.result fs) s.found.0 c.loop-number.matches) all s.found.2 in
+    let size : c.len-size.result ≡ length texts = c.len-size.ensures ∙ sym (length-map c.args.chunk.now line_text) in
+    let begins : first ≡ first_sought c.args.change (length es) = c.first_sought-first.ensures ∙ ap (first_sought c.args.change) many in
+    let reached : c.loop-number.number ≡ c.past_sought-past.result = omega (arith, s.high, c.loop-number-test.false) in
+    let ends : c.loop-number.number ≡ past_sought c.args.change (length es) = reached ∙ c.past_sought-past.ensures ∙ ap (past_sought c.args.change) many in
+    let adds = subst (λ n. AddsColumn texts entire first (drop first (take n es)) s.found.0 c.loop-number.matches) ends s.found.2 in
     record {
       left = s.found.0;
+      mid = c.loop-number.matches;
       are_left = s.found.1;
-      adds = subst (λ n. AddsColumn texts entire n (drop n es) s.found.0 c.loop-number.matches) place adds;
+      adds = subst (λ n. AddsColumn texts entire n (drop n (take (past_sought c.args.change (length es)) es)) s.found.0 c.loop-number.matches) begins adds;
+      later = subst (λ n. AddsLater c.args.change n c.args.old.now c.loop-number.matches c.add_later.new.matches) size c.in_ok-add_later.ensures;
     }
 
 pub returns-clause-steps : goal.returns-clause-steps
 returns-clause-steps g c =
     let s = c.loop-number.invariant in
     let many = length c.args.matchers.now in
-    let last : c.loop-number.number - c.first_sought-first.result ≡ many - first_sought c.args.change many = omega (arith, s.high, c.loop-number-test.false, c.first_sought-first.ensures) in
+    let last : c.loop-number.number - c.first_sought-first.result ≡ past_sought c.args.change many - first_sought c.args.change many = omega (arith, s.high, c.loop-number-test.false, c.first_sought-first.ensures, c.past_sought-past.ensures) in
+    subst (λ n. AddsAtMost (n * length (terminated (map line_text c.args.chunk.now))) c.args.meter.now c.loop-number.meter) last s.steps
+
+pub returns-in_err-add_later-clause-steps : goal.returns-in_err-add_later-clause-steps
+returns-in_err-add_later-clause-steps g c =
+    let s = c.loop-number.invariant in
+    let many = length c.args.matchers.now in
+    let last : c.loop-number.number - c.first_sought-first.result ≡ past_sought c.args.change many - first_sought c.args.change many = omega (arith, s.high, c.loop-number-test.false, c.first_sought-first.ensures, c.past_sought-past.ensures) in
     subst (λ n. AddsAtMost (n * length (terminated (map line_text c.args.chunk.now))) c.args.meter.now c.loop-number.meter) last s.steps

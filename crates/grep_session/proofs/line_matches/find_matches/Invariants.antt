@@ -5,7 +5,7 @@ use Rattle.grep_session.proofs.line_matches.find_matches.Given as goal
 abbrev pub invariant-loop-number : goal.invariant-loop-number
 invariant-loop-number g l = record {
   low : l.first ≤ l.number;
-  high : l.number ≤ length l.fn.matchers;
+  high : l.number ≤ l.past;
   found : (left : List (ℕ × ℕ)) × AreLeft l.fn.change (length (map line_text l.chunk)) l.old left × AddsColumn (map line_text l.chunk) l.search.options.line_regexp l.first (drop l.first (take l.number (map g.M.LineMatch.expression l.fn.matchers))) left l.matches;
   same_matchers : SameMatchers g.M.LineMatch.expression g.M.LineMatch.whole g.M.LineMatch.room l.fn.matchers l.matchers;
   steps : AddsAtMost ((l.number - l.first) * length (terminated (map line_text l.chunk))) l.fn.meter l.meter;

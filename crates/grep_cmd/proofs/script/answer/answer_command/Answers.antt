@@ -1,4 +1,4 @@
-use Rattle.grep_cmd.proofs.Prelude.{◌≡◌, Some, None, refl, rules, [], ◌∷◌, Accepted, does, reports, reports_changes, reports_page, is_bad, edits, shows, lists_changes, lists_page, line_command, reply_to, bad_command, answer_for, line_meant}
+use Rattle.grep_cmd.proofs.Prelude.{◌≡◌, Some, None, refl, rules, [], ◌∷◌, Accepted, does, reports, reports_changes, reports_page, tells_version, is_bad, edits, shows, lists_changes, lists_page, asks_version, line_command, reply_to, bad_command, version_line, answer_for, line_meant}
 use Rattle.re_meter.proofs.lemmas.Adding.{adds_none}
 use Rattle.grep_core.proofs.lemmas.RowLemmas.{goes_nowhere}
 use Rattle.grep_cmd.specs.declared.script.reply.Answer.TheVariants.{Refused}
@@ -61,3 +61,13 @@ returns-in-Ok-Some-Page-clause-answers g c =
     (reports_page first count) t.0 h (rw is (refl, refl)) (t.1, refl) 0 0 (refl, refl) (adds_none 0 0 c.args.meter.now) in
     answers_step g.R.CountedRead.remaining g.R.CountedRead.failures reader handed c.args.lines.now.lines.line c.args.lines.now c.args.meter.now c.args.meter.now c.args.session.now c.args.session.now g.W.CountedWrite.contents g.W.CountedWrite.failures c.args.out.now c.args.out.now c.reply_to_page.new.out flushed
     t.0 Accepted c.reply_to_page.result done (page_is_no_refusal c.args.session.now.inputs first count t.0 t.1) (λ e. let no : ⊥ = cc in no) t.2
+
+pub returns-in-Ok-Some-Version-clause-answers : goal.returns-in-Ok-Some-Version-clause-answers
+returns-in-Ok-Some-Version-clause-answers g c =
+    let is : line_command c.args.lines.now.lines.line ≡ Some asks_version = search rules in
+    let flushed = goes_nowhere g.W.CountedWrite.contents g.W.CountedWrite.failures c.args.out.now in
+    λ reader handed h.
+    let done = does_alone g.R.CountedRead.remaining g.R.CountedRead.failures reader handed c.args.lines.now.lines.line c.args.lines.now c.args.meter.now c.args.meter.now c.args.session.now c.args.session.now g.W.CountedWrite.contents g.W.CountedWrite.failures c.args.out.now c.args.out.now c.reply_to_version.new.out flushed
+    tells_version (version_line ∷ []) h (rw is (refl, refl)) (refl, refl) 0 0 (refl, refl) (adds_none 0 0 c.args.meter.now) in
+    answers_step g.R.CountedRead.remaining g.R.CountedRead.failures reader handed c.args.lines.now.lines.line c.args.lines.now c.args.meter.now c.args.meter.now c.args.session.now c.args.session.now g.W.CountedWrite.contents g.W.CountedWrite.failures c.args.out.now c.args.out.now c.reply_to_version.new.out flushed
+    (version_line ∷ []) Accepted c.reply_to_version.result done refl (λ e. let no : ⊥ = cc in no) c.reply_to_version.ensures

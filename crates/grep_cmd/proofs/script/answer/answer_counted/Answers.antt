@@ -2,8 +2,8 @@ use Rattle.grep_cmd.proofs.Prelude.{◌≡◌, refl, sym, ap, ◌∙◌, [], ◌
 use Rattle.grep_cmd.proofs.lemmas.ScriptAnswers.{answers_step, answers_truncated, answers_lost, refused_as, answered_in_time, not_for_memory}
 use Rattle.grep_cmd.proofs.script.answer.answer_counted.Goals as goal
 
-pub returns-in-AddPatterns-clause-answers : goal.returns-in-AddPatterns-clause-answers
-returns-in-AddPatterns-clause-answers g c = λ reader handed line h is. c.answer_patterns.ensures.answers reader handed line h (rw c.in-AddPatterns.is at is)
+pub returns-in-PutPatterns-clause-answers : goal.returns-in-PutPatterns-clause-answers
+returns-in-PutPatterns-clause-answers g c = λ reader handed line h is. c.answer_patterns.ensures.answers reader handed line h (rw c.in-PutPatterns.is at is)
 
 pub returns-in-Ok-None-clause-answers : goal.returns-in-Ok-None-clause-answers
 returns-in-Ok-None-clause-answers g c =

@@ -1,5 +1,5 @@
 use Rattle.grep_cmd.proofs.Prelude.{◌≤◌, length, map, refl, [], ◌∷◌, arith, does, reply_to, answer_for, counted_meant}
-use Rattle.grep_cmd.specs.declared.script.command.CountedEdit.TheVariants.{AddPatterns}
+use Rattle.grep_cmd.specs.declared.script.command.CountedEdit.TheVariants.{PutPatterns}
 use Rattle.grep_cmd.proofs.lemmas.ScriptAnswers.{answers_step, answers_truncated, answers_lost, refused_as, answered_in_time, not_for_memory}
 use Rattle.grep_cmd.proofs.script.answer.answer_patterns.Goals as goal
 
@@ -14,7 +14,7 @@ returns-in-Ok-None-clause-answers g c =
 pub returns-in-Err-clause-answers : goal.returns-in-Err-clause-answers
 returns-in-Err-clause-answers g c =
     λ reader handed line h is. answers_lost g.R.CountedRead.remaining g.R.CountedRead.failures reader handed line c.take_texts.new.lines c.args.meter.now c.args.meter.now c.args.session.now g.W.CountedWrite.contents g.W.CountedWrite.failures c.args.out.now c.take_texts.new.out
-    c.args.count (counted_meant AddPatterns) c.in-Err.fault is (c.in-Err.ensures.takes reader handed h) c.in-Err.ensures.sent refl
+    c.args.count (counted_meant (PutPatterns c.args.edit)) c.in-Err.fault is (c.in-Err.ensures.takes reader handed h) c.in-Err.ensures.sent refl
 
 pub returns-in-Ok-clause-answers : goal.returns-in-Ok-clause-answers
 returns-in-Ok-clause-answers g c =
@@ -22,11 +22,11 @@ returns-in-Ok-clause-answers g c =
     let taken = map (λ t. t.items) c.in-Ok-Some.taken.items in
     λ reader handed line h is.
     let t = takes reader handed h in
-    answers_step g.R.CountedRead.remaining g.R.CountedRead.failures reader handed line c.take_texts.new.lines c.args.meter.now c.add_patterns.new.meter c.args.session.now c.add_patterns.new.session g.W.CountedWrite.contents g.W.CountedWrite.failures c.args.out.now c.take_texts.new.out c.reply_to_edit.new.out c.in-Ok-Some.ensures.sent
+    answers_step g.R.CountedRead.remaining g.R.CountedRead.failures reader handed line c.take_texts.new.lines c.args.meter.now c.put_patterns.new.meter c.args.session.now c.put_patterns.new.session g.W.CountedWrite.contents g.W.CountedWrite.failures c.args.out.now c.take_texts.new.out c.reply_to_edit.new.out c.in-Ok-Some.ensures.sent
     (reply_to c.in-Ok.answer ∷ []) (answer_for c.in-Ok.answer) c.reply_to_edit.result
     (record {
       taken = taken;
-      step = does (counted_meant AddPatterns taken);
+      step = does (counted_meant (PutPatterns c.args.edit) taken);
       has_handed = t.1;
       is_step = rw is (t.0, refl);
       replies_to = (c.in-Ok.answer, record { gives = c.in-Ok.ensures.gives; same_states = c.in-Ok.ensures.same_states; marks = c.in-Ok.ensures.marks; named = λ none. not_for_memory c.in-Ok.answer (c.in-Ok.ensures.memory none) }, refl);
@@ -37,10 +37,10 @@ returns-in-Ok-clause-answers g c =
     })
     (refused_as c.in-Ok.answer) (answered_in_time c.in-Ok.answer) c.reply_to_edit.ensures
 
-pub returns-in-Err-add_patterns-clause-answers : goal.returns-in-Err-add_patterns-clause-answers
-returns-in-Err-add_patterns-clause-answers g c =
+pub returns-in-Err-put_patterns-clause-answers : goal.returns-in-Err-put_patterns-clause-answers
+returns-in-Err-put_patterns-clause-answers g c =
     let takes = rw c.in-Ok-Some.field-0-is at c.in-Ok-Some.ensures.takes in
     λ reader handed line h is.
     let t = takes reader handed h in
     let few : length (map (λ t. t.items) c.in-Ok-Some.taken.items) ≤ c.args.count = omega (arith, t.0) in
-    (record { taken = map (λ t. t.items) c.in-Ok-Some.taken.items; asks = rw is few; has_handed = t.1; idle = c.in-Err-add_patterns.ensures.idle }, c.in-Ok-Some.ensures.sent)
+    (record { taken = map (λ t. t.items) c.in-Ok-Some.taken.items; asks = rw is few; has_handed = t.1; idle = c.in-Err-put_patterns.ensures.idle }, c.in-Ok-Some.ensures.sent)

@@ -1,4 +1,4 @@
-use Rattle.grep_session.proofs.Prelude.{◌≡◌, Ok, All, map, inl, refl, ap, ◌∙◌, sym, subst, ◌++◌, ◌∷◌, [], map-append, All-push, matched_expression, whole_file, with_files, IsFileKept, kept_file, inputs_of}
+use Rattle.grep_session.proofs.Prelude.{◌≡◌, Ok, All, List, length, Text, new_mark, map, inl, refl, ap, ◌∙◌, sym, subst, ◌++◌, ◌∷◌, [], map-append, All-push, matched_expression, whole_file, with_files, IsFileKept, kept_file, inputs_of}
 use Rattle.grep_session.proofs.lemmas.EditLemmas.{asked_session, file_steps}
 use Rattle.grep_session.proofs.lemmas.FitLemmas.{fit_as, fit_pushed}
 use Rattle.grep_session.proofs.session.Session.add_file.Goals as goal
@@ -42,3 +42,8 @@ returns-clause-gives c =
     let files : map kept_file c.push_file.new.files.items ≡ old.files ++ whole_file name c.args.lines ∷ [] =
     ap (map kept_file) c.in-Ok-push_file.ensures.ok.0 ∙ map-append kept_file s.files.items _ ∙ ap (λ lines. old.files ++ whole_file name lines ∷ []) c.in-Ok.ensures.texts in
     rw (← c.self.view_is) (inl (c.search_new.ensures.free, ap (λ fs. Ok (with_files fs old)) files))
+
+pub returns-clause-marks : goal.returns-clause-marks
+returns-clause-marks c =
+    let s = c.self.inside in
+    rw (← c.self.view_is) (c.in-Ok-push_file.ensures.ok.1 ∙ ap (λ (lines : List Text). s.marks.items ++ new_mark (length lines) ∷ []) c.in-Ok.ensures.texts)

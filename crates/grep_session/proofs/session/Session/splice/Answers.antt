@@ -1,8 +1,8 @@
-use Rattle.grep_session.proofs.Prelude.{◌≡◌, ℕ, Ok, IfSome, map, refl, sym, subst, ◌∙◌, ap, get_or, All, arith, slice_set, touched, mark_at, matched_expression, KeptFile, Splice, Applies, spliced, with_files, IsKept, IsFileKept, kept_lines, all_of, line_text, inputs_of}
-use Rattle.grep_session.proofs.lemmas.EditLemmas.{asked_session, splice_steps, applies_splice, in_kept, put, kept_put, files_put, files_same, files_kept, needs_for_lines, empty_map}
+use Rattle.grep_session.proofs.Prelude.{◌≡◌, Ok, IfSome, map, refl, sym, subst, ◌∙◌, ap, get_or, All, arith, matched_expression, KeptFile, Splice, Applies, spliced, with_files, IsKept, IsFileKept, kept_lines, all_of, line_text, inputs_of, watched_of}
+use Rattle.grep_session.proofs.lemmas.EditLemmas.{asked_session, splice_steps, applies_splice, in_kept, kept_put, files_same, files_spliced, files_kept, needs_for_lines, empty_map}
 use Rattle.grep_session.proofs.lemmas.StepLemmas.{takes_none}
 use Rattle.grep_session.proofs.lemmas.SessionLemmas.{inputs_are}
-use Rattle.grep_session.proofs.lemmas.FitLemmas.{as_many, fit_as, fit_spliced}
+use Rattle.grep_session.proofs.lemmas.FitLemmas.{as_many, fit_as, fit_spliced, given_splice, lines_spliced, mark_within, mark_rest, mark_spliced}
 use Rattle.grep_session.proofs.session.Session.splice.Goals as goal
 
 pub returns-in-Err-clause-steps : goal.returns-in-Err-clause-steps
@@ -28,48 +28,77 @@ returns-in-Err-put_in-clause-gives c =
 pub invariant_of-self-2 : goal.invariant_of-self-2
 invariant_of-self-2 c =
     let s = c.self.inside in
-    let es = map matched_expression s.matchers.items in
+    let old = inputs_of s in
     let d = c.index_mut.result.now in
     let at : d ≡ get_or s.files.items c.args.k d = c.index_mut.ensures.value in
     let place = rw c.deref.ensures.value at c.in-Ok.ensures.place in
+    let come = map line_text (all_of c.in-Ok-search_new.kept) in
+    let all = files_spliced c.args.start c.args.count (all_of c.in-Ok-search_new.kept) s.files.items c.args.k d c.put_in.new.file place at c.put_in.ensures.name c.in-Ok-put_in.ensures.ok in
+    let lines = c.line_count-many.ensures ∙ lines_spliced _ old.files c.args.k c.args.start c.args.count come c.index.result.now place.in_files all c.index.ensures in
+    let es = map matched_expression s.matchers.items in
     let within = in_kept s.files.items c.args.k place.in_files in
     let before : IfSome (kept_lines d) (All (IsKept es s.options)) = subst (λ (f : KeptFile). IsFileKept es s.options f) (sym at) (c.self.invariant.kept c.args.k d within) in
     let kept = files_kept es s.options s.files.items c.args.k c.put_in.new.file _ c.self.invariant.kept c.in-Ok-put_in.ensures.ok (kept_put c.args.start c.args.count (all_of c.in-Ok-search_new.kept) es s.options (kept_lines d) before c.in-Ok-search_new.ensures.ok) in
-    let old = inputs_of s in
-    let all = files_put c.args.start c.args.count (all_of c.in-Ok-search_new.kept) s.files.items c.args.k d c.put_in.new.file within (ap (λ n. n.items) c.put_in.ensures.name ∙ ap (λ (f : KeptFile). f.name.items) at)
-    (c.in-Ok-put_in.ensures.ok ∙ ap (λ (f : KeptFile). put c.args.start c.args.count (all_of c.in-Ok-search_new.kept) (kept_lines f)) at) place.opens in
-    let back = rw c.deref.ensures.value at c.in-Ok.ensures.back in
-    let marks = c.touch.ensures ∙ ap (λ (n : ℕ). slice_set s.marks.items c.args.k (touched c.args.start n (mark_at s.marks.items c.args.k))) back in
+    let marks = mark_spliced old.files s.marks.items c.self.invariant.fit c.args.k c.args.start c.args.count come place.in_files place.in_file c.line_count-many.result lines c.touch.new.marks.items c.touch.ensures in
     asked_session s _ refl refl c.self.invariant c.search_new.ensures.same_matchers kept
-    (fit_as (spliced old.files c.args.k c.args.start c.args.count (map line_text (all_of c.in-Ok-search_new.kept))) _ _ _ all marks
-    (fit_spliced old.files s.marks.items c.self.invariant.fit c.args.k c.args.start c.args.count (map line_text (all_of c.in-Ok-search_new.kept)) place.in_files place.in_file))
+    (fit_as (spliced old.files c.args.k c.args.start c.args.count come) _ _ _ all marks.2
+    (fit_spliced old.files s.marks.items c.self.invariant.fit c.args.k c.args.start c.args.count come place.in_files place.in_file marks.0 marks.1))
 
-pub touch-requires : goal.touch-requires
-touch-requires c =
+pub touch-requires-clause-inside : goal.touch-requires-clause-inside
+touch-requires-clause-inside c =
     let s = c.self.inside in
     let place = rw c.deref.ensures.value at c.in-Ok.ensures.place in
     omega (arith, place.in_files, as_many (inputs_of s).files s.marks.items c.self.invariant.fit)
 
+pub touch-requires-clause-within : goal.touch-requires-clause-within
+touch-requires-clause-within c =
+    let s = c.self.inside in
+    let old = inputs_of s in
+    let d = c.index_mut.result.now in
+    let at : d ≡ get_or s.files.items c.args.k d = c.index_mut.ensures.value in
+    let place = rw c.deref.ensures.value at c.in-Ok.ensures.place in
+    let come = map line_text (all_of c.in-Ok-search_new.kept) in
+    let all = files_spliced c.args.start c.args.count (all_of c.in-Ok-search_new.kept) s.files.items c.args.k d c.put_in.new.file place at c.put_in.ensures.name c.in-Ok-put_in.ensures.ok in
+    let lines = c.line_count-many.ensures ∙ lines_spliced _ old.files c.args.k c.args.start c.args.count come c.index.result.now place.in_files all c.index.ensures in
+    mark_within old.files s.marks.items c.self.invariant.fit c.args.k c.args.start c.args.count come place.in_files place.in_file c.line_count-many.result lines
+
+pub touch-requires-clause-rest : goal.touch-requires-clause-rest
+touch-requires-clause-rest c =
+    let s = c.self.inside in
+    let old = inputs_of s in
+    let d = c.index_mut.result.now in
+    let at : d ≡ get_or s.files.items c.args.k d = c.index_mut.ensures.value in
+    let place = rw c.deref.ensures.value at c.in-Ok.ensures.place in
+    let come = map line_text (all_of c.in-Ok-search_new.kept) in
+    let all = files_spliced c.args.start c.args.count (all_of c.in-Ok-search_new.kept) s.files.items c.args.k d c.put_in.new.file place at c.put_in.ensures.name c.in-Ok-put_in.ensures.ok in
+    let lines = c.line_count-many.ensures ∙ lines_spliced _ old.files c.args.k c.args.start c.args.count come c.index.result.now place.in_files all c.index.ensures in
+    mark_rest old.files s.marks.items c.self.invariant.fit c.args.k c.args.start c.args.count come place.in_files place.in_file c.line_count-many.result lines
+
 pub returns-clause-marks : goal.returns-clause-marks
 returns-clause-marks c =
     let s = c.self.inside in
-    let back = rw c.deref.ensures.value at c.in-Ok.ensures.back in
-    rw (← c.self.view_is) (c.touch.ensures ∙ ap (λ (n : ℕ). slice_set s.marks.items c.args.k (touched c.args.start n (mark_at s.marks.items c.args.k))) back)
+    let old = inputs_of s in
+    let d = c.index_mut.result.now in
+    let at : d ≡ get_or s.files.items c.args.k d = c.index_mut.ensures.value in
+    let place = rw c.deref.ensures.value at c.in-Ok.ensures.place in
+    let come = map line_text (all_of c.in-Ok-search_new.kept) in
+    let all = files_spliced c.args.start c.args.count (all_of c.in-Ok-search_new.kept) s.files.items c.args.k d c.put_in.new.file place at c.put_in.ensures.name c.in-Ok-put_in.ensures.ok in
+    let lines = c.line_count-many.ensures ∙ lines_spliced _ old.files c.args.k c.args.start c.args.count come c.index.result.now place.in_files all c.index.ensures in
+    let marks = mark_spliced old.files s.marks.items c.self.invariant.fit c.args.k c.args.start c.args.count come place.in_files place.in_file c.line_count-many.result lines c.touch.new.marks.items c.touch.ensures in
+    rw (← c.self.view_is) (given_splice c.args.k c.args.start c.args.count c.args.lines come (watched_of s) c.touch.new.marks.items c.in-Ok-search_new.ensures.texts marks)
 
 pub returns-clause-gives : goal.returns-clause-gives
 returns-clause-gives c =
     let s = c.self.inside in
     let old = inputs_of s in
-    let lines = c.args.lines in
-    let none = c.search_new.ensures.free in
-    let place = rw c.deref.ensures.value at c.in-Ok.ensures.place in
     let d = c.index_mut.result.now in
     let at : d ≡ get_or s.files.items c.args.k d = c.index_mut.ensures.value in
-    let within = in_kept s.files.items c.args.k place.in_files in
-    let files = files_put c.args.start c.args.count (all_of c.in-Ok-search_new.kept) s.files.items c.args.k d c.put_in.new.file within (ap (λ n. n.items) c.put_in.ensures.name ∙ ap (λ (f : KeptFile). f.name.items) at)
-    (c.in-Ok-put_in.ensures.ok ∙ ap (λ (f : KeptFile). put c.args.start c.args.count (all_of c.in-Ok-search_new.kept) (kept_lines f)) at) place.opens in
-    let all = files ∙ ap (λ ls. spliced old.files c.args.k c.args.start c.args.count ls) c.in-Ok-search_new.ensures.texts in
-    rw (← c.self.view_is) (subst (λ fs. Applies (Splice c.args.k c.args.start c.args.count lines) old (Ok (with_files fs old))) (sym all) (applies_splice old _ _ _ lines place none))
+    let place = rw c.deref.ensures.value at c.in-Ok.ensures.place in
+    let come = map line_text (all_of c.in-Ok-search_new.kept) in
+    let all = files_spliced c.args.start c.args.count (all_of c.in-Ok-search_new.kept) s.files.items c.args.k d c.put_in.new.file place at c.put_in.ensures.name c.in-Ok-put_in.ensures.ok in
+    let lines = c.args.lines in
+    let now = all ∙ ap (λ ls. spliced old.files c.args.k c.args.start c.args.count ls) c.in-Ok-search_new.ensures.texts in
+    rw (← c.self.view_is) (subst (λ fs. Applies (Splice c.args.k c.args.start c.args.count lines) old (Ok (with_files fs old))) (sym now) (applies_splice old _ _ _ lines place c.search_new.ensures.free))
 
 pub returns-in-Err-search_new-clause-memory : goal.returns-in-Err-search_new-clause-memory
 returns-in-Err-search_new-clause-memory c =

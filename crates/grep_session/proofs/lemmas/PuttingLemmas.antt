@@ -1,0 +1,99 @@
+-- Another pattern is put in the place of one: the matchers after that, and the steps that it takes.
+use Rattle.grep_session.proofs.Prelude.{◌≡◌, ℕ, zero, suc, ◌+◌, ◌<◌, ◌≤◌, List, [], ◌∷◌, Ok, Err, All, All-cons, All-head, All-nil, All-set, inl, inr, length, map, get_or, refl, sym, ap, subst, ◌∙◌, arith, set, map-set, length-map, slice_set, Text, Expression, IsMeant, Matcher, IsReadable, AllAnswer, matched_expression, room_of, wants_whole, Steps, Inputs, AreMeant, Replaced, EditFault, ChangeCost, HasChanged, SearchesEach, SameMatchers, IsSession, inputs_of, Inside, Applies, ChangePattern, EditGives, NeedsNoMemory, with_patterns, AreMatchers, RefusesFirst, TakesSteps, KeepAtMost, all_lines}
+use Rattle.std.proofs.lemmas.List.{get_or-map, length-set, set-get_or}
+use Rattle.grep_session.proofs.lemmas.StepLemmas.{CostOfEach-sum, takes_touched}
+use Rattle.grep_session.proofs.lemmas.FitLemmas.{zip-at, zip-set}
+use Rattle.grep_session.proofs.lemmas.PatternLemmas.{has_matcher}
+
+module _ (s : Inside) (p : ℕ) (text : Text) (matcher : Matcher) (old : IsSession s) (inside : p < length (inputs_of s).patterns) (new : AreMatchers s.syntax s.options (text ∷ []) (matcher ∷ [])) where
+  was_at : (gone : Matcher) → gone ≡ get_or s.matchers.items p gone → get_or (map matched_expression s.matchers.items) p (matched_expression gone) ≡ matched_expression gone
+  was_at gone at = get_or-map matched_expression s.matchers.items p gone (matched_expression gone) (has_matcher s p old inside) ∙ ap matched_expression (sym at)
+
+  pub has_put : (gone : Matcher) (all : List Matcher) → gone ≡ get_or s.matchers.items p gone → all ≡ slice_set s.matchers.items p matcher
+      → HasChanged (Replaced p) (map matched_expression all) (map matched_expression s.matchers.items) (matched_expression gone ∷ matched_expression matcher ∷ [])
+  has_put gone all at put =
+      let among : p < length (map matched_expression s.matchers.items) = omega (arith, has_matcher s p old inside, length-map s.matchers.items matched_expression) in
+      (matched_expression gone, matched_expression matcher, among, sym (was_at gone at), ap (map matched_expression) put ∙ map-set matched_expression s.matchers.items p matcher, refl)
+
+  -- the matchers are those of the patterns
+  pub are_put : (all : List Matcher) → all ≡ slice_set s.matchers.items p matcher → AreMatchers s.syntax s.options (slice_set (inputs_of s).patterns p text) all
+  are_put all put =
+      let patterns = (inputs_of s).patterns in
+      let whole = s.options.line_regexp in
+      record {
+        meant =
+            subst (AreMeant s.syntax s.options (slice_set patterns p text)) (sym (ap (map matched_expression) put ∙ map-set matched_expression s.matchers.items p matcher))
+            (zip-set (λ text e. IsMeant s.syntax s.options.ignore_case text e) patterns (map matched_expression s.matchers.items) p text (matched_expression matcher) old.matchers.meant new.meant.0);
+        wholes =
+            subst (AllAnswer whole) (sym (ap (map wants_whole) put ∙ map-set wants_whole s.matchers.items p matcher))
+            (All-set (λ w. w ≡ whole) (map wants_whole s.matchers.items) p (wants_whole matcher) (All-head (λ w. w ≡ whole) (wants_whole matcher) [] new.wholes) old.matchers.wholes);
+        readable = All-set (IsReadable s.syntax s.options.ignore_case) patterns p text (All-head (IsReadable s.syntax s.options.ignore_case) text [] new.readable) old.matchers.readable;
+        counted = ap length put ∙ length-set s.matchers.items p matcher ∙ old.matchers.counted ∙ sym (length-set patterns p text);
+      }
+
+  -- they may keep no more than any
+  pub keep_put : (all : List Matcher) → all ≡ slice_set s.matchers.items p matcher → KeepAtMost s.states (matcher ∷ []) → KeepAtMost s.states all
+  keep_put all put few =
+      subst (All (λ room. room ≤ s.states)) (sym (ap (map room_of) put ∙ map-set room_of s.matchers.items p matcher))
+      (All-set (λ room. room ≤ s.states) (map room_of s.matchers.items) p (room_of matcher) (All-head (λ room. room ≤ s.states) (room_of matcher) [] few) old.rooms)
+
+  -- all lines were searched by the new pattern, and those that it or the old one matches for parts
+  pub takes_put : (gone : Matcher) (all : List Matcher) (begun ended : Steps) → gone ≡ get_or s.matchers.items p gone → all ≡ slice_set s.matchers.items p matcher → (text ≡ get_or (inputs_of s).patterns p [] → ⊥)
+      → SearchesEach (ChangeCost (Replaced p) (matched_expression gone ∷ matched_expression matcher ∷ []) (map matched_expression all) s.options) (all_lines (inputs_of s)) begun ended → TakesSteps (ChangePattern p text) (inputs_of s) begun ended
+  takes_put gone all begun ended at put other searched =
+      let inputs = inputs_of s in
+      let changed = matched_expression gone ∷ matched_expression matcher ∷ [] in
+      let es = map matched_expression all in
+      let spent = searched.at_most in
+      let sum = CostOfEach-sum (Replaced p) changed es s.options (all_lines inputs) spent.0 spent.1 spent.2 in
+      let was = subst (IsMeant s.syntax s.options.ignore_case (get_or inputs.patterns p [])) (was_at gone at) (zip-at (λ text e. IsMeant s.syntax s.options.ignore_case text e) inputs.patterns (map matched_expression s.matchers.items) p [] (matched_expression gone) inside old.matchers.meant) in
+      takes_touched (ChangePattern p text) inputs (with_patterns (slice_set inputs.patterns p text) inputs) es (record { patterns = 1; paired = all_lines inputs; lines = sum.0 }) spent.0 spent.1 sum.1 begun ended (inl (inside, inl (new.readable, refl))) (inr (other, (changed, (was, new.meant), sum.0, sum.2, refl)))
+      (are_put all put).meant sum.3 sum.4 spent.3
+
+-- ---- the old one is put back
+
+set_twice : {X : Type 0} (xs : List X) (p : ℕ) (x y : X) → set (set xs p x) p y ≡ set xs p y
+set_twice [] p x y = refl
+set_twice (z ∷ xs) zero x y = refl
+set_twice (z ∷ xs) (suc p) x y = ap (λ l. z ∷ l) (set_twice xs p x y)
+
+-- f of all elements, where f of the others did not change
+back_same : {X Y : Type 0} (f : X → Y) (xs all now new : List X) (p : ℕ) (one gone : X) → p < length xs → gone ≡ get_or xs p gone → all ≡ set xs p one → map f now ≡ map f all → new ≡ set now p gone → map f new ≡ map f xs
+back_same f xs all now new p one gone h is put same back =
+    let at : f gone ≡ get_or (map f xs) p (f gone) = ap f is ∙ sym (get_or-map f xs p gone (f gone) h) in
+    ap (map f) back ∙ map-set f now p gone ∙ ap (λ l. set l p (f gone)) (same ∙ ap (map f) put ∙ map-set f xs p one) ∙ set_twice (map f xs) p (f one) (f gone)
+    ∙ ap (set (map f xs) p) at ∙ set-get_or (map f xs) p (f gone)
+
+-- the matchers are the same as before
+pub bounded_again : (xs all now new : List Matcher) (p : ℕ) (one gone : Matcher) → p < length xs → gone ≡ get_or xs p gone → all ≡ slice_set xs p one → SameMatchers matched_expression wants_whole room_of all now → new ≡ slice_set now p gone → SameMatchers matched_expression wants_whole room_of xs new
+bounded_again xs all now new p one gone h is put same back = record {
+  same_expressions = back_same matched_expression xs all now new p one gone h is put same.same_expressions back;
+  same_wholes = back_same wants_whole xs all now new p one gone h is put same.same_wholes back;
+  same_rooms = back_same room_of xs all now new p one gone h is put same.same_rooms back;
+}
+
+-- ---- what is reported
+
+-- the text of the pattern at a place
+pub text_at : {V : Type 0} (items : V → Text) (texts : List V) (p : ℕ) (here : V) → p < length texts → here ≡ get_or texts p here → items here ≡ get_or (map items texts) p []
+text_at items texts p here h is = ap items is ∙ sym (get_or-map items texts p here [] h)
+
+-- the same text changes nothing
+pub puts_same : (p : ℕ) (text : Text) (old : Inputs) → p < length old.patterns → text ≡ get_or old.patterns p [] → All (IsReadable old.syntax old.options.ignore_case) old.patterns → Applies (ChangePattern p text) old (Ok old)
+puts_same p text old inside same readable =
+    let Readable : Text → Type 0 = IsReadable old.syntax old.options.ignore_case in
+    let one : Readable text = subst Readable (sym same) (readable p [] inside) in
+    inl (inside, inl (All-cons Readable text [] one (All-nil Readable), ap (λ l. Ok (with_patterns l old)) (sym (ap (set old.patterns p) same ∙ set-get_or old.patterns p []))))
+
+module _ (p : ℕ) (text : Text) (old : Inputs) (inside : p < length old.patterns) where
+  -- the text was refused, or memory ran out
+  pub refuses_put : (T : Type 0) (fault : EditFault) → RefusesFirst old.syntax old.options.ignore_case (text ∷ []) fault → EditGives {T = T} (ChangePattern p text) old old (Err fault)
+  refuses_put T fault (inl memory) = subst (λ f. EditGives {T = T} (ChangePattern p text) old old (Err f)) (sym memory) refl
+  refuses_put T fault (inr reported) =
+      let first = reported.2 in
+      subst (λ f. EditGives {T = T} (ChangePattern p text) old old (Err f)) (sym reported.3) (inl (inside, inr ((λ all. first.unreadable (all reported.0 [] first.in_texts)), (reported.0, reported.1, first, refl))), refl)
+
+  -- memory is needed for another text
+  pub needs_for_put : (text ≡ get_or old.patterns p [] → ⊥) → NeedsNoMemory (ChangePattern p text) old → ⊥
+  needs_for_put other (inl same) = other same
+  needs_for_put other (inr past) = let no : ⊥ = omega (arith, past, inside) in no

@@ -1,0 +1,3 @@
+pub mod Covers
+pub mod Places
+pub mod Takes
