@@ -25,8 +25,8 @@ MOST_WORDS = {
     "README.md": 1_370,
     "CONTRIBUTING.md": 500,
     "SECURITY.md": 650,
-    "docs/GUARANTEES.md": 1_800,
-    "docs/SPECIFICATION.md": 5_450,
+    "docs/GUARANTEES.md": 1_820,
+    "docs/SPECIFICATION.md": 5_470,
     "docs/ARCHITECTURE.md": 3_060,
     "docs/PROVING.md": 5_230,
     "docs/DECISIONS.md": 4_640,
@@ -38,7 +38,7 @@ MOST_WORDS = {
     "tests/README.md": 1_030,
     "editors/emacs/README.md": 1_590,
     "editors/nvim/*.md": 1_500,
-    "*": 37_030,
+    "*": 37_060,
 }
 """How many words pages have at most, by the pattern of their names."""
 
