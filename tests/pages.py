@@ -28,7 +28,7 @@ MOST_WORDS = {
     "docs/GUARANTEES.md": 1_820,
     "docs/SPECIFICATION.md": 5_470,
     "docs/ARCHITECTURE.md": 3_060,
-    "docs/PROVING.md": 5_230,
+    "docs/PROVING.md": 4_620,
     "docs/DECISIONS.md": 4_640,
     "docs/PERFORMANCE.md": 1_410,
     "docs/CHANGING.md": 1_610,
