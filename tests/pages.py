@@ -29,7 +29,7 @@ MOST_WORDS = {
     "docs/SPECIFICATION.md": 5_150,
     "docs/ARCHITECTURE.md": 3_060,
     "docs/PROVING.md": 4_620,
-    "docs/DECISIONS.md": 4_640,
+    "docs/DECISIONS.md": 4_440,
     "docs/PERFORMANCE.md": 1_410,
     "docs/CHANGING.md": 1_610,
     "docs/ROADMAP.md": 610,
