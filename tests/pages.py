@@ -27,7 +27,7 @@ MOST_WORDS = {
     "SECURITY.md": 650,
     "docs/GUARANTEES.md": 1_820,
     "docs/SPECIFICATION.md": 5_150,
-    "docs/ARCHITECTURE.md": 3_060,
+    "docs/ARCHITECTURE.md": 2_960,
     "docs/PROVING.md": 4_620,
     "docs/DECISIONS.md": 4_440,
     "docs/PERFORMANCE.md": 1_410,
