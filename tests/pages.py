@@ -22,13 +22,13 @@ import count  # noqa: E402
 import figures  # noqa: E402
 
 MOST_WORDS = {
-    "README.md": 1_370,
+    "README.md": 1_390,
     "CONTRIBUTING.md": 500,
     "SECURITY.md": 650,
     "docs/GUARANTEES.md": 1_820,
     "docs/SPECIFICATION.md": 5_120,
     "docs/ARCHITECTURE.md": 2_920,
-    "docs/PROVING.md": 4_460,
+    "docs/PROVING.md": 4_450,
     "docs/DECISIONS.md": 4_400,
     "docs/PERFORMANCE.md": 1_400,
     "docs/CHANGING.md": 1_590,
