@@ -28,7 +28,7 @@ MOST_WORDS = {
     "docs/GUARANTEES.md": 1_820,
     "docs/SPECIFICATION.md": 5_120,
     "docs/ARCHITECTURE.md": 2_920,
-    "docs/PROVING.md": 4_450,
+    "docs/PROVING.md": 4_470,
     "docs/DECISIONS.md": 4_390,
     "docs/PERFORMANCE.md": 1_400,
     "docs/CHANGING.md": 1_590,
@@ -38,7 +38,7 @@ MOST_WORDS = {
     "tests/README.md": 1_030,
     "editors/emacs/README.md": 1_590,
     "editors/nvim/*.md": 1_500,
-    "*": 35_490,
+    "*": 35_510,
 }
 """How many words pages have at most, by the pattern of their names."""
 
