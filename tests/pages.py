@@ -22,23 +22,23 @@ import count  # noqa: E402
 import figures  # noqa: E402
 
 MOST_WORDS = {
-    "README.md": 1_390,
+    "README.md": 1_400,
     "CONTRIBUTING.md": 500,
     "SECURITY.md": 650,
     "docs/GUARANTEES.md": 1_820,
-    "docs/SPECIFICATION.md": 5_120,
+    "docs/SPECIFICATION.md": 5_160,
     "docs/ARCHITECTURE.md": 2_920,
     "docs/PROVING.md": 4_470,
-    "docs/DECISIONS.md": 4_390,
+    "docs/DECISIONS.md": 4_410,
     "docs/PERFORMANCE.md": 1_400,
     "docs/CHANGING.md": 1_590,
     "docs/ROADMAP.md": 590,
     "docs/GLOSSARY.md": 820,
-    "crates/*/README.md": 5_290,
+    "crates/*/README.md": 5_310,
     "tests/README.md": 1_030,
     "editors/emacs/README.md": 1_590,
     "editors/nvim/*.md": 1_500,
-    "*": 35_510,
+    "*": 35_670,
 }
 """How many words pages have at most, by the pattern of their names."""
 

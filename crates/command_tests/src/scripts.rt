@@ -52,7 +52,7 @@ fn assert_row(rt: &impl Abort, alloc: Global, row: Row) {
     }
 }
 
-static ROWS: [Row; 5] = [
+static ROWS: [Row; 7] = [
     // one command of each kind that is needed
     (SCRIPT, REPLIES, ScriptEnd::Clean),
     // what changed, and a page of the hits
@@ -71,6 +71,20 @@ static ROWS: [Row; 5] = [
     (
         b"version\nversion 2\nversion\n",
         b"occur 0.9.0 script 2\nrefused BadCommand\noccur 0.9.0 script 2\n",
+        ScriptEnd::Refused,
+    ),
+    // rows without the text of hits, and with it again
+    (
+        b"file f 2\nab\n\ntext off\npatterns 1\na\nchanges\npage 0 1\nchanges\ntext on\nchanges\npage 0 1\n",
+        b"ok\nok\nok\nh 0 0 0 2 1\nr 0 -\nstatus 0\nhits 1\np 0 0 -\nstatus 0\nstatus 0\nok\nstatus 0\n\
+          hits 1\np 0 0 - ab\nstatus 0\n",
+        ScriptEnd::Clean,
+    ),
+    // no such text
+    (
+        b"text\ntext of\ntext off on\ntext off \ntext\non\n",
+        b"refused BadCommand\nrefused BadCommand\nrefused BadCommand\nrefused BadCommand\n\
+          refused BadCommand\nrefused BadCommand\n",
         ScriptEnd::Refused,
     ),
     // a number above the greatest

@@ -6,7 +6,7 @@ use std::alloc::Global;
 
 // crates/grep_live/README.md
 use grep_core::{CountedWrite, Status};
-use grep_live::changes;
+use grep_live::{RowForm, changes};
 use grep_session::{Meter, NewLines, Session};
 use std::test::Fail;
 
@@ -18,7 +18,11 @@ fn replaced(
     out: &mut impl CountedWrite,
 ) -> Result<Status, Fail> {
     session.splice(0, 1, 1, lines, meter)?;
-    Ok(changes(session, b"", out)?)
+    let form = RowForm {
+        margin: b"",
+        has_text: true,
+    };
+    Ok(changes(session, form, out)?)
 }
 // end
 
@@ -42,7 +46,11 @@ fn watched(alloc: Global, meter: &mut Meter) -> Result<Session, Fail> {
 /// Writes what changed of this session at first, and after its line 1 was replaced.
 fn both(alloc: Global, meter: &mut Meter, out: &mut impl CountedWrite) -> Result<Status, Fail> {
     let mut session = watched(alloc, meter)?;
-    changes(&mut session, b"", out)?;
+    let form = RowForm {
+        margin: b"",
+        has_text: true,
+    };
+    changes(&mut session, form, out)?;
     replaced(&mut session, lines(alloc, b"d\naa\n")?, meter, out)
 }
 

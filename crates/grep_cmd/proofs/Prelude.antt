@@ -1,12 +1,12 @@
 -- The words of specs and of std that proofs of this crate use, passed on from one place. Declares nothing.
-pub use Rattle.grep_cmd.specs.Editor.{ArePresent, EditorsFollow, EndsWithStatus, IsHeld, IsHeldChange, IsHeldHit, IsHeldPart, IsOneReply, ListsAfter, ListsAfterAll, ReadsChanges, Took, bytes_of, has_status}
+pub use Rattle.grep_cmd.specs.Editor.{AreButTexts, ArePresent, EditorsFollow, EndsWithStatus, HaveTexts, IsHeld, IsHeldChange, IsHeldHit, IsHeldPart, IsOneReply, ListsAfter, ListsAfterAll, MayLackText, ReadsChanges, Took, bytes_of, has_status, read_change, read_hit}
 pub use Rattle.grep_cmd.specs.Lists.{ReportsChanges, ReportsPage, WritesHits, WritesReport}
-pub use Rattle.grep_cmd.specs.Replies.{AllSearchAtMost, AnswersScript, BeginsScript, GaveLines, IsAnswered, ReadsScript, Replies, RepliesTo, ScriptGives, SearchesAtMost, SearchesTouched, StopsWriting, bad_command, end_for, is_refusal, refused_for, reply_to, truncated, version_line}
+pub use Rattle.grep_cmd.specs.Replies.{AllSearchAtMost, AnswersScript, BeginsScript, GaveLines, IsAnswered, ReadsScript, Replies, RepliesTo, ScriptGives, ScriptState, SearchesAtMost, SearchesTouched, StopsWriting, bad_command, end_for, is_refusal, new_state, refused_for, reply_to, truncated, version_line}
 unfoldable pub use Rattle.grep_cmd.specs.Replies.{cause}
-pub use Rattle.grep_cmd.specs.Script.{AsksForMemory, Command, IsBegun, IsStep, IsUnfinished, Step, Steps, asking_command, asks_version, changes_command, close_command, context_command, context_from, counts, does, drop_command, edits, file_command, file_from, flag_command, flag_from, flag_of, is_bad, is_truncated, line_command, lists_changes, lists_page, missing_command, name_of, page_command, page_from, pattern_command, patterns_command, patterns_from, reports, reports_changes, reports_page, show_command, shows, space, splice_command, splice_from, switch_of, syntax_command, syntax_of, tells_version, unnamed_command, version_command}
+pub use Rattle.grep_cmd.specs.Script.{AsksForMemory, Command, IsBegun, IsStep, IsUnfinished, Step, Steps, asking_command, asks_version, changes_command, close_command, context_command, context_from, counts, does, drop_command, edits, file_command, file_from, flag_command, flag_from, flag_of, is_bad, is_truncated, line_command, lists_changes, lists_page, missing_command, name_of, page_command, page_from, pattern_command, patterns_command, patterns_from, reports, reports_changes, reports_page, sets_text, show_command, shows, space, splice_command, splice_from, switch_of, switches_text, syntax_command, syntax_of, text_after, text_command, tells_version, unnamed_command, version_command}
 unfoldable pub use Rattle.grep_cmd.specs.Script.{command_of, words_of}
 pub use Rattle.grep_cmd.specs.Show.{AreShown, Shows, status_line, with_margin}
-pub use Rattle.grep_cmd.specs.Working.Answered.{AnsweredSoFar, AnswersLine, AreDone, DoesStep, FlushesAfter, FlushesFor, HasRead, LosesLines, ReadsNext, Replied, TakesLines, WantsLines, answer_for, was_refused}
+pub use Rattle.grep_cmd.specs.Working.Answered.{AnsweredSoFar, AnswersLine, AreDone, DoesStep, FlushesAfter, FlushesFor, HasRead, LosesLines, ReadsNext, Replied, TakesLines, WantsLines, answer_for, state_of, was_refused}
 pub use Rattle.grep_cmd.specs.Working.Commands.{counted_meant, file_meant, line_meant, meant, pattern_meant}
 pub use Rattle.grep_cmd.specs.Working.ScriptWords.{four_words, words_of_rest}
 pub use Rattle.grep_cmd.specs.declared.script.ScriptEnd.{ScriptEnd}
@@ -33,16 +33,16 @@ pub use Rattle.grep_io.specs.declared.devices.counted.WriteFault.{WriteFault}
 pub use Rattle.grep_io.specs.declared.input.lines.ReadFault.{ReadFault}
 pub use Rattle.grep_io.specs.declared.input.lines.Stage.{Stage}
 pub use Rattle.grep_io.specs.declared.input.lines.Stage.TheVariants.{Ended, Failed, Open}
-pub use Rattle.grep_live.specs.Changes.{AreChanges, Change, ChangesFile, after_each, all_after, is_idle, spliced_hits}
+pub use Rattle.grep_live.specs.Changes.{AreChanges, Change, ChangesFile, after, after_each, all_after, is_idle, moved, spliced_hits}
 pub use Rattle.grep_live.specs.Follows.{Follows, FollowsFile, view_after}
 pub use Rattle.grep_live.specs.Hits.{AreHits, Hit, HitOf, HitsFrom, View}
 pub use Rattle.grep_live.specs.Lists.{AllThree}
 pub use Rattle.grep_live.specs.Reported.{WritesChanges, WritesPage}
-pub use Rattle.grep_live.specs.Rows.{all_hits, change_row, change_rows, changes_rows, hit_row, more_parts, page_row, page_rows, part_text, parts_text, spaced, total_row}
+pub use Rattle.grep_live.specs.Rows.{all_hits, change_row, change_rows, changes_rows, hit_row, line_text, more_parts, page_row, page_rows, part_text, parts_text, spaced, total_row}
 pub use Rattle.grep_session.specs.Edits.{AddFile, AddMissing, Applies, ChangePattern, DropFile, DropPattern, Edit, EditGives, SetContext, SetFlag, SetSyntax, Splice, missing_file, spliced, whole_file, with_files}
 pub use Rattle.grep_session.specs.Headline.{GrepGives, ReportsAllInputs}
 pub use Rattle.grep_session.specs.Listed.{ListedParts}
-pub use Rattle.grep_session.specs.Marks.{AreFit, IsFit, MarksAfter, MarksGiven, Watched, all_known, mark_at, marks_by_flag, new_watched}
+pub use Rattle.grep_session.specs.Marks.{AreFit, IsFit, MarksAfter, MarksGiven, Watched, all_known, mark_at, marks_by_flag}
 pub use Rattle.grep_session.specs.declared.fault.EditFault.{EditFault}
 pub use Rattle.line_marks.specs.Stretches.{Fits, Marked, lost, new_mark, whole_mark}
 pub use Rattle.line_marks.specs.declared.stretch.Stretch.{Stretch}
@@ -52,7 +52,7 @@ pub use Rattle.re_syntax.specs.Expression.{Expression}
 pub use Rattle.re_syntax.specs.Lines.{HasNoNewline, joined, newline, put_before}
 unfoldable pub use Rattle.re_syntax.specs.Lines.{lines_of}
 pub use Rattle.re_syntax.specs.Parts.{AreParts, ArePartsFrom}
-pub use Rattle.std.proofs.Common.{All, Bool, Err, IfErr, IfOk, IsErr, List, MatchBool, None, Ok, Option, Result, Some, [], add-one, ap, append-nil, append_assoc, arith, bytes_eq, codes, cond, decimal, drop, eqb, eqb-true, false, flat_map, get_or, if◌then◌else◌, inl, inr, length, length-append, length-drop, length-set, length-take, lt-ltb, map, min, nat_eq, ne_eqb, option_map, pow-suc, refl, remove, rules, slice_range, slice_set, subst, suc, sum_by, sym, take, take-take, true, true≢false, zero, ℕ, ◌%◌, ◌++◌, ◌+◌, ◌-◌, ◌/◌, ◌<◌, ◌^◌, ◌||◌, ◌∙◌, ◌∷◌, ◌≡◌, ◌≢◌, ◌≤◌}
+pub use Rattle.std.proofs.Common.{All, Bool, Err, IfErr, IfOk, IsErr, List, MatchBool, None, Ok, Option, Result, Some, [], add-one, ap, append-nil, append_assoc, arith, bytes_eq, codes, cond, decimal, drop, eqb, eqb-true, false, flat_map, get_or, if◌then◌else◌, inl, inr, length, length-append, length-drop, length-set, length-take, lt-ltb, map, min, nat_eq, nat_le, nat_lt, ne_eqb, option_map, pow-suc, refl, remove, rules, slice_range, slice_set, subst, suc, sum_by, sym, take, take-take, true, true≢false, zero, ℕ, ◌%◌, ◌++◌, ◌+◌, ◌-◌, ◌/◌, ◌<◌, ◌^◌, ◌||◌, ◌∙◌, ◌∷◌, ◌≡◌, ◌≢◌, ◌≤◌, ◌⊎◌}
 pub use Rattle.std.proofs.lemmas.Bool.{cases_lt, cond-false, cond-true, false_from_ne_true, or_parts, or_right}
 pub use Rattle.std.proofs.lemmas.Fmt.{decimal_is_IsNumeral_wide, length-decimal-le}
 pub use Rattle.std.proofs.lemmas.List.{get_or-map, length-map, length_push, take_more, take_rest}
@@ -60,5 +60,5 @@ pub use Rattle.std.proofs.lemmas.List.Elements.{All-append, All-cons, All-drop, 
 pub use Rattle.std.proofs.lemmas.List.Folds.{list_any-append}
 pub use Rattle.std.proofs.lemmas.List.Sums.{get_or-le-sum_by, sum_by-append, sum_by-cons, sum_by-take-drop, sum_by-take-le}
 pub use Rattle.std.specs.Fmt.{digit_glyph, digits_onto}
-pub use Rattle.std.specs.List.{list_any, splice}
+pub use Rattle.std.specs.List.{AllZip, filter, list_any, splice}
 pub use Rattle.std.specs.Str.Parse.{digits_value}

@@ -10,4 +10,5 @@ pub mod ListingLaws
 pub mod ReadingLaws
 pub mod BroughtLaws
 pub mod HeldLaws
+pub mod TextLaws
 pub mod EditorLaws

@@ -1,21 +1,21 @@
 -- Editors: the lists that an editor makes by the replies alone, and that they are the present hits.
 use Rattle.std.specs.Prelude.{◌≡◌, ℕ, ◌+◌, ◌<◌, ◌^◌, Bool, true, false, List, [], ◌∷◌, ◌++◌, length}
-use Rattle.std.specs.Prelude.{take, codes, bytes_eq}
-use Rattle.std.specs.List.{All, list_any, sum_by}
+use Rattle.std.specs.Prelude.{take, codes, bytes_eq, if◌then◌else◌, map, ◌≢◌, ◌⊎◌}
+use Rattle.std.specs.List.{All, AllZip, list_any, sum_by}
 use Rattle.re_syntax.specs.Bytes.{Text}
 use Rattle.re_syntax.specs.Expression.{Expression}
 use Rattle.grep_core.specs.declared.status.Status.{Status}
 use Rattle.grep_core.specs.Choose.{IfHolds}
 use Rattle.grep_core.specs.Files.{File, AreMeant}
 use Rattle.grep_live.specs.Hits.{Hit, View, AreHits}
-use Rattle.grep_session.specs.Marks.{Watched, new_watched}
+use Rattle.grep_session.specs.Marks.{Watched}
 use Rattle.grep_live.specs.Changes.{Change, all_after}
 use Rattle.grep_live.specs.Follows.{Follows, view_after}
 use Rattle.grep_live.specs.Rows.{changes_rows}
 use Rattle.grep_cmd.specs.Script.{Step, does, reports, reports_changes, reports_page, is_bad}
-use Rattle.grep_cmd.specs.Script.{is_truncated, tells_version}
+use Rattle.grep_cmd.specs.Script.{is_truncated, tells_version, sets_text, text_after}
 use Rattle.grep_cmd.specs.Show.{status_line}
-use Rattle.grep_cmd.specs.Replies.{Replies, AnswersScript}
+use Rattle.grep_cmd.specs.Replies.{Replies, AnswersScript, ScriptState, new_state}
 
 -- ---- where a reply ends
 
@@ -36,6 +36,7 @@ IsOneReply reports_changes reply = EndsWithStatus reply
 IsOneReply (reports_page first count) reply = EndsWithStatus reply
 IsOneReply (does edit) reply = length reply ≡ 1
 IsOneReply tells_version reply = length reply ≡ 1
+IsOneReply (sets_text on) reply = length reply ≡ 1
 IsOneReply is_bad reply = length reply ≡ 1
 IsOneReply is_truncated reply = length reply ≡ 1
 
@@ -61,34 +62,42 @@ pub record IsHeldChange (change : Change) : Type 0 where
   pub count : IsHeld (length change.come)
   pub hits : All IsHeldHit change.come
 
--- the reply to `changes` has the rows of these changes, some for each list
-pub record ReadsChanges (reply : List Text) (view : View)
+-- the reply to `changes` has the rows of these changes, with texts or without, some for each list
+pub record ReadsChanges (texts : Bool) (reply : List Text) (view : View)
     (changes : List (List Change)) : Type 0 where
   pub status : Status
-  pub is : reply ≡ changes_rows 0 changes ++ status_line status ∷ []
+  pub is : reply ≡ changes_rows texts 0 changes ++ status_line status ∷ []
   pub one_each : length changes ≡ length view
   pub held : IsHeld (length view) × All (λ own. All IsHeldChange own) changes
 
+-- a hit of a row: without its text where the row has none
+abbrev pub read_hit : Bool → Hit → Hit
+read_hit texts hit = record hit { text = if texts then hit.text else [] }
+
+-- a change with the hits of its rows
+abbrev pub read_change : Bool → Change → Change
+read_change texts change = record change { come = map (read_hit texts) change.come }
+
 -- ---- the lists
 
--- the lists that an editor has after the reply to a step. At an accepted edit it drops and adds
--- lists. At the reply to `changes` it makes the changes that it reads in the rows. All else leaves
--- its lists
-abbrev pub ListsAfter : Step → List Text → View → View → Type 0
-ListsAfter (does edit) reply view new =
+-- the lists that an editor has after the reply to a step, where rows have their texts or not. At an
+-- accepted edit it drops and adds lists. At the reply to `changes` it makes the changes that it
+-- reads in the rows. All else leaves its lists
+abbrev pub ListsAfter : Bool → Step → List Text → View → View → Type 0
+ListsAfter texts (does edit) reply view new =
     IfHolds (reply ≡ codes "ok" ∷ []) (new ≡ view_after edit view) (new ≡ view)
-ListsAfter reports_changes reply view new =
-    (changes : List (List Change)) × ReadsChanges reply view changes ×
-    (new ≡ all_after changes view)
-ListsAfter _ reply view new = new ≡ view
+ListsAfter texts reports_changes reply view new =
+    (changes : List (List Change)) × ReadsChanges texts reply view changes ×
+    (new ≡ all_after (map (map (read_change texts)) changes) view)
+ListsAfter texts _ reply view new = new ≡ view
 
 -- the lists that it has after the replies to some steps, which it takes one after the other
-abbrev pub ListsAfterAll : List Step → List Text → View → View → Type 0
-ListsAfterAll [] replies view new = (replies ≡ []) × (new ≡ view)
-ListsAfterAll (step ∷ steps) replies view new =
+abbrev pub ListsAfterAll : Bool → List Step → List Text → View → View → Type 0
+ListsAfterAll texts [] replies view new = (replies ≡ []) × (new ≡ view)
+ListsAfterAll texts (step ∷ steps) replies view new =
     (reply : List Text) × (between : View) × (rest : List Text) × (replies ≡ reply ++ rest) ×
-    IsOneReply step reply × ListsAfter step reply view between ×
-    ListsAfterAll steps rest between new
+    IsOneReply step reply × ListsAfter texts step reply view between ×
+    ListsAfterAll (text_after step texts) steps rest between new
 
 -- ---- the law
 
@@ -102,12 +111,24 @@ pub record ArePresent (state : Watched) (view : View) : Type 0 where
   pub are_meant : AreMeant state.inputs.syntax state.inputs.options state.inputs.patterns es
   pub are_hits : AreHits es state.inputs.options state.inputs.files view
 
+-- no step is `text off`
+abbrev pub HaveTexts : List Step → Type 0
+HaveTexts steps = All (λ step. step ≢ sets_text false) steps
+
+-- a hit is another, or that without its text
+abbrev pub MayLackText : Hit → Hit → Type 0
+MayLackText hit other = (hit ≡ other) ⊎ (hit ≡ record other { text = [] })
+
+-- the lists are others, but hits may lack their text
+abbrev pub AreButTexts : View → View → Type 0
+AreButTexts view others = AllZip (λ hits own. AllZip MayLackText hits own) view others
+
 -- an editor began with a new session and no list, took these replies to some steps, and has these
 -- lists now
-pub record Took (states : ℕ) (steps : List Step) (replies : List Text) (state : Watched)
+pub record Took (states : ℕ) (steps : List Step) (replies : List Text) (state : ScriptState)
     (view : View) : Type 0 where
-  pub are_replies : Replies steps (new_watched states) replies state
-  pub lists : ListsAfterAll steps replies [] view
+  pub are_replies : Replies steps (new_state states) replies state
+  pub lists : ListsAfterAll true steps replies [] view
 
 pub record EditorsFollow : Type 0 where
   -- an editor can take all replies to a script of fewer than 2^64 bytes
@@ -115,17 +136,29 @@ pub record EditorsFollow : Type 0 where
       (answers : AnswersScript states script replies rest) →
       (view : View) × Took states answers.steps replies answers.after view
   -- the replies alone decide its lists, however it reads them
-  pub one : (steps : List Step) (replies : List Text) (view a b : View) →
-      ListsAfterAll steps replies view a → ListsAfterAll steps replies view b → a ≡ b
+  pub one : (texts : Bool) (steps : List Step) (replies : List Text) (view a b : View) →
+      ListsAfterAll texts steps replies view a → ListsAfterAll texts steps replies view b → a ≡ b
   -- it takes the replies to the first steps first, so that what follows is said of each time in a
   -- script
-  pub begin : (states : ℕ) (first later : List Step) (replies : List Text) (state : Watched) (view : View) →
+  pub begin : (states : ℕ) (first later : List Step) (replies : List Text)
+      (state : ScriptState) (view : View) →
       Took states (first ++ later) replies state view →
-      (front : List Text) × (rest : List Text) × (between : Watched) × (lists : View) ×
+      (front : List Text) × (rest : List Text) × (between : ScriptState) × (lists : View) ×
       (replies ≡ front ++ rest) × Took states first front between lists
-  -- its lists follow
-  pub follow : (states : ℕ) (steps : List Step) (replies : List Text) (state : Watched) (view : View) →
-      Took states steps replies state view → Follows state view
-  -- after the reply to `changes` they are the present hits
-  pub present : (states : ℕ) (steps : List Step) (replies : List Text) (state : Watched) (view : View) →
-      Took states (steps ++ reports_changes ∷ []) replies state view → ArePresent state view
+  -- where no step was `text off`, its lists follow
+  pub follow : (states : ℕ) (steps : List Step) (replies : List Text) (state : ScriptState)
+      (view : View) →
+      Took states steps replies state view → HaveTexts steps → Follows state.session view
+  -- and after the reply to `changes` they are the present hits
+  pub present : (states : ℕ) (steps : List Step) (replies : List Text) (state : ScriptState)
+      (view : View) →
+      Took states (steps ++ reports_changes ∷ []) replies state view → HaveTexts steps →
+      ArePresent state.session view
+  -- in all scripts they are such lists, but hits may lack their text
+  pub follow_but_texts : (states : ℕ) (steps : List Step) (replies : List Text)
+      (state : ScriptState) (view : View) → Took states steps replies state view →
+      (others : View) × AreButTexts view others × Follows state.session others
+  pub present_but_texts : (states : ℕ) (steps : List Step) (replies : List Text)
+      (state : ScriptState) (view : View) →
+      Took states (steps ++ reports_changes ∷ []) replies state view →
+      (others : View) × AreButTexts view others × ArePresent state.session others

@@ -1,6 +1,6 @@
 -- The replies to `changes` and `page` (occur(1), REPLIES).
 use Rattle.std.specs.Prelude.{◌≡◌, ℕ, ◌-◌, ◌^◌, min, List, [], ◌∷◌, ◌++◌, length, Option, Result}
-use Rattle.std.specs.Prelude.{IfOk}
+use Rattle.std.specs.Prelude.{IfOk, Bool}
 use Rattle.re_syntax.specs.Bytes.{Text}
 use Rattle.re_syntax.specs.Expression.{Expression}
 use Rattle.grep_core.specs.declared.status.Status.{Status}
@@ -16,9 +16,9 @@ use Rattle.grep_live.specs.Follows.{Follows}
 use Rattle.grep_live.specs.Rows.{changes_rows, total_row, page_rows, all_hits}
 use Rattle.grep_cmd.specs.Show.{status_line}
 
--- the rows of what changed of each file, and the status; by them any view that followed becomes the
--- present hits, and follows then
-pub record ReportsChanges (before after : Watched) (rows : List Text) : Type 0 where
+-- the rows of what changed of each file, with texts or without, and the status; by them any view
+-- that followed becomes the present hits, and follows then
+pub record ReportsChanges (texts : Bool) (before after : Watched) (rows : List Text) : Type 0 where
   pub es : List Expression
   pub are_meant : AreMeant before.inputs.syntax before.inputs.options before.inputs.patterns es
   pub changes : List (List Change)
@@ -26,14 +26,15 @@ pub record ReportsChanges (before after : Watched) (rows : List Text) : Type 0 w
       changes
   pub status : Status
   pub is_status : StatusOf es before.inputs.options before.inputs.files status
-  pub is : rows ≡ changes_rows 0 changes ++ status_line status ∷ []
+  pub is : rows ≡ changes_rows texts 0 changes ++ status_line status ∷ []
   pub leaves : after ≡ all_known before
   pub catches_up : (view : View) → Follows before view →
       AreHits es before.inputs.options before.inputs.files (all_after changes view)
   pub follows : (view : View) → Follows before view → Follows after (all_after changes view)
 
 -- the number of hits, at most `count` of them from number `first` on, and the status
-pub record ReportsPage (inputs : Inputs) (first count : ℕ) (rows : List Text) : Type 0 where
+pub record ReportsPage (texts : Bool) (inputs : Inputs) (first count : ℕ)
+    (rows : List Text) : Type 0 where
   pub es : List Expression
   pub are_meant : AreMeant inputs.syntax inputs.options inputs.patterns es
   pub view : View
@@ -42,18 +43,18 @@ pub record ReportsPage (inputs : Inputs) (first count : ℕ) (rows : List Text) 
   pub is_status : StatusOf es inputs.options inputs.files status
   pub is : rows ≡
       (total_row (min (length (all_hits 0 view)) (2 ^ 64 - 1)) ∷
-      page_rows first count (all_hits 0 view))
+      page_rows texts first count (all_hits 0 view))
       ++ status_line status ∷ []
 
 module _ {W : Type 0} (contents : W → Option Text) (failures : W → ℕ) (old new : W) where
   -- what changed was written, or a beginning of it
-  abbrev pub WritesReport : {T E : Type 0} → Watched → Watched → Result T E → Type 0
-  WritesReport before after result =
-      (rows : List Text) × (then : Watched) × ReportsChanges before then rows ×
+  abbrev pub WritesReport : {T E : Type 0} → Bool → Watched → Watched → Result T E → Type 0
+  WritesReport texts before after result =
+      (rows : List Text) × (then : Watched) × ReportsChanges texts before then rows ×
       Writes contents failures old new (written [] rows) result × IfOk result (λ _. after ≡ then)
 
   -- a page was written, or a beginning of it
-  abbrev pub WritesHits : {T E : Type 0} → Inputs → ℕ → ℕ → Result T E → Type 0
-  WritesHits inputs first count result =
-      (rows : List Text) × ReportsPage inputs first count rows ×
+  abbrev pub WritesHits : {T E : Type 0} → Bool → Inputs → ℕ → ℕ → Result T E → Type 0
+  WritesHits texts inputs first count result =
+      (rows : List Text) × ReportsPage texts inputs first count rows ×
       Writes contents failures old new (written [] rows) result

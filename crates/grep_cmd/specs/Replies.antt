@@ -1,6 +1,6 @@
 -- The replies to a script (occur(1), REPLIES), and what a run of it writes and returns.
-use Rattle.std.specs.Prelude.{◌≡◌, ◌≢◌, ℕ, ◌+◌, ◌-◌, length, Bool, if◌then◌else◌, List, [], ◌∷◌, ◌++◌, take}
-use Rattle.std.specs.Prelude.{codes, bytes_eq, Option, Result, Ok, Err, ◌⊎◌}
+use Rattle.std.specs.Prelude.{◌≡◌, ◌≢◌, ℕ, ◌+◌, ◌-◌, length, if◌then◌else◌, List, [], ◌∷◌, ◌++◌, take}
+use Rattle.std.specs.Prelude.{Bool, true, codes, bytes_eq, Option, Result, Ok, Err, ◌⊎◌}
 use Rattle.std.specs.List.{list_any}
 use Rattle.std.specs.Fmt.{decimal}
 use Rattle.std.specs.Io.KnownBytes.{prepend_known, Consumes}
@@ -23,7 +23,8 @@ use Rattle.grep_cmd.specs.declared.script.ScriptFault.{ScriptFault}
 use Rattle.grep_cmd.specs.declared.script.ScriptFault.TheVariants.{Read, Write, Memory}
 use Rattle.grep_session.specs.Marks.{Watched, new_watched, MarksGiven}
 use Rattle.grep_cmd.specs.Script.{Step, does, reports, reports_changes, reports_page, is_bad}
-use Rattle.grep_cmd.specs.Script.{is_truncated, tells_version, Steps, IsUnfinished, IsBegun}
+use Rattle.grep_cmd.specs.Script.{is_truncated, tells_version, sets_text, Steps}
+use Rattle.grep_cmd.specs.Script.{IsUnfinished, IsBegun}
 use Rattle.grep_cmd.specs.Show.{AreShown}
 use Rattle.grep_cmd.specs.Lists.{ReportsChanges, ReportsPage}
 use Rattle.grep_utility.specs.Texts.{kind_name}
@@ -65,6 +66,15 @@ version_line = codes "occur 0.9.0 script 2"
 abbrev pub is_refusal : Text → Bool
 is_refusal line = bytes_eq (take 8 line) (codes "refused ")
 
+-- the state of a script: that of its session, and whether the rows of hits have their text
+pub record ScriptState : Type 0 where
+  pub session : Watched
+  pub texts : Bool
+
+-- the state with a new session; each pattern may keep so many states
+abbrev pub new_state : ℕ → ScriptState
+new_state states = record { session = new_watched states; texts = true }
+
 -- an edit was answered so; where it needs no memory it was not refused as out of memory
 pub record IsAnswered (edit : Edit) (before after : Watched)
     (answer : Result (Unit {0}) EditFault) : Type 0 where
@@ -73,24 +83,29 @@ pub record IsAnswered (edit : Edit) (before after : Watched)
   pub same_states : after.states ≡ before.states
   pub named : NeedsNoMemory edit before.inputs → answer ≢ Err fault.Memory
 
--- the reply to a step, and what it makes of the session
-abbrev pub RepliesTo : Step → Watched → List Text → Watched → Type 0
+-- the reply to a step, and what it makes of the state
+abbrev pub RepliesTo : Step → ScriptState → List Text → ScriptState → Type 0
 RepliesTo (does edit) before reply after =
-    (answer : Result (Unit {0}) EditFault) × IsAnswered edit before after answer ×
+    (answer : Result (Unit {0}) EditFault) ×
+    IsAnswered edit before.session after.session answer × (after.texts ≡ before.texts) ×
     (reply ≡ reply_to answer ∷ [])
-RepliesTo reports before reply after = AreShown before.inputs reply × (after ≡ before)
-RepliesTo reports_changes before reply after = ReportsChanges before after reply
+RepliesTo reports before reply after = AreShown before.session.inputs reply × (after ≡ before)
+RepliesTo reports_changes before reply after =
+    ReportsChanges before.texts before.session after.session reply ×
+    (after.texts ≡ before.texts)
 RepliesTo (reports_page first count) before reply after =
-    ReportsPage before.inputs first count reply × (after ≡ before)
+    ReportsPage before.texts before.session.inputs first count reply × (after ≡ before)
 RepliesTo tells_version before reply after = (reply ≡ version_line ∷ []) × (after ≡ before)
+RepliesTo (sets_text on) before reply after =
+    (reply ≡ codes "ok" ∷ []) × (after ≡ record before { texts = on })
 RepliesTo is_bad before reply after = (reply ≡ bad_command ∷ []) × (after ≡ before)
 RepliesTo is_truncated before reply after = (reply ≡ truncated ∷ []) × (after ≡ before)
 
--- the replies to some steps, one after the other, and what these make of the session
-abbrev pub Replies : List Step → Watched → List Text → Watched → Type 0
+-- the replies to some steps, one after the other, and what these make of the state
+abbrev pub Replies : List Step → ScriptState → List Text → ScriptState → Type 0
 Replies [] before replies after = (replies ≡ []) × (after ≡ before)
 Replies (step ∷ steps) before replies after =
-    (reply : List Text) × (between : Watched) × (rest : List Text) ×
+    (reply : List Text) × (between : ScriptState) × (rest : List Text) ×
     RepliesTo step before reply between × Replies steps between rest after ×
     (replies ≡ reply ++ rest)
 
@@ -104,23 +119,23 @@ SearchesAtMost (does edit) before refusals most =
 SearchesAtMost _ before refusals most = (most ≡ 0) × (refusals ≡ 0)
 
 -- some commands, answered so, take this many together
-abbrev pub AllSearchAtMost : List Step → Watched → List Text → Watched → ℕ → ℕ → Type 0
+abbrev pub AllSearchAtMost : List Step → ScriptState → List Text → ScriptState → ℕ → ℕ → Type 0
 AllSearchAtMost [] before replies after refusals most =
     (replies ≡ []) × (after ≡ before) × (refusals ≡ 0) × (most ≡ 0)
 AllSearchAtMost (step ∷ steps) before replies after refusals most =
-    (reply : List Text) × (between : Watched) × (given : List Text) ×
+    (reply : List Text) × (between : ScriptState) × (given : List Text) ×
     (mine : ℕ) × (others : ℕ) × (own : ℕ) × (rest : ℕ) ×
-    RepliesTo step before reply between × SearchesAtMost step before.inputs mine own ×
+    RepliesTo step before reply between × SearchesAtMost step before.session.inputs mine own ×
     AllSearchAtMost steps between given after others rest × (replies ≡ reply ++ given) ×
     (refusals ≡ mine + others) × (most ≡ own + rest)
 
 -- the commands of a script, answered so, took no more steps of search, and passed no more bytes, than
 -- their edits cost; each pattern may keep so many states
-pub record SearchesTouched (states : ℕ) (steps : List Step) (replies : List Text) (after : Watched)
-    (begun spent : StepCounts) : Type 0 where
+pub record SearchesTouched (states : ℕ) (steps : List Step) (replies : List Text)
+    (after : ScriptState) (begun spent : StepCounts) : Type 0 where
   pub most : ℕ
   pub refusals : ℕ
-  pub is_most : AllSearchAtMost steps (new_watched states) replies after refusals most
+  pub is_most : AllSearchAtMost steps (new_state states) replies after refusals most
   pub few : Adds most most refusals begun spent
 
 -- ---- runs
@@ -134,8 +149,8 @@ end_for replies = if list_any is_refusal replies then Refused else Clean
 pub record AnswersScript (states : ℕ) (file : File) (replies rest : List Text) : Type 0 where
   pub steps : List Step
   pub are_steps : Steps file.ending file.lines steps rest
-  pub after : Watched
-  pub are_replies : Replies steps (new_watched states) replies after
+  pub after : ScriptState
+  pub are_replies : Replies steps (new_state states) replies after
 
 -- a script that was read is a file: what its reader had left before and has now, and how often its
 -- reads had failed before and have now

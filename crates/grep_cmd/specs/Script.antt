@@ -53,7 +53,7 @@ syntax_of word =
 -- ---- commands
 
 -- an edit, an edit with the number of next lines that it counts, the report, what changed, a page
--- with the number of its first hit and of its hits, or the version
+-- with the number of its first hit and of its hits, the version, or whether rows have their text
 pub data Command : Type 0 where
   edits : Edit → Command
   counts : ℕ → (List Text → Edit) → Command
@@ -61,6 +61,7 @@ pub data Command : Type 0 where
   lists_changes : Command
   lists_page : ℕ → ℕ → Command
   asks_version : Command
+  switches_text : Bool → Command
 
 abbrev pub file_from : Option Text → Option ℕ → Option Command
 file_from (Some name) (Some count) = Some (counts count (AddFile name))
@@ -165,12 +166,18 @@ abbrev pub version_command : List Text → Option Command
 version_command [] = Some asks_version
 version_command _ = None
 
+-- `text on` or `text off`
+abbrev pub text_command : List Text → Option Command
+text_command (switch ∷ []) = option_map (λ on. switches_text on) (switch_of switch)
+text_command _ = None
+
 abbrev pub asking_command : Text → List Text → Option Command
 asking_command word given =
     if bytes_eq word (codes "show") then show_command given else
     if bytes_eq word (codes "changes") then changes_command given else
     if bytes_eq word (codes "page") then page_command given else
-    if bytes_eq word (codes "version") then version_command given else None
+    if bytes_eq word (codes "version") then version_command given else
+    if bytes_eq word (codes "text") then text_command given else None
 
 abbrev pub unnamed_command : Text → List Text → Option Command
 unnamed_command word given =
@@ -203,10 +210,17 @@ pub data Step : Type 0 where
   reports_changes : Step
   reports_page : ℕ → ℕ → Step
   tells_version : Step
+  -- the rows of hits have their text from now on, or not
+  sets_text : Bool → Step
   -- the line is no command
   is_bad : Step
   -- it counts more lines than follow
   is_truncated : Step
+
+-- whether the rows of hits have their text after a step
+abbrev pub text_after : Step → Bool → Bool
+text_after (sets_text on) texts = on
+text_after _ texts = texts
 
 -- the step of a command line, with the lines that it takes
 abbrev pub IsStep : Option Command → List Text → Step → Type 0
@@ -216,6 +230,7 @@ IsStep (Some shows) taken step = (taken ≡ []) × (step ≡ reports)
 IsStep (Some lists_changes) taken step = (taken ≡ []) × (step ≡ reports_changes)
 IsStep (Some (lists_page first count)) taken step = (taken ≡ []) × (step ≡ reports_page first count)
 IsStep (Some asks_version) taken step = (taken ≡ []) × (step ≡ tells_version)
+IsStep (Some (switches_text on)) taken step = (taken ≡ []) × (step ≡ sets_text on)
 IsStep None taken step = (taken ≡ []) × (step ≡ is_bad)
 
 -- the lines are a command line that counts more lines than follow

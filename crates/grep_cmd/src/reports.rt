@@ -6,7 +6,7 @@ ghost use Rattle.grep_cmd.specs.Show.{Shows, status_line};
 ghost use Rattle.grep_cmd.specs.Lists.{WritesReport, WritesHits};
 
 use grep_core::{CountedWrite, Status, WriteFault, write_line};
-use grep_live::{changes, page};
+use grep_live::{RowForm, changes, page};
 use grep_session::Session;
 
 /// Writes the line of the status.
@@ -32,10 +32,19 @@ pub fn show<W: CountedWrite>(session: &Session, out: &mut W) -> Result<(), Write
 }
 
 /// Writes what changed of each file, then the status.
-pub fn show_changes<W: CountedWrite>(session: &mut Session, out: &mut W) -> Result<(), WriteFault>
-    ensures { WritesReport W.contents W.failures out.old out.new session.old session.new result }
+pub fn show_changes<W: CountedWrite>(
+    session: &mut Session,
+    has_text: bool,
+    out: &mut W,
+) -> Result<(), WriteFault>
+    ensures { WritesReport W.contents W.failures out.old out.new has_text session.old session.new
+        result }
 {
-    let status = changes(session, b"", out)?;
+    let form = RowForm {
+        margin: b"",
+        has_text,
+    };
+    let status = changes(session, form, out)?;
     write_status(status, out)
 }
 
@@ -44,11 +53,16 @@ pub fn show_page<W: CountedWrite>(
     session: &Session,
     first: usize,
     count: usize,
+    has_text: bool,
     out: &mut W,
 ) -> Result<(), WriteFault>
-    ensures { WritesHits W.contents W.failures out.old out.new session.now.inputs first count
-        result }
+    ensures { WritesHits W.contents W.failures out.old out.new has_text session.now.inputs first
+        count result }
 {
-    let status = page(session, first, count, b"", out)?;
+    let form = RowForm {
+        margin: b"",
+        has_text,
+    };
+    let status = page(session, first, count, form, out)?;
     write_status(status, out)
 }

@@ -96,6 +96,7 @@ pub fn run_script<R: CountedRead, W: CountedWrite>(
         Err(_reader) => return send_replies(Err(ScriptFault::Memory), writer),
     };
     let mut session = Session::new(alloc, states);
+    let mut has_text = true;
     let mut end = ScriptEnd::Clean;
     let ended = loop {
         match next_line(&mut lines, writer) {
@@ -103,7 +104,14 @@ pub fn run_script<R: CountedRead, W: CountedWrite>(
             Ok(false) => break Ok(end),
             Err(fault) => break Err(fault),
         }
-        match answer_command(alloc, &mut lines, &mut session, meter, writer) {
+        match answer_command(
+            alloc,
+            &mut lines,
+            &mut session,
+            &mut has_text,
+            meter,
+            writer,
+        ) {
             Ok(Answer::Accepted) => {}
             Ok(Answer::Refused) => end = ScriptEnd::Refused,
             Ok(Answer::Truncated) => break Ok(ScriptEnd::Refused),

@@ -18,7 +18,7 @@ pub use Rattle.grep_live.specs.Hits.{AreHits, Hit, HitOf, Hits, HitsFrom, View}
 pub use Rattle.grep_live.specs.Laws.{AreBetween, EachLeavesEnds, EachStays, EditsCarry, LeaveLine, LeavesEnds, LeavesHits, NothingTwice, OneSplice, OnlyTouched, Stays, UntouchedLines, changes_at, splices}
 pub use Rattle.grep_live.specs.Lists.{AllThree}
 pub use Rattle.grep_live.specs.Reported.{WritesChanges, WritesPage}
-pub use Rattle.grep_live.specs.Rows.{all_hits, change_row, change_rows, changes_rows, hit_row, more_parts, page_row, page_rows, part_text, parts_text, spaced, total_row}
+pub use Rattle.grep_live.specs.Rows.{all_hits, change_row, change_rows, changes_rows, hit_row, line_text, more_parts, page_row, page_rows, part_text, parts_text, spaced, total_row}
 pub use Rattle.grep_live.specs.Working.LineHits.{HitsBetween, IsFirst, IsPlaceAfter, Mean, SelectedBefore}
 pub use Rattle.grep_session.specs.Edits.{AddFile, AddMissing, AddPatterns, Applies, ChangePattern, DropFile, DropPattern, Edit, EditGives, Reads, SetContext, SetFlag, SetSyntax, Splice, missing_file, option_of, spliced, whole_file, with_context, with_files, with_option, with_patterns}
 pub use Rattle.grep_session.specs.Headline.{Attempt, IsStatusOfInputs, accepted, with_accepted}

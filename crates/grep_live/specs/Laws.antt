@@ -1,6 +1,6 @@
 -- Laws of the definitions.
 use Rattle.std.specs.Prelude.{◌≡◌, ◌≢◌, ℕ, ◌+◌, ◌-◌, ◌<◌, ◌≤◌, ◌⊎◌, ⊤, List, [], ◌∷◌}
-use Rattle.std.specs.Prelude.{length, get_or, Result, Ok, Err, IfOk, MatchResult}
+use Rattle.std.specs.Prelude.{Bool, length, get_or, Result, Ok, Err, IfOk, MatchResult}
 use Rattle.re_syntax.specs.Bytes.{Text}
 use Rattle.re_syntax.specs.Expression.{Expression}
 use Rattle.grep_core.specs.declared.options.Flag.{Flag}
@@ -49,7 +49,7 @@ abbrev pub NothingTwice : Type 0
 NothingTwice =
     (old : Watched) (es : List Expression) (changes : List (List Change)) →
     AllThree (ChangesFile es old.inputs.options) old.inputs.files (all_known old).marks changes →
-    changes_rows 0 changes ≡ []
+    (texts : Bool) → changes_rows texts 0 changes ≡ []
 
 -- the changes of file k
 abbrev pub changes_at : List (List Change) → ℕ → List Change
@@ -62,7 +62,7 @@ changes_at changes k = get_or changes k []
 pub record ReportsSplice (k start count : ℕ) (lines : List Text)
     (changes : List (List Change)) : Type 0 where
   pub come : List Hit
-  pub rows : changes_rows 0 changes ≡ change_rows k (record {
+  pub rows : (texts : Bool) → changes_rows texts 0 changes ≡ change_rows texts k (record {
     front = start;
     removed = count;
     added = length lines;

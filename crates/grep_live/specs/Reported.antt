@@ -1,6 +1,6 @@
 -- What `changes` and `page` write, and which lists an editor has after that.
 use Rattle.std.specs.Prelude.{◌≡◌, ℕ, ◌-◌, ◌^◌, min, List, ◌∷◌, length, Option, Result, IfOk}
-use Rattle.std.specs.Prelude.{MatchResult}
+use Rattle.std.specs.Prelude.{MatchResult, Bool}
 use Rattle.re_syntax.specs.Bytes.{Text}
 use Rattle.re_syntax.specs.Expression.{Expression}
 use Rattle.grep_core.specs.declared.status.Status.{Status}
@@ -16,7 +16,7 @@ use Rattle.grep_live.specs.Follows.{Follows}
 use Rattle.grep_live.specs.Rows.{changes_rows, total_row, page_rows, all_hits}
 
 module _ {W : Type 0} (contents : W → Option Text) (failures : W → ℕ) (margin : Text)
-    (begun ended : W) where
+    (texts : Bool) (begun ended : W) where
   -- the changes of each file were written, or a write failed and a beginning of them was written;
   -- any view that followed becomes by them the present hits, and follows then
   pub record WritesChanges {E : Type 0} (old new : Watched) (result : Result Status E) : Type 0 where
@@ -25,7 +25,8 @@ module _ {W : Type 0} (contents : W → Option Text) (failures : W → ℕ) (mar
     pub changes : List (List Change)
     pub are_changes : AllThree (ChangesFile es old.inputs.options) old.inputs.files old.marks
         changes
-    pub wrote : Writes contents failures begun ended (written margin (changes_rows 0 changes)) result
+    pub wrote : Writes contents failures begun ended
+        (written margin (changes_rows texts 0 changes)) result
     pub is_status : IfOk result (StatusOf es old.inputs.options old.inputs.files)
     pub leaves : MatchResult result (λ _. new ≡ all_known old) (λ _. new ≡ old)
     pub catches_up : (view : View) → Follows old view →
@@ -44,5 +45,5 @@ module _ {W : Type 0} (contents : W → Option Text) (failures : W → ℕ) (mar
     pub wrote : Writes contents failures begun ended
         (written margin
         (total_row (min (length (all_hits 0 view)) (2 ^ 64 - 1)) ∷
-        page_rows first count (all_hits 0 view))) result
+        page_rows texts first count (all_hits 0 view))) result
     pub is_status : IfOk result (StatusOf es inputs.options inputs.files)

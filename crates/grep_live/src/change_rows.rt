@@ -13,6 +13,7 @@ ghost use Rattle.grep_live.specs.Rows.{hit_row, change_row, change_rows, changes
 ghost use Rattle.grep_live.specs.Working.LineHits.{Mean, HitsBetween};
 
 use crate::hits::{LineRange, count_hits, first_hit};
+use crate::row_form::RowForm;
 use crate::rows::{write_hit_row, write_number_row};
 use grep_core::{CountedWrite, WriteFault};
 use grep_session::Session;
@@ -22,18 +23,18 @@ use line_marks::Mark;
 fn write_hits<W: CountedWrite>(
     session: &Session,
     stretch: LineRange,
-    margin: &[u8],
+    form: RowForm<'_>,
     out: &mut W,
 ) -> Result<(), WriteFault>
     requires in_order { stretch.from ≤ stretch.to }
     requires within { stretch.to ≤ length (file_at session.now.inputs.files stretch.k).lines }
     ensures { (es : List Expression) → Mean session.now.inputs es → (hits : List Hit) →
         HitsBetween es session.now.inputs stretch.k stretch.from stretch.to hits → Writes W.contents W.failures out.old out.new
-        (written margin.now (map hit_row hits)) result }
+        (written form.entry.margin.now (map (hit_row form.entry.has_text) hits)) result }
 {
     let mut from = stretch.from;
     while let Some(found) = first_hit(session, LineRange { from, ..stretch }) {
-        write_hit_row(out, margin, b"r", &[found.place], found.hit)?;
+        write_hit_row(out, form, b"r", &[found.place], found.hit)?;
         from = found.place + 1;
     }
     Ok(())
@@ -52,25 +53,25 @@ fn write_rows<W: CountedWrite>(
     session: &Session,
     removed: usize,
     stretch: LineRange,
-    margin: &[u8],
+    form: RowForm<'_>,
     out: &mut W,
 ) -> Result<(), WriteFault>
     requires in_order { stretch.from ≤ stretch.to }
     requires within { stretch.to ≤ length (file_at session.now.inputs.files stretch.k).lines }
     ensures { (es : List Expression) → Mean session.now.inputs es → (hits : List Hit) →
         HitsBetween es session.now.inputs stretch.k stretch.from stretch.to hits → Writes W.contents W.failures out.old out.new
-        (written margin.now (change_row stretch.k (record {
+        (written form.entry.margin.now (change_row stretch.k (record {
           front = stretch.from;
           removed = removed;
           added = stretch.to - stretch.from;
           come = hits;
-        }) ∷ map hit_row hits)) result }
+        }) ∷ map (hit_row form.entry.has_text) hits)) result }
 {
     let LineRange { k, from, to } = stretch;
     let count = count_hits(session, stretch);
     let numbers = [k, from, removed, to - from, count];
-    write_number_row(out, margin, b"h", &numbers)?;
-    write_hits(session, stretch, margin, out)
+    write_number_row(out, form.margin, b"h", &numbers)?;
+    write_hits(session, stretch, form, out)
 }
 
 /// Writes the rows of a stretch of a file: `removed` lines were replaced by these. If there were none
@@ -79,14 +80,14 @@ fn write_stretch<W: CountedWrite>(
     session: &Session,
     removed: usize,
     stretch: LineRange,
-    margin: &[u8],
+    form: RowForm<'_>,
     out: &mut W,
 ) -> Result<(), WriteFault>
     requires in_order { stretch.from ≤ stretch.to }
     requires within { stretch.to ≤ length (file_at session.now.inputs.files stretch.k).lines }
     ensures { (es : List Expression) → Mean session.now.inputs es → (hits : List Hit) →
         HitsBetween es session.now.inputs stretch.k stretch.from stretch.to hits → Writes W.contents W.failures out.old out.new
-        (written margin.now (change_rows stretch.k (record {
+        (written form.entry.margin.now (change_rows form.entry.has_text stretch.k (record {
           front = stretch.from;
           removed = removed;
           added = stretch.to - stretch.from;
@@ -96,7 +97,7 @@ fn write_stretch<W: CountedWrite>(
     if is_idle(removed, stretch.to - stretch.from) {
         return Ok(());
     }
-    write_rows(session, removed, stretch, margin, out)
+    write_rows(session, removed, stretch, form, out)
 }
 
 /// Writes what changed of file `k`, by its mark.
@@ -104,14 +105,15 @@ fn write_change<W: CountedWrite>(
     session: &Session,
     k: usize,
     mark: &Mark,
-    margin: &[u8],
+    form: RowForm<'_>,
     out: &mut W,
 ) -> Result<(), WriteFault>
     requires { IsFit (file_at session.now.inputs.files k) mark.now }
     ensures { (es : List Expression) → Mean session.now.inputs es → (changes : List Change) →
         ChangesFile es session.now.inputs.options (file_at session.now.inputs.files k) mark.now changes →
         Writes W.contents W.failures out.old out.new
-        (written margin.now (flat_map (change_rows k) changes)) result }
+        (written form.entry.margin.now (flat_map (change_rows form.entry.has_text k) changes))
+        result }
 {
     let to = session.line_count(k);
     let mut rest = LineRange { k, from: 0, to };
@@ -122,7 +124,7 @@ fn write_change<W: CountedWrite>(
             session,
             stretch.removed,
             LineRange { k, from, to },
-            margin,
+            form,
             out,
         )?;
         rest.from = to;
@@ -134,17 +136,17 @@ fn write_change<W: CountedWrite>(
 pub fn write_changes<W: CountedWrite>(
     session: &Session,
     marks: &[Mark],
-    margin: &[u8],
+    form: RowForm<'_>,
     out: &mut W,
 ) -> Result<(), WriteFault>
     requires { AreFit session.now.inputs.files marks.now }
     ensures { (es : List Expression) → Mean session.now.inputs es → (changes : List (List Change)) →
         AllThree (ChangesFile es session.now.inputs.options) session.now.inputs.files marks.now changes →
-        Writes W.contents W.failures out.old out.new (written margin.now (changes_rows 0 changes))
-        result }
+        Writes W.contents W.failures out.old out.new
+        (written form.entry.margin.now (changes_rows form.entry.has_text 0 changes)) result }
 {
     for (k, mark) in marks.iter().enumerate() {
-        write_change(session, k, mark, margin, out)?;
+        write_change(session, k, mark, form, out)?;
     }
     Ok(())
 }

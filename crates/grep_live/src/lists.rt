@@ -3,11 +3,12 @@ ghost use Rattle.grep_live.specs.Reported.{WritesChanges, WritesPage};
 
 use crate::change_rows::write_changes;
 use crate::page_rows::write_hits_page;
+use crate::row_form::RowForm;
 use crate::status::status;
 use grep_core::{CountedWrite, Status, WriteFault};
 use grep_session::Session;
 
-/// Writes what changed of each file since the last call, each row after the margin, and returns the
+/// Writes what changed of each file since the last call, each row in this form, and returns the
 /// status of grep: which lines were replaced, by how many, and each hit among the new ones. A file
 /// in which nothing changed has no row.
 ///
@@ -17,14 +18,14 @@ use grep_session::Session;
 /// call reports all of it again. The write is not tried again.
 pub fn changes<W: CountedWrite>(
     session: &mut Session,
-    margin: &[u8],
+    form: RowForm<'_>,
     out: &mut W,
 ) -> Result<Status, WriteFault>
-    ensures { WritesChanges W.contents W.failures margin.now out.old out.new session.old session.new
-        result }
+    ensures { WritesChanges W.contents W.failures form.entry.margin.now form.entry.has_text
+        out.old out.new session.old session.new result }
 {
     let status = status(session);
-    match write_changes(session, session.marks(), margin, out) {
+    match write_changes(session, session.marks(), form, out) {
         Ok(()) => {}
         Err(fault) => return Err(fault),
     }
@@ -33,7 +34,7 @@ pub fn changes<W: CountedWrite>(
 }
 
 /// Writes the number of hits of all files, and a row for each of at most `count` of them from number
-/// `first` on, counted from 0 over all files in order, each row after the margin. Returns the status
+/// `first` on, counted from 0 over all files in order, each row in this form. Returns the status
 /// of grep. A number above the greatest `u64` is written as that. The hits do not count as reported.
 ///
 /// # Errors
@@ -44,14 +45,14 @@ pub fn page<W: CountedWrite>(
     session: &Session,
     first: usize,
     count: usize,
-    margin: &[u8],
+    form: RowForm<'_>,
     out: &mut W,
 ) -> Result<Status, WriteFault>
-    ensures { WritesPage W.contents W.failures margin.now out.old out.new session.now.inputs first
-        count result }
+    ensures { WritesPage W.contents W.failures form.entry.margin.now form.entry.has_text out.old
+        out.new session.now.inputs first count result }
 {
     let status = status(session);
-    match write_hits_page(session, first, count, margin, out) {
+    match write_hits_page(session, first, count, form, out) {
         Ok(()) => {}
         Err(fault) => return Err(fault),
     }

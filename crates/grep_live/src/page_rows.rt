@@ -10,6 +10,7 @@ ghost use Rattle.grep_live.specs.Working.LineHits.{Mean, HitsBetween};
 ghost use Rattle.grep_live.specs.Working.PageRest.{IsRest};
 
 use crate::hits::{LineRange, count_file, first_hit, place_after};
+use crate::row_form::RowForm;
 use crate::rows::{write_hit_row, write_number_row};
 use grep_core::{CountedWrite, WriteFault};
 use grep_session::Session;
@@ -42,7 +43,7 @@ fn show_hits<W: CountedWrite>(
     session: &Session,
     stretch: LineRange,
     left: usize,
-    margin: &[u8],
+    form: RowForm<'_>,
     out: &mut W,
 ) -> Result<usize, WriteFault>
     requires in_order { stretch.from ≤ stretch.to }
@@ -50,7 +51,8 @@ fn show_hits<W: CountedWrite>(
     ensures wrote { (es : List Expression) → Mean session.now.inputs es → (hits : List Hit) →
         HitsBetween es session.now.inputs stretch.k stretch.from stretch.to hits →
         Writes W.contents W.failures out.old out.new
-        (written margin.now (page_rows 0 left (map (λ hit. (stretch.k, hit)) hits))) result }
+        (written form.entry.margin.now
+        (page_rows form.entry.has_text 0 left (map (λ hit. (stretch.k, hit)) hits))) result }
     ensures rest { IfOk result (λ more. (es : List Expression) → Mean session.now.inputs es →
         (hits : List Hit) → HitsBetween es session.now.inputs stretch.k stretch.from stretch.to hits →
         more ≡ left - length hits) }
@@ -60,7 +62,7 @@ fn show_hits<W: CountedWrite>(
         let Some(found) = first_hit(session, LineRange { from, ..stretch }) else {
             return Ok(left - shown);
         };
-        write_hit_row(out, margin, b"p", &[stretch.k, found.place], found.hit)?;
+        write_hit_row(out, form, b"p", &[stretch.k, found.place], found.hit)?;
         from = found.place + 1;
     }
     Ok(0)
@@ -72,13 +74,14 @@ fn show_file<W: CountedWrite>(
     session: &Session,
     k: usize,
     page: &mut Page,
-    margin: &[u8],
+    form: RowForm<'_>,
     out: &mut W,
 ) -> Result<(), WriteFault>
     ensures wrote { (es : List Expression) → Mean session.now.inputs es → (hits : List Hit) →
         HitsBetween es session.now.inputs k 0 (length (file_at session.now.inputs.files k).lines) hits →
-        Writes W.contents W.failures out.old out.new (written margin.now
-        (page_rows page.old.skip page.old.left (map (λ hit. (k, hit)) hits))) result }
+        Writes W.contents W.failures out.old out.new (written form.entry.margin.now
+        (page_rows form.entry.has_text page.old.skip page.old.left (map (λ hit. (k, hit)) hits)))
+        result }
     ensures rest { IfOk result (λ _. (es : List Expression) → Mean session.now.inputs es →
         (hits : List Hit) →
         HitsBetween es session.now.inputs k 0 (length (file_at session.now.inputs.files k).lines) hits →
@@ -92,7 +95,7 @@ fn show_file<W: CountedWrite>(
     let from = place_after(session, k, page.skip);
     let to = session.line_count(k);
     page.skip = 0;
-    page.left = show_hits(session, LineRange { k, from, to }, page.left, margin, out)?;
+    page.left = show_hits(session, LineRange { k, from, to }, page.left, form, out)?;
     Ok(())
 }
 
@@ -101,13 +104,13 @@ fn write_page<W: CountedWrite>(
     session: &Session,
     first: usize,
     count: usize,
-    margin: &[u8],
+    form: RowForm<'_>,
     out: &mut W,
 ) -> Result<(), WriteFault>
     ensures { (es : List Expression) → Mean session.now.inputs es → (view : View) →
         AreHits es session.now.inputs.options session.now.inputs.files view →
-        Writes W.contents W.failures out.old out.new (written margin.now
-        (page_rows first count (all_hits 0 view))) result }
+        Writes W.contents W.failures out.old out.new (written form.entry.margin.now
+        (page_rows form.entry.has_text first count (all_hits 0 view))) result }
 {
     let mut page = Page {
         skip: first,
@@ -117,7 +120,7 @@ fn write_page<W: CountedWrite>(
         if page.left == 0 {
             return Ok(());
         }
-        show_file(session, k, &mut page, margin, out)?;
+        show_file(session, k, &mut page, form, out)?;
     }
     Ok(())
 }
@@ -127,16 +130,16 @@ pub fn write_hits_page<W: CountedWrite>(
     session: &Session,
     first: usize,
     count: usize,
-    margin: &[u8],
+    form: RowForm<'_>,
     out: &mut W,
 ) -> Result<(), WriteFault>
     ensures { (es : List Expression) → Mean session.now.inputs es → (view : View) →
         AreHits es session.now.inputs.options session.now.inputs.files view →
-        Writes W.contents W.failures out.old out.new (written margin.now
+        Writes W.contents W.failures out.old out.new (written form.entry.margin.now
         (total_row (min (length (all_hits 0 view)) (2 ^ 64 - 1)) ∷
-        page_rows first count (all_hits 0 view))) result }
+        page_rows form.entry.has_text first count (all_hits 0 view))) result }
 {
     let total = count_all(session);
-    write_number_row(out, margin, b"hits", &[total])?;
-    write_page(session, first, count, margin, out)
+    write_number_row(out, form.margin, b"hits", &[total])?;
+    write_page(session, first, count, form, out)
 }

@@ -5,7 +5,9 @@ ghost use Rattle.grep_core.specs.Row.{output_line};
 ghost use Rattle.grep_core.specs.Written.{Writes};
 ghost use Rattle.grep_session.specs.Working.Kept.{span_places};
 ghost use Rattle.grep_live.specs.Rows.{spaced, part_text, more_parts, parts_text, hit_text};
+ghost use Rattle.grep_live.specs.Rows.{line_text};
 
+use crate::row_form::RowForm;
 use grep_core::{CountedWrite, WriteFault, push_all, write_decimal, write_line};
 use grep_session::Hit;
 use re_search::Span;
@@ -133,48 +135,62 @@ fn write_text<W: CountedWrite>(out: &mut W, before: &[u8], text: &[u8]) -> Resul
     write_line(out, text)
 }
 
-/// Writes the parts of a hit and its line, and a newline.
+/// Writes the end of a row: a space and the line, or nothing, and a newline.
+fn write_end<W: CountedWrite>(out: &mut W, has_text: bool, text: &[u8]) -> Result<(), WriteFault>
+    ensures { Writes W.contents W.failures out.old out.new
+        (output_line [] (line_text has_text text.now)) result }
+{
+    if has_text {
+        return write_text(out, b" ", text);
+    }
+    write_line(out, b"")
+}
+
+/// Writes the parts of a hit and the end of its row.
 #[tactic(auto, using(grep_core::proofs::lemmas::RowLemmas::writing))]
 fn write_with_parts<W: CountedWrite>(
     out: &mut W,
     parts: &[Span],
+    has_text: bool,
     text: &[u8],
 ) -> Result<(), WriteFault>
     ensures { Writes W.contents W.failures out.old out.new
-        (parts_text (map span_places parts.now) ++ (codes " " ++ output_line [] text.now)) result }
+        (parts_text (map span_places parts.now) ++ output_line [] (line_text has_text text.now))
+        result }
 {
     write_parts(out, parts)?;
-    write_text(out, b" ", text)
+    write_end(out, has_text, text)
 }
 
-/// Writes some bytes, the parts of a hit, its line and a newline.
+/// Writes some bytes, the parts of a hit and the end of its row.
 #[tactic(auto, using(grep_core::proofs::lemmas::RowLemmas::writing))]
 fn write_rest<W: CountedWrite>(
     out: &mut W,
     before: &[u8],
     parts: &[Span],
+    has_text: bool,
     text: &[u8],
 ) -> Result<(), WriteFault>
     ensures { Writes W.contents W.failures out.old out.new
         (before.now ++ (parts_text (map span_places parts.now)
-        ++ (codes " " ++ output_line [] text.now))) result }
+        ++ output_line [] (line_text has_text text.now))) result }
 {
     push_all(out, before)?;
-    write_with_parts(out, parts, text)
+    write_with_parts(out, parts, has_text, text)
 }
 
-/// Writes the row of a hit: a word, numbers, its parts and its line.
+/// Writes the row of a hit: a word, numbers, its parts and its line, if rows have that.
 pub fn write_hit_row<W: CountedWrite>(
     out: &mut W,
-    margin: &[u8],
+    form: RowForm<'_>,
     word: &[u8],
     numbers: &[usize],
     hit: Hit<'_>,
 ) -> Result<(), WriteFault>
-    ensures { Writes W.contents W.failures out.old out.new (output_line margin.now
-        (hit_text word.now numbers.now (map span_places hit.entry.parts.now) hit.entry.text.now))
-        result }
+    ensures { Writes W.contents W.failures out.old out.new (output_line form.entry.margin.now
+        (hit_text form.entry.has_text word.now numbers.now (map span_places hit.entry.parts.now)
+        hit.entry.text.now)) result }
 {
-    write_head(out, margin, word, numbers)?;
-    write_rest(out, b" ", hit.parts, hit.text)
+    write_head(out, form.margin, word, numbers)?;
+    write_rest(out, b" ", hit.parts, form.has_text, hit.text)
 }

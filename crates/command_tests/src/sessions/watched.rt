@@ -7,7 +7,7 @@ use super::edits::{Answer, Edit, Handed, handed_by};
 use super::harness::{DONE, NO_SUCH_FILE, STATES};
 use crate::marks::{refuse, was_refused};
 use grep_core::{Limited, Status, Tally, WriteFault};
-use grep_live::changes;
+use grep_live::{RowForm, changes};
 use grep_session::{EditFault, NewLines, Session};
 use re_auto::fresh_meter;
 use std::alloc::Global;
@@ -25,7 +25,11 @@ fn changes_of(
     room: usize,
 ) -> (Result<Status, WriteFault>, Vec<u8>) {
     let mut out = Tally::new(Limited::new(Vec::new(alloc), usize::MAX, room));
-    let answer = changes(live, b"", &mut out);
+    let form = RowForm {
+        margin: b"",
+        has_text: true,
+    };
+    let answer = changes(live, form, &mut out);
     (answer, out.into_inner().into_inner())
 }
 

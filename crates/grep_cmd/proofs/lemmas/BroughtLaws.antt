@@ -1,5 +1,5 @@
 -- The steps of a script bring no more bytes than its lines have.
-use Rattle.grep_cmd.proofs.Prelude.{◌≡◌, ℕ, ◌+◌, ◌≤◌, Bool, true, false, List, [], ◌∷◌, ◌++◌, length, codes, bytes_eq, nat_eq, Option, Some, None, refl, sym, ap, subst, inl, inr, arith, if◌then◌else◌, option_map, sum_by, Text, joined, Flag, Ending, Edit, AddFile, AddMissing, DropFile, Splice, DropPattern, ChangePattern, SetFlag, SetSyntax, SetContext, number_of, name_of, flag_of, switch_of, syntax_of, Command, edits, counts, shows, lists_changes, lists_page, asks_version, file_from, file_command, missing_command, close_command, splice_from, splice_command, patterns_from, patterns_command, drop_command, pattern_command, flag_from, flag_command, syntax_command, context_from, context_command, show_command, changes_command, page_from, page_command, version_command, asking_command, unnamed_command, command_of, Step, does, reports, reports_changes, reports_page, tells_version, is_bad, IsStep, IsUnfinished, Steps, words_of, bytes_of, sum_by-append, sum_by-cons}
+use Rattle.grep_cmd.proofs.Prelude.{◌≡◌, ℕ, ◌+◌, ◌≤◌, Bool, true, false, List, [], ◌∷◌, ◌++◌, length, codes, bytes_eq, nat_eq, Option, Some, None, refl, sym, ap, subst, inl, inr, arith, if◌then◌else◌, option_map, sum_by, Text, joined, Flag, Ending, Edit, AddFile, AddMissing, DropFile, Splice, DropPattern, ChangePattern, SetFlag, SetSyntax, SetContext, number_of, name_of, flag_of, switch_of, syntax_of, Command, edits, counts, shows, lists_changes, lists_page, asks_version, switches_text, file_from, file_command, missing_command, close_command, splice_from, splice_command, patterns_from, patterns_command, drop_command, pattern_command, flag_from, flag_command, syntax_command, context_from, context_command, show_command, changes_command, page_from, page_command, version_command, text_command, asking_command, unnamed_command, command_of, Step, does, reports, reports_changes, reports_page, tells_version, sets_text, is_bad, IsStep, IsUnfinished, Steps, words_of, bytes_of, sum_by-append, sum_by-cons}
 use Rattle.grep_session.specs.Edits.{AddPatterns}
 
 -- one for a step, and the bytes of the lines that it puts into a file
@@ -37,6 +37,9 @@ few_page first count taken step is = few_as taken step (reports_page first count
 
 few_version : Few (Some asks_version)
 few_version taken step is = few_as taken step tells_version is.1 (omega arith)
+
+few_text : (on : Bool) → Few (Some (switches_text on))
+few_text on taken step is = few_as taken step (sets_text on) is.1 (omega arith)
 
 few_if : (b : Bool) (x y : Option Command) → Few x → Few y → Few (if b then x else y)
 few_if true x y p q = p
@@ -155,6 +158,15 @@ few_version_command : (given : List Text) → Few (version_command given)
 few_version_command [] = few_version
 few_version_command (word ∷ rest) = few_none
 
+few_text_found : (found : Option Bool) → Few (option_map (λ on. switches_text on) found)
+few_text_found None = few_none
+few_text_found (Some on) = few_text on
+
+few_text_command : (given : List Text) → Few (text_command given)
+few_text_command [] = few_none
+few_text_command (switch ∷ []) = few_text_found (switch_of switch)
+few_text_command (switch ∷ more ∷ rest) = few_none
+
 module _ (word : Text) (given : List Text) where
   abbrev is_word : Text → Bool
   is_word name = bytes_eq word name
@@ -164,7 +176,8 @@ module _ (word : Text) (given : List Text) where
       few_if (is_word (codes "show")) (show_command given) _ (few_show given)
       (few_if (is_word (codes "changes")) (changes_command given) _ (few_changes_command given)
       (few_if (is_word (codes "page")) (page_command given) _ (few_page_command given)
-      (few_if (is_word (codes "version")) (version_command given) None (few_version_command given) few_none)))
+      (few_if (is_word (codes "version")) (version_command given) _ (few_version_command given)
+      (few_if (is_word (codes "text")) (text_command given) None (few_text_command given) few_none))))
 
   few_unnamed : Few (unnamed_command word given)
   few_unnamed =

@@ -1,11 +1,12 @@
 -- The lists that an editor makes by the replies alone follow, and are the present hits.
-use Rattle.grep_cmd.proofs.Prelude.{◌≡◌, ℕ, ◌+◌, ◌<◌, ◌≤◌, ◌^◌, min, true, false, true≢false, List, [], ◌∷◌, ◌++◌, length, take, drop, get_or, codes, Result, Ok, Err, refl, sym, ap, subst, ◌∙◌, inl, inr, arith, append_assoc, ◌-◌, list_any, sum_by, Text, Status, IfHolds, File, Inputs, EditFault, Edit, Marked, View, AreHits, Watched, new_watched, ChangesFile, all_after, FollowsFile, Follows, view_after, AreFit, changes_rows, total_row, page_row, page_rows, all_hits, all_known, Step, does, reports, reports_changes, reports_page, tells_version, is_bad, is_truncated, AreShown, with_margin, status_line, ReportsChanges, RepliesTo, Replies, IsAnswered, AnswersScript, cause, reply_to, IsHeld, bytes_of, has_status, EndsWithStatus, IsOneReply, ReadsChanges, ListsAfter, ListsAfterAll, ArePresent, Took, EditorsFollow, or_parts, All-nil, sum_by-cons}
+use Rattle.grep_cmd.proofs.Prelude.{Bool, ◌⊎◌, ◌≢◌, All, All-head, All-tail, All-cons, All-weaker, map, text_after, sets_text, HaveTexts, AreButTexts, read_hit, read_change, ScriptState, new_state, ◌≡◌, ℕ, ◌+◌, ◌<◌, ◌≤◌, ◌^◌, min, true, false, true≢false, List, [], ◌∷◌, ◌++◌, length, take, drop, get_or, codes, Result, Ok, Err, refl, sym, ap, subst, ◌∙◌, inl, inr, arith, append_assoc, ◌-◌, list_any, sum_by, Text, Status, IfHolds, File, Inputs, EditFault, Edit, Marked, View, AreHits, Watched, ChangesFile, all_after, FollowsFile, Follows, view_after, AreFit, changes_rows, total_row, page_row, page_rows, all_hits, all_known, Step, does, reports, reports_changes, reports_page, tells_version, is_bad, is_truncated, AreShown, with_margin, status_line, ReportsChanges, RepliesTo, Replies, IsAnswered, AnswersScript, cause, reply_to, IsHeld, bytes_of, has_status, EndsWithStatus, IsOneReply, ReadsChanges, ListsAfter, ListsAfterAll, ArePresent, Took, EditorsFollow, or_parts, All-nil, sum_by-cons}
 use Rattle.grep_core.specs.declared.status.Status.TheVariants as status
-use Rattle.grep_session.proofs.lemmas.FitLemmas.{known_fit}
+use Rattle.grep_session.proofs.lemmas.FitLemmas.{known_fit, zip-length}
 use Rattle.grep_live.proofs.lemmas.CarryLemmas.{edits_carry}
 use Rattle.grep_live.proofs.lemmas.ListLemmas.{three-length}
 use Rattle.grep_cmd.proofs.lemmas.ReadingLaws.{first_same, rest_same, cut_same, one_reading}
 use Rattle.grep_cmd.proofs.lemmas.BroughtLaws.{brought, steps_bring}
+use Rattle.grep_cmd.proofs.lemmas.TextLaws.{Kept, AreAs, ViewsAs, as_all_after, as_view_after, same_views, but_texts}
 use Rattle.grep_cmd.proofs.lemmas.RowTests.{none_mapped, none_joined, none_changes}
 use Rattle.grep_cmd.proofs.lemmas.HeldLaws.{IsWithin, within_wider, within_after, within_known, changes_held}
 
@@ -28,16 +29,28 @@ shown_ends inputs shown s =
     (none_joined has_status (with_margin (codes "o ") s.out) (with_margin (codes "e ") s.reported) out reported)
 
 -- the reply to a step is taken whole
-is_one_reply : (step : Step) (before after : Watched) (reply : List Text) → RepliesTo step before reply after → IsOneReply step reply
-is_one_reply (does edit) before after reply r = ap length r.2
-is_one_reply reports before after reply r = shown_ends before.inputs reply r.0
-is_one_reply reports_changes before after reply r = ends_with (changes_rows 0 r.changes) r.status reply r.is (none_changes has_status (λ hit. refl) (λ k change. refl) 0 r.changes)
+is_one_reply : (step : Step) (before after : ScriptState) (reply : List Text) → RepliesTo step before reply after → IsOneReply step reply
+is_one_reply (does edit) before after reply r = ap length r.3
+is_one_reply reports before after reply r = shown_ends before.session.inputs reply r.0
+is_one_reply reports_changes before after reply (r, same) = ends_with (changes_rows before.texts 0 r.changes) r.status reply r.is (none_changes has_status before.texts (λ hit. refl) (λ k change. refl) 0 r.changes)
 is_one_reply (reports_page first count) before after reply (r, same) =
     let all = all_hits 0 r.view in
-    ends_with (total_row (min (length all) (2 ^ 64 - 1)) ∷ page_rows first count all) r.status reply r.is (none_mapped has_status page_row (take count (drop first all)) (λ row. refl))
+    ends_with (total_row (min (length all) (2 ^ 64 - 1)) ∷ page_rows before.texts first count all) r.status reply r.is (none_mapped has_status (page_row before.texts) (take count (drop first all)) (λ row. refl))
 is_one_reply tells_version before after reply r = ap length r.0
+is_one_reply (sets_text on) before after reply r = ap length r.0
 is_one_reply is_bad before after reply r = ap length r.0
 is_one_reply is_truncated before after reply r = ap length r.0
+
+-- and the next step finds the rows with their texts or without, as this one leaves them
+texts_go : (step : Step) (before after : ScriptState) (reply : List Text) → RepliesTo step before reply after → after.texts ≡ text_after step before.texts
+texts_go (does edit) before after reply r = r.2
+texts_go reports before after reply r = ap (λ (s : ScriptState). s.texts) r.1
+texts_go reports_changes before after reply r = r.1
+texts_go (reports_page first count) before after reply r = ap (λ (s : ScriptState). s.texts) r.1
+texts_go tells_version before after reply r = ap (λ (s : ScriptState). s.texts) r.1
+texts_go (sets_text on) before after reply r = ap (λ (s : ScriptState). s.texts) r.1
+texts_go is_bad before after reply r = ap (λ (s : ScriptState). s.texts) r.1
+texts_go is_truncated before after reply r = ap (λ (s : ScriptState). s.texts) r.1
 
 -- ---- one reply after another
 
@@ -70,6 +83,7 @@ reply_cut reports a b s t p q e = status_cut a b s t p q e
 reply_cut reports_changes a b s t p q e = status_cut a b s t p q e
 reply_cut (reports_page first count) a b s t p q e = status_cut a b s t p q e
 reply_cut tells_version a b s t p q e = cut_same a b s t (p ∙ sym q) e
+reply_cut (sets_text on) a b s t p q e = cut_same a b s t (p ∙ sym q) e
 reply_cut is_bad a b s t p q e = cut_same a b s t (p ∙ sym q) e
 reply_cut is_truncated a b s t p q e = cut_same a b s t (p ∙ sym q) e
 
@@ -81,60 +95,118 @@ refused_is_not_ok fault e =
     let byte : ◌≡◌ {A = ℕ} 114 111 = ap (λ (l : Text). get_or l 0 0) line in
     omega (arith, byte)
 
--- the marks fit, and the lists follow
-abbrev Stands : Watched → View → Type 0
-Stands state view = AreFit state.inputs.files state.marks × Follows state view
+-- the lists are such that follow, but that some hits may lack their text; the marks fit
+record Stands (Lost : Type 0) (state : ScriptState) (view : View) : Type 0 where
+  kept : Kept Lost state.texts
+  others : View
+  alike : ViewsAs Lost view others
+  fit : AreFit state.session.inputs.files state.session.marks
+  follows : Follows state.session others
 
-module _ (before after : Watched) (reply : List Text) (view new : View) where
-  edit_follows : (edit : Edit) (answer : Result (Unit {0}) EditFault) → IsAnswered edit before after answer → reply ≡ reply_to answer ∷ [] → Stands before view → IfHolds (reply ≡ codes "ok" ∷ []) (new ≡ view_after edit view) (new ≡ view) → Stands after new
-  edit_follows edit (Ok done) a e f (inl (ok, n)) = let c = edits_carry edit (Ok done) before after f.0 a.gives a.marks in (c.fit, subst (Follows after) (sym n) (c.follows view f.1))
-  edit_follows edit (Ok done) a e f (inr (other, n)) = absurd (other e)
-  edit_follows edit (Err fault) a e f (inl (ok, n)) = absurd (refused_is_not_ok fault (sym e ∙ ok))
-  edit_follows edit (Err fault) a e f (inr (other, n)) = let c = edits_carry edit (Err fault) before after f.0 a.gives a.marks in (c.fit, subst (Follows after) (sym n) (c.follows view f.1))
+-- no text is lost by a step, or some may be
+abbrev Keeps : Type 0 → Step → Type 0
+Keeps Lost step = (step ≢ sets_text false) ⊎ Lost
 
-  -- the lists are those that the reported changes make
-  read_as : (r : ReportsChanges before after reply) → Follows before view → ListsAfter reports_changes reply view new → all_after r.changes view ≡ new
-  read_as r f (changes, reads, n) =
-      let files = (three-length (ChangesFile r.es before.inputs.options) before.inputs.files before.marks r.changes r.are_changes).1 in
-      let lists = (three-length (FollowsFile before.inputs) before.inputs.files before.marks view f).1 in
-      let long : length changes ≡ length r.changes = reads.one_each ∙ sym lists ∙ files in
-      let held = subst (λ (n : ℕ). n < 2 ^ 64) (sym reads.one_each) reads.held.0 in
-      sym (n ∙ one_reading changes r.changes reads.status r.status view long held reads.held.1 (sym reads.is ∙ r.is))
+-- the lists are the present hits, but that some may lack their text
+abbrev Present : Type 0 → ScriptState → View → Type 0
+Present Lost state view = (others : View) × ViewsAs Lost view others × ArePresent state.session others
 
-  still : after ≡ before → new ≡ view → Stands before view → Stands after new
-  still same n f = subst (λ (w : Watched). Stands w new) (sym same) (subst (Stands before) (sym n) f)
+-- the lists that the reported changes make
+read_as : (before after : ScriptState) (reply : List Text) (view new : View) (r : ReportsChanges before.texts before.session after.session reply) → length view ≡ length r.changes → ListsAfter before.texts reports_changes reply view new →
+    all_after (map (map (read_change before.texts)) r.changes) view ≡ new
+read_as before after reply view new r lists (changes, reads, n) =
+    let long : length changes ≡ length r.changes = reads.one_each ∙ lists in
+    let held = subst (λ (n : ℕ). n < 2 ^ 64) (sym reads.one_each) reads.held.0 in
+    sym (n ∙ one_reading before.texts changes r.changes reads.status r.status view long held reads.held.1 (sym reads.is ∙ r.is))
 
-  step_follows : (step : Step) → RepliesTo step before reply after → Stands before view → ListsAfter step reply view new → Stands after new
-  step_follows (does edit) r f l = edit_follows edit r.0 r.1 r.2 f l
-  step_follows reports r f l = still r.1 l f
-  step_follows reports_changes r f l =
-      (subst (λ (w : Watched). AreFit w.inputs.files w.marks) (sym r.leaves) (known_fit before.inputs.files), subst (Follows after) (read_as r f.1 l) (r.follows view f.1))
-  step_follows (reports_page first count) r f l = still r.1 l f
-  step_follows tells_version r f l = still r.1 l f
-  step_follows is_bad r f l = still r.1 l f
-  step_follows is_truncated r f l = still r.1 l f
+module _ (Lost : Type 0) (before after : ScriptState) (reply : List Text) (view new : View) (s : Stands Lost before view) where
+  lists_each : (r : ReportsChanges before.texts before.session after.session reply) → length view ≡ length r.changes
+  lists_each r =
+      let old = before.session in
+      let files = (three-length (ChangesFile r.es old.inputs.options) old.inputs.files old.marks r.changes r.are_changes).1 in
+      let lists = (three-length (FollowsFile old.inputs) old.inputs.files old.marks s.others s.follows).1 in
+      zip-length (AreAs Lost) view s.others s.alike ∙ sym lists ∙ files
 
-  step_present : RepliesTo reports_changes before reply after → Follows before view → ListsAfter reports_changes reply view new → ArePresent after new
-  step_present r f l =
-      let hits = subst (AreHits r.es before.inputs.options before.inputs.files) (read_as r f l) (r.catches_up view f) in
-      let known : ArePresent (all_known before) new = record { es = r.es; are_meant = r.are_meant; are_hits = hits } in
-      subst (λ (w : Watched). ArePresent w new) (sym r.leaves) known
+  edit_stands : (edit : Edit) (answer : Result (Unit {0}) EditFault) → IsAnswered edit before.session after.session answer → after.texts ≡ before.texts → reply ≡ reply_to answer ∷ [] → IfHolds (reply ≡ codes "ok" ∷ []) (new ≡ view_after edit view) (new ≡ view) → Stands Lost after new
+  edit_stands edit (Ok done) a same e (inl (ok, n)) =
+      let c = edits_carry edit (Ok done) before.session after.session s.fit a.gives a.marks in
+      record {
+        kept = subst (Kept Lost) (sym same) s.kept;
+        others = view_after edit s.others;
+        alike = subst (λ (v : View). ViewsAs Lost v (view_after edit s.others)) (sym n) (as_view_after Lost edit view s.others s.alike);
+        fit = c.fit;
+        follows = c.follows s.others s.follows;
+      }
+  edit_stands edit (Ok done) a same e (inr (other, n)) = absurd (other e)
+  edit_stands edit (Err fault) a same e (inl (ok, n)) = absurd (refused_is_not_ok fault (sym e ∙ ok))
+  edit_stands edit (Err fault) a same e (inr (other, n)) =
+      let c = edits_carry edit (Err fault) before.session after.session s.fit a.gives a.marks in
+      record {
+        kept = subst (Kept Lost) (sym same) s.kept;
+        others = s.others;
+        alike = subst (λ (v : View). ViewsAs Lost v s.others) (sym n) s.alike;
+        fit = c.fit;
+        follows = c.follows s.others s.follows;
+      }
+
+  still : after ≡ before → new ≡ view → Stands Lost after new
+  still same n = subst (λ (w : ScriptState). Stands Lost w new) (sym same) (subst (Stands Lost before) (sym n) s)
+
+  text_stands : (on : Bool) → Keeps Lost (sets_text on) → after ≡ record before { texts = on } → new ≡ view → Stands Lost after new
+  text_stands on keeps is n =
+      let set : Stands Lost (record before { texts = on }) view = record { kept = by_switch on keeps; others = s.others; alike = s.alike; fit = s.fit; follows = s.follows } in
+      subst (λ (w : ScriptState). Stands Lost w new) (sym is) (subst (Stands Lost (record before { texts = on })) (sym n) set)
+    where
+      by_switch : (on : Bool) → Keeps Lost (sets_text on) → Kept Lost on
+      by_switch true keeps = inl refl
+      by_switch false (inl other) = absurd (other refl)
+      by_switch false (inr lost) = inr lost
+
+  -- the lists after the reply to `changes`
+  read_stands : (r : ReportsChanges before.texts before.session after.session reply) → ListsAfter before.texts reports_changes reply view new → ViewsAs Lost new (all_after r.changes s.others)
+  read_stands r l =
+      subst (λ (v : View). ViewsAs Lost v (all_after r.changes s.others)) (read_as before after reply view new r (lists_each r) l) (as_all_after Lost before.texts s.kept r.changes view s.others s.alike)
+
+  changes_stand : (r : ReportsChanges before.texts before.session after.session reply) → after.texts ≡ before.texts → ListsAfter before.texts reports_changes reply view new → Stands Lost after new
+  changes_stand r same l = record {
+    kept = subst (Kept Lost) (sym same) s.kept;
+    others = all_after r.changes s.others;
+    alike = read_stands r l;
+    fit = subst (λ (w : Watched). AreFit w.inputs.files w.marks) (sym r.leaves) (known_fit before.session.inputs.files);
+    follows = r.follows s.others s.follows;
+  }
+
+  step_follows : (step : Step) → Keeps Lost step → RepliesTo step before reply after → ListsAfter before.texts step reply view new → Stands Lost after new
+  step_follows (does edit) k r l = edit_stands edit r.0 r.1 r.2 r.3 l
+  step_follows reports k r l = still r.1 l
+  step_follows reports_changes k r l = changes_stand r.0 r.1 l
+  step_follows (reports_page first count) k r l = still r.1 l
+  step_follows tells_version k r l = still r.1 l
+  step_follows (sets_text on) k r l = text_stands on k r.1 l
+  step_follows is_bad k r l = still r.1 l
+  step_follows is_truncated k r l = still r.1 l
+
+  step_present : RepliesTo reports_changes before reply after → ListsAfter before.texts reports_changes reply view new → Present Lost after new
+  step_present (r, same) l =
+      let others = all_after r.changes s.others in
+      let known : ArePresent (all_known before.session) others = record { es = r.es; are_meant = r.are_meant; are_hits = r.catches_up s.others s.follows } in
+      (others, read_stands r l, subst (λ (w : Watched). ArePresent w others) (sym r.leaves) known)
 
 -- ---- all replies
 
 -- the state and the lists after the first reply, and the replies to come
-record OneStep (step : Step) (steps : List Step) (before end : Watched) (replies : List Text) (view new : View) : Type 0 where
-  state : Watched
+record OneStep (step : Step) (steps : List Step) (before end : ScriptState) (replies : List Text) (view new : View) : Type 0 where
+  state : ScriptState
   between : View
   reply : List Text
   rest : List Text
   joined : replies ≡ reply ++ rest
   replies_to : RepliesTo step before reply state
-  lists : ListsAfter step reply view between
+  lists : ListsAfter before.texts step reply view between
   are_replies : Replies steps state rest end
-  lists_all : ListsAfterAll steps rest between new
+  lists_all : ListsAfterAll state.texts steps rest between new
 
-first_step : (step : Step) (steps : List Step) (before end : Watched) (replies : List Text) (view new : View) → Replies (step ∷ steps) before replies end → ListsAfterAll (step ∷ steps) replies view new → OneStep step steps before end replies view new
+first_step : (step : Step) (steps : List Step) (before end : ScriptState) (replies : List Text) (view new : View) → Replies (step ∷ steps) before replies end → ListsAfterAll before.texts (step ∷ steps) replies view new → OneStep step steps before end replies view new
 first_step step steps before end replies view new (reply, state, rest, r, more, e) (taken, between, left, split, one, l, lists) =
     let same = reply_cut step taken reply left rest one (is_one_reply step before state reply r) (sym split ∙ e) in
     record {
@@ -144,29 +216,32 @@ first_step step steps before end replies view new (reply, state, rest, r, more, 
       rest = rest;
       joined = e;
       replies_to = r;
-      lists = subst (λ (lines : List Text). ListsAfter step lines view between) same.0 l;
+      lists = subst (λ (lines : List Text). ListsAfter before.texts step lines view between) same.0 l;
       are_replies = more;
-      lists_all = subst (λ (lines : List Text). ListsAfterAll steps lines between new) same.1 lists;
+      lists_all = subst (λ (b : Bool). ListsAfterAll b steps rest between new) (sym (texts_go step before state reply r)) (subst (λ (lines : List Text). ListsAfterAll (text_after step before.texts) steps lines between new) same.1 lists);
     }
 
-follow_from : (steps : List Step) (before end : Watched) (replies : List Text) (view new : View) → Stands before view → Replies steps before replies end → ListsAfterAll steps replies view new → Stands end new
-follow_from [] before end replies view new f r l = still before end replies view new r.1 l.1 f
-follow_from (step ∷ steps) before end replies view new f r l =
-    let a = first_step step steps before end replies view new r l in
-    follow_from steps a.state end a.rest a.between new (step_follows before a.state a.reply view a.between step a.replies_to f a.lists) a.are_replies a.lists_all
+module _ (Lost : Type 0) where
+  follow_from : (steps : List Step) (before end : ScriptState) (replies : List Text) (view new : View) → All (Keeps Lost) steps → Stands Lost before view → Replies steps before replies end → ListsAfterAll before.texts steps replies view new → Stands Lost end new
+  follow_from [] before end replies view new keep f r l = still Lost before end replies view new f r.1 l.1
+  follow_from (step ∷ steps) before end replies view new keep f r l =
+      let a = first_step step steps before end replies view new r l in
+      let next = step_follows Lost before a.state a.reply view a.between f step (All-head (Keeps Lost) step steps keep) a.replies_to a.lists in
+      follow_from steps a.state end a.rest a.between new (All-tail (Keeps Lost) step steps keep) next a.are_replies a.lists_all
 
-present_from : (steps : List Step) (before end : Watched) (replies : List Text) (view new : View) → Stands before view → Replies (steps ++ reports_changes ∷ []) before replies end → ListsAfterAll (steps ++ reports_changes ∷ []) replies view new → ArePresent end new
-present_from [] before end replies view new f r l =
-    let a = first_step reports_changes [] before end replies view new r l in
-    let here = step_present before a.state a.reply view a.between a.replies_to f.1 a.lists in
-    subst (λ (w : Watched). ArePresent w new) (sym a.are_replies.1) (subst (ArePresent a.state) (sym a.lists_all.1) here)
-present_from (step ∷ steps) before end replies view new f r l =
-    let a = first_step step (steps ++ reports_changes ∷ []) before end replies view new r l in
-    present_from steps a.state end a.rest a.between new (step_follows before a.state a.reply view a.between step a.replies_to f a.lists) a.are_replies a.lists_all
+  present_from : (steps : List Step) (before end : ScriptState) (replies : List Text) (view new : View) → All (Keeps Lost) steps → Stands Lost before view → Replies (steps ++ reports_changes ∷ []) before replies end → ListsAfterAll before.texts (steps ++ reports_changes ∷ []) replies view new → Present Lost end new
+  present_from [] before end replies view new keep f r l =
+      let a = first_step reports_changes [] before end replies view new r l in
+      let here = step_present Lost before a.state a.reply view a.between f a.replies_to a.lists in
+      subst (λ (w : ScriptState). Present Lost w new) (sym a.are_replies.1) (subst (Present Lost a.state) (sym a.lists_all.1) here)
+  present_from (step ∷ steps) before end replies view new keep f r l =
+      let a = first_step step (steps ++ reports_changes ∷ []) before end replies view new r l in
+      let next = step_follows Lost before a.state a.reply view a.between f step (All-head (Keeps Lost) step steps keep) a.replies_to a.lists in
+      present_from steps a.state end a.rest a.between new (All-tail (Keeps Lost) step steps keep) next a.are_replies a.lists_all
 
 -- the first steps of some
-begin_from : (first later : List Step) (before end : Watched) (replies : List Text) (view new : View) → Replies (first ++ later) before replies end → ListsAfterAll (first ++ later) replies view new →
-    (front : List Text) × (rest : List Text) × (between : Watched) × (lists : View) × (replies ≡ front ++ rest) × Replies first before front between × ListsAfterAll first front view lists
+begin_from : (first later : List Step) (before end : ScriptState) (replies : List Text) (view new : View) → Replies (first ++ later) before replies end → ListsAfterAll before.texts (first ++ later) replies view new →
+    (front : List Text) × (rest : List Text) × (between : ScriptState) × (lists : View) × (replies ≡ front ++ rest) × Replies first before front between × ListsAfterAll before.texts first front view lists
 begin_from [] later before end replies view new r l = ([], replies, before, view, refl, (refl, refl), (refl, refl))
 begin_from (step ∷ first) later before end replies view new r l =
     let a = first_step step (first ++ later) before end replies view new r l in
@@ -177,97 +252,142 @@ begin_from (step ∷ first) later before end replies view new r l =
       lists,
       a.joined ∙ ap (λ (l : List Text). a.reply ++ l) joined ∙ sym (append_assoc a.reply front rest),
       (a.reply, a.state, front, a.replies_to, are, refl),
-      (a.reply, a.between, front, refl, is_one_reply step before a.state a.reply a.replies_to, a.lists, made),
+      (a.reply, a.between, front, refl, is_one_reply step before a.state a.reply a.replies_to, a.lists, subst (λ (b : Bool). ListsAfterAll b first front a.between lists) (texts_go step before a.state a.reply a.replies_to) made),
     )
 
 -- ---- the replies decide the lists
 
-lists_one : (step : Step) (reply : List Text) (view a b : View) → ListsAfter step reply view a → ListsAfter step reply view b → a ≡ b
-lists_one (does edit) reply view a b (inl (ok, p)) (inl (same, q)) = p ∙ sym q
-lists_one (does edit) reply view a b (inl (ok, p)) (inr (other, q)) = absurd (other ok)
-lists_one (does edit) reply view a b (inr (other, p)) (inl (ok, q)) = absurd (other ok)
-lists_one (does edit) reply view a b (inr (other, p)) (inr (same, q)) = p ∙ sym q
-lists_one reports reply view a b p q = p ∙ sym q
-lists_one reports_changes reply view a b (xs, x, p) (ys, y, q) =
+lists_one : (texts : Bool) (step : Step) (reply : List Text) (view a b : View) → ListsAfter texts step reply view a → ListsAfter texts step reply view b → a ≡ b
+lists_one texts (does edit) reply view a b (inl (ok, p)) (inl (same, q)) = p ∙ sym q
+lists_one texts (does edit) reply view a b (inl (ok, p)) (inr (other, q)) = absurd (other ok)
+lists_one texts (does edit) reply view a b (inr (other, p)) (inl (ok, q)) = absurd (other ok)
+lists_one texts (does edit) reply view a b (inr (other, p)) (inr (same, q)) = p ∙ sym q
+lists_one texts reports reply view a b p q = p ∙ sym q
+lists_one texts reports_changes reply view a b (xs, x, p) (ys, y, q) =
     let held = subst IsHeld (sym x.one_each) x.held.0 in
-    p ∙ one_reading xs ys x.status y.status view (x.one_each ∙ sym y.one_each) held x.held.1 (sym x.is ∙ y.is) ∙ sym q
-lists_one (reports_page first count) reply view a b p q = p ∙ sym q
-lists_one tells_version reply view a b p q = p ∙ sym q
-lists_one is_bad reply view a b p q = p ∙ sym q
-lists_one is_truncated reply view a b p q = p ∙ sym q
+    p ∙ one_reading texts xs ys x.status y.status view (x.one_each ∙ sym y.one_each) held x.held.1 (sym x.is ∙ y.is) ∙ sym q
+lists_one texts (reports_page first count) reply view a b p q = p ∙ sym q
+lists_one texts tells_version reply view a b p q = p ∙ sym q
+lists_one texts (sets_text on) reply view a b p q = p ∙ sym q
+lists_one texts is_bad reply view a b p q = p ∙ sym q
+lists_one texts is_truncated reply view a b p q = p ∙ sym q
 
-all_one : (steps : List Step) (replies : List Text) (view a b : View) → ListsAfterAll steps replies view a → ListsAfterAll steps replies view b → a ≡ b
-all_one [] replies view a b p q = p.1 ∙ sym q.1
-all_one (step ∷ steps) replies view a b (reply, between, rest, e, is_one, p, more) (other, lists, left, f, single, q, later) =
+all_one : (texts : Bool) (steps : List Step) (replies : List Text) (view a b : View) → ListsAfterAll texts steps replies view a → ListsAfterAll texts steps replies view b → a ≡ b
+all_one texts [] replies view a b p q = p.1 ∙ sym q.1
+all_one texts (step ∷ steps) replies view a b (reply, between, rest, e, is_one, p, more) (other, lists, left, f, single, q, later) =
+    let next = text_after step texts in
     let same = reply_cut step reply other rest left is_one single (sym e ∙ f) in
-    let here = lists_one step other view between lists (subst (λ (r : List Text). ListsAfter step r view between) same.0 p) q in
-    let after_it = subst (λ (r : List Text). ListsAfterAll steps r between a) same.1 more in
-    all_one steps left lists a b (subst (λ (v : View). ListsAfterAll steps left v a) here after_it) later
+    let here = lists_one texts step other view between lists (subst (λ (r : List Text). ListsAfter texts step r view between) same.0 p) q in
+    let after_it = subst (λ (r : List Text). ListsAfterAll next steps r between a) same.1 more in
+    all_one next steps left lists a b (subst (λ (v : View). ListsAfterAll next steps left v a) here after_it) later
 
 -- ---- an editor can take all replies
 
-within_step : (n : ℕ) (step : Step) (before after : Watched) (reply : List Text) → IsWithin n before → RepliesTo step before reply after → IsWithin (n + brought step) after
-within_step n (does edit) before after reply w r = within_after n edit before after r.0 w r.1.gives r.1.marks
-within_step n reports before after reply w r = subst (IsWithin (n + 1)) (sym r.1) (within_wider n (n + 1) (omega arith) before w)
-within_step n reports_changes before after reply w r = subst (IsWithin (n + 1)) (sym r.leaves) (within_wider n (n + 1) (omega arith) (all_known before) (within_known n before w))
-within_step n (reports_page first count) before after reply w r = subst (IsWithin (n + 1)) (sym r.1) (within_wider n (n + 1) (omega arith) before w)
-within_step n tells_version before after reply w r = subst (IsWithin (n + 1)) (sym r.1) (within_wider n (n + 1) (omega arith) before w)
-within_step n is_bad before after reply w r = subst (IsWithin (n + 1)) (sym r.1) (within_wider n (n + 1) (omega arith) before w)
-within_step n is_truncated before after reply w r = subst (IsWithin (n + 1)) (sym r.1) (within_wider n (n + 1) (omega arith) before w)
+same_within : (n : ℕ) (before after : ScriptState) → IsWithin n before.session → after ≡ before → IsWithin (n + 1) after.session
+same_within n before after w same = subst (λ (s : ScriptState). IsWithin (n + 1) s.session) (sym same) (within_wider n (n + 1) (omega arith) before.session w)
 
-module _ (n : ℕ) (held : IsHeld n) (before after : Watched) (reply : List Text) (view : View) where
-  can_edit : (edit : Edit) (answer : Result (Unit {0}) EditFault) → reply ≡ reply_to answer ∷ [] → (new : View) × ListsAfter (does edit) reply view new
+within_step : (n : ℕ) (step : Step) (before after : ScriptState) (reply : List Text) → IsWithin n before.session → RepliesTo step before reply after → IsWithin (n + brought step) after.session
+within_step n (does edit) before after reply w r = within_after n edit before.session after.session r.0 w r.1.gives r.1.marks
+within_step n reports before after reply w r = same_within n before after w r.1
+within_step n reports_changes before after reply w (r, same) = subst (IsWithin (n + 1)) (sym r.leaves) (within_wider n (n + 1) (omega arith) (all_known before.session) (within_known n before.session w))
+within_step n (reports_page first count) before after reply w r = same_within n before after w r.1
+within_step n tells_version before after reply w r = same_within n before after w r.1
+within_step n (sets_text on) before after reply w r = same_within n (record before { texts = on }) after w r.1
+within_step n is_bad before after reply w r = same_within n before after w r.1
+within_step n is_truncated before after reply w r = same_within n before after w r.1
+
+module _ (n : ℕ) (held : IsHeld n) (before after : ScriptState) (reply : List Text) (view : View) where
+  can_edit : (edit : Edit) (answer : Result (Unit {0}) EditFault) → reply ≡ reply_to answer ∷ [] → (new : View) × ListsAfter before.texts (does edit) reply view new
   can_edit edit (Ok done) e = (view_after edit view, inl (e, refl))
   can_edit edit (Err fault) e = (view, inr (λ ok. refused_is_not_ok fault (sym e ∙ ok), refl))
 
-  can_read : IsWithin n before → Stands before view → (r : ReportsChanges before after reply) → ReadsChanges reply view r.changes
-  can_read w (fit, f) r =
-      let files = three-length (ChangesFile r.es before.inputs.options) before.inputs.files before.marks r.changes r.are_changes in
-      let lists = three-length (FollowsFile before.inputs) before.inputs.files before.marks view f in
-      let all = changes_held r.es before.inputs.options n held before.inputs.files before.marks r.changes w.files w.marks fit r.are_changes in
+  can_read : IsWithin n before.session → Stands (Unit {0}) before view → (r : ReportsChanges before.texts before.session after.session reply) → ReadsChanges before.texts reply view r.changes
+  can_read w s r =
+      let old = before.session in
+      let files = three-length (ChangesFile r.es old.inputs.options) old.inputs.files old.marks r.changes r.are_changes in
+      let lists = lists_each (Unit {0}) before after reply view view s r in
+      let all = changes_held r.es old.inputs.options n held old.inputs.files old.marks r.changes w.files w.marks s.fit r.are_changes in
       record {
         status = r.status;
         is = r.is;
-        one_each = sym files.1 ∙ lists.1;
-        held = (omega (arith, held, w.few, lists.0, lists.1), all);
+        one_each = sym lists;
+        held = (omega (arith, held, w.few, files.0, files.1, lists), all);
       }
 
-  can_step : (step : Step) → IsWithin n before → Stands before view → RepliesTo step before reply after → (new : View) × ListsAfter step reply view new
-  can_step (does edit) w f r = can_edit edit r.0 r.2
-  can_step reports w f r = (view, refl)
-  can_step reports_changes w f r = (all_after r.changes view, (r.changes, can_read w f r, refl))
-  can_step (reports_page first count) w f r = (view, refl)
-  can_step tells_version w f r = (view, refl)
-  can_step is_bad w f r = (view, refl)
-  can_step is_truncated w f r = (view, refl)
+  can_step : (step : Step) → IsWithin n before.session → Stands (Unit {0}) before view → RepliesTo step before reply after → (new : View) × ListsAfter before.texts step reply view new
+  can_step (does edit) w s r = can_edit edit r.0 r.3
+  can_step reports w s r = (view, refl)
+  can_step reports_changes w s (r, same) = (all_after (map (map (read_change before.texts)) r.changes) view, (r.changes, can_read w s r, refl))
+  can_step (reports_page first count) w s r = (view, refl)
+  can_step tells_version w s r = (view, refl)
+  can_step (sets_text on) w s r = (view, refl)
+  can_step is_bad w s r = (view, refl)
+  can_step is_truncated w s r = (view, refl)
 
-can_from : (steps : List Step) (n : ℕ) (before end : Watched) (replies : List Text) (view : View) → IsHeld (n + sum_by brought steps) → IsWithin n before → Stands before view → Replies steps before replies end → (new : View) × ListsAfterAll steps replies view new
-can_from [] n before end replies view held w f r = (view, (r.0, refl))
-can_from (step ∷ steps) n before end replies view held w f (reply, between, rest, r, more, e) =
+can_from : (steps : List Step) (n : ℕ) (before end : ScriptState) (replies : List Text) (view : View) → IsHeld (n + sum_by brought steps) → IsWithin n before.session → Stands (Unit {0}) before view → Replies steps before replies end → (new : View) × ListsAfterAll before.texts steps replies view new
+can_from [] n before end replies view held w s r = (view, (r.0, refl))
+can_from (step ∷ steps) n before end replies view held w s (reply, between, rest, r, more, e) =
     let total = sum_by-cons brought step steps in
-    let here = can_step n (omega (arith, held)) before between reply view step w f r in
-    let next = step_follows before between reply view here.0 step r f here.1 in
+    let here = can_step n (omega (arith, held)) before between reply view step w s r in
+    let next = step_follows (Unit {0}) before between reply view here.0 s step (inr tt) r here.1 in
     let later = can_from steps (n + brought step) between end rest here.0 (omega (arith, held, total)) (within_step n step before between reply w r) next more in
-    (later.0, (reply, here.0, rest, e, is_one_reply step before between reply r, here.1, later.1))
+    let lists = subst (λ (b : Bool). ListsAfterAll b steps rest here.0 later.0) (texts_go step before between reply r) later.1 in
+    (later.0, (reply, here.0, rest, e, is_one_reply step before between reply r, here.1, lists))
 
-new_within : (states : ℕ) → IsWithin 0 (new_watched states)
+new_within : (states : ℕ) → IsWithin 0 (new_state states).session
 new_within states = record { few = omega arith; files = All-nil (λ (file : File). bytes_of file.lines ≤ 0); marks = All-nil (λ (mark : Marked). mark.known ≤ 0) }
+
+-- an editor begins with no list
+new_stands : (Lost : Type 0) (states : ℕ) → Stands Lost (new_state states) []
+new_stands Lost states = record { kept = inl refl; others = []; alike = tt; fit = tt; follows = tt }
 
 can_take : (states : ℕ) (script : File) (replies rest : List Text) → bytes_of script.lines < 2 ^ 64 → (a : AnswersScript states script replies rest) → (view : View) × Took states a.steps replies a.after view
 can_take states script replies rest few a =
-    let taken = can_from a.steps 0 (new_watched states) a.after replies [] (omega (arith, few, steps_bring script.ending script.lines a.steps rest a.are_steps)) (new_within states) (tt, tt) a.are_replies in
+    let taken = can_from a.steps 0 (new_state states) a.after replies [] (omega (arith, few, steps_bring script.ending script.lines a.steps rest a.are_steps)) (new_within states) (new_stands (Unit {0}) states) a.are_replies in
     (taken.0, record { are_replies = a.are_replies; lists = taken.1 })
 
-begin_of : (states : ℕ) (first later : List Step) (replies : List Text) (state : Watched) (view : View) → Took states (first ++ later) replies state view → (front : List Text) × (rest : List Text) × (between : Watched) × (lists : View) × (replies ≡ front ++ rest) × Took states first front between lists
+begin_of : (states : ℕ) (first later : List Step) (replies : List Text) (state : ScriptState) (view : View) → Took states (first ++ later) replies state view → (front : List Text) × (rest : List Text) × (between : ScriptState) × (lists : View) × (replies ≡ front ++ rest) × Took states first front between lists
 begin_of states first later replies state view t =
-    let (front, rest, between, lists, joined, are, made) = begin_from first later (new_watched states) state replies [] view t.are_replies t.lists in
+    let (front, rest, between, lists, joined, are, made) = begin_from first later (new_state states) state replies [] view t.are_replies t.lists in
     (front, rest, between, lists, joined, record { are_replies = are; lists = made })
+
+-- ---- what the lists are
+
+-- where texts may be lost every step keeps the others
+all_keep : (steps : List Step) → All (Keeps (Unit {0})) steps
+all_keep [] = All-nil (Keeps (Unit {0}))
+all_keep (step ∷ steps) = All-cons (Keeps (Unit {0})) step steps (inr tt) (all_keep steps)
+
+none_lost : (steps : List Step) → HaveTexts steps → All (Keeps ⊥) steps
+none_lost steps have = All-weaker (λ step. step ≢ sets_text false) (Keeps ⊥) (λ step other. inl other) steps have
+
+follow_whole : (states : ℕ) (steps : List Step) (replies : List Text) (state : ScriptState) (view : View) → Took states steps replies state view → HaveTexts steps → Follows state.session view
+follow_whole states steps replies state view t have =
+    let s = follow_from ⊥ steps (new_state states) state replies [] view (none_lost steps have) (new_stands ⊥ states) t.are_replies t.lists in
+    subst (Follows state.session) (same_views view s.others s.alike) s.follows
+
+present_whole : (states : ℕ) (steps : List Step) (replies : List Text) (state : ScriptState) (view : View) → Took states (steps ++ reports_changes ∷ []) replies state view → HaveTexts steps → ArePresent state.session view
+present_whole states steps replies state view t have =
+    let (others, alike, are) = present_from ⊥ steps (new_state states) state replies [] view (none_lost steps have) (new_stands ⊥ states) t.are_replies t.lists in
+    subst (ArePresent state.session) (same_views view others alike) are
+
+follow_others : (states : ℕ) (steps : List Step) (replies : List Text) (state : ScriptState) (view : View) → Took states steps replies state view → (others : View) × AreButTexts view others × Follows state.session others
+follow_others states steps replies state view t =
+    let s = follow_from (Unit {0}) steps (new_state states) state replies [] view (all_keep steps) (new_stands (Unit {0}) states) t.are_replies t.lists in
+    (s.others, but_texts view s.others s.alike, s.follows)
+
+present_others : (states : ℕ) (steps : List Step) (replies : List Text) (state : ScriptState) (view : View) → Took states (steps ++ reports_changes ∷ []) replies state view → (others : View) × AreButTexts view others × ArePresent state.session others
+present_others states steps replies state view t =
+    let (others, alike, are) = present_from (Unit {0}) steps (new_state states) state replies [] view (all_keep steps) (new_stands (Unit {0}) states) t.are_replies t.lists in
+    (others, but_texts view others alike, are)
 
 pub editors_follow : EditorsFollow
 editors_follow = record {
   can = can_take;
   one = all_one;
   begin = begin_of;
-  follow = (λ states steps replies state view t. (follow_from steps (new_watched states) state replies [] view (tt, tt) t.are_replies t.lists).1);
-  present = (λ states steps replies state view t. present_from steps (new_watched states) state replies [] view (tt, tt) t.are_replies t.lists);
+  follow = follow_whole;
+  present = present_whole;
+  follow_but_texts = follow_others;
+  present_but_texts = present_others;
 }

@@ -1,5 +1,5 @@
 -- The rows of changes are read in one way.
-use Rattle.grep_cmd.proofs.Prelude.{◌≡◌, ℕ, zero, suc, ◌+◌, ◌/◌, ◌%◌, ◌^◌, ◌<◌, ◌≤◌, Bool, true, false, cond, eqb, List, [], ◌∷◌, ◌++◌, length, map, get_or, All, refl, sym, ap, subst, ◌∙◌, inl, inr, arith, append_assoc, length-append, pow-suc, lt-ltb, ne_eqb, if◌then◌else◌, decimal, digits_onto, digit_glyph, digits_value, Text, Status, Hit, View, Change, is_idle, spliced_hits, after_each, all_after, spaced, part_text, more_parts, parts_text, flat_map, hit_row, change_row, change_rows, changes_rows, status_line, IsHeld, IsHeldPart, IsHeldHit, IsHeldChange, cases_lt, decimal_is_IsNumeral_wide, length-decimal-le, All-cons, All-head, All-tail}
+use Rattle.grep_cmd.proofs.Prelude.{◌≡◌, ℕ, zero, suc, ◌+◌, ◌/◌, ◌%◌, ◌^◌, ◌<◌, ◌≤◌, Bool, true, false, cond, eqb, List, [], ◌∷◌, ◌++◌, length, map, get_or, All, refl, sym, ap, subst, ◌∙◌, inl, inr, arith, append_assoc, append-nil, length-append, pow-suc, lt-ltb, ne_eqb, if◌then◌else◌, decimal, digits_onto, digit_glyph, digits_value, Text, Status, Hit, View, Change, is_idle, spliced_hits, after_each, all_after, spaced, part_text, more_parts, parts_text, flat_map, line_text, hit_row, change_row, change_rows, changes_rows, status_line, IsHeld, IsHeldPart, IsHeldHit, IsHeldChange, read_hit, read_change, cases_lt, decimal_is_IsNumeral_wide, length-decimal-le, All-cons, All-head, All-tail}
 use Rattle.std.specs.Fmt.{digits}
 
 -- ---- lists
@@ -181,142 +181,151 @@ parts_read (p ∷ ps) (q ∷ qs) s t held e =
     let more = more_read ps qs s t (All-tail IsHeldPart p ps held) here.1 in
     ((λ i. here.0 i ∷ more.0 i), more.1)
 
--- ---- rows
-
-hit_read : (h g : Hit) → IsHeldHit h → hit_row h ≡ hit_row g → h ≡ g
-hit_read h g held e =
-    let after_h = parts_text h.parts ++ (32 ∷ h.text) in
-    let after_g = parts_text g.parts ++ (32 ∷ g.text) in
-    let words : spaced (h.place ∷ []) ++ (32 ∷ after_h) ≡ spaced (g.place ∷ []) ++ (32 ∷ after_g) = rest_same 114 114 (spaced (h.place ∷ []) ++ (32 ∷ after_h)) (spaced (g.place ∷ []) ++ (32 ∷ after_g)) e in
-    let place = spaced_read (h.place ∷ []) (g.place ∷ []) (32 ∷ after_h) (32 ∷ after_g) refl (held.place, tt) (no_digit 32 after_h (omega arith)) (no_digit 32 after_g (omega arith)) words in
-    let same_place = first_same h.place g.place [] [] place.0 in
-    let more = parts_read h.parts g.parts h.text g.text held.parts (rest_same 32 32 after_h after_g place.1) in
-    λ i. record { place = same_place i; text = more.1 i; parts = more.0 i }
-
-hits_read : (xs ys : List Hit) (s t : List Text) → length xs ≡ length ys → All IsHeldHit xs → map hit_row xs ++ s ≡ map hit_row ys ++ t → (xs ≡ ys) × (s ≡ t)
-hits_read [] [] s t l held e = (refl, e)
-hits_read [] (y ∷ ys) s t l held e = absurd (omega (arith, l))
-hits_read (x ∷ xs) [] s t l held e = absurd (omega (arith, l))
-hits_read (x ∷ xs) (y ∷ ys) s t l held e =
-    let here = hit_read x y (All-head IsHeldHit x xs held) (first_same (hit_row x) (hit_row y) (map hit_row xs ++ s) (map hit_row ys ++ t) e) in
-    let more = hits_read xs ys s t (omega (arith, l)) (All-tail IsHeldHit x xs held) (rest_same (hit_row x) (hit_row y) (map hit_row xs ++ s) (map hit_row ys ++ t) e) in
-    ((λ i. here i ∷ more.0 i), more.1)
-
-abbrev numbers : ℕ → Change → List ℕ
-numbers k change = k ∷ change.front ∷ change.removed ∷ change.added ∷ length change.come ∷ []
-
-numbers_read : (k j : ℕ) (x y : Change) → IsHeld k → IsHeldChange x → change_row k x ≡ change_row j y → numbers k x ≡ numbers j y
-numbers_read k j x y held hx e =
-    let words : spaced (numbers k x) ++ [] ≡ spaced (numbers j y) ++ [] = ap (λ (l : Text). l ++ []) (rest_same 104 104 (spaced (numbers k x)) (spaced (numbers j y)) e) in
-    (spaced_read (numbers k x) (numbers j y) [] [] refl (held, (hx.front, (hx.removed, (hx.added, (hx.count, tt))))) tt tt words).0
-
--- the number of a file is read alone
-file_read : (k j : ℕ) (x y : Change) → IsHeld k → change_row k x ≡ change_row j y → k ≡ j
-file_read k j x y held e =
-    let rest_x = spaced (change_numbers x) in
-    let rest_y = spaced (change_numbers y) in
-    let words : (decimal k ++ rest_x) ≡ (decimal j ++ rest_y) = rest_same 32 32 (decimal k ++ rest_x) (decimal j ++ rest_y) (rest_same 104 104 (spaced (numbers k x)) (spaced (numbers j y)) e) in
-    (number_read k j rest_x rest_y held (change_stops x) (change_stops y) words).0
-  where
-    change_numbers : Change → List ℕ
-    change_numbers change = change.front ∷ change.removed ∷ change.added ∷ length change.come ∷ []
-
-    change_stops : (change : Change) → Stops (spaced (change_numbers change))
-    change_stops change = no_digit 32 (decimal change.front ++ spaced (change.removed ∷ change.added ∷ length change.come ∷ [])) (omega arith)
-
--- ---- changes
-
--- the changes that have rows
-abbrev busy : List Change → List Change
-busy [] = []
-busy (x ∷ xs) = if is_idle x then busy xs else x ∷ busy xs
-
--- their rows, and what they make of a list
-abbrev rows_each : ℕ → List Change → List Text
-rows_each k [] = []
-rows_each k (x ∷ xs) = (change_row k x ∷ map hit_row x.come) ++ rows_each k xs
-
-abbrev spliced_each : List Change → List Hit → List Hit
-spliced_each [] hits = hits
-spliced_each (x ∷ xs) hits = spliced_each xs (spliced_hits x.front x.removed x.added x.come hits)
-
-busy_rows : (k : ℕ) (xs : List Change) → flat_map (change_rows k) xs ≡ rows_each k (busy xs)
-busy_rows k [] = refl
-busy_rows k (x ∷ xs) = by_idle (is_idle x) (busy_rows k xs)
-  where
-    by_idle : (idle : Bool) → flat_map (change_rows k) xs ≡ rows_each k (busy xs) → (if idle then [] else change_row k x ∷ map hit_row x.come) ++ flat_map (change_rows k) xs ≡ rows_each k (if idle then busy xs else x ∷ busy xs)
-    by_idle true rest = rest
-    by_idle false rest = ap (λ l. (change_row k x ∷ map hit_row x.come) ++ l) rest
-
-busy_after : (xs : List Change) (hits : List Hit) → after_each xs hits ≡ spliced_each (busy xs) hits
-busy_after [] hits = refl
-busy_after (x ∷ xs) hits = by_idle (is_idle x) (busy_after xs)
-  where
-    by_idle : (idle : Bool) → ((old : List Hit) → after_each xs old ≡ spliced_each (busy xs) old) → after_each xs (if idle then hits else spliced_hits x.front x.removed x.added x.come hits) ≡ spliced_each (if idle then busy xs else x ∷ busy xs) hits
-    by_idle true rest = rest hits
-    by_idle false rest = rest (spliced_hits x.front x.removed x.added x.come hits)
-
-busy_held : (xs : List Change) → All IsHeldChange xs → All IsHeldChange (busy xs)
-busy_held [] held = held
-busy_held (x ∷ xs) held = by_idle (is_idle x) (busy_held xs (All-tail IsHeldChange x xs held))
-  where
-    by_idle : (idle : Bool) → All IsHeldChange (busy xs) → All IsHeldChange (if idle then busy xs else x ∷ busy xs)
-    by_idle true rest = rest
-    by_idle false rest = All-cons IsHeldChange x (busy xs) (All-head IsHeldChange x xs held) rest
-
--- the first row of later files is none of an earlier one
-later_rows : (k j : ℕ) (files : List (List Change)) (y : Change) (rest : List Text) → j < k → k + length files ≤ 2 ^ 64 → changes_rows k files ≡ change_row j y ∷ rest → ⊥
-later_rows k j [] y rest below fits e = none_is_some (change_row j y) rest e
-later_rows k j (xs ∷ files) y rest below fits e = by_busy (later_rows (k + 1) j files y rest (omega arith) (omega (arith, fits))) (busy xs) (sym (ap (λ l. l ++ changes_rows (k + 1) files) (busy_rows k xs)) ∙ e)
-  where
-    by_busy : (changes_rows (k + 1) files ≡ change_row j y ∷ rest → ⊥) → (bs : List Change) → rows_each k bs ++ changes_rows (k + 1) files ≡ change_row j y ∷ rest → ⊥
-    by_busy later [] same = later same
-    by_busy later (x ∷ bs) same =
-        let number : k ≡ j = file_read k j x y (omega (arith, fits)) (first_same (change_row k x) (change_row j y) ((map hit_row x.come ++ rows_each k bs) ++ changes_rows (k + 1) files) rest same) in
-        omega (arith, below, number)
-
--- the rows of one file and of all later ones, read in two ways
-module _ (k : ℕ) (files others : List (List Change)) (long : length files ≡ length others) (fits : k + 1 + length files ≤ 2 ^ 64) where
-  abbrev rest_a : List Text
-  rest_a = changes_rows (k + 1) files
-
-  abbrev rest_b : List Text
-  rest_b = changes_rows (k + 1) others
-
-  one_file : (xs ys : List Change) (hits : List Hit) → All IsHeldChange xs → rows_each k xs ++ rest_a ≡ rows_each k ys ++ rest_b → (spliced_each xs hits ≡ spliced_each ys hits) × (rest_a ≡ rest_b)
-  one_file [] [] hits held e = (refl, e)
-  one_file [] (y ∷ ys) hits held e = absurd (later_rows (k + 1) k files y ((map hit_row y.come ++ rows_each k ys) ++ rest_b) (omega arith) fits e)
-  one_file (x ∷ xs) [] hits held e = absurd (later_rows (k + 1) k others x ((map hit_row x.come ++ rows_each k xs) ++ rest_a) (omega arith) (omega (arith, fits, long)) (sym e))
-  one_file (x ∷ xs) (y ∷ ys) hits held e =
-      let held_x = All-head IsHeldChange x xs held in
-      let left = (map hit_row x.come ++ rows_each k xs) ++ rest_a in
-      let right = (map hit_row y.come ++ rows_each k ys) ++ rest_b in
-      let row = first_same (change_row k x) (change_row k y) left right e in
-      let rows = sym (append_assoc (map hit_row x.come) (rows_each k xs) rest_a) ∙ rest_same (change_row k x) (change_row k y) left right e ∙ append_assoc (map hit_row y.come) (rows_each k ys) rest_b in
-      let same = numbers_read k k x y (omega (arith, fits)) held_x row in
-      let front : x.front ≡ y.front = ap (λ (l : List ℕ). get_or l 1 0) same in
-      let removed : x.removed ≡ y.removed = ap (λ (l : List ℕ). get_or l 2 0) same in
-      let added : x.added ≡ y.added = ap (λ (l : List ℕ). get_or l 3 0) same in
-      let count : length x.come ≡ length y.come = ap (λ (l : List ℕ). get_or l 4 0) same in
-      let both = hits_read x.come y.come (rows_each k xs ++ rest_a) (rows_each k ys ++ rest_b) count held_x.hits rows in
-      let more = one_file xs ys (spliced_hits x.front x.removed x.added x.come hits) (All-tail IsHeldChange x xs held) both.1 in
-      (more.0 ∙ ap (spliced_each ys) (λ i. spliced_hits (front i) (removed i) (added i) (both.0 i) hits), more.1)
-
 abbrev pub AreHeldChanges : List Change → Type 0
 AreHeldChanges own = All IsHeldChange own
 
-all_read : (k : ℕ) (a b : List (List Change)) (view : View) → length a ≡ length b → k + length a ≤ 2 ^ 64 → All AreHeldChanges a → changes_rows k a ≡ changes_rows k b → all_after a view ≡ all_after b view
-all_read k [] [] view l fits held e = refl
-all_read k [] (y ∷ ys) view l fits held e = absurd (omega (arith, l))
-all_read k (x ∷ xs) [] view l fits held e = absurd (omega (arith, l))
-all_read k (x ∷ xs) (y ∷ ys) [] l fits held e = refl
-all_read k (x ∷ xs) (y ∷ ys) (hits ∷ view) l fits held e =
-    let rows : rows_each k (busy x) ++ changes_rows (k + 1) xs ≡ rows_each k (busy y) ++ changes_rows (k + 1) ys = ap (λ l. l ++ changes_rows (k + 1) xs) (sym (busy_rows k x)) ∙ e ∙ ap (λ l. l ++ changes_rows (k + 1) ys) (busy_rows k y) in
-    let here = one_file k xs ys (omega (arith, l)) (omega (arith, fits)) (busy x) (busy y) hits (busy_held x (All-head AreHeldChanges x xs held)) rows in
-    let same : after_each x hits ≡ after_each y hits = busy_after x hits ∙ here.0 ∙ sym (busy_after y hits) in
-    let more = all_read (k + 1) xs ys view (omega (arith, l)) (omega (arith, fits)) (All-tail AreHeldChanges x xs held) here.1 in
-    λ i. same i ∷ more i
+-- ---- rows
 
--- changes whose numbers can be held, and others with the same rows and status, make the same lists
-pub one_reading : (a b : List (List Change)) (s t : Status) (view : View) → length a ≡ length b → IsHeld (length a) → All AreHeldChanges a → changes_rows 0 a ++ status_line s ∷ [] ≡ changes_rows 0 b ++ status_line t ∷ [] → all_after a view ≡ all_after b view
-one_reading a b s t view l fits held e = all_read 0 a b view l (omega (arith, fits)) held (last_cut (changes_rows 0 a) (changes_rows 0 b) (status_line s) (status_line t) e)
+-- the end of a row, with its text or without
+end_read : (texts : Bool) (ps qs : List (ℕ × ℕ)) (s t : Text) → All IsHeldPart ps → parts_text ps ++ line_text texts s ≡ parts_text qs ++ line_text texts t → (ps ≡ qs) × (◌≡◌ {A = Text} (if texts then s else []) (if texts then t else []))
+end_read true ps qs s t held e = parts_read ps qs s t held e
+end_read false ps qs s t held e =
+    let longer : parts_text ps ++ (32 ∷ []) ≡ parts_text qs ++ (32 ∷ []) = ap (λ (l : Text). l ++ (32 ∷ [])) (sym (append-nil (parts_text ps)) ∙ e ∙ append-nil (parts_text qs)) in
+    ((parts_read ps qs [] [] held longer).0, refl)
+
+module _ (texts : Bool) where
+  hit_read : (h g : Hit) → IsHeldHit h → hit_row texts h ≡ hit_row texts g → read_hit texts h ≡ read_hit texts g
+  hit_read h g held e =
+      let after_h = parts_text h.parts ++ line_text texts h.text in
+      let after_g = parts_text g.parts ++ line_text texts g.text in
+      let words : spaced (h.place ∷ []) ++ (32 ∷ after_h) ≡ spaced (g.place ∷ []) ++ (32 ∷ after_g) = rest_same 114 114 (spaced (h.place ∷ []) ++ (32 ∷ after_h)) (spaced (g.place ∷ []) ++ (32 ∷ after_g)) e in
+      let place = spaced_read (h.place ∷ []) (g.place ∷ []) (32 ∷ after_h) (32 ∷ after_g) refl (held.place, tt) (no_digit 32 after_h (omega arith)) (no_digit 32 after_g (omega arith)) words in
+      let same_place = first_same h.place g.place [] [] place.0 in
+      let more = end_read texts h.parts g.parts h.text g.text held.parts (rest_same 32 32 after_h after_g place.1) in
+      λ i. record { place = same_place i; text = more.1 i; parts = more.0 i }
+
+  hits_read : (xs ys : List Hit) (s t : List Text) → length xs ≡ length ys → All IsHeldHit xs → map (hit_row texts) xs ++ s ≡ map (hit_row texts) ys ++ t → (map (read_hit texts) xs ≡ map (read_hit texts) ys) × (s ≡ t)
+  hits_read [] [] s t l held e = (refl, e)
+  hits_read [] (y ∷ ys) s t l held e = absurd (omega (arith, l))
+  hits_read (x ∷ xs) [] s t l held e = absurd (omega (arith, l))
+  hits_read (x ∷ xs) (y ∷ ys) s t l held e =
+      let here = hit_read x y (All-head IsHeldHit x xs held) (first_same (hit_row texts x) (hit_row texts y) (map (hit_row texts) xs ++ s) (map (hit_row texts) ys ++ t) e) in
+      let more = hits_read xs ys s t (omega (arith, l)) (All-tail IsHeldHit x xs held) (rest_same (hit_row texts x) (hit_row texts y) (map (hit_row texts) xs ++ s) (map (hit_row texts) ys ++ t) e) in
+      ((λ i. here i ∷ more.0 i), more.1)
+
+  abbrev numbers : ℕ → Change → List ℕ
+  numbers k change = k ∷ change.front ∷ change.removed ∷ change.added ∷ length change.come ∷ []
+
+  numbers_read : (k j : ℕ) (x y : Change) → IsHeld k → IsHeldChange x → change_row k x ≡ change_row j y → numbers k x ≡ numbers j y
+  numbers_read k j x y held hx e =
+      let words : spaced (numbers k x) ++ [] ≡ spaced (numbers j y) ++ [] = ap (λ (l : Text). l ++ []) (rest_same 104 104 (spaced (numbers k x)) (spaced (numbers j y)) e) in
+      (spaced_read (numbers k x) (numbers j y) [] [] refl (held, (hx.front, (hx.removed, (hx.added, (hx.count, tt))))) tt tt words).0
+
+  -- the number of a file is read alone
+  file_read : (k j : ℕ) (x y : Change) → IsHeld k → change_row k x ≡ change_row j y → k ≡ j
+  file_read k j x y held e =
+      let rest_x = spaced (change_numbers x) in
+      let rest_y = spaced (change_numbers y) in
+      let words : (decimal k ++ rest_x) ≡ (decimal j ++ rest_y) = rest_same 32 32 (decimal k ++ rest_x) (decimal j ++ rest_y) (rest_same 104 104 (spaced (numbers k x)) (spaced (numbers j y)) e) in
+      (number_read k j rest_x rest_y held (change_stops x) (change_stops y) words).0
+    where
+      change_numbers : Change → List ℕ
+      change_numbers change = change.front ∷ change.removed ∷ change.added ∷ length change.come ∷ []
+
+      change_stops : (change : Change) → Stops (spaced (change_numbers change))
+      change_stops change = no_digit 32 (decimal change.front ++ spaced (change.removed ∷ change.added ∷ length change.come ∷ [])) (omega arith)
+
+  -- ---- changes
+
+  -- the changes that have rows
+  abbrev busy : List Change → List Change
+  busy [] = []
+  busy (x ∷ xs) = if is_idle x then busy xs else x ∷ busy xs
+
+  -- their rows, and what they make of a list
+  abbrev rows_each : ℕ → List Change → List Text
+  rows_each k [] = []
+  rows_each k (x ∷ xs) = (change_row k x ∷ map (hit_row texts) x.come) ++ rows_each k xs
+
+  abbrev spliced_each : List Change → List Hit → List Hit
+  spliced_each [] hits = hits
+  spliced_each (x ∷ xs) hits = spliced_each xs (spliced_hits x.front x.removed x.added x.come hits)
+
+  busy_rows : (k : ℕ) (xs : List Change) → flat_map (change_rows texts k) xs ≡ rows_each k (busy xs)
+  busy_rows k [] = refl
+  busy_rows k (x ∷ xs) = by_idle (is_idle x) (busy_rows k xs)
+    where
+      by_idle : (idle : Bool) → flat_map (change_rows texts k) xs ≡ rows_each k (busy xs) → (if idle then [] else change_row k x ∷ map (hit_row texts) x.come) ++ flat_map (change_rows texts k) xs ≡ rows_each k (if idle then busy xs else x ∷ busy xs)
+      by_idle true rest = rest
+      by_idle false rest = ap (λ l. (change_row k x ∷ map (hit_row texts) x.come) ++ l) rest
+
+  busy_after : (xs : List Change) (hits : List Hit) → after_each (map (read_change texts) xs) hits ≡ spliced_each (map (read_change texts) (busy xs)) hits
+  busy_after [] hits = refl
+  busy_after (x ∷ xs) hits = by_idle (is_idle x) (busy_after xs)
+    where
+      by_idle : (idle : Bool) → ((old : List Hit) → after_each (map (read_change texts) xs) old ≡ spliced_each (map (read_change texts) (busy xs)) old) →
+          after_each (map (read_change texts) xs) (if idle then hits else spliced_hits x.front x.removed x.added (map (read_hit texts) x.come) hits) ≡ spliced_each (map (read_change texts) (if idle then busy xs else x ∷ busy xs)) hits
+      by_idle true rest = rest hits
+      by_idle false rest = rest (spliced_hits x.front x.removed x.added (map (read_hit texts) x.come) hits)
+
+  busy_held : (xs : List Change) → All IsHeldChange xs → All IsHeldChange (busy xs)
+  busy_held [] held = held
+  busy_held (x ∷ xs) held = by_idle (is_idle x) (busy_held xs (All-tail IsHeldChange x xs held))
+    where
+      by_idle : (idle : Bool) → All IsHeldChange (busy xs) → All IsHeldChange (if idle then busy xs else x ∷ busy xs)
+      by_idle true rest = rest
+      by_idle false rest = All-cons IsHeldChange x (busy xs) (All-head IsHeldChange x xs held) rest
+
+  -- the first row of later files is none of an earlier one
+  later_rows : (k j : ℕ) (files : List (List Change)) (y : Change) (rest : List Text) → j < k → k + length files ≤ 2 ^ 64 → changes_rows texts k files ≡ change_row j y ∷ rest → ⊥
+  later_rows k j [] y rest below fits e = none_is_some (change_row j y) rest e
+  later_rows k j (xs ∷ files) y rest below fits e = by_busy (later_rows (k + 1) j files y rest (omega arith) (omega (arith, fits))) (busy xs) (sym (ap (λ l. l ++ changes_rows texts (k + 1) files) (busy_rows k xs)) ∙ e)
+    where
+      by_busy : (changes_rows texts (k + 1) files ≡ change_row j y ∷ rest → ⊥) → (bs : List Change) → rows_each k bs ++ changes_rows texts (k + 1) files ≡ change_row j y ∷ rest → ⊥
+      by_busy later [] same = later same
+      by_busy later (x ∷ bs) same =
+          let number : k ≡ j = file_read k j x y (omega (arith, fits)) (first_same (change_row k x) (change_row j y) ((map (hit_row texts) x.come ++ rows_each k bs) ++ changes_rows texts (k + 1) files) rest same) in
+          omega (arith, below, number)
+
+  -- the rows of one file and of all later ones, read in two ways
+  module _ (k : ℕ) (files others : List (List Change)) (long : length files ≡ length others) (fits : k + 1 + length files ≤ 2 ^ 64) where
+    abbrev rest_a : List Text
+    rest_a = changes_rows texts (k + 1) files
+
+    abbrev rest_b : List Text
+    rest_b = changes_rows texts (k + 1) others
+
+    one_file : (xs ys : List Change) (hits : List Hit) → All IsHeldChange xs → rows_each k xs ++ rest_a ≡ rows_each k ys ++ rest_b → (spliced_each (map (read_change texts) xs) hits ≡ spliced_each (map (read_change texts) ys) hits) × (rest_a ≡ rest_b)
+    one_file [] [] hits held e = (refl, e)
+    one_file [] (y ∷ ys) hits held e = absurd (later_rows (k + 1) k files y ((map (hit_row texts) y.come ++ rows_each k ys) ++ rest_b) (omega arith) fits e)
+    one_file (x ∷ xs) [] hits held e = absurd (later_rows (k + 1) k others x ((map (hit_row texts) x.come ++ rows_each k xs) ++ rest_a) (omega arith) (omega (arith, fits, long)) (sym e))
+    one_file (x ∷ xs) (y ∷ ys) hits held e =
+        let held_x = All-head IsHeldChange x xs held in
+        let left = (map (hit_row texts) x.come ++ rows_each k xs) ++ rest_a in
+        let right = (map (hit_row texts) y.come ++ rows_each k ys) ++ rest_b in
+        let row = first_same (change_row k x) (change_row k y) left right e in
+        let rows = sym (append_assoc (map (hit_row texts) x.come) (rows_each k xs) rest_a) ∙ rest_same (change_row k x) (change_row k y) left right e ∙ append_assoc (map (hit_row texts) y.come) (rows_each k ys) rest_b in
+        let same = numbers_read k k x y (omega (arith, fits)) held_x row in
+        let front : x.front ≡ y.front = ap (λ (l : List ℕ). get_or l 1 0) same in
+        let removed : x.removed ≡ y.removed = ap (λ (l : List ℕ). get_or l 2 0) same in
+        let added : x.added ≡ y.added = ap (λ (l : List ℕ). get_or l 3 0) same in
+        let count : length x.come ≡ length y.come = ap (λ (l : List ℕ). get_or l 4 0) same in
+        let both = hits_read x.come y.come (rows_each k xs ++ rest_a) (rows_each k ys ++ rest_b) count held_x.hits rows in
+        let more = one_file xs ys (spliced_hits x.front x.removed x.added (map (read_hit texts) x.come) hits) (All-tail IsHeldChange x xs held) both.1 in
+        (more.0 ∙ ap (spliced_each (map (read_change texts) ys)) (λ i. spliced_hits (front i) (removed i) (added i) (both.0 i) hits), more.1)
+
+  all_read : (k : ℕ) (a b : List (List Change)) (view : View) → length a ≡ length b → k + length a ≤ 2 ^ 64 → All AreHeldChanges a → changes_rows texts k a ≡ changes_rows texts k b → all_after (map (map (read_change texts)) a) view ≡ all_after (map (map (read_change texts)) b) view
+  all_read k [] [] view l fits held e = refl
+  all_read k [] (y ∷ ys) view l fits held e = absurd (omega (arith, l))
+  all_read k (x ∷ xs) [] view l fits held e = absurd (omega (arith, l))
+  all_read k (x ∷ xs) (y ∷ ys) [] l fits held e = refl
+  all_read k (x ∷ xs) (y ∷ ys) (hits ∷ view) l fits held e =
+      let rows : rows_each k (busy x) ++ changes_rows texts (k + 1) xs ≡ rows_each k (busy y) ++ changes_rows texts (k + 1) ys = ap (λ l. l ++ changes_rows texts (k + 1) xs) (sym (busy_rows k x)) ∙ e ∙ ap (λ l. l ++ changes_rows texts (k + 1) ys) (busy_rows k y) in
+      let here = one_file k xs ys (omega (arith, l)) (omega (arith, fits)) (busy x) (busy y) hits (busy_held x (All-head AreHeldChanges x xs held)) rows in
+      let same : after_each (map (read_change texts) x) hits ≡ after_each (map (read_change texts) y) hits = busy_after x hits ∙ here.0 ∙ sym (busy_after y hits) in
+      let more = all_read (k + 1) xs ys view (omega (arith, l)) (omega (arith, fits)) (All-tail AreHeldChanges x xs held) here.1 in
+      λ i. same i ∷ more i
+
+  -- changes whose numbers can be held, and others with the same rows and status, make the same lists
+  pub one_reading : (a b : List (List Change)) (s t : Status) (view : View) → length a ≡ length b → IsHeld (length a) → All AreHeldChanges a → changes_rows texts 0 a ++ status_line s ∷ [] ≡ changes_rows texts 0 b ++ status_line t ∷ [] → all_after (map (map (read_change texts)) a) view ≡ all_after (map (map (read_change texts)) b) view
+  one_reading a b s t view l fits held e = all_read 0 a b view l (omega (arith, fits)) held (last_cut (changes_rows texts 0 a) (changes_rows texts 0 b) (status_line s) (status_line t) e)

@@ -11,19 +11,19 @@ module _ (test : Text → Bool) where
   pub none_joined : (xs ys : List Text) → list_any test xs ≡ false → list_any test ys ≡ false → list_any test (xs ++ ys) ≡ false
   none_joined xs ys p q = list_any-append test xs ys ∙ ap (λ b. b || list_any test ys) p ∙ q
 
-  module _ (of_hits : (hit : Hit) → test (hit_row hit) ≡ false) (of_changes : (k : ℕ) (change : Change) → test (change_row k change) ≡ false) where
-    none_change : (k : ℕ) (change : Change) → list_any test (change_rows k change) ≡ false
+  module _ (texts : Bool) (of_hits : (hit : Hit) → test (hit_row texts hit) ≡ false) (of_changes : (k : ℕ) (change : Change) → test (change_row k change) ≡ false) where
+    none_change : (k : ℕ) (change : Change) → list_any test (change_rows texts k change) ≡ false
     none_change k change = by_idle (is_idle change)
       where
-        by_idle : (idle : Bool) → list_any test (if idle then [] else change_row k change ∷ map hit_row change.come) ≡ false
+        by_idle : (idle : Bool) → list_any test (if idle then [] else change_row k change ∷ map (hit_row texts) change.come) ≡ false
         by_idle true = refl
-        by_idle false = ap (λ b. b || list_any test (map hit_row change.come)) (of_changes k change) ∙ none_mapped hit_row change.come of_hits
+        by_idle false = ap (λ b. b || list_any test (map (hit_row texts) change.come)) (of_changes k change) ∙ none_mapped (hit_row texts) change.come of_hits
 
-    none_file : (k : ℕ) (changes : List Change) → list_any test (flat_map (change_rows k) changes) ≡ false
+    none_file : (k : ℕ) (changes : List Change) → list_any test (flat_map (change_rows texts k) changes) ≡ false
     none_file k [] = refl
-    none_file k (change ∷ changes) = none_joined (change_rows k change) (flat_map (change_rows k) changes) (none_change k change) (none_file k changes)
+    none_file k (change ∷ changes) = none_joined (change_rows texts k change) (flat_map (change_rows texts k) changes) (none_change k change) (none_file k changes)
 
     -- the rows of what changed
-    pub none_changes : (k : ℕ) (changes : List (List Change)) → list_any test (changes_rows k changes) ≡ false
+    pub none_changes : (k : ℕ) (changes : List (List Change)) → list_any test (changes_rows texts k changes) ≡ false
     none_changes k [] = refl
-    none_changes k (own ∷ changes) = none_joined (flat_map (change_rows k) own) (changes_rows (k + 1) changes) (none_file k own) (none_changes (k + 1) changes)
+    none_changes k (own ∷ changes) = none_joined (flat_map (change_rows texts k) own) (changes_rows texts (k + 1) changes) (none_file k own) (none_changes (k + 1) changes)

@@ -1,5 +1,5 @@
 -- What is taken and answered for one command of a script.
-use Rattle.grep_cmd.proofs.Prelude.{◌≡◌, ◌≢◌, ℕ, ◌+◌, ◌<◌, false, List, [], ◌∷◌, ◌++◌, length, min, get_or, take, drop, ◌-◌, ◌^◌, IfOk, nat_eq, if◌then◌else◌, Option, Some, Result, Ok, Err, IfErr, inl, inr, refl, sym, ap, ◌∙◌, subst, append_assoc, append-nil, codes, arith, false_from_ne_true, eqb-true, take_more, length-take, list_any, Text, newline, joined, Status, Inputs, Adds, written, GoesOut, Numbered, HasHanded, EditFault, Edit, ScriptFault, Read, Write, Memory, Answer, Accepted, Truncated, Watched, changes_rows, total_row, page_row, page_rows, all_hits, AreShown, with_margin, status_line, ReportsChanges, ReportsPage, Step, counts, IsStep, line_command, RepliesTo, SearchesAtMost, reply_to, truncated, is_refusal, ReadsNext, TakesLines, FlushesFor, Replied, DoesStep, WantsLines, AnswersLine, answer_for, was_refused}
+use Rattle.grep_cmd.proofs.Prelude.{Bool, ScriptState, ◌≡◌, ◌≢◌, ℕ, ◌+◌, ◌<◌, false, List, [], ◌∷◌, ◌++◌, length, min, get_or, take, drop, ◌-◌, ◌^◌, IfOk, nat_eq, if◌then◌else◌, Option, Some, Result, Ok, Err, IfErr, inl, inr, refl, sym, ap, ◌∙◌, subst, append_assoc, append-nil, codes, arith, false_from_ne_true, eqb-true, take_more, length-take, list_any, Text, newline, joined, Status, Inputs, Adds, written, GoesOut, Numbered, HasHanded, EditFault, Edit, ScriptFault, Read, Write, Memory, Answer, Accepted, Truncated, Watched, changes_rows, total_row, page_row, page_rows, all_hits, AreShown, with_margin, status_line, ReportsChanges, ReportsPage, Step, counts, IsStep, line_command, RepliesTo, SearchesAtMost, reply_to, truncated, is_refusal, ReadsNext, TakesLines, FlushesFor, Replied, DoesStep, WantsLines, AnswersLine, answer_for, was_refused}
 use Rattle.grep_core.specs.declared.status.Status.TheVariants as status
 use Rattle.grep_core.specs.Meters.{Steps as StepCounts}
 use Rattle.grep_core.proofs.lemmas.RowLemmas.{goes_on, stops_later}
@@ -52,13 +52,13 @@ shown_is_no_refusal inputs shown s =
     (s.is ∙ sym (append_assoc (with_margin (codes "o ") s.out) (with_margin (codes "e ") s.reported) (status_line s.status ∷ [])))
     (none_joined is_refusal (with_margin (codes "o ") s.out) (with_margin (codes "e ") s.reported) out reported)
 
-pub changes_is_no_refusal : (before after : Watched) (reported : List Text) → ReportsChanges before after reported → list_any is_refusal reported ≡ false
-changes_is_no_refusal before after reported t = status_after (changes_rows 0 t.changes) t.status reported t.is (none_changes is_refusal (λ hit. refl) (λ k change. refl) 0 t.changes)
+pub changes_is_no_refusal : (texts : Bool) (before after : Watched) (reported : List Text) → ReportsChanges texts before after reported → list_any is_refusal reported ≡ false
+changes_is_no_refusal texts before after reported t = status_after (changes_rows texts 0 t.changes) t.status reported t.is (none_changes is_refusal texts (λ hit. refl) (λ k change. refl) 0 t.changes)
 
-pub page_is_no_refusal : (inputs : Inputs) (first count : ℕ) (reported : List Text) → ReportsPage inputs first count reported → list_any is_refusal reported ≡ false
-page_is_no_refusal inputs first count reported t =
+pub page_is_no_refusal : (texts : Bool) (inputs : Inputs) (first count : ℕ) (reported : List Text) → ReportsPage texts inputs first count reported → list_any is_refusal reported ≡ false
+page_is_no_refusal texts inputs first count reported t =
     let all = all_hits 0 t.view in
-    status_after (total_row (min (length all) (2 ^ 64 - 1)) ∷ page_rows first count all) t.status reported t.is (none_mapped is_refusal page_row (take count (drop first all)) (λ row. refl))
+    status_after (total_row (min (length all) (2 ^ 64 - 1)) ∷ page_rows texts first count all) t.status reported t.is (none_mapped is_refusal (page_row texts) (take count (drop first all)) (λ row. refl))
 
 pub answered_in_time : {T : Type 0} (answer : Result T EditFault) → answer_for answer ≢ Truncated
 answered_in_time (Ok done) = λ e. let no : ⊥ = cc in no
@@ -88,7 +88,7 @@ module _ {R : Type 0} (remaining : R → Option Text) (failures : R → ℕ) (re
 
 -- ---- one command
 
-module _ {R W : Type 0} (remaining : R → Option Text) (failures : R → ℕ) (reader : R) (handed : List Text) (line : Text) (now : Numbered R) (begun spent : StepCounts) (before after : Watched)
+module _ {R W : Type 0} (remaining : R → Option Text) (failures : R → ℕ) (reader : R) (handed : List Text) (line : Text) (now : Numbered R) (begun spent : StepCounts) (before after : ScriptState)
     (contents : W → Option Text) (write_failures : W → ℕ) (old mid new : W) (flushed : GoesOut contents write_failures old mid []) where
   abbrev Answers : Result Answer ScriptFault → Type 0
   Answers = AnswersLine remaining failures reader handed line now begun spent before after contents write_failures old new
@@ -111,18 +111,18 @@ module _ {R W : Type 0} (remaining : R → Option Text) (failures : R → ℕ) (
   answers_step reply Refused (Err Memory) d none apart h = absurd h
 
   -- the changes were written, and this was left
-  pub answers_changes : (reply : List Text) (left : Watched) (r : Result Answer ScriptFault) → DoesStep remaining failures reader handed line now begun spent before left reply
-      → list_any is_refusal reply ≡ false → IfOk r (λ _. after ≡ left) → Replied contents write_failures mid new reply Accepted r → Answers r
-  answers_changes reply left (Ok Accepted) d none e h = (reply, subst (λ (w : Watched). DoesStep remaining failures reader handed line now begun spent before w reply) (sym e) d, goes_on contents write_failures old mid new [] (written [] reply) flushed h.1, none)
+  pub answers_changes : (reply : List Text) (left : Watched) (r : Result Answer ScriptFault) → DoesStep remaining failures reader handed line now begun spent before (record after { session = left }) reply
+      → list_any is_refusal reply ≡ false → IfOk r (λ _. after.session ≡ left) → Replied contents write_failures mid new reply Accepted r → Answers r
+  answers_changes reply left (Ok Accepted) d none e h = (reply, subst (λ (w : Watched). DoesStep remaining failures reader handed line now begun spent before (record after { session = w }) reply) (sym e) d, goes_on contents write_failures old mid new [] (written [] reply) flushed h.1, none)
   answers_changes reply left (Ok Refused) d none e h = absurd (let no : ⊥ = cc (h.0) in no)
   answers_changes reply left (Ok Truncated) d none e h = absurd (let no : ⊥ = cc (h.0) in no)
-  answers_changes reply left (Err Write) d none e h = inr (inl (left, reply, d, stops_later contents write_failures old mid new [] (written [] reply) flushed h))
+  answers_changes reply left (Err Write) d none e h = inr (inl (record after { session = left }, reply, d, stops_later contents write_failures old mid new [] (written [] reply) flushed h))
   answers_changes reply left (Err Read) d none e h = absurd h
   answers_changes reply left (Err Memory) d none e h = absurd h
 
   -- a command for which its line is enough
   pub does_alone : (step : Step) (reply : List Text) → HasHanded remaining failures reader now handed → IsStep (line_command line) [] step → RepliesTo step before reply after
-      → (most refusals : ℕ) → SearchesAtMost step before.inputs refusals most → Adds most most refusals begun spent
+      → (most refusals : ℕ) → SearchesAtMost step before.session.inputs refusals most → Adds most most refusals begun spent
       → DoesStep remaining failures reader handed line now begun spent before after reply
   does_alone step reply h is replies most refusals is_most few = record {
     taken = [];
@@ -145,7 +145,7 @@ module _ {R W : Type 0} (remaining : R → Option Text) (failures : R → ℕ) (
   answers_truncated (Err Read) w h = absurd h
   answers_truncated (Err Memory) w h = absurd h
 
-module _ {R W : Type 0} (remaining : R → Option Text) (failures : R → ℕ) (reader : R) (handed : List Text) (line : Text) (now : Numbered R) (begun spent : StepCounts) (before : Watched)
+module _ {R W : Type 0} (remaining : R → Option Text) (failures : R → ℕ) (reader : R) (handed : List Text) (line : Text) (now : Numbered R) (begun spent : StepCounts) (before : ScriptState)
     (contents : W → Option Text) (write_failures : W → ℕ) (old new : W) where
   -- not all lines that it counts were read
   pub answers_lost : (count : ℕ) (edit : List Text → Edit) (f : ScriptFault) → line_command line ≡ Some (counts count edit) → TakesLines remaining failures reader handed count now (Err f)

@@ -1,5 +1,5 @@
 -- How a run of a script continues and ends.
-use Rattle.grep_cmd.proofs.Prelude.{◌≡◌, ℕ, ◌<◌, ◌≤◌, true, false, List, [], ◌∷◌, ◌++◌, length, Option, Result, Ok, Err, arith, inl, inr, refl, sym, ap, ◌∙◌, subst, append_assoc, append-nil, length-append, list_any, Text, HasNoNewline, lines_of, File, Ending, whole, broken, written, file_of, most_lines, GoesOut, StopsWithin, Numbered, HasHanded, StandsAs, AreHanded, IsOneLineAndFew, Stage, Open, Ended, Failed, Watched, new_watched, ScriptFault, Read, Write, Memory, ScriptEnd, Clean, is_truncated, IsBegun, truncated, is_refusal, end_for, AnswersScript, ReadsScript, BeginsScript, GaveLines, SearchesTouched, StopsWriting, ScriptGives, HasRead, ReadsNext, FlushesFor, FlushesAfter, DoesStep, WantsLines, LosesLines, AnswersLine, AnsweredSoFar}
+use Rattle.grep_cmd.proofs.Prelude.{◌≡◌, ℕ, ◌<◌, ◌≤◌, true, false, List, [], ◌∷◌, ◌++◌, length, Option, Result, Ok, Err, arith, inl, inr, refl, sym, ap, ◌∙◌, subst, append_assoc, append-nil, length-append, list_any, Text, HasNoNewline, lines_of, File, Ending, whole, broken, written, file_of, most_lines, GoesOut, StopsWithin, Numbered, HasHanded, StandsAs, AreHanded, IsOneLineAndFew, Stage, Open, Ended, Failed, ScriptState, new_state, ScriptFault, Read, Write, Memory, ScriptEnd, Clean, is_truncated, IsBegun, truncated, is_refusal, end_for, AnswersScript, ReadsScript, BeginsScript, GaveLines, SearchesTouched, StopsWriting, ScriptGives, HasRead, ReadsNext, FlushesFor, FlushesAfter, DoesStep, WantsLines, LosesLines, AnswersLine, AnsweredSoFar}
 use Rattle.re_syntax.proofs.lemmas.LinesLaws.{lines_of-terminated}
 use Rattle.grep_core.specs.Meters.{Steps as StepCounts}
 use Rattle.re_meter.proofs.lemmas.Adding.{adds_none}
@@ -53,7 +53,7 @@ module _ {R W : Type 0} (remaining : R → Option Text) (failures : R → ℕ) (
   stops_same a b c bytes first second = subst (StopsWithin contents write_failures a c) (append-nil bytes) (stops_later contents write_failures a b c bytes [] first second)
 
   -- no line was handed out
-  pub so_far_none : (now : Numbered R) → HasHanded remaining failures reader now [] → AnsweredSoFar remaining failures contents write_failures reader states begun old now (new_watched states) begun old Clean
+  pub so_far_none : (now : Numbered R) → HasHanded remaining failures reader now [] → AnsweredSoFar remaining failures contents write_failures reader states begun old now (new_state states) begun old Clean
   so_far_none now h = record {
     handed = [];
     has_handed = h;
@@ -71,7 +71,7 @@ module _ {R W : Type 0} (remaining : R → Option Text) (failures : R → ℕ) (
   Gives next last new result =
       ScriptGives contents write_failures (HasRead remaining failures reader next) (remaining reader) (remaining next.lines.reader) (failures reader) (failures next.lines.reader) states begun last old new result
 
-  module _ (now : Numbered R) (inputs : Watched) (spent : StepCounts) (mid : W) (ending : ScriptEnd) (s : AnsweredSoFar remaining failures contents write_failures reader states begun old now inputs spent mid ending) where
+  module _ (now : Numbered R) (inputs : ScriptState) (spent : StepCounts) (mid : W) (ending : ScriptEnd) (s : AnsweredSoFar remaining failures contents write_failures reader states begun old now inputs spent mid ending) where
     -- the steps so far, of a script that continues
     answers_so_far : (file : File) (rest : List Text) → file.lines ≡ s.handed ++ rest → AnswersScript states file s.replies rest
     answers_so_far file rest is = record {
@@ -164,14 +164,14 @@ module _ {R W : Type 0} (remaining : R → Option Text) (failures : R → ℕ) (
 
     -- ---- a command line was handed out
 
-    module _ (line : Text) (sent : W) (flushed : GoesOut contents write_failures mid sent []) (next : Numbered R) (after : Watched) (last : StepCounts) (new : W) where
+    module _ (line : Text) (sent : W) (flushed : GoesOut contents write_failures mid sent []) (next : Numbered R) (after : ScriptState) (last : StepCounts) (new : W) where
       abbrev Does : List Text → Type 0
       Does reply = DoesStep remaining failures reader (s.handed ++ line ∷ []) line next spent last inputs after reply
 
       abbrev Wants : Type 0
       Wants = WantsLines remaining failures reader (s.handed ++ line ∷ []) line next spent last inputs after
 
-      works : (then : Watched) (reply : List Text) → (d : DoesStep remaining failures reader (s.handed ++ line ∷ []) line next spent last inputs then reply) → SearchesTouched states (s.steps ++ d.step ∷ []) (s.replies ++ reply) then begun last
+      works : (then : ScriptState) (reply : List Text) → (d : DoesStep remaining failures reader (s.handed ++ line ∷ []) line next spent last inputs then reply) → SearchesTouched states (s.steps ++ d.step ∷ []) (s.replies ++ reply) then begun last
       works then reply d = work_push states s.steps d.step inputs then s.replies reply begun spent last d.refusals d.most s.work d.replies_to d.is_most d.few
 
       -- without a step
@@ -187,7 +187,7 @@ module _ {R W : Type 0} (remaining : R → Option Text) (failures : R → ℕ) (
         steps = s.steps ++ d.step ∷ [];
         are_done = done_push s.handed s.steps line d.taken d.step s.are_done d.is_step;
         replies = s.replies ++ reply;
-        are_replies = replies_push s.steps d.step (new_watched states) inputs after s.replies reply s.are_replies d.replies_to;
+        are_replies = replies_push s.steps d.step (new_state states) inputs after s.replies reply s.are_replies d.replies_to;
         work = works after reply d;
         goes = goes_both old mid sent new s.replies reply s.goes flushed goes;
         ended = is;
@@ -207,7 +207,7 @@ module _ {R W : Type 0} (remaining : R → Option Text) (failures : R → ℕ) (
         steps = s.steps ++ is_truncated ∷ [];
         are_steps = rw is (done_steps file.ending s.handed (line ∷ w.taken) [] s.steps (is_truncated ∷ []) s.are_done (inr (ends, w.wants, refl, refl, refl)));
         after = inputs;
-        are_replies = replies_push s.steps is_truncated (new_watched states) inputs inputs s.replies (truncated ∷ []) s.are_replies (refl, refl);
+        are_replies = replies_push s.steps is_truncated (new_state states) inputs inputs s.replies (truncated ∷ []) s.are_replies (refl, refl);
       }
 
       works_truncated : last ≡ spent → SearchesTouched states (s.steps ++ is_truncated ∷ []) (s.replies ++ truncated ∷ []) inputs begun last
@@ -254,7 +254,7 @@ module _ {R W : Type 0} (remaining : R → Option Text) (failures : R → ℕ) (
           (omega (arith, longer, h.counted, s.has_handed.counted), omega (arith, h.counted, h.few))
 
       -- a write failed within the reply
-      pub stops_replying : (then : Watched) (reply : List Text) → DoesStep remaining failures reader (s.handed ++ line ∷ []) line next spent last inputs then reply → StopsWithin contents write_failures sent new (written [] reply)
+      pub stops_replying : (then : ScriptState) (reply : List Text) → DoesStep remaining failures reader (s.handed ++ line ∷ []) line next spent last inputs then reply → StopsWithin contents write_failures sent new (written [] reply)
           → Gives next last new (Err Write)
       stops_replying then reply d stops =
           let handed = subst (HasHanded remaining failures reader next) (line_then s.handed line d.taken) d.has_handed in
@@ -268,7 +268,7 @@ module _ {R W : Type 0} (remaining : R → Option Text) (failures : R → ℕ) (
               steps = s.steps ++ d.step ∷ [];
               are_steps = rw b.2.1 (done_alone b.0.ending (s.handed ++ line ∷ d.taken) b.2.0 (s.steps ++ d.step ∷ []) (done_push s.handed s.steps line d.taken d.step s.are_done d.is_step));
               after = then;
-              are_replies = replies_push s.steps d.step (new_watched states) inputs then s.replies reply s.are_replies d.replies_to;
+              are_replies = replies_push s.steps d.step (new_state states) inputs then s.replies reply s.are_replies d.replies_to;
             };
             work = works then reply d;
             stops = stops_both old mid sent new s.replies reply s.goes flushed stops;
@@ -369,4 +369,4 @@ runs_out_at_once {R} remaining failures contents write_failures reader states st
     let now : Numbered R = record { lines = record { reader = reader; ahead = []; line = []; stage = Open }; number = 0 } in
     let none = has_handed_none remaining failures now refl refl refl in
     gives_by_reader remaining failures contents write_failures reader states now steps steps out out (Err Memory)
-    (runs_out remaining failures contents write_failures reader states steps out now (new_watched states) steps out Clean (so_far_none remaining failures contents write_failures reader states steps out now none) now out [] tt none_in_nothing none (goes_nowhere contents write_failures out))
+    (runs_out remaining failures contents write_failures reader states steps out now (new_state states) steps out Clean (so_far_none remaining failures contents write_failures reader states steps out now none) now out [] tt none_in_nothing none (goes_nowhere contents write_failures out))

@@ -1,5 +1,5 @@
 -- The steps of a script, the replies to them and what they search, one more at a time.
-use Rattle.grep_cmd.proofs.Prelude.{◌≡◌, ℕ, ◌+◌, true, false, ◌||◌, if◌then◌else◌, List, [], ◌∷◌, ◌++◌, inl, refl, sym, ap, ◌∙◌, subst, append_assoc, append-nil, arith, or_right, list_any-append, list_any, Text, Ending, Adds, Watched, new_watched, Clean, Step, IsStep, line_command, Steps, RepliesTo, Replies, SearchesAtMost, AllSearchAtMost, SearchesTouched, is_refusal, end_for, AreDone}
+use Rattle.grep_cmd.proofs.Prelude.{◌≡◌, ℕ, ◌+◌, true, false, ◌||◌, if◌then◌else◌, List, [], ◌∷◌, ◌++◌, inl, refl, sym, ap, ◌∙◌, subst, append_assoc, append-nil, arith, or_right, list_any-append, list_any, Text, Ending, Adds, ScriptState, new_state, Clean, Step, IsStep, line_command, Steps, RepliesTo, Replies, SearchesAtMost, AllSearchAtMost, SearchesTouched, is_refusal, end_for, AreDone}
 use Rattle.re_meter.proofs.lemmas.Adding.{adds_none, all_both}
 use Rattle.grep_core.specs.Meters.{Steps as StepCounts}
 use Rattle.grep_cmd.specs.declared.script.ScriptEnd.TheVariants.{Refused}
@@ -22,7 +22,7 @@ pub done_alone : (ending : Ending) (lines rest : List Text) (steps : List Step) 
 done_alone ending lines rest steps done = subst (λ ss. Steps ending (lines ++ rest) ss rest) (append-nil steps) (done_steps ending lines rest rest steps [] done refl)
 
 -- one more reply
-pub replies_push : (steps : List Step) (step : Step) (before between after : Watched) (replies reply : List Text) → Replies steps before replies between → RepliesTo step between reply after
+pub replies_push : (steps : List Step) (step : Step) (before between after : ScriptState) (replies reply : List Text) → Replies steps before replies between → RepliesTo step between reply after
     → Replies (steps ++ step ∷ []) before (replies ++ reply) after
 replies_push [] step before between after replies reply (none, same) h =
     (reply, after, [], subst (λ i. RepliesTo step i reply after) same h, (refl, refl), ap (λ rs. rs ++ reply) none ∙ sym (append-nil reply))
@@ -30,8 +30,8 @@ replies_push (s ∷ steps) step before between after replies reply (own, mid, re
     (own, mid, rest ++ reply, first, replies_push steps step mid between after rest reply others h, ap (λ rs. rs ++ reply) cut ∙ append_assoc own rest reply)
 
 -- the sums with one more command
-most_push : (steps : List Step) (step : Step) (before between after : Watched) (replies reply : List Text) (refusals mine most own : ℕ) → AllSearchAtMost steps before replies between refusals most → RepliesTo step between reply after
-    → SearchesAtMost step between.inputs mine own → AllSearchAtMost (steps ++ step ∷ []) before (replies ++ reply) after (refusals + mine) (most + own)
+most_push : (steps : List Step) (step : Step) (before between after : ScriptState) (replies reply : List Text) (refusals mine most own : ℕ) → AllSearchAtMost steps before replies between refusals most → RepliesTo step between reply after
+    → SearchesAtMost step between.session.inputs mine own → AllSearchAtMost (steps ++ step ∷ []) before (replies ++ reply) after (refusals + mine) (most + own)
 most_push [] step before between after replies reply refusals mine most own (none, same, no_refusal, zero) h cost = (
   reply,
   after,
@@ -41,7 +41,7 @@ most_push [] step before between after replies reply refusals mine most own (non
   own,
   0,
   subst (λ i. RepliesTo step i reply after) same h,
-  subst (λ (i : Watched). SearchesAtMost step i.inputs mine own) same cost,
+  subst (λ (i : ScriptState). SearchesAtMost step i.session.inputs mine own) same cost,
   (refl, refl, refl, refl),
   ap (λ rs. rs ++ reply) none ∙ sym (append-nil reply),
   omega (arith, no_refusal),
@@ -64,16 +64,16 @@ most_push (s ∷ steps) step before between after replies reply refusals mine mo
 )
 
 -- nothing was searched for no command
-pub work_none : (states : ℕ) (steps : StepCounts) → SearchesTouched states [] [] (new_watched states) steps steps
+pub work_none : (states : ℕ) (steps : StepCounts) → SearchesTouched states [] [] (new_state states) steps steps
 work_none states steps = record { most = 0; refusals = 0; is_most = (refl, refl, refl, refl); few = adds_none 0 0 steps }
 
 -- one more command searches no more than it costs
-pub work_push : (states : ℕ) (steps : List Step) (step : Step) (between after : Watched) (replies reply : List Text) (begun spent last : StepCounts) (mine own : ℕ) → SearchesTouched states steps replies between begun spent
-    → RepliesTo step between reply after → SearchesAtMost step between.inputs mine own → Adds own own mine spent last → SearchesTouched states (steps ++ step ∷ []) (replies ++ reply) after begun last
+pub work_push : (states : ℕ) (steps : List Step) (step : Step) (between after : ScriptState) (replies reply : List Text) (begun spent last : StepCounts) (mine own : ℕ) → SearchesTouched states steps replies between begun spent
+    → RepliesTo step between reply after → SearchesAtMost step between.session.inputs mine own → Adds own own mine spent last → SearchesTouched states (steps ++ step ∷ []) (replies ++ reply) after begun last
 work_push states steps step between after replies reply begun spent last mine own w h cost few = record {
   most = w.most + own;
   refusals = w.refusals + mine;
-  is_most = most_push steps step (new_watched states) between after replies reply w.refusals mine w.most own w.is_most h cost;
+  is_most = most_push steps step (new_state states) between after replies reply w.refusals mine w.most own w.is_most h cost;
   few = all_both w.most own w.most own w.refusals mine begun spent last w.few few;
 }
 

@@ -17,8 +17,12 @@ use Rattle.grep_cmd.specs.declared.script.reply.Answer.{Answer}
 use Rattle.grep_cmd.specs.declared.script.reply.Answer.TheVariants.{Accepted, Refused, Truncated}
 use Rattle.grep_cmd.specs.Script.{Step, IsStep, WantsMore, AsksForMemory, line_command}
 use Rattle.grep_cmd.specs.Replies.{RepliesTo, Replies, SearchesAtMost, SearchesTouched, truncated}
-use Rattle.grep_cmd.specs.Replies.{is_refusal, end_for}
-use Rattle.grep_session.specs.Marks.{Watched, new_watched}
+use Rattle.grep_session.specs.Marks.{Watched}
+use Rattle.grep_cmd.specs.Replies.{is_refusal, end_for, ScriptState, new_state}
+
+-- the state of a script by its session and its flag
+abbrev pub state_of : Watched → Bool → ScriptState
+state_of session texts = record { session = session; texts = texts }
 
 -- how an edit was answered
 abbrev pub answer_for : {T : Type 0} → Result T EditFault → Answer
@@ -92,9 +96,9 @@ module _ {W : Type 0} (contents : W → Option Text) (failures : W → ℕ) (old
 
 module _ {R : Type 0} (remaining : R → Option Text) (failures : R → ℕ) (reader : R)
     (handed : List Text) (line : Text) (now : Numbered R) (begun spent : StepCounts)
-    (before : Watched) where
+    (before : ScriptState) where
   -- a command was done, which left this, with this reply and no more steps of search than it costs
-  pub record DoesStep (after : Watched) (reply : List Text) : Type 0 where
+  pub record DoesStep (after : ScriptState) (reply : List Text) : Type 0 where
     pub taken : List Text
     pub step : Step
     pub has_handed : HasHanded remaining failures reader now (handed ++ taken)
@@ -102,14 +106,14 @@ module _ {R : Type 0} (remaining : R → Option Text) (failures : R → ℕ) (re
     pub replies_to : RepliesTo step before reply after
     pub most : ℕ
     pub refusals : ℕ
-    pub is_most : SearchesAtMost step before.inputs refusals most
+    pub is_most : SearchesAtMost step before.session.inputs refusals most
     pub few : Adds most most refusals begun spent
 
 module _ {R : Type 0} (remaining : R → Option Text) (failures : R → ℕ) (reader : R)
     (handed : List Text) (line : Text) (now : Numbered R) (begun spent : StepCounts)
-    (before after : Watched) where
+    (before after : ScriptState) where
   -- what the command leaves and its reply, where it was done
-  abbrev pub Does : Watched → List Text → Type 0
+  abbrev pub Does : ScriptState → List Text → Type 0
   Does then reply = DoesStep remaining failures reader handed line now begun spent before then reply
 
   -- fewer lines follow than the command counts
@@ -151,7 +155,7 @@ module _ {R : Type 0} (remaining : R → Option Text) (failures : R → ℕ) (re
     AnswersLine (Err Memory) = RunsShort × GoesOut contents write_failures old new []
     AnswersLine (Err Write) =
         (GivesUp × StopsWithin contents write_failures old new [])
-        ⊎ (((then : Watched) × (reply : List Text) × Does then reply ×
+        ⊎ (((then : ScriptState) × (reply : List Text) × Does then reply ×
         StopsWithin contents write_failures old new (written [] reply))
         ⊎ (WantsLines × StopsWithin contents write_failures old new (written [] (truncated ∷ []))))
 
@@ -168,14 +172,14 @@ module _ {R W : Type 0} (remaining : R → Option Text) (failures : R → ℕ)
     (contents : W → Option Text) (write_failures : W → ℕ) (reader : R) (states : ℕ)
     (begun : StepCounts) (old : W) where
   -- the lines handed out so far were answered
-  pub record AnsweredSoFar (now : Numbered R) (watched : Watched) (spent : StepCounts) (new : W)
+  pub record AnsweredSoFar (now : Numbered R) (state : ScriptState) (spent : StepCounts) (new : W)
       (ending : ScriptEnd) : Type 0 where
     pub handed : List Text
     pub has_handed : HasHanded remaining failures reader now handed
     pub steps : List Step
     pub are_done : AreDone handed steps
     pub replies : List Text
-    pub are_replies : Replies steps (new_watched states) replies watched
-    pub work : SearchesTouched states steps replies watched begun spent
+    pub are_replies : Replies steps (new_state states) replies state
+    pub work : SearchesTouched states steps replies state begun spent
     pub goes : GoesOut contents write_failures old new (written [] replies)
     pub ended : ending ≡ end_for replies

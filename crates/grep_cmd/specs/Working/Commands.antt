@@ -15,7 +15,7 @@ use Rattle.grep_cmd.specs.declared.script.command.CountedEdit.TheVariants as cou
 use Rattle.grep_cmd.specs.declared.script.command.Command as declared
 use Rattle.grep_cmd.specs.declared.script.command.Command.TheVariants as command
 use Rattle.grep_cmd.specs.Script.{Command, edits, counts, shows, lists_changes, lists_page}
-use Rattle.grep_cmd.specs.Script.{asks_version}
+use Rattle.grep_cmd.specs.Script.{asks_version, switches_text}
 
 abbrev pub line_meant : LineEdit → Edit
 line_meant (line_edit.AddMissing name) = AddMissing name.items
@@ -44,3 +44,4 @@ meant command.Show = shows
 meant command.Changes = lists_changes
 meant (command.Page first count) = lists_page first count
 meant command.Version = asks_version
+meant (command.Text on) = switches_text on

@@ -1,5 +1,5 @@
 //! How a command is done and answered.
-ghost use Rattle.std.specs.Prelude.{◌≡◌, ◌≢◌, List, [], ◌∷◌, Some, IfOk, IfErr, map};
+ghost use Rattle.std.specs.Prelude.{◌≡◌, ◌≢◌, List, [], ◌∷◌, Some, IfOk, IfErr, map, Bool, codes};
 ghost use Rattle.re_syntax.specs.Bytes.{Text};
 ghost use Rattle.re_syntax.specs.Lines.{joined};
 ghost use Rattle.grep_core.specs.Reading.{IsOneLineAndFew};
@@ -14,7 +14,7 @@ ghost use Rattle.grep_cmd.specs.Show.{AreShown};
 ghost use Rattle.grep_cmd.specs.Lists.{ReportsChanges, ReportsPage};
 ghost use Rattle.grep_session.specs.Marks.{MarksGiven, Watched};
 ghost use Rattle.grep_cmd.specs.Replies.{reply_to, version_line};
-ghost use Rattle.grep_cmd.specs.Working.Answered.{AnswersLine, Replied, answer_for};
+ghost use Rattle.grep_cmd.specs.Working.Answered.{AnswersLine, Replied, answer_for, state_of};
 ghost use Rattle.grep_cmd.specs.Working.Commands.{line_meant, pattern_meant, counted_meant};
 
 use crate::reports::{show, show_changes, show_page};
@@ -145,13 +145,15 @@ fn reply_to_show<W: CountedWrite>(session: &Session, out: &mut W) -> Result<Answ
 /// Writes what changed.
 fn reply_to_changes<W: CountedWrite>(
     session: &mut Session,
+    has_text: bool,
     out: &mut W,
 ) -> Result<Answer, ScriptFault>
-    ensures { (rows : List Text) × (then : Watched) × ReportsChanges session.old then rows ×
+    ensures { (rows : List Text) × (then : Watched) ×
+        ReportsChanges has_text session.old then rows ×
         Replied W.contents W.failures out.old out.new rows Answer.Accepted result ×
         IfOk result (λ _. session.new ≡ then) }
 {
-    match show_changes(session, out) {
+    match show_changes(session, has_text, out) {
         Ok(()) => Ok(Answer::Accepted),
         Err(WriteFault) => Err(ScriptFault::Write),
     }
@@ -162,12 +164,13 @@ fn reply_to_page<W: CountedWrite>(
     session: &Session,
     first: usize,
     count: usize,
+    has_text: bool,
     out: &mut W,
 ) -> Result<Answer, ScriptFault>
-    ensures { (rows : List Text) × ReportsPage session.now.inputs first count rows ×
+    ensures { (rows : List Text) × ReportsPage has_text session.now.inputs first count rows ×
         Replied W.contents W.failures out.old out.new rows Answer.Accepted result }
 {
-    match show_page(session, first, count, out) {
+    match show_page(session, first, count, has_text, out) {
         Ok(()) => Ok(Answer::Accepted),
         Err(WriteFault) => Err(ScriptFault::Write),
     }
@@ -184,6 +187,20 @@ fn reply_to_version<W: CountedWrite>(out: &mut W) -> Result<Answer, ScriptFault>
     }
 }
 
+/// Sets whether the rows of hits have their text, and writes the reply.
+fn reply_to_text<W: CountedWrite>(
+    on: bool,
+    has_text: &mut bool,
+    out: &mut W,
+) -> Result<Answer, ScriptFault>
+    ensures set { has_text.new ≡ on }
+    ensures replied { Replied W.contents W.failures out.old out.new (codes "ok" ∷ [])
+        Answer.Accepted result }
+{
+    *has_text = on;
+    reply_with(b"ok", Answer::Accepted, out)
+}
+
 /// Takes the lines that a command counts, edits patterns by them, and writes the reply.
 fn answer_patterns<R: CountedRead, W: CountedWrite>(
     alloc: Global,
@@ -194,10 +211,11 @@ fn answer_patterns<R: CountedRead, W: CountedWrite>(
     meter: &mut Meter,
     out: &mut W,
 ) -> Result<Answer, ScriptFault>
-    ensures answers { (reader : R) (handed : List Text) (line : Text) →
+    ensures answers { (texts : Bool) (reader : R) (handed : List Text) (line : Text) →
         HasHanded R.remaining R.failures reader lines.old handed
         → line_command line ≡ Some (counts count (counted_meant (CountedEdit.PutPatterns edit)))
-        → AnswersLine R.remaining R.failures reader handed line lines.new meter.old meter.new session.old session.new
+        → AnswersLine R.remaining R.failures reader handed line lines.new meter.old meter.new
+        (state_of session.old texts) (state_of session.new texts)
         W.contents W.failures out.old out.new result }
     ensures held { IsOneLineAndFew lines.old.lines.ahead → IsOneLineAndFew lines.new.lines.ahead }
     ensures same_loan { R.loan lines.new.lines.reader ≡ R.loan lines.old.lines.reader }
@@ -224,10 +242,11 @@ fn answer_counted<R: CountedRead, W: CountedWrite>(
 ) -> Result<Answer, ScriptFault>
     requires { (reader : R) × (handed : List Text) ×
         HasHanded R.remaining R.failures reader lines.old handed }
-    ensures answers { (reader : R) (handed : List Text) (line : Text) →
+    ensures answers { (texts : Bool) (reader : R) (handed : List Text) (line : Text) →
         HasHanded R.remaining R.failures reader lines.old handed
         → line_command line ≡ Some (counts counted.count (counted_meant counted.edit))
-        → AnswersLine R.remaining R.failures reader handed line lines.new meter.old meter.new session.old session.new
+        → AnswersLine R.remaining R.failures reader handed line lines.new meter.old meter.new
+        (state_of session.old texts) (state_of session.new texts)
         W.contents W.failures out.old out.new result }
     ensures held { IsOneLineAndFew lines.old.lines.ahead → IsOneLineAndFew lines.new.lines.ahead }
     ensures same_loan { R.loan lines.new.lines.reader ≡ R.loan lines.old.lines.reader }
@@ -259,6 +278,7 @@ pub fn answer_command<R: CountedRead, W: CountedWrite>(
     alloc: Global,
     lines: &mut Lines<R>,
     session: &mut Session,
+    has_text: &mut bool,
     meter: &mut Meter,
     out: &mut W,
 ) -> Result<Answer, ScriptFault>
@@ -266,8 +286,9 @@ pub fn answer_command<R: CountedRead, W: CountedWrite>(
         HasHanded R.remaining R.failures reader lines.old handed }
     ensures answers { (reader : R) (handed : List Text) →
         HasHanded R.remaining R.failures reader lines.old handed
-        → AnswersLine R.remaining R.failures reader handed lines.old.lines.line lines.new meter.old meter.new
-        session.old session.new W.contents W.failures out.old out.new result }
+        → AnswersLine R.remaining R.failures reader handed lines.old.lines.line lines.new
+        meter.old meter.new (state_of session.old has_text.old)
+        (state_of session.new has_text.new) W.contents W.failures out.old out.new result }
     ensures held { IsOneLineAndFew lines.old.lines.ahead → IsOneLineAndFew lines.new.lines.ahead }
     ensures same_loan { R.loan lines.new.lines.reader ≡ R.loan lines.old.lines.reader }
 {
@@ -277,9 +298,12 @@ pub fn answer_command<R: CountedRead, W: CountedWrite>(
             answer_counted(alloc, lines, counted, session, meter, out)
         }
         Ok(Some(Command::Show)) => reply_to_show(session, out),
-        Ok(Some(Command::Changes)) => reply_to_changes(session, out),
-        Ok(Some(Command::Page(first, count))) => reply_to_page(session, first, count, out),
+        Ok(Some(Command::Changes)) => reply_to_changes(session, *has_text, out),
+        Ok(Some(Command::Page(first, count))) => {
+            reply_to_page(session, first, count, *has_text, out)
+        }
         Ok(Some(Command::Version)) => reply_to_version(out),
+        Ok(Some(Command::Text(on))) => reply_to_text(on, has_text, out),
         Ok(None) => reply_with(b"refused BadCommand", Answer::Refused, out),
         Err(_) => Err(ScriptFault::Memory),
     }

@@ -7,7 +7,8 @@ ghost use Rattle.grep_cmd.specs.Script.{patterns_command, pattern_command, drop_
 ghost use Rattle.grep_cmd.specs.Script.{flag_command, syntax_command, no_context, context_from};
 ghost use Rattle.grep_cmd.specs.Script.{context_command, show_command, unnamed_command};
 ghost use Rattle.grep_cmd.specs.Script.{line_command, changes_command, page_command};
-ghost use Rattle.grep_cmd.specs.Script.{version_command, asking_command, AsksForMemory};
+ghost use Rattle.grep_cmd.specs.Script.{version_command, text_command, asking_command};
+ghost use Rattle.grep_cmd.specs.Script.{AsksForMemory};
 ghost use Rattle.grep_cmd.specs.Working.Commands.{meant};
 
 use crate::script::line_words::{LineWords, words_of};
@@ -84,6 +85,8 @@ pub enum Command {
     Page(usize, usize),
     /// The version.
     Version,
+    /// Whether the rows of hits have their text.
+    Text(bool),
 }
 
 /// The name that the word is.
@@ -322,6 +325,14 @@ fn read_version(words: LineWords<'_>) -> Option<Command>
     }
 }
 
+/// `text on` or `text off`
+fn read_text(words: LineWords<'_>) -> Option<Command>
+    ensures { option_map meant result ≡ text_command words.entry }
+{
+    let on = read_switch(words.only()?)?;
+    Some(Command::Text(on))
+}
+
 /// The command of this word and those that follow it, where it is no edit.
 fn read_asking(word: &[u8], words: LineWords<'_>) -> Option<Command>
     ensures { option_map meant result ≡ asking_command word.now words.entry }
@@ -337,6 +348,9 @@ fn read_asking(word: &[u8], words: LineWords<'_>) -> Option<Command>
     }
     if word == b"version".as_slice() {
         return read_version(words);
+    }
+    if word == b"text".as_slice() {
+        return read_text(words);
     }
     None
 }

@@ -200,10 +200,10 @@ module _ (es : List Expression) (inputs : Inputs) where
 
 -- ---- what is reported
 
-module _ {W : Type 0} (contents : W → Option Text) (failures : W → ℕ) (margin : Text) (begun ended : W) (old new : Watched) (status : Status) where
+module _ (texts : Bool) {W : Type 0} (contents : W → Option Text) (failures : W → ℕ) (margin : Text) (begun ended : W) (old new : Watched) (status : Status) where
   pub writes_all : (E : Type 0) (result : Result Status E) → AreFit old.inputs.files old.marks → IsStatusOfInputs old.inputs status →
-      ((es : List Expression) → Mean old.inputs es → (changes : List (List Change)) → AllThree (ChangesFile es old.inputs.options) old.inputs.files old.marks changes → Writes contents failures begun ended (written margin (changes_rows 0 changes)) result) →
-      MatchResult result (λ answer. (answer ≡ status) × (new ≡ all_known old)) (λ _. new ≡ old) → WritesChanges contents failures margin begun ended old new result
+      ((es : List Expression) → Mean old.inputs es → (changes : List (List Change)) → AllThree (ChangesFile es old.inputs.options) old.inputs.files old.marks changes → Writes contents failures begun ended (written margin (changes_rows texts 0 changes)) result) →
+      MatchResult result (λ answer. (answer ≡ status) × (new ≡ all_known old)) (λ _. new ≡ old) → WritesChanges contents failures margin texts begun ended old new result
   writes_all E (Ok answer) fit is wrote left =
       let es = is.gives.es in
       let meant = is.gives.are_meant in

@@ -1,47 +1,47 @@
 -- What is counted and written of the lines of a file, by the hits that are left.
-use Rattle.grep_live.proofs.Prelude.{◌≡◌, ℕ, ◌+◌, ◌-◌, ◌<◌, ◌≤◌, true, false, if◌then◌else◌, List, [], ◌∷◌, ◌++◌, length, map, drop, get_or, Option, refl, sym, ap, subst, ◌∙◌, arith, nat_eq, ◌&&◌, flat_map, take, slice_range, Text, Expression, Inputs, file_at, written, output_line, GoesOut, StopsWithin, Marked, Stretch, Fits, IsFit, AllThree, Hit, HitsFrom, Change, AreChanges, ChangesFile, hit_row, change_row, change_rows, changes_rows, Mean, HitsBetween, IsFirst, drop_all, drop-drop}
+use Rattle.grep_live.proofs.Prelude.{Bool, ◌≡◌, ℕ, ◌+◌, ◌-◌, ◌<◌, ◌≤◌, true, false, if◌then◌else◌, List, [], ◌∷◌, ◌++◌, length, map, drop, get_or, Option, refl, sym, ap, subst, ◌∙◌, arith, nat_eq, ◌&&◌, flat_map, take, slice_range, Text, Expression, Inputs, file_at, written, output_line, GoesOut, StopsWithin, Marked, Stretch, Fits, IsFit, AllThree, Hit, HitsFrom, Change, AreChanges, ChangesFile, hit_row, change_row, change_rows, changes_rows, Mean, HitsBetween, IsFirst, drop_all, drop-drop}
 use Rattle.grep_session.proofs.lemmas.Writing.{drop-next, WrittenUpTo, none_written, written_on, all_written, broken_off, one_went, one_stopped}
 
-module _ (inputs : Inputs) (k from to : ℕ) {W : Type 0} (contents : W → Option Text) (failures : W → ℕ) (margin : Text) where
+module _ (texts : Bool) (inputs : Inputs) (k from to : ℕ) {W : Type 0} (contents : W → Option Text) (failures : W → ℕ) (margin : Text) where
   -- some were written, and these are left
   pub record ListedUpTo (old now : W) (es : List Expression) (place : ℕ) (all : List Hit) : Type 0 where
     pub left : List Hit
     pub are_left : HitsBetween es inputs k place to left
-    pub wrote : WrittenUpTo contents failures margin old now (map hit_row all) (map hit_row left)
+    pub wrote : WrittenUpTo contents failures margin old now (map (hit_row texts) all) (map (hit_row texts) left)
 
   abbrev pub Lists : W → W → ℕ → Type 0
   Lists old now place = (es : List Expression) → Mean inputs es → (all : List Hit) → HitsBetween es inputs k from to all → ListedUpTo old now es place all
 
   pub listed_none : (a : W) → Lists a a from
-  listed_none a = λ es meant all hits. record { left = all; are_left = hits; wrote = none_written contents failures margin a (map hit_row all) }
+  listed_none a = λ es meant all hits. record { left = all; are_left = hits; wrote = none_written contents failures margin a (map (hit_row texts) all) }
 
   module _ (es : List Expression) (all : List Hit) (old now : W) (place : ℕ) (s : ListedUpTo old now es place all) where
     module _ (at : ℕ) (text : Text) (parts : List (ℕ × ℕ)) (f : IsFirst es inputs k to at text parts s.left) (new : W) where
-      pub listed_one : GoesOut contents failures now new (output_line margin (hit_row (record { place = at; text = text; parts = parts }))) → ListedUpTo old new es (at + 1) all
+      pub listed_one : GoesOut contents failures now new (output_line margin (hit_row texts (record { place = at; text = text; parts = parts }))) → ListedUpTo old new es (at + 1) all
       listed_one went = record {
         left = f.rest;
         are_left = f.are_rest;
-        wrote = written_on contents failures margin old now new (map hit_row all) (map hit_row s.left) (hit_row (record { place = at; text = text; parts = parts }) ∷ []) (map hit_row f.rest) (ap (map hit_row) f.joined) s.wrote
-            (one_went contents failures margin now new (hit_row (record { place = at; text = text; parts = parts })) went);
+        wrote = written_on contents failures margin old now new (map (hit_row texts) all) (map (hit_row texts) s.left) (hit_row texts (record { place = at; text = text; parts = parts }) ∷ []) (map (hit_row texts) f.rest) (ap (map (hit_row texts)) f.joined) s.wrote
+            (one_went contents failures margin now new (hit_row texts (record { place = at; text = text; parts = parts })) went);
       }
 
-      pub listed_stops : StopsWithin contents failures now new (output_line margin (hit_row (record { place = at; text = text; parts = parts }))) → StopsWithin contents failures old new (written margin (map hit_row all))
+      pub listed_stops : StopsWithin contents failures now new (output_line margin (hit_row texts (record { place = at; text = text; parts = parts }))) → StopsWithin contents failures old new (written margin (map (hit_row texts) all))
       listed_stops stops =
-          broken_off contents failures margin old now new (map hit_row all) (map hit_row s.left) (hit_row (record { place = at; text = text; parts = parts }) ∷ []) (map hit_row f.rest) (ap (map hit_row) f.joined) s.wrote
-          (one_stopped contents failures margin now new (hit_row (record { place = at; text = text; parts = parts })) stops)
+          broken_off contents failures margin old now new (map (hit_row texts) all) (map (hit_row texts) s.left) (hit_row texts (record { place = at; text = text; parts = parts }) ∷ []) (map (hit_row texts) f.rest) (ap (map (hit_row texts)) f.joined) s.wrote
+          (one_stopped contents failures margin now new (hit_row texts (record { place = at; text = text; parts = parts })) stops)
 
-    pub listed_all : s.left ≡ [] → GoesOut contents failures old now (written margin (map hit_row all))
-    listed_all none = all_written contents failures margin old now (map hit_row all) (map hit_row s.left) (ap (map hit_row) none) s.wrote
+    pub listed_all : s.left ≡ [] → GoesOut contents failures old now (written margin (map (hit_row texts) all))
+    listed_all none = all_written contents failures margin old now (map (hit_row texts) all) (map (hit_row texts) s.left) (ap (map (hit_row texts)) none) s.wrote
 
 -- ---- one stretch
 
 -- a change of nothing has no rows
-pub rows_idle : (k front removed added : ℕ) (come : List Hit) → (nat_eq removed 0 && nat_eq added 0) ≡ true → change_rows k (record { front = front; removed = removed; added = added; come = come }) ≡ []
-rows_idle k front removed added come idle = ap (λ b. if b then [] else change_row k (record { front = front; removed = removed; added = added; come = come }) ∷ map hit_row come) idle
+pub rows_idle : (texts : Bool) (k front removed added : ℕ) (come : List Hit) → (nat_eq removed 0 && nat_eq added 0) ≡ true → change_rows texts k (record { front = front; removed = removed; added = added; come = come }) ≡ []
+rows_idle texts k front removed added come idle = ap (λ b. if b then [] else change_row k (record { front = front; removed = removed; added = added; come = come }) ∷ map (hit_row texts) come) idle
 
-pub rows_busy : (k front removed added : ℕ) (come : List Hit) → (nat_eq removed 0 && nat_eq added 0) ≡ false →
-    change_rows k (record { front = front; removed = removed; added = added; come = come }) ≡ change_row k (record { front = front; removed = removed; added = added; come = come }) ∷ map hit_row come
-rows_busy k front removed added come busy = ap (λ b. if b then [] else change_row k (record { front = front; removed = removed; added = added; come = come }) ∷ map hit_row come) busy
+pub rows_busy : (texts : Bool) (k front removed added : ℕ) (come : List Hit) → (nat_eq removed 0 && nat_eq added 0) ≡ false →
+    change_rows texts k (record { front = front; removed = removed; added = added; come = come }) ≡ change_row k (record { front = front; removed = removed; added = added; come = come }) ∷ map (hit_row texts) come
+rows_busy texts k front removed added come busy = ap (λ b. if b then [] else change_row k (record { front = front; removed = removed; added = added; come = come }) ∷ map (hit_row texts) come) busy
 
 -- ---- one file
 
@@ -80,12 +80,12 @@ next_stretch lines place to stretches stretch more is s =
 pub turn_is : (items stretches : List Stretch) (i : ℕ) (d : Stretch) → items ≡ stretches → i < length items → drop i stretches ≡ get_or items i d ∷ drop (i + 1) stretches
 turn_is items stretches i d e h = subst (λ (l : List Stretch). drop i l ≡ get_or items i d ∷ drop (i + 1) l) e (drop-next items i d h)
 
-module _ (inputs : Inputs) (k : ℕ) {W : Type 0} (contents : W → Option Text) (failures : W → ℕ) (margin : Text) where
+module _ (texts : Bool) (inputs : Inputs) (k : ℕ) {W : Type 0} (contents : W → Option Text) (failures : W → ℕ) (margin : Text) where
   abbrev lines_from : ℕ → List Text
   lines_from place = drop place (file_at inputs.files k).lines
 
   abbrev rows_of : List Change → List Text
-  rows_of changes = flat_map (change_rows k) changes
+  rows_of changes = flat_map (change_rows texts k) changes
 
   -- the first changes were written, and these of the stretches after this place are left
   pub record ChangedUpTo (old now : W) (es : List Expression) (place : ℕ) (stretches : List Stretch) (all : List Change) : Type 0 where
@@ -135,40 +135,40 @@ module _ (inputs : Inputs) (k : ℕ) {W : Type 0} (contents : W → Option Text)
   module _ (es : List Expression) (a b c : W) (place : ℕ) (stretch : Stretch) (more : List Stretch) (all : List Change) where
     abbrev Wrote : (List Text → Type 0) → Type 0
     Wrote P = (hits : List Hit) → HitsBetween es inputs k (place + stretch.kept) (place + stretch.kept + stretch.added) hits →
-        P (change_rows k (record { front = place + stretch.kept; removed = stretch.removed; added = (place + stretch.kept + stretch.added) - (place + stretch.kept); come = hits }))
+        P (change_rows texts k (record { front = place + stretch.kept; removed = stretch.removed; added = (place + stretch.kept + stretch.added) - (place + stretch.kept); come = hits }))
 
     pub changed_on : (stretches : List Stretch) → stretches ≡ stretch ∷ more → ChangedUpTo a b es place stretches all → Wrote (λ rows. GoesOut contents failures b c (written margin rows)) → ChangedUpTo a c es (place + stretch.kept + stretch.added) more all
     changed_on stretches is s wrote =
         let next = next_change es place stretch more s.left (subst (λ (l : List Stretch). AreChanges es inputs.options place (lines_from place) l s.left) is s.are_left) in
-        let here = change_rows k (record { front = place + stretch.kept; removed = stretch.removed; added = (place + stretch.kept + stretch.added) - (place + stretch.kept); come = next.come }) in
+        let here = change_rows texts k (record { front = place + stretch.kept; removed = stretch.removed; added = (place + stretch.kept + stretch.added) - (place + stretch.kept); come = next.come }) in
         record { left = next.rest; are_left = next.are_rest; wrote = written_on contents failures margin a b c (rows_of all) (rows_of s.left) here (rows_of next.rest) (ap rows_of next.joined) s.wrote (wrote next.come next.are_hits) }
 
     pub changed_stops : (stretches : List Stretch) → stretches ≡ stretch ∷ more → ChangedUpTo a b es place stretches all → Wrote (λ rows. StopsWithin contents failures b c (written margin rows)) → StopsWithin contents failures a c (written margin (rows_of all))
     changed_stops stretches is s wrote =
         let next = next_change es place stretch more s.left (subst (λ (l : List Stretch). AreChanges es inputs.options place (lines_from place) l s.left) is s.are_left) in
-        let here = change_rows k (record { front = place + stretch.kept; removed = stretch.removed; added = (place + stretch.kept + stretch.added) - (place + stretch.kept); come = next.come }) in
+        let here = change_rows texts k (record { front = place + stretch.kept; removed = stretch.removed; added = (place + stretch.kept + stretch.added) - (place + stretch.kept); come = next.come }) in
         broken_off contents failures margin a b c (rows_of all) (rows_of s.left) here (rows_of next.rest) (ap rows_of next.joined) s.wrote (wrote next.come next.are_hits)
 
 -- ---- the changes of all files
 
 -- the rows of the changes from one on are those of that one and of those after it
-pub next_rows : (k : ℕ) (changes : List (List Change)) → k < length changes → changes_rows k (drop k changes) ≡ flat_map (change_rows k) (get_or changes k []) ++ changes_rows (k + 1) (drop (k + 1) changes)
-next_rows k changes h = ap (changes_rows k) (drop-next changes k [] h)
+pub next_rows : (texts : Bool) (k : ℕ) (changes : List (List Change)) → k < length changes → changes_rows texts k (drop k changes) ≡ flat_map (change_rows texts k) (get_or changes k []) ++ changes_rows texts (k + 1) (drop (k + 1) changes)
+next_rows texts k changes h = ap (changes_rows texts k) (drop-next changes k [] h)
 
-module _ (inputs : Inputs) (marks : List Marked) {W : Type 0} (contents : W → Option Text) (failures : W → ℕ) (margin : Text) where
+module _ (texts : Bool) (inputs : Inputs) (marks : List Marked) {W : Type 0} (contents : W → Option Text) (failures : W → ℕ) (margin : Text) where
   -- the changes of the first files were written
   abbrev pub ReportedUpTo : W → W → ℕ → Type 0
-  ReportedUpTo old now k = (es : List Expression) → Mean inputs es → (changes : List (List Change)) → AllThree (ChangesFile es inputs.options) inputs.files marks changes → WrittenUpTo contents failures margin old now (changes_rows 0 changes) (changes_rows k (drop k changes))
+  ReportedUpTo old now k = (es : List Expression) → Mean inputs es → (changes : List (List Change)) → AllThree (ChangesFile es inputs.options) inputs.files marks changes → WrittenUpTo contents failures margin old now (changes_rows texts 0 changes) (changes_rows texts k (drop k changes))
 
-  pub reported_on : (es : List Expression) (changes : List (List Change)) (a b c : W) (k : ℕ) → k < length changes → WrittenUpTo contents failures margin a b (changes_rows 0 changes) (changes_rows k (drop k changes)) →
-      GoesOut contents failures b c (written margin (flat_map (change_rows k) (get_or changes k []))) → WrittenUpTo contents failures margin a c (changes_rows 0 changes) (changes_rows (k + 1) (drop (k + 1) changes))
+  pub reported_on : (es : List Expression) (changes : List (List Change)) (a b c : W) (k : ℕ) → k < length changes → WrittenUpTo contents failures margin a b (changes_rows texts 0 changes) (changes_rows texts k (drop k changes)) →
+      GoesOut contents failures b c (written margin (flat_map (change_rows texts k) (get_or changes k []))) → WrittenUpTo contents failures margin a c (changes_rows texts 0 changes) (changes_rows texts (k + 1) (drop (k + 1) changes))
   reported_on es changes a b c k h s went =
-      written_on contents failures margin a b c (changes_rows 0 changes) (changes_rows k (drop k changes)) (flat_map (change_rows k) (get_or changes k [])) (changes_rows (k + 1) (drop (k + 1) changes)) (next_rows k changes h) s went
+      written_on contents failures margin a b c (changes_rows texts 0 changes) (changes_rows texts k (drop k changes)) (flat_map (change_rows texts k) (get_or changes k [])) (changes_rows texts (k + 1) (drop (k + 1) changes)) (next_rows texts k changes h) s went
 
-  pub reported_stops : (es : List Expression) (changes : List (List Change)) (a b c : W) (k : ℕ) → k < length changes → WrittenUpTo contents failures margin a b (changes_rows 0 changes) (changes_rows k (drop k changes)) →
-      StopsWithin contents failures b c (written margin (flat_map (change_rows k) (get_or changes k []))) → StopsWithin contents failures a c (written margin (changes_rows 0 changes))
+  pub reported_stops : (es : List Expression) (changes : List (List Change)) (a b c : W) (k : ℕ) → k < length changes → WrittenUpTo contents failures margin a b (changes_rows texts 0 changes) (changes_rows texts k (drop k changes)) →
+      StopsWithin contents failures b c (written margin (flat_map (change_rows texts k) (get_or changes k []))) → StopsWithin contents failures a c (written margin (changes_rows texts 0 changes))
   reported_stops es changes a b c k h s stopped =
-      broken_off contents failures margin a b c (changes_rows 0 changes) (changes_rows k (drop k changes)) (flat_map (change_rows k) (get_or changes k [])) (changes_rows (k + 1) (drop (k + 1) changes)) (next_rows k changes h) s stopped
+      broken_off contents failures margin a b c (changes_rows texts 0 changes) (changes_rows texts k (drop k changes)) (flat_map (change_rows texts k) (get_or changes k [])) (changes_rows texts (k + 1) (drop (k + 1) changes)) (next_rows texts k changes h) s stopped
 
-  pub reported_all : (es : List Expression) (changes : List (List Change)) (a b : W) (k : ℕ) → length changes ≤ k → WrittenUpTo contents failures margin a b (changes_rows 0 changes) (changes_rows k (drop k changes)) → GoesOut contents failures a b (written margin (changes_rows 0 changes))
-  reported_all es changes a b k h s = all_written contents failures margin a b (changes_rows 0 changes) (changes_rows k (drop k changes)) (ap (changes_rows k) (drop_all k changes h)) s
+  pub reported_all : (es : List Expression) (changes : List (List Change)) (a b : W) (k : ℕ) → length changes ≤ k → WrittenUpTo contents failures margin a b (changes_rows texts 0 changes) (changes_rows texts k (drop k changes)) → GoesOut contents failures a b (written margin (changes_rows texts 0 changes))
+  reported_all es changes a b k h s = all_written contents failures margin a b (changes_rows texts 0 changes) (changes_rows texts k (drop k changes)) (ap (changes_rows texts k) (drop_all k changes h)) s

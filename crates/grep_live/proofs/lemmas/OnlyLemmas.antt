@@ -76,25 +76,25 @@ changes_between es options front back now (stretch ∷ more) (change ∷ changes
 -- ---- one splice
 
 -- a change of nothing has no rows
-rows_none : (k : ℕ) (change : Change) → change.removed ≡ 0 → change.added ≡ 0 → change_rows k change ≡ []
-rows_none k change r a =
+rows_none : (texts : Bool) (k : ℕ) (change : Change) → change.removed ≡ 0 → change.added ≡ 0 → change_rows texts k change ≡ []
+rows_none texts k change r a =
     let idle : (nat_eq change.removed 0 && nat_eq change.added 0) ≡ true = λ i. nat_eq (r i) 0 && nat_eq (a i) 0 in
-    ap (λ b. if b then [] else change_row k change ∷ map hit_row change.come) idle
+    ap (λ b. if b then [] else change_row k change ∷ map (hit_row texts) change.come) idle
 
 -- where all files but one are as they were reported, rows are written of this one alone
-rows_of_one : (es : List Expression) (options : Options) (n k : ℕ) (files : List File) (changes : List (List Change)) (file : File) (mark : Marked) → k < length files →
-    AllThree (ChangesFile es options) (set files k file) (set (map (λ file. whole_mark (length file.lines)) files) k mark) changes → changes_rows n changes ≡ flat_map (change_rows (n + k)) (changes_at changes k)
-rows_of_one es options n k [] changes file mark l c = absurd (omega arith)
-rows_of_one es options n zero (first ∷ files) [] file mark l c = absurd c
-rows_of_one es options n zero (first ∷ files) (change ∷ changes) file mark l c =
+rows_of_one : (texts : Bool) (es : List Expression) (options : Options) (n k : ℕ) (files : List File) (changes : List (List Change)) (file : File) (mark : Marked) → k < length files →
+    AllThree (ChangesFile es options) (set files k file) (set (map (λ file. whole_mark (length file.lines)) files) k mark) changes → changes_rows texts n changes ≡ flat_map (change_rows texts (n + k)) (changes_at changes k)
+rows_of_one texts es options n k [] changes file mark l c = absurd (omega arith)
+rows_of_one texts es options n zero (first ∷ files) [] file mark l c = absurd c
+rows_of_one texts es options n zero (first ∷ files) (change ∷ changes) file mark l c =
     let same : n ≡ n + 0 = omega arith in
-    ap (λ rows. flat_map (change_rows n) change ++ rows) (all_silent es options (n + 1) files changes c.1) ∙ append-nil (flat_map (change_rows n) change) ∙ ap (λ m. flat_map (change_rows m) change) same
-rows_of_one es options n (suc k) (first ∷ files) [] file mark l c = absurd c
-rows_of_one es options n (suc k) (first ∷ files) (change ∷ changes) file mark l c =
+    ap (λ rows. flat_map (change_rows texts n) change ++ rows) (all_silent texts es options (n + 1) files changes c.1) ∙ append-nil (flat_map (change_rows texts n) change) ∙ ap (λ m. flat_map (change_rows texts m) change) same
+rows_of_one texts es options n (suc k) (first ∷ files) [] file mark l c = absurd c
+rows_of_one texts es options n (suc k) (first ∷ files) (change ∷ changes) file mark l c =
     let same : (n + 1) + k ≡ n + suc k = omega arith in
-    ap (λ rows. rows ++ changes_rows (n + 1) changes) (one_silent es options n first change c.0)
-    ∙ rows_of_one es options (n + 1) k files changes file mark (omega arith) c.1
-    ∙ ap (λ m. flat_map (change_rows m) (changes_at changes k)) same
+    ap (λ rows. rows ++ changes_rows texts (n + 1) changes) (one_silent texts es options n first change c.0)
+    ∙ rows_of_one texts es options (n + 1) k files changes file mark (omega arith) c.1
+    ∙ ap (λ m. flat_map (change_rows texts m) (changes_at changes k)) same
 
 -- the mark of a file that was reported as it is
 pub known_at : (files : List File) (k : ℕ) → k < length files → mark_at (map (λ file. whole_mark (length file.lines)) files) k ≡ whole_mark (length (file_at files k).lines)
@@ -179,13 +179,13 @@ module _ (stretch : Stretch) (line now : ℕ) where
 -- the rows of one file in which lines were replaced
 record ReportsFile (k start count added : ℕ) (changes : List Change) : Type 0 where
   come : List Hit
-  rows : flat_map (change_rows k) changes ≡ change_rows k (record { front = start; removed = count; added = added; come = come })
+  rows : (texts : Bool) → flat_map (change_rows texts k) changes ≡ change_rows texts k (record { front = start; removed = count; added = added; come = come })
   few_hits : length come ≤ added
 
-nothing_put : (k start count added : ℕ) (changes : List Change) → count ≡ 0 → added ≡ 0 → flat_map (change_rows k) changes ≡ [] → ReportsFile k start count added changes
+nothing_put : (k start count added : ℕ) (changes : List Change) → count ≡ 0 → added ≡ 0 → ((texts : Bool) → flat_map (change_rows texts k) changes ≡ []) → ReportsFile k start count added changes
 nothing_put k start count added changes c a none = record {
   come = [];
-  rows = none ∙ sym (rows_none k (record { front = start; removed = count; added = added; come = [] }) c a);
+  rows = λ texts. none texts ∙ sym (rows_none texts k (record { front = start; removed = count; added = added; come = [] }) c a);
   few_hits = omega arith;
 }
 
@@ -196,24 +196,24 @@ reports_file es options k start count added n lines mark [] changes is s c =
   where
     by_start : Moves start count added start start → ReportsFile k start count added changes
     by_start (inl (h, e)) = absurd (omega (arith, h))
-    by_start (inr (past, e, f)) = nothing_put k start count added changes (omega (arith, e)) (omega (arith, f)) (ap (flat_map (change_rows k)) c)
+    by_start (inr (past, e, f)) = nothing_put k start count added changes (omega (arith, e)) (omega (arith, f)) (λ texts. ap (flat_map (change_rows texts k)) c)
 reports_file es options k start count added n lines mark (stretch ∷ []) [] is s c = absurd c
 reports_file es options k start count added n lines mark (stretch ∷ []) (change ∷ changes) is s (is_front, is_removed, is_added, are_hits, none) =
     by_way (pinned start count added stretch.kept stretch.removed stretch.added
     (λ line now h. only_moves start count added n mark s line now (subst (λ (l : List Stretch). Keeps l line now) (sym is) (keeps_one stretch line now h)))
     (λ line now h. stayed stretch line now (subst (λ (l : List Stretch). Keeps l line now) is (all_moves start count added n mark s line now h))))
   where
-    alone : flat_map (change_rows k) (change ∷ changes) ≡ change_rows k change
-    alone = ap (λ l. flat_map (change_rows k) (change ∷ l)) none ∙ append-nil (change_rows k change)
+    alone : (texts : Bool) → flat_map (change_rows texts k) (change ∷ changes) ≡ change_rows texts k change
+    alone texts = ap (λ l. flat_map (change_rows texts k) (change ∷ l)) none ∙ append-nil (change_rows texts k change)
 
     by_way : IsSpliced start count added stretch.kept stretch.removed stretch.added → ReportsFile k start count added (change ∷ changes)
-    by_way (inl (r, p, c, a)) = nothing_put k start count added (change ∷ changes) c a (alone ∙ rows_none k change (is_removed ∙ r) (is_added ∙ p))
+    by_way (inl (r, p, c, a)) = nothing_put k start count added (change ∷ changes) c a (λ texts. alone texts ∙ rows_none texts k change (is_removed ∙ r) (is_added ∙ p))
     by_way (inr (f, r, a)) =
         let first : change.front ≡ start = omega (arith, is_front, f) in
         let few = within_few (0 + stretch.kept) ((0 + stretch.kept) + ((stretch.kept + stretch.added) - stretch.kept)) change.come (come_within es options (0 + stretch.kept) stretch.kept (stretch.kept + stretch.added) lines change.come are_hits) in
         record {
           come = change.come;
-          rows = alone ∙ ap (change_rows k) (λ i. record { front = first i; removed = (is_removed ∙ r) i; added = (is_added ∙ a) i; come = change.come });
+          rows = λ texts. alone texts ∙ ap (change_rows texts k) (λ i. record { front = first i; removed = (is_removed ∙ r) i; added = (is_added ∙ a) i; come = change.come });
           few_hits = omega (arith, few, a);
         }
 reports_file es options k start count added n lines mark (stretch ∷ (other ∷ more)) changes is s c =
@@ -241,7 +241,7 @@ one_splice old new k start count lines es changes applies (mark, s, marked) are 
     let same : 0 + k ≡ k = omega arith in
     record {
       come = is.come;
-      rows = rows_of_one es options 0 k files changes new_file mark put.inside here ∙ ap (λ m. flat_map (change_rows m) (changes_at changes k)) same ∙ is.rows;
+      rows = λ texts. rows_of_one texts es options 0 k files changes new_file mark put.inside here ∙ ap (λ m. flat_map (change_rows texts m) (changes_at changes k)) same ∙ is.rows texts;
       few_hits = is.few_hits;
     }
 

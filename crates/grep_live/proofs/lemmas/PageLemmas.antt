@@ -1,5 +1,5 @@
 -- A page of hits, by those that are left.
-use Rattle.grep_live.proofs.Prelude.{◌≡◌, ℕ, zero, suc, ◌+◌, ◌-◌, ◌^◌, ◌<◌, ◌≤◌, List, [], ◌∷◌, ◌++◌, length, map, take, drop, get_or, min, Option, Result, Ok, Err, IfOk, refl, sym, ap, subst, ◌∙◌, arith, map-append, length-map, length-append, take_all, drop_all, Text, Expression, File, Inputs, Status, StatusOf, written, output_line, file_at, GoesOut, StopsWithin, Writes, IsStatusOfInputs, Hit, View, HitsFrom, AreHits, total_row, page_row, page_rows, all_hits, WritesPage, Mean, HitsBetween, IsFirst, IsPlaceAfter}
+use Rattle.grep_live.proofs.Prelude.{Bool, ◌≡◌, ℕ, zero, suc, ◌+◌, ◌-◌, ◌^◌, ◌<◌, ◌≤◌, List, [], ◌∷◌, ◌++◌, length, map, take, drop, get_or, min, Option, Result, Ok, Err, IfOk, refl, sym, ap, subst, ◌∙◌, arith, map-append, length-map, length-append, take_all, drop_all, Text, Expression, File, Inputs, Status, StatusOf, written, output_line, file_at, GoesOut, StopsWithin, Writes, IsStatusOfInputs, Hit, View, HitsFrom, AreHits, total_row, page_row, page_rows, all_hits, WritesPage, Mean, HitsBetween, IsFirst, IsPlaceAfter}
 use Rattle.grep_session.proofs.lemmas.Writing.{drop-next, WrittenUpTo, none_written, written_on, all_written, broken_off, one_went, one_stopped}
 use Rattle.grep_live.proofs.lemmas.ListingLemmas.{HitsFrom-exist, with_parts}
 use Rattle.grep_live.proofs.lemmas.NumberLemmas.{counted_before}
@@ -34,50 +34,50 @@ part_append A zero (suc l) (x ∷ xs) ys =
     let same_s : 0 - length xs ≡ 0 - suc (length xs) = omega arith in
     ap (λ t. x ∷ t) (part_append A zero l xs ys ∙ (λ i. take l xs ++ take (same_l i) (drop (same_s i) ys)))
 
-pub page_none : (s l : ℕ) → page_rows s l [] ≡ []
-page_none s l = ap (λ t. map page_row (take l t)) (drop-none (ℕ × Hit) s) ∙ ap (map page_row) (take-none (ℕ × Hit) l)
+pub page_none : (texts : Bool) (s l : ℕ) → page_rows texts s l [] ≡ []
+page_none texts s l = ap (λ t. map (page_row texts) (take l t)) (drop-none (ℕ × Hit) s) ∙ ap (map (page_row texts)) (take-none (ℕ × Hit) l)
 
-pub page_append : (s l n : ℕ) (xs ys : List (ℕ × Hit)) → length xs ≡ n → page_rows s l (xs ++ ys) ≡ page_rows s l xs ++ page_rows (s - n) (l - (n - s)) ys
-page_append s l n xs ys e =
-    ap (map page_row) (part_append (ℕ × Hit) s l xs ys) ∙ map-append page_row (take l (drop s xs)) (take (l - (length xs - s)) (drop (s - length xs) ys))
-    ∙ ap (λ m. page_rows s l xs ++ page_rows (s - m) (l - (m - s)) ys) e
+pub page_append : (texts : Bool) (s l n : ℕ) (xs ys : List (ℕ × Hit)) → length xs ≡ n → page_rows texts s l (xs ++ ys) ≡ page_rows texts s l xs ++ page_rows texts (s - n) (l - (n - s)) ys
+page_append texts s l n xs ys e =
+    ap (map (page_row texts)) (part_append (ℕ × Hit) s l xs ys) ∙ map-append (page_row texts) (take l (drop s xs)) (take (l - (length xs - s)) (drop (s - length xs) ys))
+    ∙ ap (λ m. page_rows texts s l xs ++ page_rows texts (s - m) (l - (m - s)) ys) e
 
 -- ---- hits that are not looked for
 
 -- all are skipped
-pub all_passed : (s l : ℕ) (xs : List (ℕ × Hit)) → length xs ≤ s → page_rows s l xs ≡ []
-all_passed s l xs h = ap (λ t. map page_row (take l t)) (drop_all s xs h) ∙ ap (map page_row) (take-none (ℕ × Hit) l)
+pub all_passed : (texts : Bool) (s l : ℕ) (xs : List (ℕ × Hit)) → length xs ≤ s → page_rows texts s l xs ≡ []
+all_passed texts s l xs h = ap (λ t. map (page_row texts) (take l t)) (drop_all s xs h) ∙ ap (map (page_row texts)) (take-none (ℕ × Hit) l)
 
 -- the page is full
-pub page_full : (s : ℕ) (l : ℕ) (xs : List (ℕ × Hit)) → l ≡ 0 → page_rows s l xs ≡ []
-page_full s l xs e = ap (λ n. map page_row (take n (drop s xs))) e
+pub page_full : (texts : Bool) (s : ℕ) (l : ℕ) (xs : List (ℕ × Hit)) → l ≡ 0 → page_rows texts s l xs ≡ []
+page_full texts s l xs e = ap (λ n. map (page_row texts) (take n (drop s xs))) e
 
 -- as many as are skipped come first
-pub page_after : (s l : ℕ) (front back : List (ℕ × Hit)) → s ≡ length front → page_rows s l (front ++ back) ≡ page_rows 0 l back
-page_after s l front back e =
+pub page_after : (texts : Bool) (s l : ℕ) (front back : List (ℕ × Hit)) → s ≡ length front → page_rows texts s l (front ++ back) ≡ page_rows texts 0 l back
+page_after texts s l front back e =
     let skip : s - s ≡ 0 = omega arith in
     let left : l - (s - s) ≡ l = omega arith in
-    page_append s l s front back (sym e) ∙ ap (λ rows. rows ++ page_rows (s - s) (l - (s - s)) back) (all_passed s l front (omega (arith, e))) ∙ (λ i. page_rows (skip i) (left i) back)
+    page_append texts s l s front back (sym e) ∙ ap (λ rows. rows ++ page_rows texts (s - s) (l - (s - s)) back) (all_passed texts s l front (omega (arith, e))) ∙ (λ i. page_rows texts (skip i) (left i) back)
 
 -- one of those that are left
-page_next : (l : ℕ) (x : ℕ × Hit) (xs : List (ℕ × Hit)) → 0 < l → page_rows 0 l (x ∷ xs) ≡ page_row x ∷ page_rows 0 (l - 1) xs
-page_next zero x xs h = absurd (omega (arith, h))
-page_next (suc l) x xs h =
+page_next : (texts : Bool) (l : ℕ) (x : ℕ × Hit) (xs : List (ℕ × Hit)) → 0 < l → page_rows texts 0 l (x ∷ xs) ≡ page_row texts x ∷ page_rows texts 0 (l - 1) xs
+page_next texts zero x xs h = absurd (omega (arith, h))
+page_next texts (suc l) x xs h =
     let same : l ≡ suc l - 1 = omega arith in
-    ap (λ n. page_row x ∷ page_rows 0 n xs) same
+    ap (λ n. page_row texts x ∷ page_rows texts 0 n xs) same
 
 -- ---- the hits of some lines of one file
 
-module _ (inputs : Inputs) (k from to count : ℕ) {W : Type 0} (contents : W → Option Text) (failures : W → ℕ) (margin : Text) where
+module _ (texts : Bool) (inputs : Inputs) (k from to count : ℕ) {W : Type 0} (contents : W → Option Text) (failures : W → ℕ) (margin : Text) where
   abbrev rows : ℕ → List Hit → List Text
-  rows left hits = page_rows 0 left (map (λ hit. (k, hit)) hits)
+  rows left hits = page_rows texts 0 left (map (λ hit. (k, hit)) hits)
 
   -- this number of hits was shown, and these are left
   pub record ShownUpTo (old now : W) (es : List Expression) (place shown : ℕ) (all : List Hit) : Type 0 where
     pub rest : List Hit
     pub are_rest : HitsBetween es inputs k place to rest
     pub counted : length all ≡ shown + length rest
-    pub wrote : WrittenUpTo contents failures margin old now (page_rows 0 count (map (λ hit. (k, hit)) all)) (page_rows 0 (count - shown) (map (λ hit. (k, hit)) rest))
+    pub wrote : WrittenUpTo contents failures margin old now (page_rows texts 0 count (map (λ hit. (k, hit)) all)) (page_rows texts 0 (count - shown) (map (λ hit. (k, hit)) rest))
 
   abbrev pub Shows : W → W → ℕ → ℕ → Type 0
   Shows old now place shown = (es : List Expression) → Mean inputs es → (all : List Hit) → HitsBetween es inputs k from to all → ShownUpTo old now es place shown all
@@ -95,14 +95,14 @@ module _ (inputs : Inputs) (k from to count : ℕ) {W : Type 0} (contents : W �
   module _ (es : List Expression) (all : List Hit) (a b : W) (place shown : ℕ) (s : ShownUpTo a b es place shown all) where
     module _ (at : ℕ) (text : Text) (parts : List (ℕ × ℕ)) (f : IsFirst es inputs k to at text parts s.rest) (more : shown < count) (c : W) where
       abbrev row : Text
-      row = page_row (k, record { place = at; text = text; parts = parts })
+      row = page_row texts (k, record { place = at; text = text; parts = parts })
 
       next_row : rows (count - shown) s.rest ≡ row ∷ rows (count - (shown + 1)) f.rest
       next_row =
           let one_less : (count - shown) - 1 ≡ count - (shown + 1) = omega arith in
-          ap (rows (count - shown)) f.joined ∙ page_next (count - shown) (k, record { place = at; text = text; parts = parts }) (map (λ hit. (k, hit)) f.rest) (omega (arith, more)) ∙ ap (λ n. row ∷ rows n f.rest) one_less
+          ap (rows (count - shown)) f.joined ∙ page_next texts (count - shown) (k, record { place = at; text = text; parts = parts }) (map (λ hit. (k, hit)) f.rest) (omega (arith, more)) ∙ ap (λ n. row ∷ rows n f.rest) one_less
 
-      pub shown_one : GoesOut contents failures b c (output_line margin (page_row (k, record { place = at; text = text; parts = parts }))) → ShownUpTo a c es (at + 1) (shown + 1) all
+      pub shown_one : GoesOut contents failures b c (output_line margin (page_row texts (k, record { place = at; text = text; parts = parts }))) → ShownUpTo a c es (at + 1) (shown + 1) all
       shown_one went = record {
         rest = f.rest;
         are_rest = f.are_rest;
@@ -110,23 +110,23 @@ module _ (inputs : Inputs) (k from to count : ℕ) {W : Type 0} (contents : W �
         wrote = written_on contents failures margin a b c (rows count all) (rows (count - shown) s.rest) (row ∷ []) (rows (count - (shown + 1)) f.rest) next_row s.wrote (one_went contents failures margin b c row went);
       }
 
-      pub shown_stops : StopsWithin contents failures b c (output_line margin (page_row (k, record { place = at; text = text; parts = parts }))) → StopsWithin contents failures a c (written margin (page_rows 0 count (map (λ hit. (k, hit)) all)))
+      pub shown_stops : StopsWithin contents failures b c (output_line margin (page_row texts (k, record { place = at; text = text; parts = parts }))) → StopsWithin contents failures a c (written margin (page_rows texts 0 count (map (λ hit. (k, hit)) all)))
       shown_stops stops = broken_off contents failures margin a b c (rows count all) (rows (count - shown) s.rest) (row ∷ []) (rows (count - (shown + 1)) f.rest) next_row s.wrote (one_stopped contents failures margin b c row stops)
 
     -- no hit is left
     module _ (none : s.rest ≡ []) where
-      pub shown_all : GoesOut contents failures a b (written margin (page_rows 0 count (map (λ hit. (k, hit)) all)))
-      shown_all = all_written contents failures margin a b (rows count all) (rows (count - shown) s.rest) (ap (rows (count - shown)) none ∙ page_none 0 (count - shown)) s.wrote
+      pub shown_all : GoesOut contents failures a b (written margin (page_rows texts 0 count (map (λ hit. (k, hit)) all)))
+      shown_all = all_written contents failures margin a b (rows count all) (rows (count - shown) s.rest) (ap (rows (count - shown)) none ∙ page_none texts 0 (count - shown)) s.wrote
 
       pub shown_rest : count - shown ≡ count - length all
       shown_rest = omega (arith, s.counted, ap length none)
 
     -- the page is full
     module _ (full : count ≤ shown) where
-      pub full_all : GoesOut contents failures a b (written margin (page_rows 0 count (map (λ hit. (k, hit)) all)))
+      pub full_all : GoesOut contents failures a b (written margin (page_rows texts 0 count (map (λ hit. (k, hit)) all)))
       full_all =
           let none : count - shown ≡ 0 = omega (arith, full) in
-          all_written contents failures margin a b (rows count all) (rows (count - shown) s.rest) (page_full 0 (count - shown) (map (λ hit. (k, hit)) s.rest) none) s.wrote
+          all_written contents failures margin a b (rows count all) (rows (count - shown) s.rest) (page_full texts 0 (count - shown) (map (λ hit. (k, hit)) s.rest) none) s.wrote
 
       pub full_rest : 0 ≡ count - length all
       full_rest = omega (arith, full, s.counted)
@@ -134,22 +134,22 @@ module _ (inputs : Inputs) (k from to count : ℕ) {W : Type 0} (contents : W �
 -- ---- the hits of one file
 
 -- those after a place before which as many are as the page skips
-pub record IsShownFrom (es : List Expression) (inputs : Inputs) (k place skip left : ℕ) (hits : List Hit) : Type 0 where
+pub record IsShownFrom (texts : Bool) (es : List Expression) (inputs : Inputs) (k place skip left : ℕ) (hits : List Hit) : Type 0 where
   pub shown : List Hit
   pub are_shown : HitsBetween es inputs k place (length (file_at inputs.files k).lines) shown
   pub counted : length hits ≡ skip + length shown
-  pub rows : page_rows skip left (map (λ hit. (k, hit)) hits) ≡ page_rows 0 left (map (λ hit. (k, hit)) shown)
+  pub rows : page_rows texts skip left (map (λ hit. (k, hit)) hits) ≡ page_rows texts 0 left (map (λ hit. (k, hit)) shown)
 
-pub shown_from : (es : List Expression) (inputs : Inputs) (k place skip left : ℕ) (hits : List Hit) → place ≤ length (file_at inputs.files k).lines → IsPlaceAfter es inputs k skip place → HitsBetween es inputs k 0 (length (file_at inputs.files k).lines) hits → IsShownFrom es inputs k place skip left hits
-shown_from es inputs k place skip left hits within is are =
+pub shown_from : (texts : Bool) (es : List Expression) (inputs : Inputs) (k place skip left : ℕ) (hits : List Hit) → place ≤ length (file_at inputs.files k).lines → IsPlaceAfter es inputs k skip place → HitsBetween es inputs k 0 (length (file_at inputs.files k).lines) hits → IsShownFrom texts es inputs k place skip left hits
+shown_from texts es inputs k place skip left hits within is are =
     let p = with_parts es inputs k 0 place (length (file_at inputs.files k).lines) hits (omega arith) within within are in
     let skipped : skip ≡ length p.front = counted_before es inputs k place skip is.counted p.front p.is_front in
     record {
       shown = p.back;
       are_shown = p.is_back;
       counted = omega (arith, ap length p.joined, length-append p.front p.back, skipped);
-      rows = ap (λ l. page_rows skip left (map (λ hit. (k, hit)) l)) p.joined ∙ ap (page_rows skip left) (map-append (λ hit. (k, hit)) p.front p.back)
-          ∙ page_after skip left (map (λ hit. (k, hit)) p.front) (map (λ hit. (k, hit)) p.back) (skipped ∙ sym (length-map p.front (λ hit. (k, hit))));
+      rows = ap (λ l. page_rows texts skip left (map (λ hit. (k, hit)) l)) p.joined ∙ ap (page_rows texts skip left) (map-append (λ hit. (k, hit)) p.front p.back)
+          ∙ page_after texts skip left (map (λ hit. (k, hit)) p.front) (map (λ hit. (k, hit)) p.back) (skipped ∙ sym (length-map p.front (λ hit. (k, hit))));
     }
 
 -- ---- the hits of all files
@@ -191,27 +191,27 @@ files_all view k total past s =
     let all : s.passed ≡ length (all_hits 0 view) = omega (arith, s.counted, none) in
     s.is_total ∙ ap (λ n. min n (2 ^ 64 - 1)) all
 
-module _ {W : Type 0} (contents : W → Option Text) (failures : W → ℕ) (margin : Text) (first count : ℕ) (view : View) (a b c : W) where
+module _ (texts : Bool) {W : Type 0} (contents : W → Option Text) (failures : W → ℕ) (margin : Text) (first count : ℕ) (view : View) (a b c : W) where
   abbrev pub PagedUpTo : W → W → ℕ → ℕ → ℕ → Type 0
-  PagedUpTo old now k skip left = WrittenUpTo contents failures margin old now (page_rows first count (all_hits 0 view)) (page_rows skip left (all_hits k (drop k view)))
+  PagedUpTo old now k skip left = WrittenUpTo contents failures margin old now (page_rows texts first count (all_hits 0 view)) (page_rows texts skip left (all_hits k (drop k view)))
 
   module _ (k skip left : ℕ) (inside : k < length view) (s : PagedUpTo a b k skip left) where
-    next_page : page_rows skip left (all_hits k (drop k view)) ≡ page_rows skip left (map (λ hit. (k, hit)) (get_or view k [])) ++ page_rows (skip - length (get_or view k [])) (left - (length (get_or view k []) - skip)) (all_hits (k + 1) (drop (k + 1) view))
+    next_page : page_rows texts skip left (all_hits k (drop k view)) ≡ page_rows texts skip left (map (λ hit. (k, hit)) (get_or view k [])) ++ page_rows texts (skip - length (get_or view k [])) (left - (length (get_or view k []) - skip)) (all_hits (k + 1) (drop (k + 1) view))
     next_page =
-        ap (page_rows skip left) (next_file view k inside) ∙ page_append skip left (length (get_or view k [])) (map (λ hit. (k, hit)) (get_or view k [])) (all_hits (k + 1) (drop (k + 1) view)) (length-map (get_or view k []) (λ hit. (k, hit)))
+        ap (page_rows texts skip left) (next_file view k inside) ∙ page_append texts skip left (length (get_or view k [])) (map (λ hit. (k, hit)) (get_or view k [])) (all_hits (k + 1) (drop (k + 1) view)) (length-map (get_or view k []) (λ hit. (k, hit)))
 
-    pub paged_on : (skip_now left_now : ℕ) → skip_now ≡ skip - length (get_or view k []) → left_now ≡ left - (length (get_or view k []) - skip) → GoesOut contents failures b c (written margin (page_rows skip left (map (λ hit. (k, hit)) (get_or view k [])))) → PagedUpTo a c (k + 1) skip_now left_now
+    pub paged_on : (skip_now left_now : ℕ) → skip_now ≡ skip - length (get_or view k []) → left_now ≡ left - (length (get_or view k []) - skip) → GoesOut contents failures b c (written margin (page_rows texts skip left (map (λ hit. (k, hit)) (get_or view k [])))) → PagedUpTo a c (k + 1) skip_now left_now
     paged_on skip_now left_now is_skip is_left went =
         subst (λ (p : ℕ × ℕ). PagedUpTo a c (k + 1) p.0 p.1) (λ i. (sym is_skip i, sym is_left i))
-        (written_on contents failures margin a b c (page_rows first count (all_hits 0 view)) (page_rows skip left (all_hits k (drop k view))) (page_rows skip left (map (λ hit. (k, hit)) (get_or view k []))) (page_rows (skip - length (get_or view k [])) (left - (length (get_or view k []) - skip)) (all_hits (k + 1) (drop (k + 1) view))) next_page s went)
+        (written_on contents failures margin a b c (page_rows texts first count (all_hits 0 view)) (page_rows texts skip left (all_hits k (drop k view))) (page_rows texts skip left (map (λ hit. (k, hit)) (get_or view k []))) (page_rows texts (skip - length (get_or view k [])) (left - (length (get_or view k []) - skip)) (all_hits (k + 1) (drop (k + 1) view))) next_page s went)
 
-    pub paged_stops : StopsWithin contents failures b c (written margin (page_rows skip left (map (λ hit. (k, hit)) (get_or view k [])))) → StopsWithin contents failures a c (written margin (page_rows first count (all_hits 0 view)))
+    pub paged_stops : StopsWithin contents failures b c (written margin (page_rows texts skip left (map (λ hit. (k, hit)) (get_or view k [])))) → StopsWithin contents failures a c (written margin (page_rows texts first count (all_hits 0 view)))
     paged_stops stopped =
-        broken_off contents failures margin a b c (page_rows first count (all_hits 0 view)) (page_rows skip left (all_hits k (drop k view))) (page_rows skip left (map (λ hit. (k, hit)) (get_or view k []))) (page_rows (skip - length (get_or view k [])) (left - (length (get_or view k []) - skip)) (all_hits (k + 1) (drop (k + 1) view))) next_page s stopped
+        broken_off contents failures margin a b c (page_rows texts first count (all_hits 0 view)) (page_rows texts skip left (all_hits k (drop k view))) (page_rows texts skip left (map (λ hit. (k, hit)) (get_or view k []))) (page_rows texts (skip - length (get_or view k [])) (left - (length (get_or view k []) - skip)) (all_hits (k + 1) (drop (k + 1) view))) next_page s stopped
 
-  pub paged_all : (k skip left : ℕ) → length view ≤ k → PagedUpTo a b k skip left → GoesOut contents failures a b (written margin (page_rows first count (all_hits 0 view)))
+  pub paged_all : (k skip left : ℕ) → length view ≤ k → PagedUpTo a b k skip left → GoesOut contents failures a b (written margin (page_rows texts first count (all_hits 0 view)))
   paged_all k skip left past s =
-      all_written contents failures margin a b (page_rows first count (all_hits 0 view)) (page_rows skip left (all_hits k (drop k view))) (ap (λ v. page_rows skip left (all_hits k v)) (drop_all k view past) ∙ page_none skip left) s
+      all_written contents failures margin a b (page_rows texts first count (all_hits 0 view)) (page_rows texts skip left (all_hits k (drop k view))) (ap (λ v. page_rows texts skip left (all_hits k v)) (drop_all k view past) ∙ page_none texts skip left) s
 
 -- ---- what is shown
 
@@ -222,11 +222,11 @@ hits_exist es inputs (file ∷ files) =
     let more = hits_exist es inputs files in
     (own.0 ∷ more.0, (own.1, more.1))
 
-module _ {W : Type 0} (contents : W → Option Text) (failures : W → ℕ) (margin : Text) (begun ended : W) (inputs : Inputs) (first count : ℕ) (status : Status) where
+module _ (texts : Bool) {W : Type 0} (contents : W → Option Text) (failures : W → ℕ) (margin : Text) (begun ended : W) (inputs : Inputs) (first count : ℕ) (status : Status) where
   pub shows_page : (E : Type 0) (result : Result Status E) → IsStatusOfInputs inputs status →
       ((es : List Expression) → Mean inputs es → (view : View) → AreHits es inputs.options inputs.files view →
-      Writes contents failures begun ended (written margin (total_row (min (length (all_hits 0 view)) (2 ^ 64 - 1)) ∷ page_rows first count (all_hits 0 view))) result) →
-      IfOk result (λ answer. answer ≡ status) → WritesPage contents failures margin begun ended inputs first count result
+      Writes contents failures begun ended (written margin (total_row (min (length (all_hits 0 view)) (2 ^ 64 - 1)) ∷ page_rows texts first count (all_hits 0 view))) result) →
+      IfOk result (λ answer. answer ≡ status) → WritesPage contents failures margin texts begun ended inputs first count result
   shows_page E (Ok answer) is wrote e =
       let es = is.gives.es in
       let meant = is.gives.are_meant in

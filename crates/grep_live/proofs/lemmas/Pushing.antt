@@ -29,13 +29,13 @@ module _ {W : Type 0} (contents : W → Option Text) (failures : W → ℕ) {A :
   each_all a b i h went = subst (λ l. GoesOut contents failures a b (flat_map f l)) (take_all i xs h) went
 
 -- the parts of a row, in another grouping
-pub row_grouped : (margin word numbers parts text : Text) →
-    (margin ++ (word ++ numbers)) ++ (32 ∷ (parts ++ (32 ∷ (text ++ newline ∷ [])))) ≡ output_line margin (word ++ (numbers ++ (32 ∷ (parts ++ (32 ∷ text)))))
-row_grouped margin word numbers parts text =
+pub row_grouped : (margin word numbers parts end : Text) →
+    (margin ++ (word ++ numbers)) ++ (32 ∷ (parts ++ (end ++ newline ∷ []))) ≡ output_line margin (word ++ (numbers ++ (32 ∷ (parts ++ end))))
+row_grouped margin word numbers parts end =
     let nl : Text = newline ∷ [] in
-    let inner : parts ++ (32 ∷ (text ++ nl)) ≡ (parts ++ (32 ∷ text)) ++ nl = sym (append_assoc parts (32 ∷ text) nl) in
-    let body : Text = 32 ∷ (parts ++ (32 ∷ text)) in
-    append_assoc margin (word ++ numbers) (32 ∷ (parts ++ (32 ∷ (text ++ nl))))
+    let inner : parts ++ (end ++ nl) ≡ (parts ++ end) ++ nl = sym (append_assoc parts end nl) in
+    let body : Text = 32 ∷ (parts ++ end) in
+    append_assoc margin (word ++ numbers) (32 ∷ (parts ++ (end ++ nl)))
     ∙ ap (λ l. margin ++ ((word ++ numbers) ++ (32 ∷ l))) inner
     ∙ ap (λ l. margin ++ l) (sym (append_assoc (word ++ numbers) body nl) ∙ ap (λ l. l ++ nl) (append_assoc word numbers body))
     ∙ sym (append_assoc margin (word ++ (numbers ++ body)) nl)

@@ -1,4 +1,4 @@
-use Rattle.grep_cmd.proofs.Prelude.{◌≡◌, [], ◌∷◌, ◌++◌, rules, subst, sym, ap, ◌∙◌, refl, arith, Err, HasNoNewline, IsOneLineAndFew, Numbered, Clean, Memory, GaveLines, ScriptGives, AnsweredSoFar, HasRead}
+use Rattle.grep_cmd.proofs.Prelude.{true, state_of, ◌≡◌, [], ◌∷◌, ◌++◌, rules, subst, sym, ap, ◌∙◌, refl, arith, Err, HasNoNewline, IsOneLineAndFew, Numbered, Clean, Memory, GaveLines, ScriptGives, AnsweredSoFar, HasRead}
 use Rattle.grep_core.proofs.lemmas.NumberedLemmas.{has_handed_none}
 use Rattle.grep_cmd.proofs.lemmas.ScriptRuns.{so_far_none, so_far_accepted, so_far_refused, ends_here, next_fails, ends_truncated, answer_fails, grows, sends_after, gives_by_reader, runs_out_at_once}
 use Rattle.grep_cmd.proofs.script.run_script.Goals.{in-Ok-false, in-Err-next_line, in-Ok-true+in-Ok-Truncated, in-Ok-true+in-Err-answer_command}
@@ -12,7 +12,7 @@ loop-fault-init g c =
     let lines = c.in-Ok.lines in
     let is = c.in-Ok.ensures.ok in
     let none = has_handed_none (λ r. g.R.CountedRead.remaining r.now) (λ r. g.R.CountedRead.failures r.now) lines (ap (λ (n : Numbered _). n.lines.ahead) is) (ap (λ (n : Numbered _). n.lines.stage) is) (ap (λ (n : Numbered _). n.number) is) in (
-      subst (λ watched. AnsweredSoFar (λ r. g.R.CountedRead.remaining r.now) (λ r. g.R.CountedRead.failures r.now) g.W.CountedWrite.contents g.W.CountedWrite.failures lines.lines.reader c.args.states c.args.meter.now c.args.writer.now lines watched c.args.meter.now c.args.writer.now Clean) (sym c.new-session.ensures)
+      subst (λ watched. AnsweredSoFar (λ r. g.R.CountedRead.remaining r.now) (λ r. g.R.CountedRead.failures r.now) g.W.CountedWrite.contents g.W.CountedWrite.failures lines.lines.reader c.args.states c.args.meter.now c.args.writer.now lines (state_of watched true) c.args.meter.now c.args.writer.now Clean) (sym c.new-session.ensures)
           (so_far_none (λ r. g.R.CountedRead.remaining r.now) (λ r. g.R.CountedRead.failures r.now) g.W.CountedWrite.contents g.W.CountedWrite.failures lines.lines.reader c.args.states c.args.meter.now c.args.writer.now lines none),
       refl,
       subst IsOneLineAndFew (sym (ap (λ (n : Numbered _). n.lines.ahead) is)) none_in_nothing,
@@ -24,7 +24,7 @@ loop-fault-preserved-in-Ok-Accepted g c =
     let next = rw c.in-Ok-true.field-0-test at c.in-Ok-true.ensures.next in
     let handed = next c.in-Ok.lines.lines.reader s.handed s.has_handed in
     let a = rw c.in-Ok-Accepted.field-0-is at c.in-Ok-Accepted.ensures.answers c.in-Ok.lines.lines.reader (s.handed ++ c.next_line.new.lines.lines.line ∷ []) handed in
-    (so_far_accepted (λ r. g.R.CountedRead.remaining r.now) (λ r. g.R.CountedRead.failures r.now) g.W.CountedWrite.contents g.W.CountedWrite.failures c.in-Ok.lines.lines.reader c.args.states c.args.meter.now c.args.writer.now c.loop-fault.lines c.loop-fault.session c.loop-fault.meter c.loop-fault.writer c.loop-fault.end c.loop-fault.invariant.0 c.next_line.new.lines.lines.line c.next_line.new.out c.in-Ok-true.ensures.sent c.answer_command.new.lines c.answer_command.new.session c.answer_command.new.meter c.answer_command.new.out a.0 a.1 a.2 a.3, c.answer_command.ensures.same_loan ∙ c.next_line.ensures.same_loan ∙ c.loop-fault.invariant.1, c.answer_command.ensures.held (c.next_line.ensures.held c.loop-fault.invariant.2))
+    (so_far_accepted (λ r. g.R.CountedRead.remaining r.now) (λ r. g.R.CountedRead.failures r.now) g.W.CountedWrite.contents g.W.CountedWrite.failures c.in-Ok.lines.lines.reader c.args.states c.args.meter.now c.args.writer.now c.loop-fault.lines (state_of c.loop-fault.session c.loop-fault.has_text) c.loop-fault.meter c.loop-fault.writer c.loop-fault.end c.loop-fault.invariant.0 c.next_line.new.lines.lines.line c.next_line.new.out c.in-Ok-true.ensures.sent c.answer_command.new.lines (state_of c.answer_command.new.session c.answer_command.new.has_text) c.answer_command.new.meter c.answer_command.new.out a.0 a.1 a.2 a.3, c.answer_command.ensures.same_loan ∙ c.next_line.ensures.same_loan ∙ c.loop-fault.invariant.1, c.answer_command.ensures.held (c.next_line.ensures.held c.loop-fault.invariant.2))
 
 pub loop-fault-smaller-in-Ok-Accepted : goal.loop-fault-smaller-in-Ok-Accepted
 loop-fault-smaller-in-Ok-Accepted g c =
@@ -32,7 +32,7 @@ loop-fault-smaller-in-Ok-Accepted g c =
     let next = rw c.in-Ok-true.field-0-test at c.in-Ok-true.ensures.next in
     let handed = next c.in-Ok.lines.lines.reader s.handed s.has_handed in
     let a = rw c.in-Ok-Accepted.field-0-is at c.in-Ok-Accepted.ensures.answers c.in-Ok.lines.lines.reader (s.handed ++ c.next_line.new.lines.lines.line ∷ []) handed in
-    let more = grows (λ r. g.R.CountedRead.remaining r.now) (λ r. g.R.CountedRead.failures r.now) g.W.CountedWrite.contents g.W.CountedWrite.failures c.in-Ok.lines.lines.reader c.args.states c.args.meter.now c.args.writer.now c.loop-fault.lines c.loop-fault.session c.loop-fault.meter c.loop-fault.writer c.loop-fault.end c.loop-fault.invariant.0 c.next_line.new.lines.lines.line c.next_line.new.out c.in-Ok-true.ensures.sent c.answer_command.new.lines c.answer_command.new.session c.answer_command.new.meter c.answer_command.new.out a.1.taken a.1.has_handed in
+    let more = grows (λ r. g.R.CountedRead.remaining r.now) (λ r. g.R.CountedRead.failures r.now) g.W.CountedWrite.contents g.W.CountedWrite.failures c.in-Ok.lines.lines.reader c.args.states c.args.meter.now c.args.writer.now c.loop-fault.lines (state_of c.loop-fault.session c.loop-fault.has_text) c.loop-fault.meter c.loop-fault.writer c.loop-fault.end c.loop-fault.invariant.0 c.next_line.new.lines.lines.line c.next_line.new.out c.in-Ok-true.ensures.sent c.answer_command.new.lines (state_of c.answer_command.new.session c.answer_command.new.has_text) c.answer_command.new.meter c.answer_command.new.out a.1.taken a.1.has_handed in
     omega (arith, more.0, more.1)
 
 pub loop-fault-preserved : goal.loop-fault-preserved
@@ -41,7 +41,7 @@ loop-fault-preserved g c =
     let next = rw c.in-Ok-true.field-0-test at c.in-Ok-true.ensures.next in
     let handed = next c.in-Ok.lines.lines.reader s.handed s.has_handed in
     let a = rw c.in-Ok-Refused.field-0-is at c.in-Ok-Refused.ensures.answers c.in-Ok.lines.lines.reader (s.handed ++ c.next_line.new.lines.lines.line ∷ []) handed in
-    (so_far_refused (λ r. g.R.CountedRead.remaining r.now) (λ r. g.R.CountedRead.failures r.now) g.W.CountedWrite.contents g.W.CountedWrite.failures c.in-Ok.lines.lines.reader c.args.states c.args.meter.now c.args.writer.now c.loop-fault.lines c.loop-fault.session c.loop-fault.meter c.loop-fault.writer c.loop-fault.end c.loop-fault.invariant.0 c.next_line.new.lines.lines.line c.next_line.new.out c.in-Ok-true.ensures.sent c.answer_command.new.lines c.answer_command.new.session c.answer_command.new.meter c.answer_command.new.out a.0 a.1 a.2 a.3, c.answer_command.ensures.same_loan ∙ c.next_line.ensures.same_loan ∙ c.loop-fault.invariant.1, c.answer_command.ensures.held (c.next_line.ensures.held c.loop-fault.invariant.2))
+    (so_far_refused (λ r. g.R.CountedRead.remaining r.now) (λ r. g.R.CountedRead.failures r.now) g.W.CountedWrite.contents g.W.CountedWrite.failures c.in-Ok.lines.lines.reader c.args.states c.args.meter.now c.args.writer.now c.loop-fault.lines (state_of c.loop-fault.session c.loop-fault.has_text) c.loop-fault.meter c.loop-fault.writer c.loop-fault.end c.loop-fault.invariant.0 c.next_line.new.lines.lines.line c.next_line.new.out c.in-Ok-true.ensures.sent c.answer_command.new.lines (state_of c.answer_command.new.session c.answer_command.new.has_text) c.answer_command.new.meter c.answer_command.new.out a.0 a.1 a.2 a.3, c.answer_command.ensures.same_loan ∙ c.next_line.ensures.same_loan ∙ c.loop-fault.invariant.1, c.answer_command.ensures.held (c.next_line.ensures.held c.loop-fault.invariant.2))
 
 pub loop-fault-smaller : goal.loop-fault-smaller
 loop-fault-smaller g c =
@@ -49,7 +49,7 @@ loop-fault-smaller g c =
     let next = rw c.in-Ok-true.field-0-test at c.in-Ok-true.ensures.next in
     let handed = next c.in-Ok.lines.lines.reader s.handed s.has_handed in
     let a = rw c.in-Ok-Refused.field-0-is at c.in-Ok-Refused.ensures.answers c.in-Ok.lines.lines.reader (s.handed ++ c.next_line.new.lines.lines.line ∷ []) handed in
-    let more = grows (λ r. g.R.CountedRead.remaining r.now) (λ r. g.R.CountedRead.failures r.now) g.W.CountedWrite.contents g.W.CountedWrite.failures c.in-Ok.lines.lines.reader c.args.states c.args.meter.now c.args.writer.now c.loop-fault.lines c.loop-fault.session c.loop-fault.meter c.loop-fault.writer c.loop-fault.end c.loop-fault.invariant.0 c.next_line.new.lines.lines.line c.next_line.new.out c.in-Ok-true.ensures.sent c.answer_command.new.lines c.answer_command.new.session c.answer_command.new.meter c.answer_command.new.out a.1.taken a.1.has_handed in
+    let more = grows (λ r. g.R.CountedRead.remaining r.now) (λ r. g.R.CountedRead.failures r.now) g.W.CountedWrite.contents g.W.CountedWrite.failures c.in-Ok.lines.lines.reader c.args.states c.args.meter.now c.args.writer.now c.loop-fault.lines (state_of c.loop-fault.session c.loop-fault.has_text) c.loop-fault.meter c.loop-fault.writer c.loop-fault.end c.loop-fault.invariant.0 c.next_line.new.lines.lines.line c.next_line.new.out c.in-Ok-true.ensures.sent c.answer_command.new.lines (state_of c.answer_command.new.session c.answer_command.new.has_text) c.answer_command.new.meter c.answer_command.new.out a.1.taken a.1.has_handed in
     omega (arith, more.0, more.1)
 
 pub answer_command-requires : goal.answer_command-requires
@@ -78,18 +78,18 @@ returns-clause-gives g c =
     × (then.lines.lines.reader.ghost_name ≡ reader.ghost_name) = elim c.match-next_line.branch [
       | in-Ok-false w ↦
           let next = rw w.in-Ok-false.field-0-test at w.in-Ok-false.ensures.next in
-          rw w.lines-is (rw w.meter-is (rw w.writer-is (rw w.ended-is (ends_here (λ r. g.R.CountedRead.remaining r.now) (λ r. g.R.CountedRead.failures r.now) g.W.CountedWrite.contents g.W.CountedWrite.failures reader c.args.states c.args.meter.now c.args.writer.now c.loop-fault.lines c.loop-fault.session c.loop-fault.meter c.loop-fault.writer c.loop-fault.end s c.next_line.new.lines c.next_line.new.out (next reader s.handed s.has_handed) w.in-Ok-false.ensures.sent, c.next_line.ensures.same_loan ∙ c.loop-fault.invariant.1))))
+          rw w.lines-is (rw w.meter-is (rw w.writer-is (rw w.ended-is (ends_here (λ r. g.R.CountedRead.remaining r.now) (λ r. g.R.CountedRead.failures r.now) g.W.CountedWrite.contents g.W.CountedWrite.failures reader c.args.states c.args.meter.now c.args.writer.now c.loop-fault.lines (state_of c.loop-fault.session c.loop-fault.has_text) c.loop-fault.meter c.loop-fault.writer c.loop-fault.end s c.next_line.new.lines c.next_line.new.out (next reader s.handed s.has_handed) w.in-Ok-false.ensures.sent, c.next_line.ensures.same_loan ∙ c.loop-fault.invariant.1))))
       | in-Err-next_line w ↦
-          rw w.lines-is (rw w.meter-is (rw w.writer-is (rw w.ended-is (next_fails (λ r. g.R.CountedRead.remaining r.now) (λ r. g.R.CountedRead.failures r.now) g.W.CountedWrite.contents g.W.CountedWrite.failures reader c.args.states c.args.meter.now c.args.writer.now c.loop-fault.lines c.loop-fault.session c.loop-fault.meter c.loop-fault.writer c.loop-fault.end s c.next_line.new.lines c.next_line.new.out w.in-Err-next_line.fault (w.in-Err-next_line.ensures.held c.loop-fault.invariant.2) (w.in-Err-next_line.ensures.next reader s.handed s.has_handed) w.in-Err-next_line.ensures.sent, c.next_line.ensures.same_loan ∙ c.loop-fault.invariant.1))))
+          rw w.lines-is (rw w.meter-is (rw w.writer-is (rw w.ended-is (next_fails (λ r. g.R.CountedRead.remaining r.now) (λ r. g.R.CountedRead.failures r.now) g.W.CountedWrite.contents g.W.CountedWrite.failures reader c.args.states c.args.meter.now c.args.writer.now c.loop-fault.lines (state_of c.loop-fault.session c.loop-fault.has_text) c.loop-fault.meter c.loop-fault.writer c.loop-fault.end s c.next_line.new.lines c.next_line.new.out w.in-Err-next_line.fault (w.in-Err-next_line.ensures.held c.loop-fault.invariant.2) (w.in-Err-next_line.ensures.next reader s.handed s.has_handed) w.in-Err-next_line.ensures.sent, c.next_line.ensures.same_loan ∙ c.loop-fault.invariant.1))))
       | in-Ok-true+in-Ok-Truncated w ↦
           let next = rw w.in-Ok-true.field-0-test at w.in-Ok-true.ensures.next in
           let handed = next reader s.handed s.has_handed in
           let a = rw w.in-Ok-Truncated.field-0-is at w.in-Ok-Truncated.ensures.answers reader (s.handed ++ c.next_line.new.lines.lines.line ∷ []) handed in
-          rw w.lines-is (rw w.meter-is (rw w.writer-is (rw w.ended-is (ends_truncated (λ r. g.R.CountedRead.remaining r.now) (λ r. g.R.CountedRead.failures r.now) g.W.CountedWrite.contents g.W.CountedWrite.failures reader c.args.states c.args.meter.now c.args.writer.now c.loop-fault.lines c.loop-fault.session c.loop-fault.meter c.loop-fault.writer c.loop-fault.end s c.next_line.new.lines.lines.line c.next_line.new.out w.in-Ok-true.ensures.sent w.answer_command.new.lines w.answer_command.new.session w.answer_command.new.meter w.answer_command.new.out a.0 a.1, w.answer_command.ensures.same_loan ∙ c.next_line.ensures.same_loan ∙ c.loop-fault.invariant.1))))
+          rw w.lines-is (rw w.meter-is (rw w.writer-is (rw w.ended-is (ends_truncated (λ r. g.R.CountedRead.remaining r.now) (λ r. g.R.CountedRead.failures r.now) g.W.CountedWrite.contents g.W.CountedWrite.failures reader c.args.states c.args.meter.now c.args.writer.now c.loop-fault.lines (state_of c.loop-fault.session c.loop-fault.has_text) c.loop-fault.meter c.loop-fault.writer c.loop-fault.end s c.next_line.new.lines.lines.line c.next_line.new.out w.in-Ok-true.ensures.sent w.answer_command.new.lines (state_of w.answer_command.new.session w.answer_command.new.has_text) w.answer_command.new.meter w.answer_command.new.out a.0 a.1, w.answer_command.ensures.same_loan ∙ c.next_line.ensures.same_loan ∙ c.loop-fault.invariant.1))))
       | in-Ok-true+in-Err-answer_command w ↦
           let next = rw w.in-Ok-true.field-0-test at w.in-Ok-true.ensures.next in
           let handed = next reader s.handed s.has_handed in
-          rw w.lines-is (rw w.meter-is (rw w.writer-is (rw w.ended-is (answer_fails (λ r. g.R.CountedRead.remaining r.now) (λ r. g.R.CountedRead.failures r.now) g.W.CountedWrite.contents g.W.CountedWrite.failures reader c.args.states c.args.meter.now c.args.writer.now c.loop-fault.lines c.loop-fault.session c.loop-fault.meter c.loop-fault.writer c.loop-fault.end s c.next_line.new.lines.lines.line c.next_line.new.out w.in-Ok-true.ensures.sent w.answer_command.new.lines w.answer_command.new.session w.answer_command.new.meter w.answer_command.new.out w.in-Err-answer_command.fault (w.in-Err-answer_command.ensures.held (c.next_line.ensures.held c.loop-fault.invariant.2)) (w.in-Err-answer_command.ensures.answers reader (s.handed ++ c.next_line.new.lines.lines.line ∷ []) handed), w.answer_command.ensures.same_loan ∙ c.next_line.ensures.same_loan ∙ c.loop-fault.invariant.1))))
+          rw w.lines-is (rw w.meter-is (rw w.writer-is (rw w.ended-is (answer_fails (λ r. g.R.CountedRead.remaining r.now) (λ r. g.R.CountedRead.failures r.now) g.W.CountedWrite.contents g.W.CountedWrite.failures reader c.args.states c.args.meter.now c.args.writer.now c.loop-fault.lines (state_of c.loop-fault.session c.loop-fault.has_text) c.loop-fault.meter c.loop-fault.writer c.loop-fault.end s c.next_line.new.lines.lines.line c.next_line.new.out w.in-Ok-true.ensures.sent w.answer_command.new.lines (state_of w.answer_command.new.session w.answer_command.new.has_text) w.answer_command.new.meter w.answer_command.new.out w.in-Err-answer_command.fault (w.in-Err-answer_command.ensures.held (c.next_line.ensures.held c.loop-fault.invariant.2)) (w.in-Err-answer_command.ensures.answers reader (s.handed ++ c.next_line.new.lines.lines.line ∷ []) handed), w.answer_command.ensures.same_loan ∙ c.next_line.ensures.same_loan ∙ c.loop-fault.invariant.1))))
     ] in
     let loan = ended.1 in
     let given = gives_by_reader (λ r. g.R.CountedRead.remaining r.now) (λ r. g.R.CountedRead.failures r.now) g.W.CountedWrite.contents g.W.CountedWrite.failures _ c.args.states then.lines c.args.meter.now then.meter c.args.writer.now then.writer then.ended ended.0 in

@@ -6,5 +6,5 @@ use Rattle.grep_live.proofs.change_rows.write_change.Given as goal
 abbrev pub invariant-loop-stretch : goal.invariant-loop-stretch
 invariant-loop-stretch g l = record {
   fits : StretchesLeft (length (file_at l.session.inputs.files l.k).lines) l.rest.from l.rest.to (drop l.stretch-index l.mark.stretches);
-  changes : Changes l.session.inputs l.k g.W.CountedWrite.contents g.W.CountedWrite.failures l.margin l.mark l.fn.out l.out l.rest.from (drop l.stretch-index l.mark.stretches);
+  changes : Changes l.form.has_text l.session.inputs l.k g.W.CountedWrite.contents g.W.CountedWrite.failures l.form.margin.now l.mark l.fn.out l.out l.rest.from (drop l.stretch-index l.mark.stretches);
 }

@@ -6,7 +6,7 @@ use Rattle.grep_live.proofs.change_rows.write_hits.Given as goal
 abbrev pub invariant-loop-found : goal.invariant-loop-found
 invariant-loop-found g l = record {
   in_order : l.from ≤ l.stretch.to;
-  lists : Lists l.session.inputs l.stretch.k l.stretch.from l.stretch.to g.W.CountedWrite.contents g.W.CountedWrite.failures l.margin l.fn.out l.out l.from;
+  lists : Lists l.form.has_text l.session.inputs l.stretch.k l.stretch.from l.stretch.to g.W.CountedWrite.contents g.W.CountedWrite.failures l.form.margin.now l.fn.out l.out l.from;
 }
 
 abbrev pub decreases-loop-found : goal.decreases-loop-found

@@ -6,5 +6,5 @@ use Rattle.grep_live.proofs.page_rows.show_hits.Given as goal
 abbrev pub invariant-loop-shown : goal.invariant-loop-shown
 invariant-loop-shown g l = record {
   in_order : l.from ≤ l.stretch.to;
-  shows : Shows l.session.inputs l.stretch.k l.stretch.from l.stretch.to l.left g.W.CountedWrite.contents g.W.CountedWrite.failures l.margin l.fn.out l.out l.from l.shown;
+  shows : Shows l.form.has_text l.session.inputs l.stretch.k l.stretch.from l.stretch.to l.left g.W.CountedWrite.contents g.W.CountedWrite.failures l.form.margin.now l.fn.out l.out l.from l.shown;
 }
