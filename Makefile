@@ -7,7 +7,8 @@
 # make test-program  runs the built programs on the cases of tests/ (needs Python 3.11)
 # make test-random  compares the built occur with the built grep on 100,000 random edits
 # make test-growth  looks for searches whose time grows faster than the line
-# make test-changes  compares an editor's lists, kept by `changes`, with what the built occur shows, on 100,000 edits
+# make test-changes  compares an editor's lists, kept by `changes`, with what the built occur shows, on 100,000 edits;
+#                 and those of an example client (tests/client.py), on as many in batches
 # make test-memory  runs the programs, matchers and sessions with each of their allocations refused in turn (needs a C
 #                 compiler and Python 3.11)
 # make test-editor  tests the Emacs client on the built programs (needs Emacs 28)
@@ -75,6 +76,7 @@ test-growth: build/grep build/occur
 
 test-changes: build/occur
 	tools/evidence.sh test-changes python3 tests/random_changes.py build/occur
+	tools/evidence.sh test-changes-client python3 tests/random_batches.py build/occur
 
 test-memory: build/grep build/occur
 	tools/evidence.sh test-memory-grep tools/refuse_allocations.sh

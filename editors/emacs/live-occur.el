@@ -127,6 +127,9 @@ The whole line is searched."
 ;;;; A list
 
 (defvar-local live-occur--process nil "The program of this list.")
+(defvar-local live-occur--script 1
+  "The version of the script that the program reads.
+The second one has several edits in one report, and patterns in their place.")
 (defvar-local live-occur--fault nil "What made this list wrong, or nil.")
 (defvar-local live-occur--sources nil "The sources, in their order.")
 (defvar-local live-occur--patterns nil "The patterns, in their order.")
@@ -289,7 +292,8 @@ Answer whether they were there.  What is no part of a reply stays."
     (when (and (live-occur--came-p count)
                (save-excursion
                  (goto-char (point-min))
-                 (looking-at-p "[rp] \\|h\\|ok$\\|refused\\|status")))
+                 (looking-at-p
+                  "[rp] \\|h\\|ok$\\|refused\\|status\\|occur ")))
       (let ((text (buffer-substring (point-min) (point)))
             (last (progn (forward-line -1) (- (point) (point-min)))))
         (delete-region (point-min) (+ (point-min) (length text)))
@@ -386,7 +390,13 @@ Point moves to their end, or to where to look for it later."
   (process-put live-occur--process 'list (current-buffer))
   (setq live-occur--fault nil live-occur--asked nil live-occur--due nil
         live-occur--slice nil live-occur--more nil live-occur--trying nil
+        live-occur--script 1
         live-occur-flags (live-occur--flags-for live-occur--patterns))
+  (live-occur--send "version\n"
+                    (lambda (reply _)
+                      (pcase (split-string reply " ")
+                        (`("occur" ,_ "script" ,number)
+                         (setq live-occur--script (string-to-number number))))))
   (live-occur--order (format "syntax %s\n" live-occur-syntax))
   (dolist (letter (cons ?o live-occur-flags))
     (live-occur--order (format "flag %c on\n" letter)))
@@ -973,10 +983,12 @@ leave the program out of step."
 (defun live-occur--send-next ()
   "Send the next block of a slice, or what ends or begins one, if any is due.
 The slice is a list of how many lines are left in it, the line at which the next
-block has to begin, or nil, and the sources whose turn is to come.  It has one
-edit of each: lines between edits that are far apart would come again."
+block has to begin, or nil, and the sources whose turn is to come.  By the first
+version of the script it has one edit of each: lines between edits that are far
+apart would come again."
   (pcase-let* ((`(,left ,at . ,sources) live-occur--slice)
-               (source (car sources)))
+               (source (car sources))
+               (several (> live-occur--script 1)))
     (cond ((not live-occur--slice)
            (when (or (live-occur--edited-p)
                      (and live-occur--due (not live-occur--previewing)))
@@ -991,9 +1003,10 @@ edit of each: lines between edits that are far apart would come again."
                         (`(,count . ,end)
                          (and start (memq at (list nil start))
                               (live-occur--send-block source left))))
-             (unless end (pop sources))
+             (unless (and start (or end several)) (pop sources))
              (setq live-occur--slice
-                   `(,(- left (or count 0)) ,end . ,sources)))))))
+                   `(,(- left (or count 0)) ,(and (not several) end)
+                     . ,sources)))))))
 
 (defun live-occur--first-edit (source)
   "The first of the edits of SOURCE that are to be sent."
@@ -1257,14 +1270,19 @@ If nothing has changed ask for none, but with ALWAYS non-nil."
 BOUNDS are what was listed of the first one at the question, or nil."
   (setq live-occur--asked nil)
   (live-occur--tell-more)
-  (let (spots)
+  (let (spots last (shift 0))
     (pcase-dolist (`(,words . ,pieces) blocks)
       (pcase-let* ((`(,_ ,file ,front ,removed ,added ,_)
                     (mapcar #'string-to-number (split-string words " ")))
                    (source (nth file sources)))
+        (unless (eq source (cl-shiftf last source)) (setq shift 0))
         (when (memq source live-occur--sources)
-          (cl-callf2 nconc
-              (live-occur--apply source front removed added pieces) spots))))
+          (let ((new (live-occur--apply source front removed added pieces)))
+            (pcase-dolist (`(,spot . ,_) new)
+              (when (live-occur--hit-p spot)
+                (cl-decf (live-occur--hit-place spot) shift)))
+            (cl-callf2 nconc new spots)))
+        (cl-incf shift (- added removed))))
     (live-occur--clip bounds)
     (live-occur--go-to-spots spots t))
   (dolist (source sources)
@@ -1685,15 +1703,38 @@ Call REPORT with the reply.  Of several wishes the last one is kept."
   (if live-occur--trying
       (setq live-occur--trying (list patterns report))
     (setq live-occur--trying t)
-    (if (or (null patterns) (equal patterns live-occur--patterns))
-        (live-occur--got patterns report "ok")
-      (live-occur--send (live-occur--patterns-command patterns)
-                        (apply-partially #'live-occur--got patterns report)))))
+    (let ((place (live-occur--place-to-change patterns)))
+      (cond ((or (null patterns) (equal patterns live-occur--patterns))
+             (live-occur--got patterns nil report "ok"))
+            (place
+             (live-occur--send
+              (format "pattern %d\n%s\n" place
+                      (live-occur--bytes (nth place patterns)))
+              (lambda (reply _)
+                (live-occur--got
+                 patterns t report
+                 (string-replace "Pattern 0" (format "Pattern %d" place)
+                                 reply)))))
+            (t (live-occur--send
+                (live-occur--patterns-command patterns)
+                (apply-partially #'live-occur--got patterns nil report)))))))
 
-(defun live-occur--got (patterns report reply &optional _)
-  "Take REPLY to the wish for PATTERNS, and call REPORT with it."
+(defun live-occur--place-to-change (patterns)
+  "The number of the one pattern that differs from that of PATTERNS, or nil.
+It is nil, too, where the program can't put one in the place of another."
+  (when (and (> live-occur--script 1)
+             (length= patterns (length live-occur--patterns)))
+    (pcase (cl-loop for new in patterns for old in live-occur--patterns
+                    for place from 0
+                    unless (equal new old) collect place)
+      (`(,place) place))))
+
+(defun live-occur--got (patterns in-place report reply &optional _)
+  "Take REPLY to the wish for PATTERNS, and call REPORT with it.
+Where they are not IN-PLACE already the others are dropped."
   (when (and (equal reply "ok") (not (equal patterns live-occur--patterns)))
-    (dolist (_ live-occur--patterns) (live-occur--order "drop 0\n"))
+    (unless in-place
+      (dolist (_ live-occur--patterns) (live-occur--order "drop 0\n")))
     (setq live-occur--patterns patterns)
     (live-occur--follow-patterns))
   (funcall report reply)
@@ -1949,17 +1990,21 @@ There are TOTAL hits, or as many as the program says."
     (use-local-map (make-composed-keymap live-occur-preview-map
                                          (current-local-map)))))
 
-(defun live-occur--ask-about-hits (preview first count function)
+(defun live-occur--ask-about-hits (preview first count function &optional bare)
   "Ask for a page of COUNT hits from number FIRST on, for PREVIEW.
-Call FUNCTION with its block, unless it isn't wanted any more then."
+Call FUNCTION with its block, unless it isn't wanted any more then.  With BARE
+it needs no text of lines, which may be long."
   (let ((patterns live-occur--patterns)
-        (looking live-occur--looking))
+        (looking live-occur--looking)
+        (bare (and bare (> live-occur--script 1))))
+    (when bare (live-occur--order "text off\n"))
     (live-occur--send (format "page %d %d\n" first count)
                       (lambda (_ blocks)
                         (when (and (eq preview live-occur--preview)
                                    (eq patterns live-occur--patterns)
                                    (eq looking live-occur--looking))
-                          (funcall function (car blocks)))))))
+                          (funcall function (car blocks)))))
+    (when bare (live-occur--order "text on\n"))))
 
 (defun live-occur--take-page (block sources)
   "Show the hits of SOURCES in BLOCK, a page, and look for the one after point.
@@ -2063,7 +2108,8 @@ It is asked for as long as PREVIEW is there."
          (if (live-occur--page-before-p block file line)
              (setq low (1+ middle))
            (setq high middle))
-         (live-occur--find-number preview file line low high function))))))
+         (live-occur--find-number preview file line low high function))
+       t))))
 
 (defun live-occur--page-before-p (block file line)
   "Whether the page BLOCK has a hit, and that comes before LINE of FILE."

@@ -131,6 +131,36 @@ All buffers and processes that it makes are taken away after it."
     (dolist (window (get-buffer-window-list nil nil t))
       (set-window-point window (point)))))
 
+;; A program that knows only the first version of the script is the one under
+;; test without the commands of the second one.
+
+(defconst live-occur-test--old-commands
+  "s/^version$/no &/; s/^text o[nf]*$/no &/; s/^pattern [0-9]*$/no &/")
+
+(defmacro live-occur-test--with-old-program (&rest body)
+  "Run BODY where the program knows only the first version of the script."
+  (declare (indent 0) (debug t))
+  `(let* ((program (make-temp-file "live-occur" nil nil
+                                   (format "#!/bin/sh\nsed -u '%s' | '%s' \"$@\"\n"
+                                           live-occur-test--old-commands
+                                           (executable-find live-occur-program))))
+          (live-occur-program program))
+     (set-file-modes program #o700)
+     (unwind-protect (progn ,@body)
+       (delete-file program))))
+
+(defmacro live-occur-test--commands (&rest body)
+  "Run BODY, and list the commands that are sent meanwhile, with their lines."
+  (declare (indent 0) (debug t))
+  `(let (sent)
+     (cl-letf* ((send (symbol-function 'process-send-string))
+                ((symbol-function 'process-send-string)
+                 (lambda (process text)
+                   (push text sent)
+                   (funcall send process text))))
+       ,@body)
+     (nreverse sent)))
+
 (defmacro live-occur-test--in-pieces (&rest body)
   "Run BODY where texts are sent in small pieces, of a few lines."
   (declare (indent 0) (debug t))
@@ -251,7 +281,8 @@ All buffers and processes that it makes are taken away after it."
   :tags '(unwatched)
   (cl-flet ((stall (seconds)
               (let ((work (lambda ()
-                            (let ((end (+ (cdr (live-occur-test--now)) seconds)))
+                            (let ((gc-cons-threshold most-positive-fixnum)
+                                  (end (+ (cdr (live-occur-test--now)) seconds)))
                               (while (< (cdr (live-occur-test--now)) end))))))
                 (live-occur-test--longest-stall (lambda ()
                                                   (run-with-timer 0 nil work)
@@ -418,40 +449,68 @@ All buffers and processes that it makes are taken away after it."
       (undo)
       (should (equal (live-occur-test--rows list) "1:o\n3:o\n")))))
 
-(ert-deftest live-occur-sends-only-lines-that-changed ()
+(defun live-occur-test--edit-far-apart (report)
+  "Make edits that are far apart; after each splice but the last REPORT is sent."
   (live-occur-test--with (list (apply #'concat (make-list 1000 "line\n")))
-    (let* ((list (live-occur "x"))
-           sent)
+    (let ((list (live-occur "x")))
       (live-occur-test--rows list)
-      (cl-letf* ((send (symbol-function 'process-send-string))
-                 ((symbol-function 'process-send-string)
-                  (lambda (process text)
-                    (push text sent)
-                    (funcall send process text))))
-        (goto-char (point-min))
-        (insert "x")
-        (goto-char (point-max))
-        (insert "x\n")
-        (goto-char 3505)
-        (insert "x\n")
-        (goto-char 3002)
-        (delete-char 5)
-        (goto-char 2502)
-        (insert "x\n")
-        (live-occur-test--rows list))
-      (should (equal (nreverse sent)
-                     '("splice 0 0 1 1\nxline\n"
-                       "changes\n"
-                       "splice 0 500 0 1\nx\n"
-                       "changes\n"
-                       "splice 0 601 1 0\n"
-                       "changes\n"
-                       "splice 0 700 1 2\nlinx\ne\n"
-                       "changes\n"
+      (should (equal (live-occur-test--commands
+                       (goto-char (point-min))
+                       (insert "x")
+                       (goto-char (point-max))
+                       (insert "x\n")
+                       (goto-char 3505)
+                       (insert "x\n")
+                       (goto-char 3002)
+                       (delete-char 5)
+                       (goto-char 2502)
+                       (insert "x\n")
+                       (live-occur-test--rows list))
+                     `("splice 0 0 1 1\nxline\n" ,@report
+                       "splice 0 500 0 1\nx\n" ,@report
+                       "splice 0 601 1 0\n" ,@report
+                       "splice 0 700 1 2\nlinx\ne\n" ,@report
                        "splice 0 1001 0 1\nx\n"
                        "changes\n")))
       (should (equal (live-occur-test--rows list)
                      "1:xline\n501:x\n701:linx\n1002:x\n")))))
+
+(ert-deftest live-occur-sends-only-lines-that-changed ()
+  (live-occur-test--edit-far-apart nil)
+  (live-occur-test--with-old-program
+    (live-occur-test--edit-far-apart '("changes\n"))))
+
+(ert-deftest live-occur-gets-one-report-of-several-buffers ()
+  (live-occur-test--with '("a\n" "a\n")
+    (let ((list (live-occur "a" buffers)))
+      (live-occur-test--rows list)
+      (should (equal (live-occur-test--commands
+                       (dolist (buffer buffers)
+                         (with-current-buffer buffer (insert "ab\n")))
+                       (should (equal (live-occur-test--rows list)
+                                      "a:1:a\na:2:ab\nb:1:a\nb:2:ab\n")))
+                     '("splice 0 1 0 1\nab\n" "splice 1 1 0 1\nab\n" "changes\n"))))))
+
+(ert-deftest live-occur-keeps-windows-where-several-parts-change ()
+  "Point and windows stay at their rows where one report has several parts."
+  (live-occur-test--with (list (apply #'concat (make-list 300 "a\n")))
+    (live-occur-test--in-windows
+      (let ((list (live-occur "a")))
+        (live-occur-test--rows list)
+        (live-occur-test--at list 200)
+        (goto-char (point-min))
+        (insert "a1\na2\na3\n")
+        (forward-line 199)
+        (insert "b\n")
+        (forward-line -1)
+        (delete-region (point) (line-beginning-position 3))
+        (insert "a4\n")
+        (goto-char (point-max))
+        (insert "a5\n")
+        (live-occur-test--rows list)
+        (with-current-buffer list
+          (should (looking-at "203:a4\n204:a\n"))
+          (should (= (window-point (get-buffer-window)) (point))))))))
 
 (ert-deftest live-occur-gets-only-rows-that-changed ()
   "Rows between edits that are far apart don't come again, and point stays."
@@ -1015,6 +1074,64 @@ It is the text there, that of the list, and what is said of a fault."
           (should (bobp))
           (should (equal live-occur--patterns '("tw"))))))))
 
+(defun live-occur-test--type-and-list-commands ()
+  "Type a pattern and change it, and list the commands that have to do with it."
+  (live-occur-test--with '("one\ntwo\nthree\nt\n")
+    (live-occur-test--in-windows
+      (set-window-buffer nil a)
+      (cl-remove-if-not
+       (lambda (command) (string-match-p "\\`\\(pattern\\|drop\\)" command))
+       (live-occur-test--commands
+         (live-occur-test--type "C-c t t h RET")
+         (with-selected-window (get-buffer-window "*Live Occur*")
+           (should (equal (live-occur-test--type "C-c a x \\ ( DEL DEL w RET")
+                          '(("x" "3:three\n" nil)
+                            ("x\\" "3:three\n" "[TrailingBackslash]")
+                            ("x\\(" "3:three\n" "[UnclosedGroup]")
+                            ("x\\" "3:three\n" "[TrailingBackslash]")
+                            ("x" "3:three\n" nil)
+                            ("xw" "3:three\n" nil))))
+           (cl-letf (((symbol-function 'completing-read) (lambda (&rest _) "th")))
+             (live-occur-test--type "C-c c DEL RET"))
+           (should (equal live-occur--patterns '("t" "xw")))
+           (should (equal (live-occur-test--rows "*Live Occur*")
+                          "2:two\n3:three\n4:t\n"))))))))
+
+(ert-deftest live-occur-puts-a-pattern-in-its-place ()
+  (should (equal (live-occur-test--type-and-list-commands)
+                 '("patterns 1\nt\n" "pattern 0\nth\n"
+                   "patterns 2\nth\nx\n" "drop 0\n"
+                   "pattern 1\nx\\\n" "pattern 1\nx\\(\n" "pattern 1\nx\\\n"
+                   "pattern 1\nxw\n" "pattern 0\nt\n"))))
+
+(ert-deftest live-occur-adds-and-drops-patterns-of-an-old-program ()
+  (live-occur-test--with-old-program
+    (should-not (cl-some (lambda (command) (string-prefix-p "pattern " command))
+                         (live-occur-test--type-and-list-commands)))))
+
+(defun live-occur-test--commands-of-a-look ()
+  "Type a pattern, and list the commands by which the hit after point is found."
+  (live-occur-test--with (list (apply #'concat (make-list 500 "a\nb\n")))
+    (live-occur-test--in-windows
+      (set-window-buffer nil a)
+      (goto-char 1001)
+      (cl-remove-if-not
+       (lambda (command) (string-match-p "\\`\\(text\\|page [0-9]+ 1$\\)" command))
+       (live-occur-test--commands
+         (should (equal (live-occur-test--shown "C-c t a") '(("a" "501:a" ("a")))))
+         (should (= (point) 1001)))))))
+
+(ert-deftest live-occur-looks-for-hits-without-their-lines ()
+  (let ((sent (live-occur-test--commands-of-a-look)))
+    (should (> (length sent) 9))
+    (while sent
+      (should (equal (pop sent) "text off\n"))
+      (should (string-prefix-p "page " (pop sent)))
+      (should (equal (pop sent) "text on\n"))))
+  (live-occur-test--with-old-program
+    (should-not (cl-some (lambda (command) (string-prefix-p "text" command))
+                         (live-occur-test--commands-of-a-look)))))
+
 (ert-deftest live-occur-goes-away-by-quitting ()
   (live-occur-test--with '("one\n")
     (live-occur-test--in-windows
@@ -1392,7 +1509,7 @@ Where BODY reports that it was killed, that is as it has to be."
           (should-error (live-occur-test--killed-in-new-list) :type 'user-error))
         (ert-info ("while a pattern waits for its reply")
           (with-current-buffer list
-            (live-occur-test--killed-after list #'live-occur--patterns-command
+            (live-occur-test--killed-after list #'live-occur--place-to-change
               (live-occur--put '("t")))
             (should (equal live-occur--patterns '("o"))))
           (should (equal (live-occur-test--restart list) rows)))
@@ -3014,7 +3131,14 @@ The answer is how many they are."
   "How many random edits are made.")
 
 (ert-deftest live-occur-shows-what-grep-writes ()
-  "After random edits in several buffers the rows are those of grep."
+  (live-occur-test--compare-after-edits live-occur-test--edits))
+
+(ert-deftest live-occur-shows-what-grep-writes-by-an-old-program ()
+  (live-occur-test--with-old-program
+    (live-occur-test--compare-after-edits (/ live-occur-test--edits 4))))
+
+(defun live-occur-test--compare-after-edits (edits)
+  "After random EDITS in several buffers the rows are those of grep."
   (random (or (getenv "SEED") "live-occur"))
   (live-occur-test--with (cl-loop for most in '(0 10 200 900)
                                   collect (live-occur-test--text most))
@@ -3030,7 +3154,7 @@ The answer is how many they are."
                           (when (live-occur--tick source)
                             (cl-incf lost)))
                         '((name . live-occur-test)))
-            (dotimes (_ live-occur-test--edits)
+            (dotimes (_ edits)
               (with-current-buffer (or (nth (random 5) buffers) indirect)
                 (pcase (random 60)
                   (0 (let ((inhibit-modification-hooks t))
@@ -3059,8 +3183,8 @@ The answer is how many they are."
         (delete-directory folder t))
       (live-occur-test--tell
        "%d edits, %d comparisons of %d rows, none differ; %d numbers before an update, none wrong; %d texts sent again"
-       live-occur-test--edits compared rows numbers lost)
-      (should (> compared (/ live-occur-test--edits 5))))))
+       edits compared rows numbers lost)
+      (should (> compared (/ edits 5))))))
 
 ;;;; Time
 

@@ -178,6 +178,38 @@ function M.compare(list, what)
   M.equal(parts, wanted, (what or "") .. " parts")
 end
 
+-- Lets `Session.send` note each command, in this Neovim or, by its `run`, in another one. Returns a
+-- function that ends it and returns the commands.
+function M.commands(run)
+  run = run or function(lua)
+    return loadstring(lua)()
+  end
+  run([[
+    local Session = require("live_occur.session")
+    send, sent = Session.send, {}
+    Session.send = function(session, command, ...)
+      table.insert(sent, command)
+      return send(session, command, ...)
+    end
+  ]])
+  return function()
+    return run([[
+      require("live_occur.session").send = send
+      return sent
+    ]])
+  end
+end
+
+-- A program that knows only the first version of the script, and otherwise is the one under test.
+function M.old_program()
+  local name = fn.tempname()
+  local words = "s/^version$/no &/; s/^text off$/no &/; s/^pattern [0-9]*$/no &/"
+  local program = fn.shellescape(require("live_occur.settings").program)
+  fn.writefile({ "#!/bin/sh", ("sed -u '%s' | %s \"$@\""):format(words, program) }, name)
+  fn.setfperm(name, "rwx------")
+  return name
+end
+
 -- A second Neovim, with a terminal of 60 columns and 20 lines: the body gets functions that run Lua in
 -- it, that give what its screen shows, and that type keys.
 function M.with_screen(body)

@@ -42,7 +42,7 @@ test("a long reply is shown while it comes, and read no faster", function()
   local settings = require("live_occur.settings")
   local slice, lines = settings.slice, {}
   for number = 1, 4000 do
-    lines[number] = "one " .. number .. (" and more"):rep(50)
+    lines[number] = "one " .. number .. (" and one"):rep(50) -- Each part is in the reply.
   end
   local a, b = bench.buffer(lines), bench.buffer(lines)
   local list = bench.list("one", { a, b })
@@ -245,7 +245,7 @@ test("lines around are right while a long reply comes", function()
   local settings = require("live_occur.settings")
   local slice, lines = settings.slice, {}
   for number = 1, 2000 do
-    lines[number] = (number % 3 == 0 and "a " or "b ") .. number .. ("."):rep(400)
+    lines[number] = number .. (number % 3 == 0 and " a" or " b"):rep(200)
   end
   local buffer = bench.buffer(lines)
   local list = bench.list("a")
@@ -273,35 +273,23 @@ test("lines around are right while a long reply comes", function()
   assert(paused > 0 and buffer > 0, "the reply came at once")
 end)
 
-test("edits that are far apart are asked about one by one", function()
-  local lines = {}
-  for index = 1, 1000 do
-    lines[index] = "o" .. index
-  end
-  local buffer = bench.buffer(lines)
-  local list = bench.list("o")
-  rows(list)
-  local Session = require("live_occur.session")
-  local send, sent = Session.send, {}
-  Session.send = function(session, command, ...)
-    sent[#sent + 1] = command
-    return send(session, command, ...)
-  end
-  api.nvim_buf_set_lines(buffer, 999, 1000, false, { "x" })
-  api.nvim_buf_set_lines(buffer, 500, 500, false, { "x", "o" })
-  api.nvim_buf_set_lines(buffer, 0, 1, false, {})
-  api.nvim_buf_set_lines(buffer, 20, 20, false, { "o" })
-  local report, shown = list.report, {}
-  list.report = function(...)
-    report(...)
-    local row = list:rows()[990] -- between the last two edits
-    shown[#shown + 1] = row[3] == api.nvim_buf_get_lines(buffer, row[2] - 1, row[2], false)[1]
-  end
-  local found = rows(list)
-  Session.send = send
-  equal(shown, { true, true, true })
-  equal(sent, { "splice 0 0 21 21", "changes", "splice 0 500 0 2", "changes", "splice 0 1001 1 1", "changes" })
-  equal({ #found, found[1], found[21], found[501] }, { 1000, "1:o2", "21:o", "502:o" })
+test("a reply waits while a command is typed, since a buffer may show a preview then", function()
+  bench.with_screen(function(run, _, type)
+    run([[
+      vim.api.nvim_buf_set_lines(0, 0, -1, false, { "one", "O" })
+      list = require("live_occur").open("o", { vim.api.nvim_get_current_buf() })
+      list:wait()
+      list:set_flag("i", true)
+      vim.api.nvim_feedkeys(":", "n", false)
+    ]])
+    vim.wait(200)
+    equal(run("return { vim.fn.mode(), list.asked, list:total() }"), { "c", 1, 1 })
+    type("<Esc>")
+    assert(vim.wait(10000, function()
+      return run("return list:settled()")
+    end, 10))
+    equal(run("return list:total()"), 2)
+  end)
 end)
 
 test("refused patterns are reported with their place", function()

@@ -96,7 +96,7 @@ end
 
 -- Now and then something else than an edit.
 local function other(list, buffers)
-  local kind = math.random(9)
+  local kind = math.random(10)
   if kind == 1 then
     local flag = pick({ "i", "v", "x" })
     list:set_flag(flag, not list.flags[flag])
@@ -120,6 +120,8 @@ local function other(list, buffers)
     end
   elseif kind == 8 then
     list:restart()
+  elseif kind == 9 and #list.patterns > 0 then
+    list:change_pattern(math.random(#list.patterns), pick(PATTERNS), function() end)
   else
     local buffer = pick(buffers)
     for _, file in ipairs(list.files) do

@@ -27,7 +27,8 @@ function M.check()
   ok("the program is " .. vim.fn.exepath(program))
   local replies = vim.fn.systemlist({ program }, SCRIPT)
   if vim.deep_equal(replies, REPLIES) then
-    ok("it answers the command changes")
+    local version = vim.fn.systemlist({ program }, { "version" })[1]
+    ok("it answers the command changes, and version by: " .. version)
   else
     fail("it doesn't answer as it should: " .. table.concat(replies, ", "), { "Install a newer Gaxtrel" })
   end

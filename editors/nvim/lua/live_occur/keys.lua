@@ -146,19 +146,13 @@ function M.drop_pattern(list)
   end)
 end
 
--- The changed pattern comes after the others: the program only adds and drops patterns.
 function M.change_pattern(list)
   choose_pattern(list, "Change pattern", function(number)
     local function listed(pattern)
       return require("live_occur.preview").target_of_list(list, pattern, number)
     end
     ask_pattern("Change pattern: ", list.patterns[number], listed, function(pattern, done)
-      list:add_pattern(pattern, function(fault, place)
-        if not fault then
-          list:drop_pattern(number)
-        end
-        done(fault, place)
-      end)
+      list:change_pattern(number, pattern, done)
     end)
   end)
 end

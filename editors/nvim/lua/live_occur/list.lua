@@ -35,6 +35,19 @@ local function lines_of(buffer, first, last)
   return api.nvim_buf_get_lines(buffer, first, last, false)
 end
 
+-- Whether a command is typed: a buffer's text may be that of a preview then.
+local function is_typing()
+  return fn.mode():sub(1, 1) == "c"
+end
+
+-- Takes out the hunks of a file that were sent before a question, up to a line: a reply has told of them.
+local function forget_sent(file, question, line)
+  local sent = file.sent
+  while sent[1] and sent[1].question == question and sent[1].at + sent[1].added <= line do
+    table.remove(sent, 1)
+  end
+end
+
 -- Moves what is kept of windows as rows are replaced by so many.
 local function move_kept(windows, first, last, count)
   for _, kept in ipairs(windows) do
@@ -58,6 +71,7 @@ function List.new(pattern, buffers, options)
     context = { settings.context[1], settings.context[2] },
     follow = settings.follow,
     files = {},
+    question = 1, -- the number of the next question what changed
     replies = {}, -- those to changes that are not yet applied
   }, List)
   for flag in (options.flags or settings.flags):gmatch("[ivx]") do
@@ -95,7 +109,7 @@ function List:start(patterns)
     return fault
   end
   self.session, self.ended, self.asked, self.patterns = session, nil, nil, {}
-  self.replies, self.applying, self.paused = {}, nil, false
+  self.replies, self.applying, self.paused, self.changed = {}, nil, false, false
   session:send("syntax " .. self.syntax, nil, self:accepted())
   session:send("flag o on", nil, self:accepted())
   for flag in pairs(self.flags) do
@@ -162,7 +176,7 @@ function List:restart()
     self:show_header()
     return say(fault, "ErrorMsg")
   end
-  self.had_hits, self.changed = false, false
+  self.had_hits = false
   self:put(1, -1, {})
   for _, file in ipairs(files) do
     if not file.closed then
@@ -370,28 +384,30 @@ function List:later()
   end
 end
 
--- Sends some hunks of a file, with at most `room` lines, and returns the room that is left. After
--- each it asks what changed: after two splices all lines between them would be said to be replaced.
+-- Sends some hunks of a file, with at most `room` lines, and returns the room that is left. An older
+-- program is asked what changed after each: it would say that all lines between two were replaced.
 function List:send_hunks(file, number, room)
-  local sent = hunks.take(file.pending, room)
-  vim.list_extend(file.sent, sent)
-  for _, hunk in ipairs(sent) do
+  for _, hunk in ipairs(hunks.take(file.pending, room)) do
     local lines = lines_of(file.buffer, file.from + hunk.at, file.from + hunk.at + hunk.added)
     local command = ("splice %d %d %d %d"):format(number, hunk.at, hunk.removed, hunk.added)
     self.session:send(command, lines, self:accepted())
-    self:ask_changes(file)
+    hunk.question, self.changed = self.question, true
+    table.insert(file.sent, hunk)
+    if self.session.script < 2 then
+      self:ask_changes()
+    end
     room = room - hunk.added
   end
   return room
 end
 
--- Asks what changed, after the first of the hunks of a file that are sent, if there is a file.
-function List:ask_changes(file)
-  local files = vim.list_extend({}, self.files)
+-- Asks what changed.
+function List:ask_changes()
+  local files, question = vim.list_extend({}, self.files), self.question
   self.asked = (self.asked or 0) + 1
-  self.changed = false
+  self.question, self.changed = question + 1, false
   self.session:send("changes", nil, function(reply)
-    self:report(reply, files, file)
+    self:report(reply, files, question)
   end)
 end
 
@@ -402,7 +418,7 @@ function List:step()
   elseif self.asked then
     self.due = true
     return
-  elseif fn.mode():sub(1, 1) == "c" then -- The text may be that of a preview.
+  elseif is_typing() then
     return self:later()
   end
   for _, file in ipairs(vim.list_extend({}, self.files)) do
@@ -472,8 +488,8 @@ end
 
 -- Takes a reply to changes: `files` are those of the session at that time. Replies are applied one
 -- after the other, and a long one in pieces, between which Neovim does what waits.
-function List:report(reply, files, sent)
-  table.insert(self.replies, { reply, files, sent })
+function List:report(reply, files, question)
+  table.insert(self.replies, { reply, files, question })
   if not self.applying then
     self.applying = coroutine.create(function()
       while self.replies[1] do
@@ -496,7 +512,8 @@ function List:apply_more()
   end
 end
 
--- Ends a piece: what waits comes first, and then the next one; or, with a reply, more of that.
+-- Ends a piece: what waits comes first, and then the next one; or, with a reply, more of that. Rows are
+-- made of the lines of buffers, so it goes on when no command is typed.
 function List:pause(windows, reply)
   local applying = self.applying
   local function go_on()
@@ -510,7 +527,7 @@ function List:pause(windows, reply)
   if reply then
     reply.waits = go_on
   else
-    vim.defer_fn(go_on, 1)
+    vim.defer_fn(go_on, is_typing() and settings.delay or 1)
   end
   self.paused = true
   self:show_header()
@@ -520,6 +537,9 @@ function List:pause(windows, reply)
     if not api.nvim_win_is_valid(window) or api.nvim_win_get_cursor(window)[1] ~= seen then
       table.remove(windows, index) -- Its cursor was moved since.
     end
+  end
+  if is_typing() then
+    self:pause(windows)
   end
 end
 
@@ -539,23 +559,24 @@ function List:piece_of(reply, block, number, windows)
   return block.pieces[number]
 end
 
--- Applies a reply. `sent` is the file of which a hunk was sent before it, if there is one.
-function List:apply_reply(reply, files, sent)
+-- Applies the reply to a question.
+function List:apply_reply(reply, files, question)
   if reply.kind and reply.kind ~= "status" then
     self.asked = nil
     return self:accepted()(reply)
   end
   local windows = self:keep_windows()
+  if is_typing() then
+    self:pause(windows)
+  end
   local number, block = 1, self:block_of(reply, 1, windows)
   while block do
-    local file = files[block.words[1] + 1]
-    self:apply(file, reply, block, windows, file == sent)
-    sent = file ~= sent and sent or nil
+    self:apply(files[block.words[1] + 1], reply, block, windows, question)
     number = number + 1
     block = self:block_of(reply, number, windows)
   end
-  if sent then
-    table.remove(sent.sent, 1)
+  for _, file in ipairs(files) do
+    forget_sent(file, question, math.huge)
   end
   if #reply.blocks > 0 then
     self:to_first_hit(windows)
@@ -571,8 +592,8 @@ function List:apply_reply(reply, files, sent)
   self:start_edit()
 end
 
--- Applies one h line, with its hits. `sent` is whether it has what the first sent hunk did.
-function List:apply(file, reply, block, windows, sent)
+-- Applies one h line, with its hits.
+function List:apply(file, reply, block, windows, question)
   local number, piece, around = 1, self:piece_of(reply, block, 1, windows), self:around()
   if around then -- All rows of the file are made anew at once.
     self.session:read_all(reply)
@@ -580,9 +601,7 @@ function List:apply(file, reply, block, windows, sent)
       self:pause(windows, reply)
     end
   end
-  if sent then
-    table.remove(file.sent, 1)
-  end
+  forget_sent(file, question, block.words[2] + block.words[4])
   self:cut(file, block, windows)
   while true do
     self:apply_piece(file, piece, windows)
@@ -626,9 +645,9 @@ function List:apply_piece(file, piece, windows)
     return
   end
   for number = 1, piece and piece.count or 0 do
-    local text, start = row_texts.text(piece.lines[number], piece.parts[number])
-    file.hits:push(piece.places[number], row_texts.kept_parts(piece.parts[number], start))
-    texts[number] = text
+    local place, parts, start = piece.places[number], piece.parts[number], nil
+    texts[number], start = row_texts.text(piece.lines[number] or self:text_of(file, place), parts)
+    file.hits:push(place, row_texts.kept_parts(parts, start))
   end
   if not self:around() then
     local row = self:row_of(file) + (file.heading and 1 or 0) + index
@@ -688,6 +707,12 @@ end
 -- The line of a buffer, from 0, that a place of the last report is now.
 function List:line_of(file, place)
   return file.from + hunks.place(file.pending, hunks.place(file.sent, place))
+end
+
+-- The text of that line. Where it was edited since, the program is told so soon, and the row goes.
+function List:text_of(file, place)
+  local line = self:line_of(file, place)
+  return api.nvim_buf_is_valid(file.buffer) and lines_of(file.buffer, line, line + 1)[1] or ""
 end
 
 -- Replaces rows of the list's buffer, and moves what is kept of its windows with them.
@@ -758,8 +783,7 @@ end
 
 -- The text of a row for a place of a file.
 function List:text_at(file, place, parts)
-  local line = self:line_of(file, place)
-  return (row_texts.text(lines_of(file.buffer, line, line + 1)[1] or "", parts))
+  return (row_texts.text(self:text_of(file, place), parts))
 end
 
 -- Adds the texts of all hits of a file, as they are in its buffer.
@@ -998,6 +1022,37 @@ end
 function List:drop_pattern(number)
   table.remove(self.patterns, number)
   self:change("drop " .. number - 1, nil, nothing)
+end
+
+-- The number now of a pattern that had this one: others before it may have been dropped since.
+function List:number_of(pattern, number)
+  while number > 0 and self.patterns[number] ~= pattern do
+    number = number - 1
+  end
+  return number > 0 and number or nil
+end
+
+-- Puts a pattern in the place of another one: at once, and it is taken back if it is refused. An older
+-- program can only add the one and drop the other.
+function List:change_pattern(number, pattern, done)
+  local before = self.patterns[number]
+  if self.session.script < 2 then
+    return self:add_pattern(pattern, function(fault, place)
+      local now = not fault and self:number_of(before, number)
+      if now then
+        self:drop_pattern(now)
+      end
+      done(fault, place)
+    end)
+  end
+  self.patterns[number] = pattern
+  self:change("pattern " .. number - 1, { pattern }, function(fault, place)
+    local now = fault and self:number_of(pattern, number)
+    if now then
+      self.patterns[now] = before
+    end
+    done(fault, place)
+  end)
 end
 
 function List:set_context(before, after)

@@ -146,17 +146,22 @@ function Preview:step()
   end
 end
 
+-- A pattern takes the place of the one before, which stays if it is refused. That is dropped first where
+-- the syntax is another, by which it may be no pattern, and in an older program.
 function Preview:send_pattern()
-  if self.taken then
+  local other_syntax = self.syntax ~= self.wanted.syntax
+  if self.taken and (other_syntax or self.session.script < 2) then
     self.session:send("drop " .. self.others, nil, nothing)
+    self.taken = false
   end
-  if self.syntax ~= self.wanted.syntax then
+  if other_syntax then
     self.session:send("syntax " .. self.wanted.syntax, nil, nothing)
   end
-  self.pattern, self.syntax, self.taken = self.wanted.pattern, self.wanted.syntax, false
-  self.session:send("patterns 1", { self.pattern }, function(reply)
-    self.taken = reply.kind == "ok"
-    self.fault = not self.taken and reply.text:gsub("^Pattern %d+ (%S+) (%d+)$", "%1 at %2") or nil
+  self.pattern, self.syntax = self.wanted.pattern, self.wanted.syntax
+  self.session:send(self.taken and "pattern " .. self.others or "patterns 1", { self.pattern }, function(reply)
+    local is_taken = reply.kind == "ok"
+    self.taken = self.taken or is_taken
+    self.fault = not is_taken and reply.text:gsub("^Pattern %d+ (%S+) (%d+)$", "%1 at %2") or nil
   end)
   self:ask_page()
 end
@@ -193,6 +198,12 @@ function Preview:is_whole()
   return true
 end
 
+-- The line of a hit of a page.
+local function text_of(file, place)
+  local line = file.from + place
+  return api.nvim_buf_is_valid(file.buffer) and api.nvim_buf_get_lines(file.buffer, line, line + 1, false)[1] or ""
+end
+
 -- The rows that are shown for a page, and marks on them.
 function Preview:rows(total, page)
   local head = total .. (total == 1 and " hit" or " hits") .. (self:is_whole() and "" or " so far")
@@ -203,7 +214,8 @@ function Preview:rows(total, page)
       rows[#rows + 1] = require("live_occur.list").name_of(file.buffer)
       found[#rows] = { { 0, #rows[#rows], "LiveOccurBuffer" } }
     end
-    local text, start = row_texts.text(page.lines[number], page.parts[number])
+    local line = page.lines[number] or text_of(file, page.places[number])
+    local text, start = row_texts.text(line, page.parts[number])
     local parts = row_texts.kept_parts(page.parts[number], start)
     text = ("%7d "):format(file.from + page.places[number] + 1) .. row_texts.bare(text):gsub("[\n%z]", " ")
     rows[#rows + 1], found[#rows + 1] = text, { { 0, row_texts.margin, "LiveOccurNumber" } }

@@ -10,9 +10,10 @@ Session.__index = Session
 
 -- Replies
 
--- A reply is a table: `kind` is ok, refused or status, `text` what follows it. The reply to changes
--- has `blocks`, one for each h line, with pieces: each has arrays of the places, parts and lines of
--- some hits. The reply to page has `total` and one such piece as `page`, with the numbers of files too.
+-- A reply is a table: `kind` is ok, refused, status or occur, `text` what follows it. The reply to
+-- changes has `blocks`, one for each h line, with pieces: each has arrays of the places, parts and lines
+-- of some hits. The reply to page has `total` and one such piece as `page`, with the numbers of files
+-- too. A program that can leaves the lines out, which are in buffers.
 --
 -- A long reply to changes is given out before it is whole: it has no `kind` then. A block is whole
 -- when it is `done`, and a piece when there is another one after it. `waits` is called when more of
@@ -40,14 +41,18 @@ local function read_number(text, start)
   return number, start
 end
 
--- Reads `place parts line`, from `start` on in a text, up to `finish`.
+-- Reads `place parts line` or `place parts`, from `start` on in a text, up to `finish`.
 local function read_hit(piece, text, start, finish)
   local place, place_end = read_number(text, start)
   local parts_end = text:find(" ", place_end + 1, true)
   local count = piece.count + 1
+  if parts_end and parts_end <= finish then
+    piece.lines[count] = text:sub(parts_end + 1, finish)
+  else
+    parts_end = finish + 1
+  end
   piece.places[count] = place
   piece.parts[count] = text:sub(place_end + 1, parts_end - 1)
-  piece.lines[count] = text:sub(parts_end + 1, finish)
   piece.count = count
 end
 
@@ -191,9 +196,11 @@ end
 -- The process
 
 -- Starts the program. `ended` is called with a text when it ends by itself. Returns nothing and a
--- text where it can't be started.
+-- text where it can't be started. `script` is the number of its script's version: an older program
+-- refuses what it is asked here, and has 1.
 function Session.start(program, states, ended)
   local self = setmetatable({ rest = {}, reply = new_reply(), waiting = {}, sent = 0, answered = 0 }, Session)
+  self.script = 1
   self.input, self.output, self.errors = uv.new_pipe(false), uv.new_pipe(false), uv.new_pipe(false)
   local said = {}
   local words = states and { "--states", tostring(states) } or {}
@@ -215,6 +222,10 @@ function Session.start(program, states, ended)
   self.errors:read_start(function(_, text)
     said[#said + 1] = text
   end)
+  self:send("version", nil, function(reply)
+    self.script = tonumber(reply.text:match(" script (%d+)$")) or 1
+  end)
+  self:send("text off")
   return self
 end
 
