@@ -13,6 +13,10 @@
 #                 compiler and Python 3.11)
 # make test-editor  tests the Emacs client on the built programs (needs Emacs 28)
 # make test-nvim  tests the Neovim client on the built programs (needs Neovim 0.7)
+# make lib        proves what libgaxtrel needs, and builds it into build/lib
+# make test-lib   tries it in C (plain, under sanitizers, with each allocation refused, from eight threads) and in
+#                 Python, on AT&T's cases and the rows of tests/, and beside the built grep on 100,000 random patterns
+#                 (needs a C compiler and Python 3.11)
 # make figures    makes docs/figures/*.svg of crates.txt and of tables of the pages
 # make evidence   writes docs/EVIDENCE.md: the newest run of each of the targets above
 # make install    copies the programs, stripped, with their manual pages and completions below $(DESTDIR)$(PREFIX), grep
@@ -21,6 +25,8 @@
 #                 is there; another grep that is there is kept, unless FORCE=1 is given; the symbols stay in build/debug
 # make install-occur  does so without grep
 # make uninstall  removes what `make install` copied, with the same words
+# make install-lib    copies libgaxtrel.a and .so, gaxtrel.h and gaxtrel.pc below $(DESTDIR)$(PREFIX)
+# make uninstall-lib  removes them, with the same words
 # make dist       packs archives into build/: the programs, their pages and the clients; their symbols; the sources
 # make deb        packs the programs for Debian into build/, grep as gaxgrep (needs dpkg-dev)
 # make clean      removes what make built; what rt keeps of its proofs is kept
@@ -35,7 +41,7 @@ EMACS = emacs
 NVIM = nvim
 
 .PHONY: all programs gate audit test test-program test-random test-growth test-changes test-memory test-editor test-nvim \
-    figures evidence install install-occur uninstall dist deb clean
+    lib test-lib figures evidence install install-occur uninstall install-lib uninstall-lib dist deb clean
 
 all: programs
 
@@ -95,6 +101,18 @@ test-nvim: build/grep build/occur
 	OCCUR=$(CURDIR)/build/occur GREP=$(CURDIR)/build/grep tools/evidence.sh test-nvim \
 	    $(NVIM) --headless -u NONE -i NONE -n -S editors/nvim/test/run.lua
 
+lib:
+	@tools/build.sh gaxtrel
+	@$(MAKE) --no-print-directory -C capi
+
+build/lib/libgaxtrel.a:
+	$(MAKE) lib
+
+test-lib: build/lib/libgaxtrel.a build/grep
+	tools/evidence.sh test-lib $(MAKE) --no-print-directory -C capi test
+	tools/evidence.sh test-lib-cases $(MAKE) --no-print-directory -C capi test-cases
+	tools/evidence.sh test-lib-random python3 capi/tests/random_patterns.py build/grep
+
 figures:
 	tools/figures.py
 
@@ -126,6 +144,12 @@ uninstall:
 	tools/install.sh remove "$(DESTDIR)$(PREFIX)" "$(GREP_NAME)" grep occur
 	test -z "$(SITE_LISP)" || rm -f $(foreach file,$(EMACS_CLIENT),"$(DESTDIR)$(SITE_LISP)/$(file)")
 	test -z "$(NVIM_SITE)" || rm -rf $(foreach file,$(NVIM_CLIENT),"$(DESTDIR)$(NVIM_SITE)/$(file)")
+
+install-lib: build/lib/libgaxtrel.a
+	$(MAKE) --no-print-directory -C capi install
+
+uninstall-lib:
+	$(MAKE) --no-print-directory -C capi uninstall
 
 # The time of all files in packages: that of the commit or, without git, of the file VERSION, which the archive of the
 # sources has kept.

@@ -24,7 +24,8 @@ SEARCH = {*MATCHING, "re_ends", "re_search"}
 """The crates that search, and count the work of their callers."""
 
 DEFINITIONS = {("grep_io", "re_runs"), ("line_chunks", "re_runs"), ("grep_session", "re_runs"),
-               ("grep_core", "re_meter"), ("grep_session", "re_meter"), ("grep_cmd", "re_meter")}
+               ("grep_core", "re_meter"), ("grep_session", "re_meter"), ("grep_cmd", "re_meter"),
+               ("gaxtrel", "re_meter")}
 """Crates that list one of these for its definitions, and name none of its functions in code."""
 
 FROM_TOOLCHAIN = {
@@ -35,11 +36,13 @@ FROM_TOOLCHAIN = {
     "itoa": {"grep_core"},
     "clap": {"occur"},
     "thiserror": {"occur"},
+    "core": {"gaxtrel"},
+    "std_alloc": {"gaxtrel"},
 }
 """The crates of the toolchain, and those that may list each. `memchr` goes over bytes: that is for the crates that
 count what it looks at, and for `re_syntax` and `grep_io`, which split lines. The crates above ask these for searches:
 of what they looked at themselves no meter would know. No crate may list another one of the toolchain: `bstr` and
-`regex` search, too.
+`regex` search, too. The proofs of `gaxtrel` on raw pointers cite two.
 """
 
 NEWLINE = "first_newline"
@@ -49,7 +52,11 @@ NEWLINE = "first_newline"
 def may_list(name: str) -> set[str]:
     """The crates that may list this one, beside the crates of tests."""
     users = SEARCH | {user for user, used in DEFINITIONS if used == name}
-    return users | {"grep", "occur", "examples"} if name == "re_auto" else users | MAKES_METERS if name == "re_meter" else users
+    if name == "re_auto":
+        return users | {"grep", "occur", "examples", "gaxtrel"}
+    if name in ("re_runs", "re_match"):
+        return users | {"gaxtrel"}  # where the whole lines of a text end; that matchers may go to another thread
+    return users | MAKES_METERS if name == "re_meter" else users
 
 
 MATCHERS = {"Cached", "LineMatch", "Matcher", "Strings"}

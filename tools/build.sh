@@ -1,5 +1,7 @@
 #!/usr/bin/env bash
-# Proves and builds programs, with the crates that they stand on and no others: tools/build.sh PROGRAM..
+# Proves and builds programs, or the library for C, with the crates that they stand on and no others:
+#
+#     tools/build.sh PROGRAM|gaxtrel..
 #
 # A crate begins as soon as those that it stands on are proved; the first program's crates are first. Crates that are
 # ready at once share the cores: RT_JOBS, or else all, but four at most. A program is put into build/, and is tried at
@@ -84,7 +86,7 @@ finish_one() {
         install -m 755 "crates/$crate/out/$crate" "build/$crate"
         "try_$crate" || fail "build/$crate gives a wrong answer"
         what+="; build/$crate is there, and its first answer is right"
-    else
+    elif [[ -e crates/$crate/out/rlib ]]; then # the library for C has none
         proved+=("$crate")
     fi
     for it in "${order[@]}"; do [[ ${state[$it]} == proved ]] || left+=("$it"); done

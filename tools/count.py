@@ -40,7 +40,8 @@ def specs_of(crate: str) -> list[Path]:
 def crates() -> list[str]:
     """The crates that have definitions, in the order of crates.txt."""
     lines = (REPOSITORY / "crates.txt").read_text(encoding="utf-8").splitlines()
-    return [name for name in (line.partition(":")[0] for line in lines) if name[:1] != "#" and tops_of(name)]
+    names = (line.partition(":")[0].partition(" ")[0] for line in lines if line[:1] != "#")
+    return [name for name in names if tops_of(name)]
 
 
 def table() -> str:

@@ -1,0 +1,132 @@
+/* gaxtrel.h: POSIX regular expressions over lines, proved.
+
+   What a caller owes, since nothing checks it:
+   - each pointer points to what its type says, also where a length is 0, and no two overlap where
+     one is written;
+   - a matcher begins with GAXTREL_NONE, is written by these calls alone, is not copied or moved by
+     memcpy, and is used by one call at a time. It may go to another thread in between, ordered by
+     a lock, a start or a join;
+   - a thread that compiles has 1 MB of stack: patterns nest up to 256 deep;
+   - no call from a signal handler, or in the child of a fork of a process with threads.
+
+   Any other argument is allowed: any bytes as a pattern, a line or a text, any number as a syntax or
+   a place. No call exits, aborts or waits. See docs/LIBRARY.md for what is proved. */
+#ifndef GAXTREL_H
+#define GAXTREL_H
+
+#include <stdbool.h>
+#include <stddef.h>
+#include <stdint.h>
+
+#ifdef __cplusplus
+extern "C" {
+#endif
+
+/* The work of one call. A step is a byte over which a set of positions, or a table of strings, was
+   advanced; a passed byte is one over which a search for strings went. */
+typedef struct gaxtrel_work {
+    uint64_t built;   /* steps that were computed */
+    uint64_t reused;  /* steps that were found in a cache */
+    uint64_t passed;  /* bytes that were passed */
+    uint64_t refused; /* how often memory that saves work was refused */
+} gaxtrel_work;
+
+/* A matcher for one pattern or several, or none. `work` is that of the last call, to be read. */
+typedef struct gaxtrel_matcher {
+    void *private_at;
+    bool private_full;
+    gaxtrel_work work;
+} gaxtrel_matcher;
+
+#define GAXTREL_NONE {0, false, {0, 0, 0, 0}}
+
+/* Why a pattern is refused, and at which byte of it; of several patterns the number of the first
+   that is refused, counted from 0. */
+typedef struct gaxtrel_fault {
+    uint32_t kind;
+    size_t at;
+    size_t pattern;
+} gaxtrel_fault;
+
+/* A part of a line, or a line of a text: from its first byte to the byte after its last. */
+typedef struct gaxtrel_part {
+    size_t start;
+    size_t end;
+} gaxtrel_part;
+
+enum { GAXTREL_BASIC = 0, GAXTREL_EXTENDED = 1, GAXTREL_FIXED = 2 };
+
+enum { GAXTREL_OK = 0, GAXTREL_REFUSED = 1, GAXTREL_NO_MEMORY = 2, GAXTREL_NO_SYNTAX = 3 };
+
+enum { GAXTREL_NO = 0, GAXTREL_YES = 1, GAXTREL_MISUSED = 2 };
+
+enum {
+    GAXTREL_UNCLOSED_BRACKET = 1,
+    GAXTREL_BAD_CLASS,
+    GAXTREL_BAD_COLLATING_SYMBOL,
+    GAXTREL_BAD_RANGE,
+    GAXTREL_UNCLOSED_GROUP,
+    GAXTREL_UNOPENED_GROUP,
+    GAXTREL_BAD_INTERVAL,
+    GAXTREL_INTERVAL_TOO_LARGE,
+    GAXTREL_NOTHING_TO_REPEAT,
+    GAXTREL_TRAILING_BACKSLASH,
+    GAXTREL_UNDEFINED_ESCAPE,
+    GAXTREL_BACK_REFERENCE,
+    GAXTREL_TOO_DEEP,
+    GAXTREL_TOO_LARGE
+};
+
+/* Makes a matcher of a pattern, and frees what `matcher` held before. With `fold` both cases of
+   letters are alike; with `whole` the whole line has to be matched. GAXTREL_OK: it is made.
+   GAXTREL_REFUSED: the pattern is none, and `fault` says why, and where; its `pattern` is 0.
+   GAXTREL_NO_MEMORY, GAXTREL_NO_SYNTAX: as they say. Unless it answers GAXTREL_OK, `matcher` then
+   holds none; unless it answers GAXTREL_REFUSED, `fault` is as before. */
+uint32_t gaxtrel_compile(gaxtrel_matcher *matcher, const uint8_t *pattern, size_t length,
+                         uint32_t syntax, bool fold, bool whole, gaxtrel_fault *fault);
+
+/* The same for several patterns, which are the lines of `patterns` (the last may lack its newline):
+   a line is matched where one of them matches it, and no bytes are no pattern, which match nothing.
+   The fault is that of the first line that is refused, and `pattern` its number. */
+uint32_t gaxtrel_compile_lines(gaxtrel_matcher *matcher, const uint8_t *patterns, size_t length,
+                               uint32_t syntax, bool fold, bool whole, gaxtrel_fault *fault);
+
+/* Frees what `matcher` holds. It then holds none, and may be used again. */
+void gaxtrel_free(gaxtrel_matcher *matcher);
+
+/* The calls below answer GAXTREL_MISUSED if `matcher` holds none, and write nothing else then; else
+   GAXTREL_YES or GAXTREL_NO. `p` is the number of patterns: each call takes at most so many steps
+   (`built` and `reused` together) as it says, and passes at most as many bytes. */
+
+/* Whether the line is matched. At most p * (length + 1). */
+uint32_t gaxtrel_is_match(gaxtrel_matcher *matcher, const uint8_t *line, size_t length);
+
+/* The next part of the line: of the matched stretches that are not empty and begin at `from` or
+   later the one that begins earliest, and of those that begin there the longest. `part` is written
+   for GAXTREL_YES alone. At most p * (length + 1). */
+uint32_t gaxtrel_find(gaxtrel_matcher *matcher, const uint8_t *line, size_t length, size_t from,
+                      gaxtrel_part *part);
+
+/* All parts of the line from a place on, each searched from the end of the one before: how many
+   there are goes to `count`, and the first ones to `parts`, which has room for `room`. At most four
+   times p * (length + 1), however many they are, where `refused` is 0; else so much for each part
+   and once more. */
+uint32_t gaxtrel_parts(gaxtrel_matcher *matcher, const uint8_t *line, size_t length, size_t from,
+                       gaxtrel_part *parts, size_t room, size_t *count);
+
+/* The first matched line of what is left of a text from `from` on: its place in the text, without
+   its newline. The last line of a text may lack its newline. `line` is written for GAXTREL_YES
+   alone. The next search is from `line->end + 1`. At most p * (line->end + 1 - from), or where
+   there is no such line p * (length + 1). */
+uint32_t gaxtrel_next_line(gaxtrel_matcher *matcher, const uint8_t *text, size_t length, size_t from,
+                           gaxtrel_part *line);
+
+/* How many lines of a text are matched goes to `count`. At most p * (length + 1). */
+uint32_t gaxtrel_count_lines(gaxtrel_matcher *matcher, const uint8_t *text, size_t length,
+                             uint64_t *count);
+
+#ifdef __cplusplus
+}
+#endif
+
+#endif

@@ -1,0 +1,263 @@
+"""POSIX regular expressions over lines of bytes, by the proved library libgaxtrel.
+
+    pattern = gaxtrel.compile(b"ab|abcd|bc")
+    pattern.is_match(b"xabcde")                          # True
+    pattern.search(b"xabcde").span()                     # (1, 5): leftmost, and there longest
+    [m.group() for m in pattern.finditer(b"xabcdebc")]   # [b"abcd", b"bc"]
+    gaxtrel.compile(b"a(b", fold=True)                   # Error: pattern 1: UnclosedGroup at 1
+"""
+
+from __future__ import annotations
+
+import ctypes
+import enum
+import threading
+from collections.abc import Callable, Iterator
+from pathlib import Path
+from typing import Any, NamedTuple
+
+__all__ = ["Error", "Kind", "Match", "Pattern", "Syntax", "Work", "compile", "compile_lines"]
+
+
+class Syntax(enum.IntEnum):
+    """How a pattern is written."""
+
+    BASIC = 0
+    EXTENDED = 1
+    FIXED = 2
+
+
+class Kind(enum.Enum):
+    """Why a pattern is refused, by the names that grep writes."""
+
+    UnclosedBracket = 1
+    BadClass = 2
+    BadCollatingSymbol = 3
+    BadRange = 4
+    UnclosedGroup = 5
+    UnopenedGroup = 6
+    BadInterval = 7
+    IntervalTooLarge = 8
+    NothingToRepeat = 9
+    TrailingBackslash = 10
+    UndefinedEscape = 11
+    BackReference = 12
+    TooDeep = 13
+    TooLarge = 14
+
+
+class Error(ValueError):
+    """A pattern that is refused: why, at which of its bytes, and which of several it is, counted
+    from 0."""
+
+    def __init__(self, kind: Kind, at: int, pattern: int = 0) -> None:
+        super().__init__(kind, at, pattern)
+        self.kind, self.at, self.pattern = kind, at, pattern
+
+    def __str__(self) -> str:
+        return f"pattern {self.pattern + 1}: {self.kind.name} at {self.at}"
+
+
+class Work(NamedTuple):
+    """What a call took: steps that were computed, steps that a cache knew, bytes that were passed,
+    and how often memory that saves work was refused."""
+
+    built: int
+    reused: int
+    passed: int
+    refused: int
+
+
+class Match:
+    """A part of a line that is matched, or a line of a text."""
+
+    __slots__ = ("_end", "_start", "string")
+
+    def __init__(self, string: bytes, start: int, end: int) -> None:
+        self.string, self._start, self._end = string, start, end
+
+    def start(self) -> int:
+        """The place of its first byte."""
+        return self._start
+
+    def end(self) -> int:
+        """The place after its last byte."""
+        return self._end
+
+    def span(self) -> tuple[int, int]:
+        """Both places."""
+        return self._start, self._end
+
+    def group(self) -> bytes:
+        """Its bytes."""
+        return self.string[self._start:self._end]
+
+    def __repr__(self) -> str:
+        return f"<gaxtrel.Match span={self.span()} match={self.group()!r}>"
+
+
+# What C sees
+
+
+class _Work(ctypes.Structure):
+    _fields_ = [(name, ctypes.c_uint64) for name in Work._fields]
+
+
+class _Matcher(ctypes.Structure):
+    _fields_ = [("private_at", ctypes.c_void_p), ("private_full", ctypes.c_bool), ("work", _Work)]
+
+
+class _Fault(ctypes.Structure):
+    _fields_ = [("kind", ctypes.c_uint32), ("at", ctypes.c_size_t), ("pattern", ctypes.c_size_t)]
+
+
+class _Part(ctypes.Structure):
+    _fields_ = [("start", ctypes.c_size_t), ("end", ctypes.c_size_t)]
+
+
+_library = ctypes.CDLL(str(Path(__file__).with_name("libgaxtrel.so")))
+_Call = Callable[..., int]
+_TEXT = (ctypes.c_char_p, ctypes.c_size_t)
+_FLAGS = (ctypes.c_uint32, ctypes.c_bool, ctypes.c_bool, ctypes.POINTER(_Fault))
+_FIRST_ROOM = 64
+"""For so many parts a search has room at first."""
+
+
+def _call(name: str, *types: Any, result: Any = ctypes.c_uint32) -> _Call:
+    function = getattr(_library, f"gaxtrel_{name}")
+    function.argtypes, function.restype = [ctypes.POINTER(_Matcher), *types], result
+    return function  # type: ignore[no-any-return]
+
+
+_compile = _call("compile", *_TEXT, *_FLAGS)
+_compile_lines = _call("compile_lines", *_TEXT, *_FLAGS)
+_is_match = _call("is_match", *_TEXT)
+_find = _call("find", *_TEXT, ctypes.c_size_t, ctypes.POINTER(_Part))
+_parts = _call("parts", *_TEXT, ctypes.c_size_t, ctypes.POINTER(_Part), ctypes.c_size_t,
+               ctypes.POINTER(ctypes.c_size_t))
+_next_line = _call("next_line", *_TEXT, ctypes.c_size_t, ctypes.POINTER(_Part))
+_count_lines = _call("count_lines", *_TEXT, ctypes.POINTER(ctypes.c_uint64))
+_free = _call("free", result=None)
+
+
+def _bytes(text: bytes) -> bytes:
+    """The text, if it is one."""
+    if not isinstance(text, bytes):
+        raise TypeError(f"bytes are wanted, not {type(text).__name__}")
+    return text
+
+
+def _place(text: bytes, start: int) -> int:
+    """A place as C can take it: all places after the end are alike."""
+    return max(0, min(start, len(text) + 1))
+
+
+class Pattern:
+    """What `compile` and `compile_lines` make. Threads that share one take turns."""
+
+    def __init__(self, pattern: bytes, syntax: Syntax = Syntax.EXTENDED, fold: bool = False,
+                 whole: bool = False, several: bool = False) -> None:
+        self.pattern, self.syntax, self.fold, self.whole = _bytes(pattern), Syntax(syntax), fold, whole
+        self.several = several
+        self._lock = threading.Lock()
+        self._matcher = _Matcher()
+        self._at = ctypes.byref(self._matcher)
+        fault = _Fault()
+        make = _compile_lines if several else _compile
+        status = make(self._at, pattern, len(pattern), syntax, fold, whole, ctypes.byref(fault))
+        if status == 1:
+            raise Error(Kind(fault.kind), fault.at, fault.pattern)
+        if status:
+            raise MemoryError
+
+    def _ask(self, call: _Call, *words: Any) -> bool:
+        """The answer of a call; a closed pattern has none."""
+        answer = call(self._at, *words)
+        if answer > 1:
+            raise ValueError("the pattern is closed")
+        return answer == 1
+
+    def is_match(self, line: bytes) -> bool:
+        """Whether the line is matched."""
+        with self._lock:
+            return self._ask(_is_match, _bytes(line), len(line))
+
+    def search(self, line: bytes, start: int = 0) -> Match | None:
+        """The matched part that begins earliest from a place on, and of those the longest. It is
+        not empty."""
+        part = _Part()
+        with self._lock:
+            found = self._ask(_find, _bytes(line), len(line), _place(line, start), ctypes.byref(part))
+        return Match(line, part.start, part.end) if found else None
+
+    def finditer(self, line: bytes, start: int = 0) -> Iterator[Match]:
+        """All parts of the line from a place on, each searched from the end of the one before.
+        They are found at once, in time linear in the line."""
+        count, room = ctypes.c_size_t(), min(len(_bytes(line)), _FIRST_ROOM)
+        while True:
+            parts = (_Part * room)()
+            with self._lock:
+                self._ask(_parts, line, len(line), _place(line, start), parts, room,
+                          ctypes.byref(count))
+            if count.value <= room:
+                return (Match(line, part.start, part.end) for part in parts[:count.value])
+            room = count.value
+
+    def lines(self, text: bytes, start: int = 0) -> Iterator[Match]:
+        """The matched lines of what is left of a text from a place on, without their newlines."""
+        line, at = _Part(), _place(_bytes(text), start)
+        while True:
+            with self._lock:
+                found = self._ask(_next_line, text, len(text), at, ctypes.byref(line))
+            if not found:
+                return
+            yield Match(text, line.start, line.end)
+            at = line.end + 1
+
+    def count_lines(self, text: bytes) -> int:
+        """How many lines of a text are matched."""
+        count = ctypes.c_uint64()
+        with self._lock:
+            self._ask(_count_lines, _bytes(text), len(text), ctypes.byref(count))
+        return count.value
+
+    @property
+    def work(self) -> Work:
+        """What the last call took."""
+        with self._lock:
+            return Work(*(getattr(self._matcher.work, name) for name in Work._fields))
+
+    def close(self) -> None:
+        """Frees what is held; nothing can be searched for afterwards."""
+        with self._lock:
+            _free(self._at)
+
+    def __enter__(self) -> Pattern:
+        return self
+
+    def __exit__(self, *_: object) -> None:
+        self.close()
+
+    def __del__(self, _free: _Call = _free) -> None:
+        if hasattr(self, "_at"):
+            _free(self._at)
+
+    def __reduce__(self) -> tuple[Any, ...]:
+        return Pattern, (self.pattern, self.syntax, self.fold, self.whole, self.several)
+
+    def __repr__(self) -> str:
+        return f"<gaxtrel.Pattern {self.pattern!r} {self.syntax.name}>"
+
+
+def compile(pattern: bytes, syntax: Syntax = Syntax.EXTENDED, *, fold: bool = False,  # noqa: A001
+            whole: bool = False) -> Pattern:
+    """A pattern, or an `Error`. With `fold` both cases of a letter are alike; with `whole` the
+    whole line has to be matched."""
+    return Pattern(pattern, syntax, fold, whole)
+
+
+def compile_lines(patterns: bytes, syntax: Syntax = Syntax.EXTENDED, *, fold: bool = False,
+                  whole: bool = False) -> Pattern:
+    """Several patterns, which are the lines of `patterns`: a line is matched where one of them
+    matches it. No bytes are no pattern, which matches nothing."""
+    return Pattern(patterns, syntax, fold, whole, several=True)

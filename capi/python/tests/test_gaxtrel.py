@@ -1,0 +1,163 @@
+"""The package: each call, errors, threads, and what Python's own rules ask of a class."""
+
+from __future__ import annotations
+
+import copy
+import pickle
+import sys
+import threading
+import unittest
+
+import gaxtrel
+from gaxtrel import Kind, Syntax
+
+
+class Searches(unittest.TestCase):
+    def setUp(self) -> None:
+        self.pattern = gaxtrel.compile(b"ab|abcd|bc")
+
+    def test_is_match(self) -> None:
+        self.assertTrue(self.pattern.is_match(b"xabcde"))
+        self.assertFalse(self.pattern.is_match(b"xacde"))
+        self.assertFalse(self.pattern.is_match(b""))
+
+    def test_search_takes_the_leftmost_longest_part(self) -> None:
+        found = self.pattern.search(b"xabcdebc")
+        self.assertEqual((found.start(), found.end(), found.span(), found.group()), (1, 5, (1, 5), b"abcd"))
+        self.assertEqual(repr(found), "<gaxtrel.Match span=(1, 5) match=b'abcd'>")
+        self.assertEqual(self.pattern.search(b"xabcdebc", 2).span(), (2, 4))
+        self.assertIsNone(self.pattern.search(b"xabcdebc", 7))
+
+    def test_any_number_is_a_place(self) -> None:
+        self.assertEqual(self.pattern.search(b"ab", -7).span(), (0, 2))
+        for start in (2, 3, 2**64, 2**64 + 1, 2**200):
+            self.assertIsNone(self.pattern.search(b"ab", start))
+            self.assertEqual(list(self.pattern.finditer(b"ab", start)), [])
+            self.assertEqual(list(self.pattern.lines(b"ab", start)), [])
+
+    def test_finditer(self) -> None:
+        self.assertEqual([found.group() for found in self.pattern.finditer(b"xabcdebc")], [b"abcd", b"bc"])
+        self.assertEqual([found.span() for found in self.pattern.finditer(b"a\0ab")], [(2, 4)])
+        spans = [found.span() for found in self.pattern.finditer(b"ab" * 500)]
+        self.assertEqual(spans, [(2 * k, 2 * k + 2) for k in range(500)])
+
+    def test_an_empty_part_is_none(self) -> None:
+        pattern = gaxtrel.compile(b"a*")
+        self.assertTrue(pattern.is_match(b"b"))
+        self.assertIsNone(pattern.search(b"b"))
+        self.assertEqual([found.span() for found in pattern.finditer(b"baab")], [(1, 3)])
+
+    def test_lines_of_a_text(self) -> None:
+        pattern, text = gaxtrel.compile_lines(b"^a\nz$", Syntax.BASIC), b"xa\nab\n\nxyz\nzx\nbz"
+        self.assertEqual([line.group() for line in pattern.lines(text)], [b"ab", b"xyz", b"bz"])
+        self.assertEqual([line.group() for line in pattern.lines(text, 6)], [b"xyz", b"bz"])
+        self.assertEqual(pattern.count_lines(text), 3)
+        self.assertEqual(pattern.count_lines(b""), 0)
+
+    def test_options(self) -> None:
+        pattern = gaxtrel.compile(b"A.b", Syntax.FIXED, fold=True, whole=True)
+        self.assertTrue(pattern.is_match(b"a.B"))
+        self.assertFalse(pattern.is_match(b"a.Bc") or pattern.is_match(b"axB"))
+
+    def test_no_pattern_and_the_empty_one(self) -> None:
+        self.assertFalse(gaxtrel.compile_lines(b"").is_match(b""))
+        self.assertTrue(gaxtrel.compile_lines(b"\n").is_match(b"a"))
+
+    def test_work_is_bounded(self) -> None:
+        pattern = gaxtrel.compile(b"a|a*[bc]")
+        line = b"a" * 20_000
+        self.assertEqual(sum(1 for _ in pattern.finditer(line)), len(line))
+        work = pattern.work
+        self.assertEqual(work.refused, 0)
+        self.assertLessEqual(work.built + work.reused, 4 * (len(line) + 1))
+        self.assertLessEqual(work.passed, 4 * (len(line) + 1))
+
+
+class Errors(unittest.TestCase):
+    def refusal(self, *words: object) -> gaxtrel.Error:
+        with self.assertRaises(gaxtrel.Error) as refused:
+            gaxtrel.compile(*words)
+        return refused.exception
+
+    def test_kind_and_place(self) -> None:
+        error = self.refusal(rb"\(a\)\1", Syntax.BASIC)
+        self.assertEqual((error.kind, error.at, error.pattern), (Kind.BackReference, 5, 0))
+        self.assertEqual(str(error), "pattern 1: BackReference at 5")
+        self.assertIsInstance(error, ValueError)
+
+    def test_number_of_several(self) -> None:
+        with self.assertRaises(gaxtrel.Error) as refused:
+            gaxtrel.compile_lines(b"a\n(b\n[")
+        error = refused.exception
+        self.assertEqual((error.kind, error.at, error.pattern), (Kind.UnclosedGroup, 0, 1))
+        again = pickle.loads(pickle.dumps(error))
+        self.assertEqual((again.kind, again.at, again.pattern), (Kind.UnclosedGroup, 0, 1))
+
+    def test_each_kind(self) -> None:
+        for pattern, kind in {b"[a": Kind.UnclosedBracket, b"[[:x:]]": Kind.BadClass,
+                              b"[[.ab.]]": Kind.BadCollatingSymbol, b"[b-a]": Kind.BadRange,
+                              b"(a": Kind.UnclosedGroup, b"a{2,1}": Kind.BadInterval, b"a{256}": Kind.IntervalTooLarge,
+                              b"*a": Kind.NothingToRepeat, b"a\\": Kind.TrailingBackslash,
+                              b"\\w": Kind.UndefinedEscape, b"\\1": Kind.BackReference,
+                              b"(" * 300 + b")" * 300: Kind.TooDeep, b"(a{255}){255}": Kind.TooLarge}.items():
+            self.assertEqual(self.refusal(pattern).kind, kind, pattern)
+        self.assertEqual(self.refusal(rb"a\)", Syntax.BASIC).kind, Kind.UnopenedGroup)
+
+    def test_types(self) -> None:
+        for wrong in ("a", bytearray(b"a"), memoryview(b"a"), None, 7):
+            self.assertRaises(TypeError, gaxtrel.compile, wrong)
+            for call in ("is_match", "search", "finditer", "count_lines"):
+                self.assertRaises(TypeError, getattr(gaxtrel.compile(b"a"), call), wrong)
+            self.assertRaises(TypeError, list, map(list, [gaxtrel.compile(b"a").lines(wrong)]))
+        self.assertRaises(ValueError, gaxtrel.compile, b"a", 3)
+
+    def test_closed(self) -> None:
+        with gaxtrel.compile(b"a") as pattern:
+            self.assertTrue(pattern.is_match(b"a"))
+        for call in ("is_match", "search", "finditer", "count_lines"):
+            self.assertRaises(ValueError, getattr(pattern, call), b"a")
+        pattern.close()
+
+
+class Objects(unittest.TestCase):
+    def test_copies_are_patterns_of_their_own(self) -> None:
+        pattern = gaxtrel.compile_lines(b"a\nb", fold=True, whole=True)
+        for again in (copy.copy(pattern), copy.deepcopy(pattern), pickle.loads(pickle.dumps(pattern))):
+            again.close()
+            self.assertTrue(pattern.is_match(b"B"))
+            self.assertFalse(pattern.is_match(b"BA"))
+
+    def test_a_pattern_with_each_thread(self) -> None:
+        def work(seen: list[bool]) -> None:
+            pattern = gaxtrel.compile(b"(a|aa)*b{1,20}[0-9]+")
+            seen.append(all(pattern.is_match(b"x" * k + b"aaab7") for k in range(1000)))
+
+        self.run_threads(work)
+
+    def test_one_pattern_for_all_threads(self) -> None:
+        pattern = gaxtrel.compile(b"(a|aa)*b{1,20}[0-9]+")
+
+        def work(seen: list[bool]) -> None:
+            for k in range(500):
+                line = b"x" * k + b"aaab7"
+                if pattern.search(line).span() != (k, k + 5) or pattern.is_match(line[:-1]):
+                    return
+            seen.append(True)
+
+        self.run_threads(work)
+
+    def run_threads(self, work: object) -> None:
+        seen: list[bool] = []
+        threads = [threading.Thread(target=work, args=(seen,)) for _ in range(8)]
+        for thread in threads:
+            thread.start()
+        for thread in threads:
+            thread.join()
+        self.assertEqual(seen, [True] * 8)
+
+
+if __name__ == "__main__":
+    result = unittest.TextTestRunner().run(unittest.defaultTestLoader.loadTestsFromModule(sys.modules["__main__"]))
+    failed = len(result.failures) + len(result.errors)
+    print(f"{result.testsRun - failed} passed, {failed} failed")
+    sys.exit(failed > 0)

@@ -1,0 +1,114 @@
+/* Each allocation of each call fails in turn: the answer is then "no memory" or the right one, and
+   nothing leaks or is freed twice. Link with -Wl,--wrap=malloc,--wrap=realloc,--wrap=free. */
+#include "gaxtrel.h"
+#include <stdio.h>
+#include <string.h>
+
+void *__real_malloc(size_t n);
+void *__real_realloc(void *p, size_t n);
+void __real_free(void *p);
+
+static long left = -1, live = 0;
+
+static int fails(void) { return left >= 0 && left-- == 0; }
+
+void *__wrap_malloc(size_t n) {
+    if (fails()) return 0;
+    void *p = __real_malloc(n);
+    live += p != 0;
+    return p;
+}
+
+void *__wrap_realloc(void *p, size_t n) {
+    if (fails()) return 0;
+    void *q = __real_realloc(p, n);
+    live += (p == 0) && q;
+    return q;
+}
+
+void __wrap_free(void *p) {
+    live -= p != 0;
+    __real_free(p);
+}
+
+/* The patterns are lines; the answers are for each line of the text, and for the first line. */
+static const struct {
+    const char *patterns;
+    uint32_t syntax;
+    bool fold;
+    const char *line;
+    uint32_t matched;
+    size_t start, end, parts;
+    const char *text;
+    uint64_t lines;
+} cases[] = {
+    {"ab|abcd|bc", GAXTREL_EXTENDED, false, "xabcdebc", 1, 1, 5, 2, "ab\nx\nbc", 2},
+    {"(a|b)*c{2,30}[[:digit:]]+x?", GAXTREL_EXTENDED, true, "zzABcc77", 1, 2, 8, 1, "\nABcc7\n", 1},
+    {"needle", GAXTREL_FIXED, false, "a needle here", 1, 2, 8, 1, "needles\nneedl\n", 1},
+    {"needle\nthread\ncloth\nscissors\nbutton\nzipper\nseam", GAXTREL_FIXED, false, "a thread", 1, 2, 8, 1,
+     "x\nseam\nclot", 1},
+    {"needle|thread|cloth|scissors|button|zipper|seam", GAXTREL_EXTENDED, false, "a thread", 1, 2, 8, 1,
+     "x\nseam\nclot", 1},
+    {"\\(ab\\)*\\{2,4\\}", GAXTREL_BASIC, false, "ababab", 1, 0, 6, 1, "a\nb", 2},
+    {"a\na*[bc]", GAXTREL_EXTENDED, false, "aaaaaaaaaaaaaaaaaaaaaaaaaaaaaaaa", 1, 0, 1, 32, "a\n\nb\n", 2},
+    {"foo[0-9]*\nba+r\nqu+x\n", GAXTREL_EXTENDED, false, "a quuux", 1, 2, 7, 1, "fo\nfoo\nbr\nbaaar", 2},
+    {"(a*)*b", GAXTREL_EXTENDED, false, "aaaaaaaaaaaaaaaaaaaaaaaac", 0, 0, 0, 0, "", 0},
+};
+
+static int answers(gaxtrel_matcher *m, size_t k) {
+    const uint8_t *line = (const uint8_t *)cases[k].line, *text = (const uint8_t *)cases[k].text;
+    size_t length = strlen(cases[k].line), size = strlen(cases[k].text);
+    gaxtrel_part part, parts[3];
+    size_t count, at = 0;
+    uint64_t lines, n = 0;
+    if (gaxtrel_is_match(m, line, length) != cases[k].matched) return 1;
+    if (gaxtrel_find(m, line, length, 0, &part) != cases[k].matched) return 2;
+    if (cases[k].matched && (part.start != cases[k].start || part.end != cases[k].end)) return 3;
+    if (gaxtrel_parts(m, line, length, 0, parts, 3, &count) != cases[k].matched) return 4;
+    if (count != cases[k].parts) return 5;
+    if (count && (parts[0].start != cases[k].start || parts[0].end != cases[k].end)) return 6;
+    if (gaxtrel_count_lines(m, text, size, &lines) > 1 || lines != cases[k].lines) return 7;
+    for (; gaxtrel_next_line(m, text, size, at, &part) == GAXTREL_YES; at = part.end + 1) n++;
+    return n == lines ? 0 : 8;
+}
+
+int main(void) {
+    long runs = 0, refused = 0;
+    for (size_t k = 0; k < sizeof cases / sizeof *cases; k++) {
+        for (long n = 0;; n++) {
+            gaxtrel_matcher m = GAXTREL_NONE;
+            gaxtrel_fault fault;
+            const uint8_t *patterns = (const uint8_t *)cases[k].patterns;
+            size_t length = strlen(cases[k].patterns);
+            left = n;
+            uint32_t status =
+                strchr(cases[k].patterns, '\n')
+                    ? gaxtrel_compile_lines(&m, patterns, length, cases[k].syntax, cases[k].fold, false, &fault)
+                    : gaxtrel_compile(&m, patterns, length, cases[k].syntax, cases[k].fold, false, &fault);
+            int wrong = 0;
+            if (status == GAXTREL_OK) {
+                for (int again = 0; again < 3 && !wrong; again++) wrong = answers(&m, k);
+            } else if (status != GAXTREL_NO_MEMORY) {
+                wrong = 9;
+            } else {
+                refused++;
+                if (gaxtrel_is_match(&m, patterns, length) != GAXTREL_MISUSED) wrong = 10;
+            }
+            bool reached = left < 0;
+            left = -1;
+            gaxtrel_free(&m);
+            runs++;
+            if (wrong) {
+                printf("case %zu, allocation %ld: check %d\n", k, n, wrong);
+                return 1;
+            }
+            if (live != 0) {
+                printf("case %zu, allocation %ld: %ld blocks left\n", k, n, live);
+                return 2;
+            }
+            if (!reached) break;
+        }
+    }
+    printf("%ld runs, %ld of them refused\n", runs, refused);
+    return 0;
+}

@@ -1,0 +1,159 @@
+/* Calls each function. Says the number of the first check that fails, if one does. */
+#include "gaxtrel.h"
+#include <stdio.h>
+#include <stdlib.h>
+#include <string.h>
+
+#define P(s) (const uint8_t *)(s), sizeof(s) - 1
+#define CHECK(n, holds)                                                                                                \
+    do {                                                                                                               \
+        if (!(holds)) {                                                                                                \
+            printf("check %d\n", n);                                                                                   \
+            return n;                                                                                                  \
+        }                                                                                                              \
+    } while (0)
+
+static uint64_t steps(const gaxtrel_matcher *m) { return m->work.built + m->work.reused; }
+
+/* One pattern. */
+static int one(void) {
+    gaxtrel_matcher m = GAXTREL_NONE;
+    gaxtrel_fault fault = {0, 0, 7};
+    gaxtrel_part part = {9, 9};
+    CHECK(1, gaxtrel_is_match(&m, P("x")) == GAXTREL_MISUSED);
+    CHECK(2, gaxtrel_compile(&m, P("ab|abcd|bc"), GAXTREL_EXTENDED, false, false, &fault) == GAXTREL_OK);
+    CHECK(3, gaxtrel_is_match(&m, P("xabcde")) == GAXTREL_YES && steps(&m) <= 7 && m.work.passed <= 7);
+    CHECK(4, gaxtrel_is_match(&m, P("xacde")) == GAXTREL_NO);
+    CHECK(5, gaxtrel_find(&m, P("xabcdebc"), 0, &part) == 1 && part.start == 1 && part.end == 5);
+    CHECK(6, gaxtrel_find(&m, P("xabcdebc"), part.end, &part) == 1 && part.start == 6 && part.end == 8);
+    CHECK(7, gaxtrel_find(&m, P("xabcdebc"), 8, &part) == GAXTREL_NO && part.start == 6);
+    CHECK(8, gaxtrel_find(&m, P("xabcdebc"), 9, &part) == GAXTREL_NO);
+    CHECK(9, gaxtrel_find(&m, P("xabcdebc"), SIZE_MAX, &part) == GAXTREL_NO && steps(&m) == 0);
+    CHECK(10, fault.pattern == 7);
+    /* over a matcher that is held */
+    CHECK(11, gaxtrel_compile(&m, P("\\(a\\)\\1"), GAXTREL_BASIC, false, false, &fault) == GAXTREL_REFUSED);
+    CHECK(12, fault.kind == GAXTREL_BACK_REFERENCE && fault.at == 5 && fault.pattern == 0);
+    CHECK(13, gaxtrel_is_match(&m, P("aa")) == GAXTREL_MISUSED);
+    CHECK(14, gaxtrel_compile(&m, P("a"), 7, false, false, &fault) == GAXTREL_NO_SYNTAX);
+    CHECK(15, gaxtrel_compile(&m, P("A.b"), GAXTREL_FIXED, true, true, &fault) == GAXTREL_OK);
+    CHECK(16, gaxtrel_is_match(&m, P("a.B")) == 1 && gaxtrel_is_match(&m, P("a.Bc")) == 0);
+    CHECK(17, gaxtrel_compile(&m, P(""), GAXTREL_EXTENDED, false, true, &fault) == GAXTREL_OK);
+    CHECK(18, gaxtrel_is_match(&m, P("")) == 1 && gaxtrel_is_match(&m, P("a")) == 0);
+    gaxtrel_free(&m);
+    gaxtrel_free(&m);
+    CHECK(19, gaxtrel_is_match(&m, P("x")) == GAXTREL_MISUSED);
+    return 0;
+}
+
+/* Several patterns. */
+static int several(void) {
+    gaxtrel_matcher m = GAXTREL_NONE;
+    gaxtrel_fault fault = {0, 0, 0};
+    gaxtrel_part part;
+    CHECK(30, gaxtrel_compile_lines(&m, P("error\nwarn(ing)?\n[0-9]+x\n"), GAXTREL_EXTENDED, true, false, &fault) ==
+                  GAXTREL_OK);
+    CHECK(31, gaxtrel_is_match(&m, P("a Warning")) == 1 && gaxtrel_is_match(&m, P("12x")) == 1);
+    CHECK(32, gaxtrel_is_match(&m, P("12 x")) == 0 && steps(&m) <= 3 * 5);
+    CHECK(33, gaxtrel_find(&m, P("warn 7x ERROR"), 1, &part) == 1 && part.start == 5 && part.end == 7);
+    CHECK(34,
+          gaxtrel_compile_lines(&m, P("a\nb\n[c\n(d\n"), GAXTREL_EXTENDED, false, false, &fault) == GAXTREL_REFUSED);
+    CHECK(35, fault.pattern == 2 && fault.kind == GAXTREL_UNCLOSED_BRACKET && fault.at == 0);
+    CHECK(36, gaxtrel_is_match(&m, P("a")) == GAXTREL_MISUSED);
+    /* no pattern, and one that is empty */
+    CHECK(37, gaxtrel_compile_lines(&m, P(""), GAXTREL_EXTENDED, false, false, &fault) == GAXTREL_OK);
+    CHECK(38, gaxtrel_is_match(&m, P("a")) == GAXTREL_NO);
+    CHECK(39, gaxtrel_compile_lines(&m, P("\n"), GAXTREL_EXTENDED, false, false, &fault) == GAXTREL_OK);
+    CHECK(40, gaxtrel_is_match(&m, P("a")) == GAXTREL_YES);
+    gaxtrel_free(&m);
+    return 0;
+}
+
+/* All parts of a line at once. */
+static int parts(void) {
+    gaxtrel_matcher m = GAXTREL_NONE;
+    gaxtrel_fault fault;
+    gaxtrel_part found[4] = {{90, 91}, {90, 91}, {90, 91}, {90, 91}};
+    size_t count = 77;
+    CHECK(50, gaxtrel_parts(&m, P("x"), 0, found, 4, &count) == GAXTREL_MISUSED && count == 77);
+    CHECK(51, gaxtrel_compile(&m, P("a|ab+"), GAXTREL_EXTENDED, false, false, &fault) == GAXTREL_OK);
+    CHECK(52, gaxtrel_parts(&m, P("abba ab"), 0, found, 4, &count) == GAXTREL_YES && count == 3);
+    CHECK(53, found[0].start == 0 && found[0].end == 3 && found[1].start == 3 && found[1].end == 4);
+    CHECK(54, found[2].start == 5 && found[2].end == 7 && found[3].start == 90 && found[3].end == 91);
+    CHECK(55, gaxtrel_parts(&m, P("abba ab"), 1, found, 1, &count) == GAXTREL_YES && count == 2);
+    CHECK(56, found[0].start == 3 && found[0].end == 4 && found[1].start == 3 && found[1].end == 4);
+    CHECK(57, gaxtrel_parts(&m, P("abba ab"), 0, found, 0, &count) == GAXTREL_YES && count == 3);
+    CHECK(58, gaxtrel_parts(&m, P("abba ab"), 7, found, 4, &count) == GAXTREL_NO && count == 0);
+    CHECK(59, gaxtrel_parts(&m, P("abba ab"), 8, found, 4, &count) == GAXTREL_NO && count == 0);
+    /* each search for a part alone goes on to the line's end */
+    static uint8_t line[100000];
+    memset(line, 'a', sizeof line);
+    CHECK(60, gaxtrel_compile(&m, P("a|a*[bc]"), GAXTREL_EXTENDED, false, false, &fault) == GAXTREL_OK);
+    CHECK(61, gaxtrel_parts(&m, line, sizeof line, 0, found, 4, &count) == GAXTREL_YES && count == sizeof line);
+    CHECK(62, m.work.refused == 0 && steps(&m) <= 4 * (sizeof line + 1) && m.work.passed <= 4 * (sizeof line + 1));
+    CHECK(63, found[3].start == 3 && found[3].end == 4);
+    gaxtrel_free(&m);
+    return 0;
+}
+
+/* The lines of a text. */
+static int lines(void) {
+    gaxtrel_matcher m = GAXTREL_NONE;
+    gaxtrel_fault fault;
+    gaxtrel_part line = {9, 9};
+    uint64_t count = 7;
+    CHECK(70, gaxtrel_next_line(&m, P("x"), 0, &line) == GAXTREL_MISUSED && line.start == 9);
+    CHECK(71, gaxtrel_count_lines(&m, P("x"), &count) == GAXTREL_MISUSED && count == 7);
+    CHECK(72, gaxtrel_compile_lines(&m, P("^a\nz$"), GAXTREL_BASIC, false, false, &fault) == GAXTREL_OK);
+    static const uint8_t text[] = "xa\nab\n\nxyz\nzx\nbz";
+    static const gaxtrel_part wanted[] = {{3, 5}, {7, 10}, {14, 16}};
+    size_t n = 0, at = 0;
+    uint64_t taken = 0;
+    for (; gaxtrel_next_line(&m, text, sizeof text - 1, at, &line) == GAXTREL_YES; at = line.end + 1) {
+        CHECK(73, n < 3 && line.start == wanted[n].start && line.end == wanted[n].end);
+        CHECK(74, steps(&m) <= 2 * (line.end + 1 - at) && m.work.passed <= 2 * (line.end + 1 - at));
+        taken += steps(&m);
+        n++;
+    }
+    CHECK(75, n == 3 && at == 17 && taken <= 2 * 17);
+    CHECK(76, gaxtrel_count_lines(&m, text, sizeof text - 1, &count) == GAXTREL_YES && count == 3);
+    CHECK(77, gaxtrel_count_lines(&m, text, sizeof text - 2, &count) == GAXTREL_YES && count == 2);
+    CHECK(78, gaxtrel_count_lines(&m, text, 3, &count) == GAXTREL_NO && count == 0);
+    CHECK(79, gaxtrel_next_line(&m, text, 3, SIZE_MAX, &line) == GAXTREL_NO);
+    CHECK(80, gaxtrel_next_line(&m, text, 0, 0, &line) == GAXTREL_NO);
+    gaxtrel_free(&m);
+    return 0;
+}
+
+/* Patterns that take others time beyond the line: no more than a step a byte and one more. */
+static int hostile(void) {
+    static const char *const patterns[] = {
+        "(a*)*[bc]",      "(a|aa)*[bc]",           "^(a|b)*a(a|b){20}[cd]$", "(a{1,30}){1,30}[bc]",
+        "(a?){50}a{50}b", "(.*)(.*)(.*)(.*)[bc]$", "(((((a*)*)*)*)*)*[^a]"};
+    static uint8_t line[5000];
+    for (size_t i = 0; i < sizeof line; i++) line[i] = "aaaaaaab"[i * i % 8];
+    for (size_t k = 0; k < sizeof patterns / sizeof *patterns; k++) {
+        gaxtrel_matcher m = GAXTREL_NONE;
+        gaxtrel_fault fault;
+        gaxtrel_part part;
+        CHECK(90, gaxtrel_compile(&m, (const uint8_t *)patterns[k], strlen(patterns[k]), GAXTREL_EXTENDED, false, false,
+                                  &fault) == GAXTREL_OK);
+        for (size_t size = 0; size <= sizeof line; size = 2 * size + 13) {
+            CHECK(91, gaxtrel_is_match(&m, line, size) <= GAXTREL_YES);
+            CHECK(92, steps(&m) <= size + 1 && m.work.passed <= size + 1);
+            CHECK(93, gaxtrel_find(&m, line, size, 0, &part) <= GAXTREL_YES);
+            CHECK(94, steps(&m) <= size + 1 && m.work.passed <= size + 1);
+        }
+        gaxtrel_free(&m);
+    }
+    return 0;
+}
+
+int main(void) {
+    int failed = one();
+    if (!failed) failed = several();
+    if (!failed) failed = parts();
+    if (!failed) failed = lines();
+    if (!failed) failed = hostile();
+    if (!failed) puts("each call answers as it has to");
+    return failed;
+}

@@ -1,0 +1,9 @@
+-- the machine values of what owns a box by its pointer
+pub mod Values
+pub mod HandleValues
+-- lemmas by subject; the answers to goals of functions lie in folders of their modules
+pub mod PartLemmas
+pub mod TextLemmas
+pub mod KeptLemmas
+-- what may go to another thread
+pub mod PatternsSend

@@ -1,0 +1,43 @@
+-- Patterns may go to another thread.
+use denote.Param.Send.{IsSend, sendable}
+use Rattle.re_auto.proofs.tables.Tables.TheSendSync as tables
+use Rattle.re_match.below.re_ends.proofs.back.EndPair.TheSendSync as back
+use Rattle.re_match.below.re_steps.proofs.least.StartPair.TheSendSync as least
+use Rattle.re_match.below.re_steps.proofs.sets.SetPair.TheSendSync as sets
+use Rattle.re_match.below.re_steps.proofs.table.StepTable.TheSendSync as table
+use Rattle.re_match.proofs.prefilter.Prefilter.TheSendSync as prefilter
+use Rattle.re_match.proofs.strings.Strings.TheSendSync as strings
+use Rattle.re_syntax.proofs.bytes.ByteSet.TheSendSync as byte_set
+use Rattle.re_syntax.proofs.tree.Tree.TheLaws.TheKnot
+use Rattle.re_search.proofs.filter.Filter.TheSendSync as filter
+use Rattle.std_alloc.proofs.boxed.Box.TheSendSync as box
+use Rattle.std.below.std_heap.proofs.GlobalAllocator.TheSendSync as heap
+use Rattle.std.proofs.Crossing
+use Rattle.std.proofs.MapsCrossing
+use Rattle.std.proofs.alloc.Global.TheSendSync as global
+use Rattle.re_match.specs.contracts.cached.Cached as cached_row
+use Rattle.re_search.specs.contracts.matcher.Matcher as matcher_row
+use Rattle.gaxtrel.specs.contracts.patterns.Patterns as patterns_row
+
+cached : IsSend cached_row.the_row
+cached =
+    search (
+      tables.the_field_send,
+      back.the_field_send,
+      least.the_field_send,
+      sets.the_field_send,
+      table.the_field_send,
+      prefilter.the_field_send,
+      byte_set.the_field_send,
+      global.the_field_send,
+      MapsCrossing.crosses,
+      Crossing.crosses,
+      TheKnot.crosses,
+      sendable,
+    ) depth 60 fits 20000
+
+matcher : IsSend matcher_row.the_row
+matcher = search (strings.the_send, cached, box.the_send, global.the_send, heap.the_frees, sendable) depth 60 fits 20000
+
+pub patterns : IsSend patterns_row.the_row
+patterns = search (matcher, filter.the_send, Crossing.crosses, sendable) depth 60 fits 20000

@@ -1,0 +1,5 @@
+use Rattle.gaxtrel.proofs.KeptLemmas.{still_alike, still_needed}
+use Rattle.gaxtrel.proofs.patterns.Patterns.is_match.Goals as goal
+
+pub invariant_of-self : goal.invariant_of-self
+invariant_of-self c = (still_alike _ _ _ c.is_line_matched.ensures.same c.self.invariant.0, still_needed _ _ _ c.is_line_matched.ensures.same c.self.invariant.1)

@@ -1,0 +1,98 @@
+-- What the calls of the library take and answer.
+use Rattle.std.specs.Prelude.{◌≡◌, ℕ, ◌+◌, ◌*◌, List, [], ◌∷◌, Option, Some, None, drop, length}
+use Rattle.re_syntax.specs.Bytes.{Text}
+use Rattle.re_syntax.specs.declared.syntax.Syntax.{Syntax}
+use Rattle.re_syntax.specs.declared.syntax.Syntax.TheVariants as s
+use Rattle.re_syntax.specs.declared.fault.FaultKind.{FaultKind}
+use Rattle.re_syntax.specs.declared.fault.FaultKind.TheVariants as f
+use Rattle.re_syntax.specs.declared.span.Span.{Span}
+use Rattle.re_syntax.specs.Lines.{lines_of}
+use Rattle.re_meter.specs.Meters.{Steps, Adds, AddsAtMost}
+use Rattle.re_auto.specs.Searches.{searches_for}
+use Rattle.re_search.specs.Working.Sought.{FindsSought, Sought}
+use Rattle.gaxtrel.specs.declared.part.GaxtrelPart.{GaxtrelPart}
+use Rattle.gaxtrel.specs.declared.work.GaxtrelWork.{GaxtrelWork}
+
+-- the numbers of the syntaxes
+abbrev pub syntax_number : Syntax → ℕ
+syntax_number s.Basic = 0
+syntax_number s.Extended = 1
+syntax_number s.Fixed = 2
+
+-- the numbers of the kinds of faults
+abbrev pub kind_number : FaultKind → ℕ
+kind_number f.UnclosedBracket = 1
+kind_number f.BadClass = 2
+kind_number f.BadCollatingSymbol = 3
+kind_number f.BadRange = 4
+kind_number f.UnclosedGroup = 5
+kind_number f.UnopenedGroup = 6
+kind_number f.BadInterval = 7
+kind_number f.IntervalTooLarge = 8
+kind_number f.NothingToRepeat = 9
+kind_number f.TrailingBackslash = 10
+kind_number f.UndefinedEscape = 11
+kind_number f.BackReference = 12
+kind_number f.TooDeep = 13
+kind_number f.TooLarge = 14
+kind_number f.Memory = 15
+
+-- ---- parts in an array
+
+abbrev pub part_at : ℕ × ℕ → GaxtrelPart
+part_at place = record { start = place.0; end = place.1 }
+
+-- the parts in order over the elements of an array, as far as there is room
+abbrev pub put_over : List (ℕ × ℕ) → List GaxtrelPart → List GaxtrelPart
+put_over [] old = old
+put_over (place ∷ places) [] = []
+put_over (place ∷ places) (part ∷ old) = part_at place ∷ put_over places old
+
+-- ---- work
+
+-- the work of one call, as a meter counts it
+abbrev pub steps_of : GaxtrelWork → Steps
+steps_of work =
+    record {
+      built = work.built;
+      reused = work.reused;
+      passed = work.passed;
+      refused = work.refused;
+    }
+
+-- a search of a line by so many matchers
+abbrev pub line_cost : ℕ → Text → ℕ
+line_cost matchers line = matchers * (length line + 1)
+
+-- the search for so many parts of a line: that of no more than four searches of the line, unless
+-- memory for the places of the parts was refused
+abbrev pub TakesParts : ℕ → Text → ℕ → Steps → Steps → Type 0
+TakesParts matchers line parts old new =
+    (refusals : ℕ) × Adds (searches_for refusals (parts + 1) * line_cost matchers line)
+    (searches_for refusals (parts + 1) * line_cost matchers line) refusals old new
+
+-- a search for the next line of a text: up to the end of that line; without one the whole text
+abbrev pub bytes_to_next : Text → Option Span → ℕ
+bytes_to_next text None = length text + 1
+bytes_to_next text (Some place) = place.end + 1
+
+-- ---- answers
+
+-- 1 and the place that was found, or 0
+abbrev pub Tells : ℕ → GaxtrelPart → Option Span → Type 0
+Tells answer part None = answer ≡ 0
+Tells answer part (Some span) = (answer ≡ 1) × (part ≡ part_at (span.start, span.end))
+
+-- a place further on
+abbrev pub moved : ℕ → Option Span → Option Span
+moved from None = None
+moved from (Some span) = Some (record { start = from + span.start; end = from + span.end })
+
+-- the place in a text of the first line from a place on that is searched for, found with so much
+-- work
+pub record FindsLine (sought : Sought) (text : Text) (from : ℕ) (place : Option Span)
+    (old new : Steps) : Type 0 where
+  pub found : Option Span
+  pub finds : FindsSought sought (lines_of (drop from text)) found
+  pub is_place : place ≡ moved from found
+  pub few : AddsAtMost (length sought.expressions * bytes_to_next (drop from text) found) old new

@@ -1,0 +1,25 @@
+-- What C keeps of patterns.
+use Rattle.std.specs.Prelude.{◌≡◌, Bool, List, Option, Some, map}
+use Rattle.re_syntax.specs.Expression.{Expression}
+use Rattle.re_search.specs.declared.matcher.Matcher.{Matcher}
+use Rattle.re_search.specs.Working.Matchers.{matched_expression}
+use Rattle.re_search.specs.Working.Sought.{Sought}
+
+-- matchers, and whether the whole line has to be matched
+pub record Kept : Type 0 where
+  pub matchers : List Matcher
+  pub whole : Bool
+
+-- the expressions that the matchers are for
+abbrev pub expressions_in : Kept → List Expression
+expressions_in kept = map matched_expression kept.matchers
+
+-- what they search for
+abbrev pub sought_in : Kept → Sought
+sought_in kept = record { expressions = expressions_in kept; whole = kept.whole }
+
+-- something is kept, and it searches for this
+pub record IsFor (held : Option Kept) (sought : Sought) : Type 0 where
+  pub kept : Kept
+  pub is_there : held ≡ Some kept
+  pub is_sought : sought_in kept ≡ sought

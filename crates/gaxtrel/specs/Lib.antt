@@ -1,0 +1,5 @@
+-- what C keeps, and what a handle owns
+pub mod Kept
+pub mod Held
+-- what the calls of the library take and answer
+pub mod Calls

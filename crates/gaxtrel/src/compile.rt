@@ -1,0 +1,124 @@
+//! The calls that make a matcher, and the one that frees it.
+ghost use Rattle.std.specs.Prelude.{◌≡◌, ◌≤◌, ◌↔◌, [], ◌∷◌, List, All, None};
+ghost use Rattle.std.specs.List.{AllZip};
+ghost use Rattle.re_syntax.specs.declared.syntax.Syntax.{Syntax};
+ghost use Rattle.re_syntax.specs.declared.fault.PatternFault.{PatternFault};
+ghost use Rattle.re_syntax.specs.Expression.{Expression};
+ghost use Rattle.re_syntax.specs.Lines.{lines_of};
+ghost use Rattle.re_syntax.specs.Spelled.{IsMeant};
+ghost use Rattle.re_search.specs.Reading.{IsSmallFor, IsReadable, IsRefusedFor};
+ghost use Rattle.grep_core.specs.Matchers.{IsFirstRefused};
+ghost use Rattle.gaxtrel.specs.Kept.{IsFor};
+ghost use Rattle.gaxtrel.specs.Calls.{syntax_number, kind_number};
+
+use crate::kept::GaxtrelMatcher;
+use crate::numbers::{GaxtrelFault, fault_of, syntax_of};
+use crate::patterns::Patterns;
+use re_auto::fresh_meter;
+use re_syntax::FaultKind;
+use std::alloc::Global;
+
+/// Makes a matcher of a pattern. What `matcher` held before is freed. Answers 0; or 1 if the
+/// pattern is refused, 2 if memory is refused, 3 if `syntax` is no syntax: then `matcher` holds
+/// none.
+#[unsafe(no_mangle)]
+pub extern "C" fn gaxtrel_compile(
+    alloc: Global,
+    matcher: &mut GaxtrelMatcher,
+    pattern: &[u8],
+    syntax: u32,
+    fold: bool,
+    whole: bool,
+    fault: &mut GaxtrelFault,
+) -> u32
+    ensures four { result ≤ 3 }
+    ensures made { result ≡ 0 → (s : Syntax) → syntax ≡ syntax_number s →
+        (e : Expression) × IsMeant s fold pattern.now e × IsSmallFor s fold e
+        × IsFor matcher.new.handle.held (record { expressions = e ∷ []; whole = whole }) }
+    ensures refused { result ≡ 1 → (s : Syntax) → syntax ≡ syntax_number s →
+        (f : PatternFault) × IsRefusedFor s fold pattern.now f
+        × (fault.new.kind ≡ kind_number f.kind) × (fault.new.at ≡ f.at)
+        × (fault.new.pattern ≡ 0) }
+    ensures unreadable { result ≡ 1 → (s : Syntax) → syntax ≡ syntax_number s →
+        IsReadable s fold pattern.now → ⊥ }
+    ensures unknown { (result ≡ 3) ↔ ((s : Syntax) → syntax ≡ syntax_number s → ⊥) }
+    ensures none { (result ≡ 0 → ⊥) → matcher.new.handle.held ≡ None }
+    ensures no_fault { (result ≡ 1 → ⊥) → fault.new ≡ fault.old }
+{
+    *matcher = GaxtrelMatcher::empty(alloc);
+    let Some(syntax) = syntax_of(syntax) else {
+        return 3;
+    };
+    match Patterns::of_text(alloc, pattern, syntax, fold, whole) {
+        Ok(made) => match Box::new(alloc, made) {
+            Ok(boxed) => {
+                *matcher = GaxtrelMatcher::of(boxed, &fresh_meter());
+                0
+            }
+            Err(_) => 2,
+        },
+        Err(refused) => {
+            if matches!(refused.kind, FaultKind::Memory) {
+                return 2;
+            }
+            *fault = fault_of(0, refused);
+            1
+        }
+    }
+}
+
+/// Makes one matcher of several patterns, which are the lines of `patterns`. What `matcher` held
+/// before is freed. Answers 0; or 1 if a pattern is refused, 2 if memory is refused, 3 if
+/// `syntax` is no syntax: then `matcher` holds none.
+#[unsafe(no_mangle)]
+pub extern "C" fn gaxtrel_compile_lines(
+    alloc: Global,
+    matcher: &mut GaxtrelMatcher,
+    patterns: &[u8],
+    syntax: u32,
+    fold: bool,
+    whole: bool,
+    fault: &mut GaxtrelFault,
+) -> u32
+    ensures four { result ≤ 3 }
+    ensures made { result ≡ 0 → (s : Syntax) → syntax ≡ syntax_number s →
+        (es : List Expression) × AllZip (λ text e. IsMeant s fold text e) (lines_of patterns.now) es
+        × All (IsReadable s fold) (lines_of patterns.now)
+        × IsFor matcher.new.handle.held (record { expressions = es; whole = whole }) }
+    ensures refused { result ≡ 1 → (s : Syntax) → syntax ≡ syntax_number s →
+        (f : PatternFault)
+        × IsFirstRefused s fold (lines_of patterns.now) fault.new.pattern f
+        × (fault.new.kind ≡ kind_number f.kind) × (fault.new.at ≡ f.at) }
+    ensures unknown { (result ≡ 3) ↔ ((s : Syntax) → syntax ≡ syntax_number s → ⊥) }
+    ensures none { (result ≡ 0 → ⊥) → matcher.new.handle.held ≡ None }
+    ensures no_fault { (result ≡ 1 → ⊥) → fault.new ≡ fault.old }
+{
+    *matcher = GaxtrelMatcher::empty(alloc);
+    let Some(syntax) = syntax_of(syntax) else {
+        return 3;
+    };
+    match Patterns::of_lines(alloc, patterns, syntax, fold, whole) {
+        Ok(made) => match Box::new(alloc, made) {
+            Ok(boxed) => {
+                *matcher = GaxtrelMatcher::of(boxed, &fresh_meter());
+                0
+            }
+            Err(_) => 2,
+        },
+        Err(refused) => {
+            if matches!(refused.1.kind, FaultKind::Memory) {
+                return 2;
+            }
+            *fault = fault_of(refused.0, refused.1);
+            1
+        }
+    }
+}
+
+/// Frees what `matcher` holds. It then holds none.
+#[unsafe(no_mangle)]
+pub extern "C" fn gaxtrel_free(alloc: Global, matcher: &mut GaxtrelMatcher)
+    ensures { matcher.new.handle.held ≡ None }
+{
+    *matcher = GaxtrelMatcher::empty(alloc);
+}

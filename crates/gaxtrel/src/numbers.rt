@@ -1,0 +1,68 @@
+//! The numbers by which C names syntaxes and faults.
+ghost use Rattle.std.specs.Prelude.{◌≡◌, MatchOption};
+ghost use Rattle.re_syntax.specs.declared.syntax.Syntax.{Syntax};
+ghost use Rattle.gaxtrel.specs.Calls.{syntax_number, kind_number};
+
+use re_search::Syntax;
+use re_syntax::{FaultKind, PatternFault};
+
+/// Why a pattern is refused, and where.
+#[repr(C)]
+#[derive(Clone, Copy, Drop)]
+pub struct GaxtrelFault {
+    /// The number of the kind; 0 if there is no fault.
+    pub kind: u32,
+    /// The place in the pattern.
+    pub at: usize,
+    /// The number of the pattern, counted from 0.
+    pub pattern: usize,
+}
+
+/// The fault of a pattern.
+pub(crate) fn fault_of(pattern: usize, fault: PatternFault) -> GaxtrelFault
+    ensures kind { result.kind ≡ kind_number fault.kind }
+    ensures at { result.at ≡ fault.at }
+    ensures pattern { result.pattern ≡ pattern }
+{
+    GaxtrelFault {
+        kind: number_of(fault.kind),
+        at: fault.at,
+        pattern,
+    }
+}
+
+/// The syntax of a number.
+pub(crate) fn syntax_of(number: u32) -> Option<Syntax>
+    ensures { MatchOption result ((syntax : Syntax) → number ≡ syntax_number syntax → ⊥)
+        (λ syntax. number ≡ syntax_number syntax) }
+{
+    match number {
+        0 => Some(Syntax::Basic),
+        1 => Some(Syntax::Extended),
+        2 => Some(Syntax::Fixed),
+        _ => None,
+    }
+}
+
+/// The number of a kind of fault.
+fn number_of(kind: FaultKind) -> u32
+    ensures { result ≡ kind_number kind }
+{
+    match kind {
+        FaultKind::UnclosedBracket => 1,
+        FaultKind::BadClass => 2,
+        FaultKind::BadCollatingSymbol => 3,
+        FaultKind::BadRange => 4,
+        FaultKind::UnclosedGroup => 5,
+        FaultKind::UnopenedGroup => 6,
+        FaultKind::BadInterval => 7,
+        FaultKind::IntervalTooLarge => 8,
+        FaultKind::NothingToRepeat => 9,
+        FaultKind::TrailingBackslash => 10,
+        FaultKind::UndefinedEscape => 11,
+        FaultKind::BackReference => 12,
+        FaultKind::TooDeep => 13,
+        FaultKind::TooLarge => 14,
+        FaultKind::Memory => 15,
+    }
+}

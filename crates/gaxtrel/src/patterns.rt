@@ -1,0 +1,260 @@
+//! The matchers of patterns, which are asked together.
+ghost use Rattle.std.specs.Prelude.{◌≡◌, ◌↔◌, ◌⊎◌, [], ◌∷◌, List, ℕ, IsTrue, IfOk, IfErr};
+ghost use Rattle.std.specs.Prelude.{All, length, map};
+ghost use Rattle.std.specs.List.{AllZip};
+ghost use Rattle.std.specs.Option.{ForSome};
+ghost use Rattle.re_syntax.specs.Expression.{Expression};
+ghost use Rattle.re_syntax.specs.Lines.{lines_of};
+ghost use Rattle.re_syntax.specs.Parts.{ArePartsFrom};
+ghost use Rattle.re_syntax.specs.Spelled.{IsMeant};
+ghost use Rattle.re_meter.specs.Meters.{AddsAtMost};
+ghost use Rattle.re_auto.specs.Searches.{FindsPart};
+ghost use Rattle.re_search.specs.Reading.{IsOutOfMemory, IsReadable, IsRefusedFor, IsSmallFor};
+ghost use Rattle.re_search.specs.Working.Filters.{AreNeeded};
+ghost use Rattle.re_search.specs.Working.Matchers.{matched_expression};
+ghost use Rattle.re_search.specs.Working.Sought.{CountsSought, IsSought};
+ghost use Rattle.grep_core.specs.Matchers.{IsFirstRefused};
+ghost use Rattle.gaxtrel.specs.Kept.{expressions_in, sought_in};
+ghost use Rattle.gaxtrel.specs.Calls.{FindsLine, TakesParts, line_cost, put_over};
+
+use crate::counted_lines::count_in_text;
+use crate::line_parts::{find_in_line, is_line_matched, put_line_parts};
+use crate::part::GaxtrelPart;
+use crate::text_search::next_line_from;
+use grep_core::Options;
+use grep_utility::matchers_of;
+use re_search::{Filter, Matcher, Meter, Span, Syntax, needed_strings};
+use re_syntax::{FaultKind, PatternFault};
+use std::alloc::{AllocError, Global};
+use std::marker::Model;
+
+/// How many entries the cache of one pattern may have.
+const STATES: usize = 4096;
+
+/// The matchers of patterns, strings that all of them need, and whether the whole line has to be
+/// matched. Contracts see the matchers and that.
+#[derive(Drop)]
+pub struct Patterns {
+    alloc: Global,
+    matchers: Vec<Matcher>,
+    needed: Filter,
+    whole: bool,
+}
+
+impl Model for Patterns {
+    ghost use Rattle.std.specs.Prelude.{map};
+    ghost use Rattle.std.specs.Option.{ForSome};
+    ghost use Rattle.std.specs.Coded.{codes};
+    ghost use Rattle.re_auto.specs.Searches.{AllAnswer};
+    ghost use Rattle.re_search.specs.Working.Filters.{AreNeeded};
+    ghost use Rattle.re_search.specs.Working.Matchers.{matched_expression, wants_whole};
+    ghost use Rattle.re_search.specs.contracts.matcher.Matcher as matcher;
+    ghost use Rattle.gaxtrel.specs.Kept.{Kept};
+
+    ghost Value = { Kept };
+
+    ghost coded = { Prim.hlevel (codes, matcher.the_row.coded) };
+
+    ghost view = { λ p. record { matchers = p.matchers.items; whole = p.whole } };
+
+    ghost invariant = { λ p. AllAnswer p.whole (map wants_whole p.matchers.items)
+        × ForSome p.needed
+        (λ strings. AreNeeded strings (map matched_expression p.matchers.items)) };
+}
+
+impl Patterns {
+    /// One pattern. Of a fixed string no byte has a meaning; of other patterns one matcher is made.
+    ///
+    /// # Errors
+    ///
+    /// Those of [`Matcher::new`].
+    pub(crate) fn of_text(
+        alloc: Global,
+        text: &[u8],
+        syntax: Syntax,
+        fold: bool,
+        whole: bool,
+    ) -> Result<Patterns, PatternFault>
+        ensures made { IfOk result
+            (λ p. (e : Expression) × IsMeant syntax fold text.now e × IsSmallFor syntax fold e
+            × (sought_in p ≡ record { expressions = e ∷ []; whole = whole })) }
+        ensures refused { IfErr result
+            (λ fault. IsOutOfMemory fault ⊎ IsRefusedFor syntax fold text.now fault) }
+        ensures unreadable { IfErr result
+            (λ fault. IsOutOfMemory fault ⊎ (IsReadable syntax fold text.now → ⊥)) }
+    {
+        let matcher = match Matcher::new(alloc, text, syntax, fold, whole, STATES) {
+            Ok(matcher) => matcher,
+            Err(fault) => return Err(fault),
+        };
+        let Ok(matchers) = alone(alloc, matcher) else {
+            return Err(PatternFault {
+                kind: FaultKind::Memory,
+                at: 0,
+            });
+        };
+        Ok(Patterns {
+            alloc,
+            matchers,
+            needed: Filter::none(),
+            whole,
+        })
+    }
+
+    /// The patterns that are the lines of a text.
+    ///
+    /// # Errors
+    ///
+    /// The number of the first line that is refused, counted from 0, and why; or
+    /// `FaultKind::Memory` at 0.
+    pub(crate) fn of_lines(
+        alloc: Global,
+        texts: &[u8],
+        syntax: Syntax,
+        fold: bool,
+        whole: bool,
+    ) -> Result<Patterns, (usize, PatternFault)>
+        ensures made { IfOk result
+            (λ p. (es : List Expression)
+            × AllZip (λ text e. IsMeant syntax fold text e) (lines_of texts.now) es
+            × All (IsReadable syntax fold) (lines_of texts.now)
+            × (sought_in p ≡ record { expressions = es; whole = whole })) }
+        ensures refused { IfErr result
+            (λ refused. IsOutOfMemory refused.1
+            ⊎ IsFirstRefused syntax fold (lines_of texts.now) refused.0 refused.1) }
+    {
+        let options = reading(fold, whole);
+        let matchers = match matchers_of(alloc, texts, syntax, &options) {
+            Ok(matchers) => matchers,
+            Err(refused) => return Err(refused),
+        };
+        let needed = needed_or_none(alloc, &matchers);
+        Ok(Patterns {
+            alloc,
+            matchers,
+            needed,
+            whole,
+        })
+    }
+
+    /// Whether some pattern matches the line.
+    pub(crate) fn is_match(&mut self, line: &[u8], meter: &mut Meter) -> bool
+        ensures reported { IsTrue result ↔ IsSought (sought_in self.old) line.now }
+        ensures same { sought_in self.new ≡ sought_in self.old }
+        ensures steps { AddsAtMost (line_cost (length (expressions_in self.old)) line.now) meter.old
+            meter.new }
+    {
+        is_line_matched(
+            self.alloc,
+            &mut self.matchers,
+            &self.needed,
+            self.whole,
+            line,
+            meter,
+        )
+    }
+
+    /// The part of the line that begins earliest at `from` or later, and of those that begin
+    /// there the longest (XBD 9.1).
+    pub(crate) fn find(&mut self, line: &[u8], from: usize, meter: &mut Meter) -> Option<Span>
+        ensures reported { FindsPart (expressions_in self.old) line.now self.old.whole from result }
+        ensures same { sought_in self.new ≡ sought_in self.old }
+        ensures steps { AddsAtMost (line_cost (length (expressions_in self.old)) line.now) meter.old
+            meter.new }
+    {
+        find_in_line(&mut self.matchers, self.whole, line, from, meter)
+    }
+
+    /// How many parts the line has from a place on. The first ones are written over the array, as
+    /// many as it has room for.
+    pub(crate) fn parts(
+        &mut self,
+        line: &[u8],
+        from: usize,
+        parts: &mut [GaxtrelPart],
+        meter: &mut Meter,
+    ) -> usize
+        ensures reported { (all : List (ℕ × ℕ))
+            × ArePartsFrom (expressions_in self.old) line.now self.old.whole from all
+            × (result ≡ length all) × (parts.new ≡ put_over all parts.old) }
+        ensures same { sought_in self.new ≡ sought_in self.old }
+        ensures steps { TakesParts (length (expressions_in self.old)) line.now result meter.old
+            meter.new }
+    {
+        put_line_parts(
+            self.alloc,
+            &mut self.matchers,
+            self.whole,
+            line,
+            from,
+            parts,
+            meter,
+        )
+    }
+
+    /// The first line from a place on that some pattern matches, by its place in the text without
+    /// its newline.
+    pub(crate) fn next_line(&mut self, text: &[u8], from: usize, meter: &mut Meter) -> Option<Span>
+        ensures reported { FindsLine (sought_in self.old) text.now from result meter.old meter.new }
+        ensures same { sought_in self.new ≡ sought_in self.old }
+    {
+        next_line_from(
+            self.alloc,
+            &mut self.matchers,
+            &self.needed,
+            self.whole,
+            text,
+            from,
+            meter,
+        )
+    }
+
+    /// How many lines of a text some pattern matches.
+    pub(crate) fn count_lines(&mut self, text: &[u8], meter: &mut Meter) -> u64
+        ensures reported { CountsSought (sought_in self.old) (lines_of text.now) result }
+        ensures same { sought_in self.new ≡ sought_in self.old }
+        ensures steps { AddsAtMost (line_cost (length (expressions_in self.old)) text.now) meter.old
+            meter.new }
+    {
+        count_in_text(
+            self.alloc,
+            &mut self.matchers,
+            &self.needed,
+            self.whole,
+            text,
+            meter,
+        )
+    }
+}
+
+// A list of one matcher.
+fn alone(alloc: Global, matcher: Matcher) -> Result<Vec<Matcher>, AllocError>
+    ensures { IfOk result (λ matchers. matchers.items ≡ matcher ∷ []) }
+{
+    let mut matchers = Vec::new(alloc);
+    matchers.push(matcher)?;
+    Ok(matchers)
+}
+
+// Strings that all of them need. Without memory for them a search does without.
+fn needed_or_none(alloc: Global, matchers: &[Matcher]) -> Filter
+    ensures { ForSome result
+        (λ strings. AreNeeded strings (map matched_expression matchers.now)) }
+{
+    match needed_strings(alloc, matchers) {
+        Ok(needed) => needed,
+        Err(_) => Filter::none(),
+    }
+}
+
+// The options by which patterns are read.
+fn reading(fold: bool, whole: bool) -> Options
+    ensures fold { result.ignore_case ≡ fold }
+    ensures whole { result.line_regexp ≡ whole }
+{
+    Options {
+        ignore_case: fold,
+        line_regexp: whole,
+        ..Options::default()
+    }
+}
