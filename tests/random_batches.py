@@ -13,14 +13,13 @@ The last line is `N edits, M comparisons, F differ`, and the exit status is 0 on
 
 from __future__ import annotations
 
-import argparse
 import random
 import sys
 from collections.abc import Callable, Sequence
 from pathlib import Path
 
 from client import Client
-from random_changes import ALL, LONG, SHORT, Spoil, Typing, numbers_of, repeating, says_nothing, with_number
+from random_changes import ALL, Spoil, Typing, compare, numbers_of, repeating, says_nothing, with_number
 from random_edits import Edit, Kinds, Session
 
 FEW = 16
@@ -144,29 +143,9 @@ def mutants() -> list[Spoil]:
     return [*numbers, says_nothing, repeating(), at_old_places, lacks_a_stretch]
 
 
-def is_found(occur: Path, spoil: Spoil) -> bool:
-    """Whether a wrong program differs, in as many edits as show it."""
-    dice = random.Random(0)
-    return any(play(Wrong(occur, spoil), dice, 500, SHORT)[1] for _ in range(10))
-
-
 def main() -> int:
-    words = argparse.ArgumentParser(description="compare the lists of the example client with pages of occur")
-    words.add_argument("occur", type=Path)
-    words.add_argument("--edits", type=int, default=100_000)
-    words.add_argument("--seed", type=int, default=1)
-    given = words.parse_args()
-    occur = given.occur.resolve()
-    missed = sum(not is_found(occur, spoil) for spoil in mutants())
-    dice, left, turn, made, differing = random.Random(given.seed), given.edits, 0, 0, 0
-    while left > 0:
-        some, turn = min(left, 2_000), turn + 1
-        more, faults = play(Client(str(occur)), dice, some, LONG if turn % 20 == 2 else SHORT)
-        left, made, differing = left - some, made + more, differing + len(faults)
-        print(*faults, sep="\n", end="\n" if faults else "")
-    print(f"{len(mutants()) - missed} of {len(mutants())} programs that are wrong on purpose differ")
-    print(f"{given.edits} edits, {made} comparisons, {differing} differ")
-    return 1 if differing or missed else 0
+    return compare("compare the lists of the example client with pages of occur", play,
+                   lambda occur: Client(str(occur)), Wrong, mutants())
 
 
 if __name__ == "__main__":

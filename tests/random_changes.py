@@ -22,7 +22,7 @@ import sys
 from collections.abc import Callable, Iterator
 from itertools import islice
 from pathlib import Path
-from typing import NamedTuple
+from typing import Any, NamedTuple
 
 from dialogue import Coprocess
 from random_edits import Edit, Edits, File, Kinds, Session, counted
@@ -355,29 +355,35 @@ def mutants() -> list[Spoil]:
     return [*numbers, lacks_parts, lacks_a_row, says_nothing, repeating(), with_pages_reported()]
 
 
-def is_found(occur: Path, spoil: Spoil) -> bool:
-    """Whether a wrong program differs, in as many edits as show it."""
-    dice = random.Random(0)
-    return any(play(Wrong(occur, spoil), dice, 500, SHORT)[1] for _ in range(10))
-
-
-def main() -> int:
-    words = argparse.ArgumentParser(description="compare the lists of an editor with what occur shows")
+def compare(description: str, play: Callable[[Any, random.Random, int, int], tuple[int, list[str]]],
+            start: Callable[[Path], Any], wrong: Callable[[Path, Spoil], Any], spoils: list[Spoil]) -> int:
+    """Plays with the program of the words, and with wrong ones. Each of these has to differ, in as many edits as
+    show it. Answers the exit status."""
+    words = argparse.ArgumentParser(description=description)
     words.add_argument("occur", type=Path)
     words.add_argument("--edits", type=int, default=100_000)
     words.add_argument("--seed", type=int, default=1)
     given = words.parse_args()
     occur = given.occur.resolve()
-    missed = sum(not is_found(occur, spoil) for spoil in mutants())
+
+    def is_found(spoil: Spoil) -> bool:
+        dice = random.Random(0)
+        return any(play(wrong(occur, spoil), dice, 500, SHORT)[1] for _ in range(10))
+
+    missed = sum(not is_found(spoil) for spoil in spoils)
     dice, left, turn, made, differing = random.Random(given.seed), given.edits, 0, 0, 0
     while left > 0:
         some, turn = min(left, 2_000), turn + 1
-        more, faults = play(Coprocess(occur), dice, some, LONG if turn % 20 == 2 else SHORT)
+        more, faults = play(start(occur), dice, some, LONG if turn % 20 == 2 else SHORT)
         left, made, differing = left - some, made + more, differing + len(faults)
         print(*faults, sep="\n", end="\n" if faults else "")
-    print(f"{len(mutants()) - missed} of {len(mutants())} programs that are wrong on purpose differ")
+    print(f"{len(spoils) - missed} of {len(spoils)} programs that are wrong on purpose differ")
     print(f"{given.edits} edits, {made} comparisons, {differing} differ")
     return 1 if differing or missed else 0
+
+
+def main() -> int:
+    return compare("compare the lists of an editor with what occur shows", play, Coprocess, Wrong, mutants())
 
 
 if __name__ == "__main__":
