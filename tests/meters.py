@@ -29,7 +29,8 @@ DEFINITIONS = {("grep_io", "re_runs"), ("line_chunks", "re_runs"), ("grep_sessio
 """Crates that list one of these for its definitions, and name none of its functions in code."""
 
 FROM_TOOLCHAIN = {
-    "memchr": {"re_syntax", "re_auto", "re_runs", "re_needle", "re_strings", "re_match", "re_search", "grep_io"},
+    "memchr": {"re_syntax", "re_auto", "re_runs", "re_needle", "re_strings", "re_match", "re_search", "grep_io",
+               "grep_session"},
     "arrayvec": {"line_marks"},
     "lru": {"re_steps"},
     "indexmap": {"re_steps"},
@@ -40,9 +41,10 @@ FROM_TOOLCHAIN = {
     "std_alloc": {"gaxtrel"},
 }
 """The crates of the toolchain, and those that may list each. `memchr` goes over bytes: that is for the crates that
-count what it looks at, and for `re_syntax` and `grep_io`, which split lines. The crates above ask these for searches:
-of what they looked at themselves no meter would know. No crate may list another one of the toolchain: `bstr` and
-`regex` search, too. The proofs of `gaxtrel` on raw pointers cite two.
+count what it looks at, for `re_syntax` and `grep_io`, which split lines, and for `grep_session`, which looks for one
+pattern's text in another. The crates above ask these for searches: of what they looked at in lines themselves no meter
+would know. No crate may list another one of the toolchain: `bstr` and `regex` search, too. The proofs of `gaxtrel` on
+raw pointers cite two.
 """
 
 NEWLINE = "first_newline"
@@ -74,7 +76,7 @@ MAY_BE_QUICK = {
     "the children of a node, each byte a step or passed": {"re_strings/trie.rt"},
     "splits lines": {"re_syntax/split.rt", "re_runs/newline.rt", "re_runs/block.rt", "grep_io/input/newlines.rt",
                      "grep_io/input/window.rt", "grep_io/devices/byte_buffer.rt"},
-    "looks at patterns, not at lines": {"re_search/filter.rt", "re_search/plain.rt"},
+    "looks at patterns, not at lines": {"re_search/filter.rt", "re_search/plain.rt", "grep_session/patterns.rt"},
 }
 """The files that may name it, by the reason."""
 
@@ -130,7 +132,7 @@ def crates_without_them(bench: Bench) -> Verdict:
     return judged(unlisted + misplaced(text))
 
 
-@case("Each crate lists of the toolchain what it may: `memchr` those alone that count its looks, or split lines.")
+@case("Each crate lists of the toolchain what it may: `memchr` those that count looks, split lines or compare patterns.")
 def crates_of_toolchain(bench: Bench) -> Verdict:
     return judged(foreign((REPOSITORY / "crates.txt").read_text(encoding="utf-8")))
 

@@ -30,10 +30,10 @@ pub use Rattle.grep_session.specs.Laws.{AreAlike, EditsAreDetermined, MemorySave
 pub use Rattle.grep_session.specs.Listed.{ListedParts}
 pub use Rattle.grep_session.specs.Marks.{AreFit, IsFit, MarksAfter, MarksGiven, Watched, known_marks, mark_at}
 pub use Rattle.line_marks.specs.Stretches.{Fits, Keeps, Marked, Splices, lost, new_mark, whole_mark}
-pub use Rattle.grep_session.specs.Touched.{Costs, CostsAccepted, CostsAs, NeedsNoMemory, PartsCost, PartsCostOf, PartsSearchCost, TakesSteps, Touched, Touches, all_lines, pairs_cost, parts_alone, searched_by, touched_by_flag}
+pub use Rattle.grep_session.specs.Touched.{Costs, CostsAccepted, CostsAs, Narrows, NeedsNoMemory, PartsCost, PartsCostOf, PartsSearchCost, TakesSteps, Touched, Touches, all_lines, pairs_cost, parts_alone, searched_by, touched_by_flag}
 pub use Rattle.grep_session.specs.Working.Again.{AreReadable, ReadsAgain, read_as}
-pub use Rattle.grep_session.specs.Working.Changed.{ChangeCost, CostAnew, CostOfEach, HasChanged, HasNewParts, IsWithin, NewPartsCost, SearchesEach, SearchesOne, TakesAtMost, WasFileKept, WasKept, searched_for}
-pub use Rattle.grep_session.specs.Working.Columns.{AddsColumn, AddsColumns, AddsLater, AreAllParts, AreDecided, AreLeft, AreMatches, ArePartsAgain, CostsParts, Grows, IsAdded, IsNextLine, KeepsAll, first_sought, has_new_parts, later_numbers, left_numbers, next_line_cost, past_sought, sought}
+pub use Rattle.grep_session.specs.Working.Changed.{ChangeCost, CostAnew, CostOfEach, CostWhere, HasChanged, HasNewParts, IsNarrower, IsSought, IsWithin, NewPartsCost, SearchCost, SearchesEach, SearchesOne, TakesAtMost, WasFileKept, WasKept, is_narrower, searched_for}
+pub use Rattle.grep_session.specs.Working.Columns.{AddsColumn, AddsColumns, AddsLater, AddsPairs, AddsSought, AreAllParts, AreDecided, AreLeft, AreMatches, ArePartsAgain, CostsParts, Grows, IsAmong, IsAmongOld, IsNextLine, KeepsAll, StaysSame, WereMatched, first_sought, has_new_parts, has_number, later_numbers, left_numbers, next_line_cost, past_sought, sought}
 pub use Rattle.grep_session.specs.Working.Counts.{SelectedFrom}
 pub use Rattle.grep_session.specs.Working.Effects.{LosesAll}
 pub use Rattle.grep_session.specs.Working.Found.{IsColumn, chunks_of, chunks_of_files, lines_of_files}
@@ -52,6 +52,7 @@ pub use Rattle.grep_session.specs.declared.kept.KeptFile.{KeptFile}
 pub use Rattle.grep_session.specs.declared.session.Session.TheInside.{Inside}
 pub use Rattle.line_chunks.specs.Working.Chunks.{FitColumns, FitsColumn, KeptLine, all_of, is_matched, line_text, line_without, matched_count, no_line, seen, with_column, with_columns}
 pub use Rattle.line_chunks.specs.Working.Finds.{AreBelow, FoundIn, finds_at, is_paired, lowered, numbers_at, without}
+pub use Rattle.memchr.specs.Find.{FindsNeedle}
 pub use Rattle.re_search.specs.Reading.{IsOutOfMemory, IsReadable}
 pub use Rattle.re_search.specs.Searches.{AddsAtMost, AllAnswer, SameMatchers, searches_for}
 pub use Rattle.re_search.specs.Working.Blocks.{HoldsOfMany, IsNext}
@@ -60,21 +61,22 @@ pub use Rattle.re_search.specs.Working.Matchers.{matched_expression, room_of, wa
 pub use Rattle.re_search.specs.declared.course.Course.{Course}
 pub use Rattle.re_search.specs.declared.matcher.Matcher.{Matcher}
 pub use Rattle.re_syntax.specs.Bytes.{Text}
-pub use Rattle.re_syntax.specs.Expression.{Expression}
-pub use Rattle.re_syntax.specs.Holds.{Holds, Matches}
+pub use Rattle.re_syntax.specs.Expression.{Expression, byte, cat, sequence}
+pub use Rattle.re_syntax.specs.Holds.{Holds, Matches, folded}
 pub use Rattle.re_syntax.specs.Lines.{HasNoNewline, newline, terminated}
 unfoldable pub use Rattle.re_syntax.specs.Lines.{list_of}
 pub use Rattle.re_syntax.specs.Parts.{AreParts, ArePartsFrom, IsFound, IsPart}
 pub use Rattle.re_syntax.specs.Profile.{most_patterns}
-pub use Rattle.re_syntax.specs.Spelled.{IsMeant}
+pub use Rattle.re_syntax.specs.Spelled.{IsMeant, IsSpelled}
 pub use Rattle.re_syntax.specs.declared.fault.FaultKind.{FaultKind}
 pub use Rattle.re_syntax.specs.declared.fault.FaultKind.TheVariants.{BackReference, BadClass, BadCollatingSymbol, BadInterval, BadRange, IntervalTooLarge, NothingToRepeat, TooDeep, TooLarge, TrailingBackslash, UnclosedBracket, UnclosedGroup, UndefinedEscape, UnopenedGroup}
 pub use Rattle.re_syntax.specs.declared.fault.PatternFault.{PatternFault}
 pub use Rattle.re_syntax.specs.declared.span.Span.{Span}
 pub use Rattle.re_syntax.specs.declared.syntax.Syntax.{Syntax}
-pub use Rattle.std.proofs.Common.{All, Any, Bool, Decides, Err, IfOk, IfSome, IsErr, IsTrue, List, MatchBool, MatchOption, None, Ok, Option, Result, Some, [], add-one, ap, append-nil, append_assoc, arith, cond, drop, drop-cons, drop-set-lt, false, filter, get_or, get_or-drop, get_or-set_other, get_or-take, if◌then◌else◌, inl, inr, insert, length, length-append, length-drop, length-take, length-take-le, lt-ltb, ltb-true, map, mul-le-mul_right, nat_eq, nat_le, nat_lt, not, option_map, refl, remove, set, slice_range, slice_set, subst, suc, sym, take, take-append-drop, take-suc, take-take, take_all, true, unwrap_or, zero, ℕ, ◌&&◌, ◌*◌, ◌++◌, ◌+◌, ◌-◌, ◌<◌, ◌==◌, ◌^◌, ◌||◌, ◌↔◌, ◌∙◌, ◌∷◌, ◌≡◌, ◌≢◌, ◌≤◌, ◌⊎◌}
+pub use Rattle.re_syntax.specs.declared.syntax.Syntax.TheVariants.{Fixed}
+pub use Rattle.std.proofs.Common.{All, Any, Bool, Decides, Err, IfOk, IfSome, IsErr, IsTrue, List, MatchBool, MatchOption, None, Ok, Option, Result, Some, [], add-one, ap, append-nil, append_assoc, arith, cond, drop, drop-cons, drop-set-lt, false, filter, get_or, get_or-drop, get_or-set_other, get_or-take, if◌then◌else◌, inl, inr, insert, is_some, length, length-append, length-drop, length-take, length-take-le, lt-ltb, ltb-true, map, mul-le-mul_right, nat_eq, nat_le, nat_lt, not, option_map, refl, remove, set, slice_range, slice_set, subst, suc, sym, take, take-append-drop, take-suc, take-take, take_all, true, unwrap_or, zero, ℕ, ◌&&◌, ◌*◌, ◌++◌, ◌+◌, ◌-◌, ◌<◌, ◌==◌, ◌^◌, ◌||◌, ◌↔◌, ◌∙◌, ◌∷◌, ◌≡◌, ◌≢◌, ◌≤◌, ◌⊎◌}
 pub use Rattle.std.proofs.Math.Seq.{drop-append_seam, drop-length, get_or-append_seam, map-set_same, take-append_seam}
-pub use Rattle.std.proofs.lemmas.Bool.{cases_lt, false≢true}
+pub use Rattle.std.proofs.lemmas.Bool.{cases_lt, eqb-false, false≢true}
 pub use Rattle.std.proofs.lemmas.Bool.Decides.{nat_tests}
 pub use Rattle.std.proofs.lemmas.List.{drop-take, drop_all, drop_more, get_or_append_left, get_or_at, get_or_default, get_or_past, length-map, length_push, map-append, map-set, nil_from_length, set_at, take_more}
 pub use Rattle.std.proofs.lemmas.List.Concat.{flat_map-append}

@@ -18,6 +18,8 @@ pub mod StepLemmas
 pub mod ChangeLemmas
 pub mod PartingLemmas
 pub mod PatternLemmas
+pub mod NarrowingLemmas
+pub mod NarrowLoops
 pub mod NewPatternLemmas
 pub mod NextLineLemmas
 pub mod Writing

@@ -1,7 +1,7 @@
 -- How many steps an edit takes, and how many bytes it passes, at most: only what it touches is
 -- searched.
-use Rattle.std.specs.Prelude.{◌≡◌, ℕ, ◌+◌, ◌*◌, ◌<◌, ◌≤◌, false, List, [], All, ◌∷◌, ◌⊎◌, length}
-use Rattle.std.specs.Prelude.{Result, Ok, Err, get_or, MatchBool, ⊤}
+use Rattle.std.specs.Prelude.{◌≡◌, ◌≢◌, ℕ, ◌+◌, ◌*◌, ◌<◌, ◌≤◌, false, List, [], All, ◌∷◌, ◌++◌, ◌⊎◌}
+use Rattle.std.specs.Prelude.{Result, Ok, Err, get_or, length, MatchBool, ⊤}
 use Rattle.std.specs.List.{flat_map}
 use Rattle.re_syntax.specs.Bytes.{Text}
 use Rattle.re_syntax.specs.Expression.{Expression}
@@ -9,6 +9,8 @@ use Rattle.re_syntax.specs.Holds.{Matches}
 use Rattle.re_syntax.specs.Lines.{HasNoNewline, list_of}
 use Rattle.re_syntax.specs.Parts.{AreParts}
 use Rattle.re_syntax.specs.Spelled.{IsMeant}
+use Rattle.re_syntax.specs.declared.syntax.Syntax.{Syntax}
+use Rattle.re_syntax.specs.declared.syntax.Syntax.TheVariants.{Fixed}
 use Rattle.grep_core.specs.Meters.{Steps, Adds}
 use Rattle.re_search.specs.Searches.{searches_for}
 use Rattle.grep_core.specs.declared.options.Flag.{Flag}
@@ -51,6 +53,13 @@ touched_by_flag LineRegexp old = searched_by (length old.patterns) (all_lines ol
 touched_by_flag OnlyMatching old = parts_alone (all_lines old)
 touched_by_flag _ old = nothing_touched
 
+-- in place of the old text, the new one is known to match no other line: it is a string that has
+-- the old one in it, and need not be the whole line
+abbrev pub Narrows : Syntax → Options → Text → Text → Type 0
+Narrows syntax options old new =
+    (syntax ≡ Fixed) × (options.line_regexp ≡ false) × (old ≢ []) ×
+    ((before : Text) × (after : Text) × (new ≡ before ++ (old ++ after)))
+
 -- what an accepted edit touches
 abbrev pub Touches : Edit → Inputs → Touched → Type 0
 Touches (AddFile name lines) old touched = touched ≡ searched_by (length old.patterns) lines
@@ -66,10 +75,15 @@ Touches (DropPattern p) old touched =
     × (touched ≡ parts_alone lines)
 Touches (ChangePattern p text) old touched =
     IfHolds (text ≡ get_or old.patterns p []) (touched ≡ nothing_touched)
-    ((both : List Expression) ×
-    AreMeant old.syntax old.options (get_or old.patterns p [] ∷ text ∷ []) both
-    × (lines : List Text) × Chosen (Matched both old.options) (all_lines old) lines
-    × (touched ≡ record { patterns = 1; paired = all_lines old; lines = lines }))
+    ((gone : Expression) ×
+    IsMeant old.syntax old.options.ignore_case (get_or old.patterns p []) gone
+    × (come : Expression) × IsMeant old.syntax old.options.ignore_case text come
+    × (paired : List Text) ×
+    IfHolds (Narrows old.syntax old.options (get_or old.patterns p []) text)
+    (Chosen (λ line. Matches gone line old.options.line_regexp) (all_lines old) paired)
+    (paired ≡ all_lines old)
+    × (lines : List Text) × Chosen (Matched (gone ∷ come ∷ []) old.options) (all_lines old) lines
+    × (touched ≡ record { patterns = 1; paired = paired; lines = lines }))
 Touches (SetFlag flag on) old touched =
     IfHolds (option_of flag old.options ≡ on) (touched ≡ nothing_touched)
     (touched ≡ touched_by_flag flag old)

@@ -11,6 +11,7 @@ pub enum Change {
     Added(usize),
     /// The pattern with this number was removed.
     Dropped(usize),
-    /// Another pattern has this number.
-    Replaced(usize),
+    /// Another pattern has this number. If it is narrower (`true`), it matches no line that the old
+    /// one did not match.
+    Replaced(usize, bool),
 }

@@ -1,6 +1,6 @@
 //! What is found in all lines after a change of the patterns, chunk by chunk. Where patterns were
 //! added, removed or replaced, only the new ones are searched for, and the parts of the lines that
-//! one of these matches.
+//! one of these matches. A narrower pattern is searched for in lines that the old one matched.
 ghost use Rattle.std.specs.Prelude.{◌≡◌, ◌≤◌, [], List, length, map, All, IsTrue};
 ghost use Rattle.std.specs.Prelude.{IfOk, OnErr, vec_capacity};
 ghost use Rattle.re_syntax.specs.Expression.{Expression};
@@ -10,7 +10,7 @@ ghost use Rattle.re_search.specs.Searches.{AllAnswer};
 ghost use Rattle.line_chunks.specs.Working.Chunks.{FitsColumn, all_of, line_text};
 ghost use Rattle.grep_session.specs.Working.Changed.{HasChanged, WasKept, WasFileKept, IsWithin};
 ghost use Rattle.grep_session.specs.Working.Changed.{ChangeCost, SearchesEach};
-ghost use Rattle.grep_session.specs.Working.Columns.{AddsColumns, IsAdded};
+ghost use Rattle.grep_session.specs.Working.Columns.{AddsColumns, StaysSame};
 ghost use Rattle.grep_session.specs.Working.Found.{IsColumn, chunks_of_files, lines_of_files};
 ghost use Rattle.grep_session.specs.Working.Kept.{IsFileKept, kept_file};
 ghost use Rattle.re_search.specs.Searches.{SameMatchers};
@@ -27,16 +27,17 @@ use line_chunks::{Chunk, Found, Matches};
 use re_search::{LineMatch, Matcher, Meter};
 use std::alloc::{AllocError, Global};
 
-/// Whether no pattern was added that matches a line of a chunk, and none changed.
+/// Whether what was found in a chunk stays as it is: no pattern that was added matches a line of
+/// it, or no pattern matched one, and the one in place of another doesn't.
 fn is_same(change: Change, old: &Matches, new: &Matches) -> bool
-    ensures { IsTrue result → IsAdded change × (length old.now ≡ length new.now) }
+    ensures { IsTrue result → StaysSame change old.now new.now }
 {
     match change {
         Change::Added(_) => old.len() == new.len(),
         Change::Rebuild => false,
         Change::PartsOnly => false,
         Change::Dropped(_) => false,
-        Change::Replaced(_) => false,
+        Change::Replaced(_, _) => old.len() == 0 && new.len() == 0,
     }
 }
 
@@ -56,11 +57,11 @@ fn find_in_chunk<M: LineMatch>(
     ensures fits { IfOk result (FitsColumn chunk.now) }
     ensures ok { IfOk result
         (λ found. (before changed : List Expression) →
-        HasChanged change (map M.expression matchers.old) before changed →
+        HasChanged change (map M.expression matchers.old) before changed search.now.options →
         All (WasKept change before search.now.options) chunk.now
         → IsColumn (map M.expression matchers.old) search.now.options chunk.now found) }
     ensures steps { (before changed : List Expression) →
-        HasChanged change (map M.expression matchers.old) before changed →
+        HasChanged change (map M.expression matchers.old) before changed search.now.options →
         All (WasKept change before search.now.options) chunk.now
         → SearchesEach
         (ChangeCost change changed (map M.expression matchers.old) search.now.options)
@@ -94,7 +95,7 @@ pub fn find_in_lines<M: LineMatch>(
         AddsColumns change (map M.expression matchers.old) search.now.options lines.now
         found.old.items found.new.items) }
     ensures steps { (before changed : List Expression) →
-        HasChanged change (map M.expression matchers.old) before changed →
+        HasChanged change (map M.expression matchers.old) before changed search.now.options →
         All (WasKept change before search.now.options) (all_of lines.now)
         → SearchesEach
         (ChangeCost change changed (map M.expression matchers.old) search.now.options)
@@ -124,7 +125,7 @@ fn find_all<M: LineMatch>(
         AddsColumns change (map M.expression matchers.old) search.now.options
         (chunks_of_files files.now) [] found.items) }
     ensures steps { (before changed : List Expression) →
-        HasChanged change (map M.expression matchers.old) before changed →
+        HasChanged change (map M.expression matchers.old) before changed search.now.options →
         All (WasFileKept change before search.now.options) files.now
         → SearchesEach
         (ChangeCost change changed (map M.expression matchers.old) search.now.options)
@@ -159,13 +160,13 @@ pub fn find_columns(
     ensures same { map kept_file files.new.items ≡ map kept_file files.old.items }
     ensures ok { IfOk result
         (λ _. (before changed : List Expression) →
-        HasChanged change (map matched_expression matchers.old.items) before changed →
+        HasChanged change (map matched_expression matchers.old.items) before changed options.now →
         All (WasFileKept change before options.now) files.old.items
         → All (IsFileKept (map matched_expression matchers.new.items) options.now)
         files.new.items) }
     ensures err { OnErr result (files.new.items ≡ files.old.items) }
     ensures steps { (before changed : List Expression) →
-        HasChanged change (map matched_expression matchers.old.items) before changed →
+        HasChanged change (map matched_expression matchers.old.items) before changed options.now →
         All (WasFileKept change before options.now) files.old.items
         → SearchesEach
         (ChangeCost change changed (map matched_expression matchers.old.items) options.now)

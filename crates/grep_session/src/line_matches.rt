@@ -1,14 +1,18 @@
 //! Which patterns match which lines of a chunk.
-ghost use Rattle.std.specs.Prelude.{◌≡◌, ◌+◌, ◌-◌, ◌*◌, ◌<◌, ◌≤◌, [], ◌∷◌, length, map};
-ghost use Rattle.std.specs.Prelude.{IfOk};
+ghost use Rattle.std.specs.Prelude.{◌≡◌, ◌+◌, ◌-◌, ◌*◌, ◌<◌, ◌≤◌, List, [], ◌∷◌, length, map};
+ghost use Rattle.std.specs.Prelude.{false, IfOk, IsTrue};
+ghost use Rattle.re_syntax.specs.Expression.{Expression};
 ghost use Rattle.re_syntax.specs.Lines.{terminated};
 ghost use Rattle.re_syntax.specs.Profile.{most_patterns};
 ghost use Rattle.re_search.specs.Searches.{AllAnswer, AddsAtMost};
 ghost use Rattle.line_chunks.specs.Working.Chunks.{line_text};
 ghost use Rattle.line_chunks.specs.Working.Finds.{AreBelow};
-ghost use Rattle.grep_session.specs.Working.Changed.{IsWithin};
+ghost use Rattle.grep_core.specs.Files.{Matched};
+ghost use Rattle.grep_session.specs.Working.Changed.{IsWithin, is_narrower, CostWhere};
+ghost use Rattle.grep_session.specs.Working.Changed.{SearchesEach};
 ghost use Rattle.grep_session.specs.Working.Columns.{first_sought, past_sought, AreLeft, AddsColumn};
-ghost use Rattle.grep_session.specs.Working.Columns.{AddsLater, AreMatches};
+ghost use Rattle.grep_session.specs.Working.Columns.{AddsLater, AreMatches, AddsPairs};
+ghost use Rattle.grep_session.specs.Working.Columns.{IsAmong, WereMatched};
 ghost use Rattle.re_search.specs.Searches.{SameMatchers};
 
 use crate::change::Change;
@@ -46,6 +50,63 @@ fn add_column<M: LineMatch>(
     Ok(())
 }
 
+/// Adds the lines of a chunk that the matcher matches, if each of them was matched by the pattern
+/// of this number before: `old` says by which each line was. No other line is searched.
+fn narrow_column<M: LineMatch>(
+    search: &SearchContext,
+    matcher: &mut M,
+    number: usize,
+    chunk: &Chunk,
+    old: &Matches,
+    matches: &mut Matches,
+    meter: &mut Meter,
+) -> Result<(), AllocError>
+    requires { AreBelow (length chunk.now) old.now }
+    ensures pairs { IfOk result (λ _. AddsPairs (length (map line_text chunk.now)) matches.old
+        matches.new) }
+    ensures ok { IfOk result
+        (λ _.
+        IsAmong (M.expression matcher.old) (M.whole matcher.old) (map line_text chunk.now) number
+        old.now →
+        AddsColumn (map line_text chunk.now) (M.whole matcher.old) number
+        (M.expression matcher.old ∷ []) matches.old matches.new) }
+    ensures same_expression { M.expression matcher.new ≡ M.expression matcher.old }
+    ensures same_whole { M.whole matcher.new ≡ M.whole matcher.old }
+    ensures same_room { M.room matcher.new ≡ M.room matcher.old }
+    ensures steps { (es : List Expression) →
+        WereMatched es search.now.options (map line_text chunk.now) number old.now →
+        SearchesEach (CostWhere (Matched es search.now.options) 1) (map line_text chunk.now)
+        meter.old meter.new }
+{
+    if old.len() == 0 {
+        return Ok(());
+    }
+    let marks = old.marks_of(search.alloc, chunk.len(), number)?;
+    for k in 0..chunk.len() {
+        if !marks[k] {
+            continue;
+        }
+        if !matcher.is_match(chunk.line(k), meter) {
+            continue;
+        }
+        matches.note(k, number)?;
+    }
+    Ok(())
+}
+
+/// Whether a pattern was replaced by one that is narrower.
+fn is_narrower(change: Change) -> bool
+    ensures { result ≡ is_narrower change }
+{
+    match change {
+        Change::Rebuild => false,
+        Change::PartsOnly => false,
+        Change::Added(_) => false,
+        Change::Dropped(_) => false,
+        Change::Replaced(_, narrower) => narrower,
+    }
+}
+
 /// Of so many patterns, the number of the first that is searched for after a change.
 fn first_sought(change: Change, many: usize) -> usize
     ensures { result ≡ first_sought change many }
@@ -55,7 +116,7 @@ fn first_sought(change: Change, many: usize) -> usize
         Change::PartsOnly => many,
         Change::Added(first) => first,
         Change::Dropped(_) => many,
-        Change::Replaced(p) => p,
+        Change::Replaced(p, _) => p,
     }
 }
 
@@ -69,7 +130,7 @@ fn past_sought(change: Change, many: usize) -> usize
         Change::PartsOnly => many,
         Change::Added(_) => many,
         Change::Dropped(_) => many,
-        Change::Replaced(p) => p + 1,
+        Change::Replaced(p, _) => p + 1,
     }
 }
 
@@ -92,7 +153,7 @@ fn left_matches(
             matches.drop_number(p);
             Ok(matches)
         }
-        Change::Replaced(p) => {
+        Change::Replaced(p, _) => {
             let mut matches = old.copied(search.alloc)?;
             matches.keep_before(p);
             Ok(matches)
@@ -116,7 +177,7 @@ fn add_later(
         Change::PartsOnly => Ok(()),
         Change::Added(_) => Ok(()),
         Change::Dropped(_) => Ok(()),
-        Change::Replaced(p) => {
+        Change::Replaced(p, _) => {
             let mut later = old.copied(search.alloc)?;
             later.keep_after(p);
             matches.append(later)
@@ -141,13 +202,32 @@ pub fn find_matches<M: LineMatch>(
         (AreMatches change (map line_text chunk.now) search.now.options.line_regexp
         (map M.expression matchers.old) old.now) }
     ensures same_matchers { SameMatchers M.expression M.whole M.room matchers.old matchers.new }
-    ensures steps { AddsAtMost
+    ensures steps { is_narrower change ≡ false →
+        AddsAtMost
         ((past_sought change (length matchers.old) - first_sought change (length matchers.old))
         * length (terminated (map line_text chunk.now))) meter.old meter.new }
+    ensures narrow { IsTrue (is_narrower change) → (es : List Expression) →
+        WereMatched es search.now.options (map line_text chunk.now)
+        (first_sought change (length matchers.old)) old.now →
+        SearchesEach (CostWhere (Matched es search.now.options) 1) (map line_text chunk.now)
+        meter.old meter.new }
 {
     let size = chunk.len();
     let mut matches = left_matches(search, change, size, old)?;
     let first = first_sought(change, matchers.len());
+    if is_narrower(change) {
+        narrow_column(
+            search,
+            &mut matchers[first],
+            first,
+            chunk,
+            old,
+            &mut matches,
+            meter,
+        )?;
+        add_later(search, change, size, old, &mut matches)?;
+        return Ok(matches);
+    }
     let past = past_sought(change, matchers.len());
     for number in first..past {
         add_column(&mut matchers[number], number, chunk, &mut matches, meter)?;

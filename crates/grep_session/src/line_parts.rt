@@ -38,7 +38,7 @@ fn marks_anew(
         Change::PartsOnly => new.marks(search.alloc, size, 0),
         Change::Added(_) => new.marks(search.alloc, size, old.len()),
         Change::Dropped(p) => old.marks_of(search.alloc, size, p),
-        Change::Replaced(p) => {
+        Change::Replaced(p, _) => {
             let mut marks = old.marks_of(search.alloc, size, p)?;
             new.add_marks_of(p, &mut marks);
             Ok(marks)

@@ -2,10 +2,14 @@
 ghost use Rattle.std.specs.Prelude.{◌≡◌, ◌≤◌, ◌<◌, ◌+◌, ◌++◌, length, map, vec_len};
 ghost use Rattle.std.specs.Prelude.{vec_capacity, MatchBool, IfOk, OnErr, slice_set};
 ghost use Rattle.re_syntax.specs.Lines.{list_of};
+ghost use Rattle.grep_session.specs.Touched.{Narrows};
 ghost use Rattle.re_syntax.specs.Profile.{most_patterns};
 
+use crate::options::is_same;
 use crate::vec_push::push;
-use re_search::Matcher;
+use grep_core::Options;
+use memchr::memmem::Finder;
+use re_search::{Matcher, Syntax};
 use re_syntax::{MOST_PATTERNS, split_list};
 use std::alloc::{AllocError, Global};
 
@@ -35,6 +39,24 @@ pub fn is_text(old: &[u8], new: &[u8]) -> bool
     ensures { MatchBool result (new.now ≡ old.now) (new.now ≡ old.now → ⊥) }
 {
     new == old
+}
+
+/// Whether a pattern with the new text is known to match no line that one with the old text
+/// doesn't.
+pub fn narrows(syntax: Syntax, options: &Options, old: &[u8], new: &[u8]) -> bool
+    ensures { MatchBool result (Narrows syntax options.now old.now new.now)
+        (Narrows syntax options.now old.now new.now → ⊥) }
+{
+    if !is_same(syntax, Syntax::Fixed) {
+        return false;
+    }
+    if options.line_regexp {
+        return false;
+    }
+    if old.is_empty() {
+        return false;
+    }
+    Finder::new(old).find(new).is_some()
 }
 
 /// Puts a text in the place of another.

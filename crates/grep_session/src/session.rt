@@ -1,6 +1,6 @@
 //! A session.
 ghost use Rattle.std.specs.Prelude.{◌≡◌, ◌≢◌, ◌≤◌, ◌<◌, Ok, false, length, map};
-ghost use Rattle.std.specs.Prelude.{IsTrue, IfErr, [], ◌∷◌, get_or};
+ghost use Rattle.std.specs.Prelude.{IsTrue, IfErr, MatchBool, [], ◌∷◌, get_or};
 ghost use Rattle.grep_core.specs.Working.MatcherLists.{AreMatchers};
 ghost use Rattle.grep_session.specs.Working.Rooms.{KeepAtMost};
 ghost use Rattle.grep_session.specs.declared.fault.EditFault.TheVariants.{Memory};
@@ -11,7 +11,7 @@ ghost use Rattle.grep_session.specs.Edits.{with_patterns};
 ghost use Rattle.std.specs.List.{remove};
 ghost use Rattle.re_syntax.specs.Profile.{most_states};
 ghost use Rattle.grep_session.specs.Touched.{TakesSteps, NeedsNoMemory, Touches, searched_by};
-ghost use Rattle.grep_session.specs.Touched.{parts_alone, all_lines};
+ghost use Rattle.grep_session.specs.Touched.{parts_alone, all_lines, Narrows};
 ghost use Rattle.line_marks.specs.Stretches.{lost};
 ghost use Rattle.grep_session.specs.Marks.{new_watched, all_known, MarksGiven};
 ghost use Rattle.grep_session.specs.Working.Sessions.{LosesMarks};
@@ -29,7 +29,7 @@ use crate::new_lines::NewLines;
 use crate::options::{Effect, effect_of, is_same, option_of, with_option};
 use crate::pattern_matchers::{read_matcher, read_matchers};
 use crate::patterns::{
-    add_matchers, add_texts, is_text, put_text, reserve_texts, texts_of, too_many,
+    add_matchers, add_texts, is_text, narrows, put_text, reserve_texts, texts_of, too_many,
 };
 use crate::removal::{drop_column, exchange, put_again, put_back};
 use crate::replaced_lines::{find_place, put_in};
@@ -478,9 +478,10 @@ impl Session {
     }
 
     /// Puts another text in the place of pattern `p`. All lines are searched for it alone, and
-    /// under `-o` the parts of the lines that the old or the new pattern matches. Where the text is
-    /// the same, nothing is searched or allocated. The text is one pattern, whatever its bytes are:
-    /// no line has a newline, so nothing matches one in it.
+    /// under `-o` the parts of the lines that the old or the new pattern matches. Where both are
+    /// strings, the new one has the old one in it, and `-x` is off, only lines that the old one
+    /// matches are searched. Where the text is the same, nothing is searched or allocated. The text
+    /// is one pattern, whatever its bytes are: no line has a newline, so nothing matches one in it.
     ///
     /// # Errors
     ///
@@ -517,19 +518,27 @@ impl Session {
             Ok(matcher) => matcher,
             Err(fault) => return Err(fault),
         };
-        self.replace_pattern(p, text, matcher, meter)
+        let narrower = narrows(self.syntax, &self.options, &self.texts[p], &text);
+        self.replace_pattern(p, text, matcher, narrower, meter)
     }
 
-    /// Puts another text and its matcher in the place of pattern `p`.
+    /// Puts another text and its matcher in the place of pattern `p`; `narrower` says whether it is
+    /// known to match no line that the old one doesn't.
     fn replace_pattern(
         &mut self,
         p: usize,
         text: Vec<u8>,
         matcher: Matcher,
+        narrower: bool,
         meter: &mut Meter,
     ) -> Result<(), EditFault>
         requires within { p < length self.old.inputs.patterns }
         requires other { text.items ≢ get_or self.old.inputs.patterns p [] }
+        requires narrower { MatchBool narrower
+            (Narrows self.old.inputs.syntax self.old.inputs.options
+            (get_or self.old.inputs.patterns p []) text.items)
+            (Narrows self.old.inputs.syntax self.old.inputs.options
+            (get_or self.old.inputs.patterns p []) text.items → ⊥) }
         requires is_new { AreMatchers self.old.inputs.syntax self.old.inputs.options
             (text.items ∷ []) (matcher ∷ []) }
         requires few { KeepAtMost self.old.states (matcher ∷ []) }
@@ -541,7 +550,7 @@ impl Session {
             meter.new }
     {
         let gone = exchange(&mut self.matchers, p, matcher);
-        let change = Change::Replaced(p);
+        let change = Change::Replaced(p, narrower);
         match find_columns(
             self.alloc,
             &mut self.matchers,

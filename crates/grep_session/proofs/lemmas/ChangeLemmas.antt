@@ -1,5 +1,5 @@
 -- What is found in a line after a change of the patterns.
-use Rattle.grep_session.proofs.Prelude.{◌≡◌, ℕ, zero, suc, ◌+◌, ◌<◌, ◌≤◌, Bool, true, false, not, ◌==◌, nat_tests, ◌||◌, List, [], ◌∷◌, ◌++◌, inl, inr, length, map, take, drop, length-take, nat_eq, nat_lt, get_or, MatchBool, Decides, Any, refl, sym, ap, subst, ◌∙◌, All, Option, None, Some, IfSome, arith, remove, list_any, Text, Expression, Holds, Matches, IsFound, ArePartsFrom, AreParts, Options, Matched, Rebuild, PartsOnly, Added, Dropped, Replaced, KeptFile, KeptLine, without, Change, Span, ArePartsAgain, first_sought, has_new_parts, left_numbers, later_numbers, sought, filter, slice_set, append_assoc, take_all, HasChanged, HasNewParts, IsWithin, WasKept, WasFileKept, kept_lines, AreMatching, AddsMatching, ArePartsKept, IsKept, span_places, drop-length, append-nil, length-append, false≢true}
+use Rattle.grep_session.proofs.Prelude.{◌≡◌, ℕ, zero, suc, ◌+◌, ◌<◌, ◌≤◌, Bool, true, false, not, ◌==◌, nat_tests, ◌||◌, List, [], ◌∷◌, ◌++◌, inl, inr, length, map, take, drop, length-take, nat_eq, nat_lt, get_or, MatchBool, Decides, Any, refl, sym, ap, subst, ◌∙◌, All, Option, None, Some, IfSome, arith, remove, list_any, Text, Expression, Holds, Matches, IsFound, ArePartsFrom, AreParts, Options, Matched, Rebuild, PartsOnly, Added, Dropped, Replaced, KeptFile, KeptLine, without, Change, Span, ArePartsAgain, first_sought, has_new_parts, left_numbers, later_numbers, sought, filter, append_assoc, take_all, HasChanged, HasNewParts, IsWithin, WasKept, WasFileKept, kept_lines, AreMatching, AddsMatching, ArePartsKept, IsKept, span_places, drop-length, append-nil, length-append, false≢true}
 use Rattle.std.specs.Bool.{⊤}
 use Rattle.re_syntax.proofs.lemmas.Decisions.{Any-first, Any-later, Any-cases, Any-none}
 use Rattle.re_syntax.proofs.lemmas.SomeOfJoined.{Any-single}
@@ -101,10 +101,10 @@ module _ (es before : List Expression) (options : Options) (line : KeptLine) (nu
 
 -- ---- a line without an expression
 
-decided_single : {A : Type 0} (P : A → Type 0) (x : A) (verdict : Bool) → Decides verdict (P x) → Decides verdict (Any P (x ∷ []))
+pub decided_single : {A : Type 0} (P : A → Type 0) (x : A) (verdict : Bool) → Decides verdict (P x) → Decides verdict (Any P (x ∷ []))
 decided_single P x verdict d = ((λ t. Any-first P x [] (d.0 t)), (λ a. d.1 (Any-single P x a)))
 
-module _ (p : ℕ) (es before changed : List Expression) (options : Options) (line : KeptLine) (h : HasChanged (Dropped p) es before changed) (k : IsKept before options line) where
+module _ (p : ℕ) (es before changed : List Expression) (options : Options) (line : KeptLine) (h : HasChanged (Dropped p) es before changed options) (k : IsKept before options line) where
   removed_decides : Decides (list_any (λ n. nat_eq n p) line.found.numbers) (Matches (get_or before p h.0) line.text options.line_regexp)
   removed_decides =
       let place : 0 + p ≡ p = omega arith in
@@ -138,8 +138,8 @@ decided_pair P x y false b d e = (
   (λ some. elim (Any-cases P x (y ∷ []) some) [ inl m ↦ absurd (false≢true (d.1 m)) | inr l ↦ e.1 (Any-single P y l) ]),
 )
 
-module _ (p : ℕ) (es before changed : List Expression) (options : Options) (line : KeptLine) (h : HasChanged (Replaced p) es before changed) (k : IsKept before options line) (mid new : List ℕ)
-    (a : AddsMatching line.text options.line_regexp p (sought (Replaced p) es) (left_numbers (Replaced p) line.found.numbers) mid) (later : new ≡ mid ++ later_numbers (Replaced p) line.found.numbers) where
+module _ (p : ℕ) (narrower : Bool) (es before changed : List Expression) (options : Options) (line : KeptLine) (h : HasChanged (Replaced p narrower) es before changed options) (k : IsKept before options line) (mid new : List ℕ)
+    (a : AddsMatching line.text options.line_regexp p (sought (Replaced p narrower) es) (left_numbers (Replaced p narrower) line.found.numbers) mid) (later : new ≡ mid ++ later_numbers (Replaced p narrower) line.found.numbers) where
   -- the numbers are right
   put_numbers : AreMatching line.text options.line_regexp 0 es new
   put_numbers =
@@ -154,7 +154,7 @@ module _ (p : ℕ) (es before changed : List Expression) (options : Options) (li
       let high = filter (λ n. nat_lt p n) old in
       let first = subst (λ q. AreMatching text entire 0 (take p before) (filter (λ n. nat_lt n q) old)) place (matching_before text entire 0 p before old k.matching) in
       let last = subst (λ n. AreMatching text entire n (drop (suc p) before) high) next (subst (λ q. AreMatching text entire (0 + suc p) (drop (suc p) before) (filter (λ n. nat_lt q n) old)) place (matching_after text entire 0 p before old k.matching)) in
-      let alone : sought (Replaced p) es ≡ come ∷ [] = ap (sought (Replaced p)) h.4 ∙ put_alone before p come h.2 in
+      let alone : sought (Replaced p narrower) es ≡ come ∷ [] = ap (sought (Replaced p narrower)) h.4 ∙ put_alone before p come h.2 in
       let one = subst (λ l. AreMatching text entire p l a.found) alone a.are_found in
       let rest = AreMatching-append text entire p (come ∷ []) (drop (suc p) before) a.found high one last in
       let all = AreMatching-append text entire 0 (take p before) (come ∷ drop (suc p) before) low (a.found ++ high) first (subst (λ n. AreMatching text entire n (come ∷ drop (suc p) before) (a.found ++ high)) many rest) in
@@ -215,7 +215,7 @@ module _ (line : Text) (entire : Bool) where
       let many = length-append old (n ∷ ns) in
       subst (λ b. Decides b (Any (λ e. Matches e line entire) es)) (sym (lt_yes (length old) (length (old ++ (n ∷ ns))) (omega (arith, many)))) (decided_yes (some_at first es n ns a))
 
-module _ (first : ℕ) (es before changed : List Expression) (options : Options) (line : KeptLine) (h : HasChanged (Added first) es before changed) (k : IsKept before options line) (new : List ℕ)
+module _ (first : ℕ) (es before changed : List Expression) (options : Options) (line : KeptLine) (h : HasChanged (Added first) es before changed options) (k : IsKept before options line) (new : List ℕ)
     (a : AddsMatching line.text options.line_regexp first (drop first es) line.found.numbers new) where
   added_decides : Decides (nat_lt (length line.found.numbers) (length new)) (Matched (drop first es) options line.text)
   added_decides = subst (λ ns. Decides (nat_lt (length line.found.numbers) (length ns)) (Matched (drop first es) options line.text)) (sym a.added) (grown_decides line.text options.line_regexp first (drop first es) line.found.numbers a.found a.are_found)
@@ -265,7 +265,7 @@ module _ (es before changed : List Expression) (options : Options) (line : KeptL
     pub stay : has_new_parts change line.found.numbers new ≡ false → (ps : List (ℕ × ℕ)) → AreParts before line.text options.line_regexp ps → AreParts es line.text options.line_regexp ps
     pub kept : has_new_parts change line.found.numbers new ≡ false → ArePartsKept before options line.text line.found.spans
 
-  pub line_changes : (change : Change) → IsWithin change (length es) → HasChanged change es before changed → WasKept change before options line → (mid : List ℕ)
+  pub line_changes : (change : Change) → IsWithin change (length es) → HasChanged change es before changed options → WasKept change before options line → (mid : List ℕ)
       → AddsMatching line.text options.line_regexp (first_sought change (length es)) (sought change es) (left_numbers change line.found.numbers) mid → new ≡ mid ++ later_numbers change line.found.numbers → LineChanges change
   line_changes Rebuild within h k mid b later = let a = adds_alone line.text options.line_regexp 0 es [] mid new b later in record {
     matching = subst (AreMatching line.text options.line_regexp 0 es) (sym a.added) a.are_found;
@@ -292,10 +292,10 @@ module _ (es before changed : List Expression) (options : Options) (line : KeptL
     stay = went_stay p es before changed options line h k;
     kept = λ off. k.parts;
   }
-  line_changes (Replaced p) within h k mid a later = record {
-    matching = put_numbers p es before changed options line h k mid new a later;
-    decided = put_verdict p es before changed options line h k mid new a later;
-    stay = put_stay p es before changed options line h k mid new a later;
+  line_changes (Replaced p narrower) within h k mid a later = record {
+    matching = put_numbers p narrower es before changed options line h k mid new a later;
+    decided = put_verdict p narrower es before changed options line h k mid new a later;
+    stay = put_stay p narrower es before changed options line h k mid new a later;
     kept = λ off. k.parts;
   }
 

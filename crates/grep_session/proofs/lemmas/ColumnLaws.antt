@@ -1,10 +1,12 @@
 -- What is found in the lines of a chunk after a change, from what is found in each line.
-use Rattle.grep_session.proofs.Prelude.{◌≡◌, ℕ, ◌+◌, ◌-◌, ◌*◌, ◌<◌, ◌==◌, Bool, true, false, not, Decides, List, [], ◌∷◌, ◌++◌, All, length, map, drop, get_or, refl, sym, ap, subst, ◌∙◌, arith, length-append, append-nil, append_assoc, false≢true, nat_tests, length-map, length-drop, nil_from_length, get_or_default, All-append, Text, Expression, newline, terminated, Span, AddsAtMost, search_cost, Steps, Adds, Options, FoundIn, finds_at, is_paired, numbers_at, Matched, AreBelow, KeptLine, no_line, line_text, seen, Change, Rebuild, PartsOnly, Added, Dropped, Replaced, ChangeCost, CostOfEach, HasChanged, HasNewParts, IsWithin, NewPartsCost, SearchesEach, WasKept, searched_for, AreAllParts, AreDecided, AreMatches, Grows, IsAdded, KeepsAll, first_sought, has_new_parts, later_numbers, left_numbers, past_sought, sought, AddsMatching, IsKept}
+use Rattle.grep_session.proofs.Prelude.{◌≡◌, ℕ, ◌+◌, ◌-◌, ◌*◌, ◌<◌, ◌==◌, Bool, true, false, not, ◌||◌, inl, Decides, take, Matches, has_number, IsAmongOld, StaysSame, WereMatched, CostWhere, IsSought, SearchCost, is_narrower, List, [], ◌∷◌, ◌++◌, All, length, map, get_or, refl, sym, ap, subst, ◌∙◌, arith, length-append, append-nil, append_assoc, false≢true, nat_tests, length-map, length-drop, nil_from_length, get_or_default, All-append, Text, Expression, newline, terminated, Span, AddsAtMost, search_cost, Steps, Options, FoundIn, finds_at, is_paired, numbers_at, Matched, AreBelow, KeptLine, no_line, line_text, seen, Change, Rebuild, PartsOnly, Added, Dropped, Replaced, ChangeCost, CostOfEach, HasChanged, HasNewParts, IsWithin, NewPartsCost, SearchesEach, WasKept, searched_for, AreAllParts, AreDecided, AreMatches, Grows, KeepsAll, first_sought, has_new_parts, later_numbers, left_numbers, past_sought, sought, AddsMatching, IsKept}
 use Rattle.std.proofs.Math.ListN.{get_or-map}
+use Rattle.std.proofs.lemmas.List.{get_or-set_same}
+use Rattle.re_syntax.proofs.lemmas.Decisions.{Any-first}
 use Rattle.re_meter.proofs.lemmas.Adding.{all_both}
 use Rattle.line_chunks.proofs.lemmas.PairLaws.{lt_no, numbers_at-append}
 use Rattle.line_chunks.proofs.lemmas.SeenLaws.{length-seen, line_seen}
-use Rattle.grep_session.proofs.lemmas.ChangeLemmas.{LineChanges, line_changes, line_right, some_decides}
+use Rattle.grep_session.proofs.lemmas.ChangeLemmas.{LineChanges, decided_single, line_changes, line_right, number_decides, some_decides}
 use Rattle.grep_session.proofs.lemmas.StepLemmas.{NewPartsCost-exists, each_none, each_front}
 
 -- what holds of each text with what was found in it holds of all lines
@@ -20,9 +22,42 @@ no_numbers : (ns : List ℕ) → not (length ns == 0) ≡ false → ns ≡ []
 no_numbers [] h = refl
 no_numbers (n ∷ ns) h = absurd (let no : ⊥ = grind (arith, nat_tests, h) in no)
 
+-- ---- a narrower expression
+
+-- which lines an expression matched is said by the pairs of its number
+were_matched : (before : List Expression) (options : Options) (lines : List KeptLine) (old : List (ℕ × ℕ)) → ((k : ℕ) → k < length lines → numbers_at k old ≡ (get_or lines k no_line).found.numbers) → (p : ℕ) (gone : Expression) → p < length before → gone ≡ get_or before p gone → All (IsKept before options) lines
+    → WereMatched (gone ∷ []) options (map line_text lines) p old
+were_matched before options lines old own p gone within at all k high =
+    let inside : k < length lines = omega (arith, high, length-map lines line_text) in
+    let line = get_or lines k no_line in
+    let text : line_text line ≡ get_or (map line_text lines) k [] = sym (get_or-map line_text lines k no_line) in
+    let place : 0 + p ≡ p = omega arith in
+    let entire = options.line_regexp in
+    let numbers = subst (λ q. Decides (has_number q line.found.numbers) (Matches (get_or before p gone) line.text entire)) place (number_decides line.text entire 0 p before line.found.numbers gone within (all k no_line inside).matching) in
+    let one = decided_single (λ e. Matches e line.text entire) gone _ (subst (λ e. Decides (has_number p line.found.numbers) (Matches e line.text entire)) (sym at) numbers) in
+    subst (λ t. Decides (has_number p (numbers_at k old)) (Matched (gone ∷ []) options t)) text (subst (λ ns. Decides (has_number p ns) (Matched (gone ∷ []) options line.text)) (sym (own k inside)) one)
+
+-- the lines that a narrower one matches are among those
+is_among : (change : Change) (es before changed : List Expression) (options : Options) (lines : List KeptLine) (old : List (ℕ × ℕ)) → IsWithin change (length es) → HasChanged change es before changed options → All (WasKept change before options) lines
+    → ((k : ℕ) → k < length lines → numbers_at k old ≡ (get_or lines k no_line).found.numbers) → IsAmongOld change (map line_text lines) options.line_regexp es old
+is_among Rebuild es before changed options lines old within h all own on e at = absurd (false≢true on)
+is_among PartsOnly es before changed options lines old within h all own on e at = absurd (false≢true on)
+is_among (Added first) es before changed options lines old within h all own on e at = absurd (false≢true on)
+is_among (Dropped p) es before changed options lines old within h all own on e at = absurd (false≢true on)
+is_among (Replaced p false) es before changed options lines old within h all own on e at = absurd (false≢true on)
+is_among (Replaced p true) es before changed options lines old within h all own on e at = λ k high m.
+    let text = get_or (map line_text lines) k [] in
+    let is : e ≡ h.1 = at ∙ ap (λ (l : List Expression). get_or l p e) h.4 ∙ get_or-set_same before p h.1 e h.2 in
+    let matched = h.6 refl text (subst (λ c. Matches c text options.line_regexp) is m) in
+    (were_matched before options lines old own p h.0 h.2 h.3 all k high).1 (Any-first (λ c. Matches c text options.line_regexp) h.0 [] matched)
+
 module _ (change : Change) (es before changed : List Expression) (options : Options) (lines : List KeptLine) (old new : List (ℕ × ℕ))
-    (within : IsWithin change (length es)) (h : HasChanged change es before changed) (all : All (WasKept change before options) lines)
+    (within : IsWithin change (length es)) (h : HasChanged change es before changed options) (all : All (WasKept change before options) lines)
     (m : AreMatches change (map line_text lines) options.line_regexp es old new) (own : (k : ℕ) → k < length lines → numbers_at k old ≡ (get_or lines k no_line).found.numbers) where
+  -- the lines that a narrower expression matches are known
+  among : IsAmongOld change (map line_text lines) options.line_regexp es old
+  among = is_among change es before changed options lines old within h all own
+
   -- each line has changed as the patterns have
   changes_at : (k : ℕ) → k < length lines → LineChanges es before changed options (get_or lines k no_line) (numbers_at k new) change
   changes_at k inside =
@@ -31,7 +66,7 @@ module _ (change : Change) (es before changed : List Expression) (options : Opti
       let high : k < length (map line_text lines) = omega (arith, inside, length-map lines line_text) in
       let text : get_or (map line_text lines) k [] ≡ line_text line = get_or-map line_text lines k no_line in
       let left : numbers_at k m.left ≡ left_numbers change line.found.numbers = m.are_left.numbers k ∙ ap (left_numbers change) (own k inside) in
-      let adds = subst (λ t. AddsMatching t options.line_regexp first (sought change es) (numbers_at k m.left) (numbers_at k m.mid)) text (m.adds.numbers k high) in
+      let adds = subst (λ t. AddsMatching t options.line_regexp first (sought change es) (numbers_at k m.left) (numbers_at k m.mid)) text ((m.sought.adds among).numbers k high) in
       let later : numbers_at k new ≡ numbers_at k m.mid ++ later_numbers change line.found.numbers =
       ap (numbers_at k) m.later.added ∙ numbers_at-append k m.mid m.later.more ∙ ap (λ ns. numbers_at k m.mid ++ ns) (m.later.numbers k ∙ ap (later_numbers change) (own k inside)) in
       line_changes es before changed options line (numbers_at k new) change within h (all k no_line inside) (numbers_at k m.mid) (subst (λ ns. AddsMatching line.text options.line_regexp first (sought change es) ns (numbers_at k m.mid)) left adds) later
@@ -59,77 +94,99 @@ module _ (change : Change) (es before changed : List Expression) (options : Opti
           subst (λ t. IsKept es options (record { text = t; found = record { numbers = numbers_at k new; spans = get_or parts k [] } })) text
           (line_right es before changed options line (numbers_at k new) change (is_paired k new) (has_new_parts change (numbers_at k old) (numbers_at k new)) (get_or parts k []) (changes_at k inside) (no_numbers (numbers_at k new)) (λ off. sym same ∙ off) (are k inside))
 
-  -- what was found stays right where no pair was added
-  pub column_same : IsAdded change → length old ≡ length new → All (IsKept es options) lines
-  column_same added same = λ k d inside.
+  -- what was found stays right where no pair was added, or none was there and none came
+  pub column_same : StaysSame change old new → All (IsKept es options) lines
+  column_same same = λ k d inside.
       let line = get_or lines k no_line in
-      let numbers : numbers_at k new ≡ line.found.numbers = ap (numbers_at k) none_added ∙ own k inside in
-      let kept = line_right es before changed options line (numbers_at k new) change true false line.found.spans (changes_at k inside) (λ off. absurd (false≢true (sym off))) (λ off. few_numbers change added (numbers_at k new) line.found.numbers numbers) (λ asked. refl) in
+      let numbers : numbers_at k new ≡ line.found.numbers = ap (numbers_at k) (same_pairs change same m.are_left.all) ∙ own k inside in
+      let kept = line_right es before changed options line (numbers_at k new) change true false line.found.spans (changes_at k inside) (λ off. absurd (false≢true (sym off))) (λ off. few_numbers change same k line.found.numbers (own k inside)) (λ asked. refl) in
       let here : record { text = line.text; found = record { numbers = numbers_at k new; spans = line.found.spans } } ≡ get_or lines k d = ap (λ ns. record { text = line.text; found = record { numbers = ns; spans = line.found.spans } }) numbers ∙ get_or_default lines k no_line d inside in
       subst (IsKept es options) here kept
     where
       none_more : (xs ys : List (ℕ × ℕ)) → length xs ≡ length (xs ++ ys) → ys ≡ []
       none_more xs ys e = nil_from_length ys (omega (arith, e, length-append xs ys))
 
-      keeps : (c : Change) → IsAdded c → KeepsAll c old m.left → m.left ≡ old
-      keeps (Added first) a k = k
-      keeps Rebuild a k = absurd a
-      keeps PartsOnly a k = absurd a
-      keeps (Dropped p) a k = absurd a
-      keeps (Replaced p) a k = absurd a
-
-      none_added : new ≡ old
-      none_added =
-          let left : m.left ≡ old = keeps change added m.are_left.all in
-          let more = m.adds.more ++ m.later.more in
-          let whole : new ≡ old ++ more = m.later.added ∙ ap (λ l. l ++ m.later.more) m.adds.added ∙ append_assoc m.left m.adds.more m.later.more ∙ ap (λ l. l ++ more) left in
-          let nothing : more ≡ [] = none_more old more (same ∙ ap length whole) in
+      same_pairs : (c : Change) → StaysSame c old new → KeepsAll c old m.left → new ≡ old
+      same_pairs (Added first) many left =
+          let more = m.sought.pairs.more ++ m.later.more in
+          let whole : new ≡ old ++ more = m.later.added ∙ ap (λ l. l ++ m.later.more) m.sought.pairs.added ∙ append_assoc m.left m.sought.pairs.more m.later.more ∙ ap (λ l. l ++ more) left in
+          let nothing : more ≡ [] = none_more old more (many ∙ ap length whole) in
           whole ∙ ap (λ l. old ++ l) nothing ∙ append-nil old
+      same_pairs (Replaced p narrower) none left = nil_from_length new none.1 ∙ sym (nil_from_length old none.0)
+      same_pairs Rebuild wrong left = absurd wrong
+      same_pairs PartsOnly wrong left = absurd wrong
+      same_pairs (Dropped p) wrong left = absurd wrong
 
-      few_numbers : (c : Change) → IsAdded c → (ns ms : List ℕ) → ns ≡ ms → has_new_parts c ms ns ≡ false
-      few_numbers (Added first) a ns ms e = lt_no (length ms) (length ns) (omega (arith, ap length e))
-      few_numbers Rebuild a ns ms e = absurd a
-      few_numbers PartsOnly a ns ms e = absurd a
-      few_numbers (Dropped p) a ns ms e = absurd a
-      few_numbers (Replaced p) a ns ms e = absurd a
+      few_numbers : (c : Change) → StaysSame c old new → (k : ℕ) (ms : List ℕ) → numbers_at k old ≡ ms → has_new_parts c ms (numbers_at k new) ≡ false
+      few_numbers (Added first) many k ms e =
+          let ns : numbers_at k new ≡ ms = ap (numbers_at k) (same_pairs change same m.are_left.all) ∙ e in
+          lt_no (length ms) (length (numbers_at k new)) (omega (arith, ap length ns))
+      few_numbers (Replaced p narrower) none k ms e =
+          let old_none : ms ≡ [] = sym e ∙ ap (numbers_at k) (nil_from_length old none.0) in
+          let new_none : numbers_at k new ≡ [] = ap (numbers_at k) (nil_from_length new none.1) in
+          λ i. has_number p (old_none i) || has_number p (new_none i)
+      few_numbers Rebuild wrong k ms e = absurd wrong
+      few_numbers PartsOnly wrong k ms e = absurd wrong
+      few_numbers (Dropped p) wrong k ms e = absurd wrong
 
 -- ---- steps
 
--- so many searches of each of the lines, and those for their parts
+-- the searches of the lines, and those for their parts
 module _ (change : Change) (changed es : List Expression) (options : Options) where
-  abbrev pub n : ℕ
-  n = searched_for change changed
+  both_costs : (texts : List Text) (r s a b : ℕ) → CostOfEach (SearchCost change changed options) texts r a → CostOfEach (NewPartsCost change changed es options) texts s b → CostOfEach (ChangeCost change changed es options) texts (r + s) (a + b)
+  both_costs [] r s a b p q = (omega (arith, p.0, q.0), omega (arith, p.1, q.1))
+  both_costs (text ∷ texts) r s a b p q =
+      (q.0, p.1 + q.1, p.2 + q.2, p.3 + q.3, (q.2, q.4, p.2, (refl, p.4.1), refl), both_costs texts p.1 q.1 p.3 q.3 p.5 q.5, omega (arith, p.6, p.4.0, q.6), omega (arith, p.7, q.7))
 
-  both_costs : (texts : List Text) (r p : ℕ) → CostOfEach (NewPartsCost change changed es options) texts r p → CostOfEach (ChangeCost change changed es options) texts r (n * length (terminated texts) + p)
-  both_costs [] r p c = (c.0, omega (arith, c.1))
-  both_costs (text ∷ texts) r p c =
-      let long : length (terminated (text ∷ texts)) ≡ length text + 1 + length (terminated texts) = omega (arith, length-append text (newline ∷ terminated texts)) in
-      let bytes : n * length (terminated (text ∷ texts)) ≡ search_cost n text + n * length (terminated texts) = ap (λ k. n * k) long ∙ spread (length text + 1) (length (terminated texts)) in
-      (c.0, c.1, search_cost n text + c.2, n * length (terminated texts) + c.3, (c.2, c.4, refl), both_costs texts c.1 c.3 c.5, c.6, omega (arith, bytes, c.7))
-    where
-      spread : (a b : ℕ) → n * (a + b) ≡ n * a + n * b
-      spread a b = omega arith
-
-  pub chunk_steps : (texts : List Text) (begun mid ended : Steps) → AddsAtMost (n * length (terminated texts)) begun mid → SearchesEach (NewPartsCost change changed es options) texts mid ended → SearchesEach (ChangeCost change changed es options) texts begun ended
-  chunk_steps texts begun mid ended few parts =
-      let p = parts.at_most in
-      let bytes = n * length (terminated texts) in
-      let refusals : 0 + p.0 ≡ p.0 = omega arith in
-      record { at_most = (p.0, bytes + p.1, both_costs texts p.0 p.1 p.2, subst (λ k. Adds (bytes + p.1) (bytes + p.1) k begun ended) refusals (all_both bytes p.1 bytes p.1 0 p.0 begun mid ended few p.3)) }
+  pub chunk_steps : (texts : List Text) (begun mid ended : Steps) → SearchesEach (SearchCost change changed options) texts begun mid → SearchesEach (NewPartsCost change changed es options) texts mid ended → SearchesEach (ChangeCost change changed es options) texts begun ended
+  chunk_steps texts begun mid ended searches parts =
+      let p = searches.at_most in
+      let q = parts.at_most in
+      record { at_most = (p.0 + q.0, p.1 + q.1, both_costs texts p.0 q.0 p.1 q.1 p.2 q.2, all_both p.1 q.1 p.1 q.1 p.0 q.0 begun mid ended p.3 q.3) }
 
   -- the same before the search for parts
-  pub chunk_begun : (texts : List Text) (begun ended : Steps) → AddsAtMost (n * length (terminated texts)) begun ended → SearchesEach (ChangeCost change changed es options) texts begun ended
+  pub chunk_begun : (texts : List Text) (begun ended : Steps) → SearchesEach (SearchCost change changed options) texts begun ended → SearchesEach (ChangeCost change changed es options) texts begun ended
   chunk_begun texts begun ended few =
       let C = NewPartsCost change changed es options in
       chunk_steps texts begun ended ended few (each_front C (NewPartsCost-exists change changed es options) [] texts texts ended ended refl (each_none C ended))
 
+-- so many searches of each of the lines, where all are searched
+plain_costs : (P : Text → Type 0) (many : ℕ) → ((line : Text) → P line) → (texts : List Text) → CostOfEach (CostWhere P many) texts 0 (many * length (terminated texts))
+plain_costs P many all [] = (refl, omega arith)
+plain_costs P many all (text ∷ texts) =
+    let long : length (terminated (text ∷ texts)) ≡ length text + 1 + length (terminated texts) = omega (arith, length-append text (newline ∷ terminated texts)) in
+    let bytes : many * length (terminated (text ∷ texts)) ≡ search_cost many text + many * length (terminated texts) = ap (λ k. many * k) long ∙ spread (length text + 1) (length (terminated texts)) in
+    (0, 0, search_cost many text, many * length (terminated texts), (refl, inl (all text, refl)), plain_costs P many all texts, refl, bytes)
+  where
+    spread : (a b : ℕ) → many * (a + b) ≡ many * a + many * b
+    spread a b = omega arith
+
 -- so many patterns are searched for
-pub sought_count : (change : Change) (es before changed : List Expression) (many : ℕ) → many ≡ length es → HasChanged change es before changed → past_sought change many - first_sought change many ≡ searched_for change changed
-sought_count Rebuild es before changed many same h = omega (arith, same, ap length h)
-sought_count PartsOnly es before changed many same h = omega arith
-sought_count (Added first) es before changed many same h = omega (arith, same, ap length h.1, length-drop first es)
-sought_count (Dropped p) es before changed many same h = omega arith
-sought_count (Replaced p) es before changed many same h = omega arith
+sought_count : (change : Change) (es before changed : List Expression) (options : Options) (many : ℕ) → many ≡ length es → HasChanged change es before changed options → past_sought change many - first_sought change many ≡ searched_for change changed
+sought_count Rebuild es before changed options many same h = omega (arith, same, ap length h)
+sought_count PartsOnly es before changed options many same h = omega arith
+sought_count (Added first) es before changed options many same h = omega (arith, same, ap length h.1, length-drop first es)
+sought_count (Dropped p) es before changed options many same h = omega arith
+sought_count (Replaced p narrower) es before changed options many same h = omega arith
+
+-- the steps of a search of all lines, or of those that the old expression matches
+module _ (es before changed : List Expression) (options : Options) (lines : List KeptLine) (old : List (ℕ × ℕ)) (many : ℕ) (same : many ≡ length es) (begun ended : Steps) where
+  plainly : (change : Change) → HasChanged change es before changed options → ((line : Text) → IsSought change changed options line) → AddsAtMost ((past_sought change many - first_sought change many) * length (terminated (map line_text lines))) begun ended → SearchesEach (SearchCost change changed options) (map line_text lines) begun ended
+  plainly change h all few =
+      let texts = map line_text lines in
+      let n = searched_for change changed in
+      record { at_most = (0, n * length (terminated texts), plain_costs (IsSought change changed options) n all texts, subst (λ k. AddsAtMost (k * length (terminated texts)) begun ended) (sought_count change es before changed options many same h) few) }
+
+  pub sought_steps : (change : Change) → HasChanged change es before changed options → All (WasKept change before options) lines → ((k : ℕ) → k < length lines → numbers_at k old ≡ (get_or lines k no_line).found.numbers)
+      → (is_narrower change ≡ false → AddsAtMost ((past_sought change many - first_sought change many) * length (terminated (map line_text lines))) begun ended)
+      → (is_narrower change ≡ true → (gone : List Expression) → WereMatched gone options (map line_text lines) (first_sought change many) old → SearchesEach (CostWhere (Matched gone options) 1) (map line_text lines) begun ended)
+      → SearchesEach (SearchCost change changed options) (map line_text lines) begun ended
+  sought_steps Rebuild h all own plain narrow = plainly Rebuild h (λ line. tt) (plain refl)
+  sought_steps PartsOnly h all own plain narrow = plainly PartsOnly h (λ line. tt) (plain refl)
+  sought_steps (Added first) h all own plain narrow = plainly (Added first) h (λ line. tt) (plain refl)
+  sought_steps (Dropped p) h all own plain narrow = plainly (Dropped p) h (λ line. tt) (plain refl)
+  sought_steps (Replaced p false) h all own plain narrow = plainly (Replaced p false) h (λ line. tt) (plain refl)
+  sought_steps (Replaced p true) h all own plain narrow = narrow refl (take 1 changed) (subst (λ l. WereMatched (take 1 l) options (map line_text lines) p old) (sym h.5) (were_matched before options lines old own p h.0 h.2 h.3 all))
 
 -- ---- the pairs of a chunk after a change
 
@@ -137,7 +194,7 @@ module _ (change : Change) (texts : List Text) (entire : Bool) (es : List Expres
   -- they are of its lines
   pub matches_below : AreBelow (length texts) new
   matches_below =
-      let below = subst (AreBelow (length texts)) (sym m.adds.added) (All-append (λ (pair : ℕ × ℕ). pair.0 < length texts) m.left m.adds.more m.are_left.within m.adds.within) in
+      let below = subst (AreBelow (length texts)) (sym m.sought.pairs.added) (All-append (λ (pair : ℕ × ℕ). pair.0 < length texts) m.left m.sought.pairs.more m.are_left.within m.sought.pairs.within) in
       subst (AreBelow (length texts)) (sym m.later.added) (All-append (λ (pair : ℕ × ℕ). pair.0 < length texts) m.mid m.later.more below m.later.within)
 
   -- where patterns were added they are the old ones and more
@@ -145,8 +202,8 @@ module _ (change : Change) (texts : List Text) (entire : Bool) (es : List Expres
   matches_grow = by_change change m.are_left.all
     where
       by_change : (c : Change) → KeepsAll c old m.left → Grows c old new
-      by_change (Added first) left = (m.adds.more ++ m.later.more, m.later.added ∙ ap (λ l. l ++ m.later.more) m.adds.added ∙ append_assoc m.left m.adds.more m.later.more ∙ ap (λ l. l ++ (m.adds.more ++ m.later.more)) left)
+      by_change (Added first) left = (m.sought.pairs.more ++ m.later.more, m.later.added ∙ ap (λ l. l ++ m.later.more) m.sought.pairs.added ∙ append_assoc m.left m.sought.pairs.more m.later.more ∙ ap (λ l. l ++ (m.sought.pairs.more ++ m.later.more)) left)
       by_change Rebuild left = tt
       by_change PartsOnly left = tt
       by_change (Dropped p) left = tt
-      by_change (Replaced p) left = tt
+      by_change (Replaced p narrower) left = tt

@@ -1,5 +1,6 @@
 -- The lines of a chunk that an expression matches, noted one after the other.
-use Rattle.grep_session.proofs.Prelude.{◌≡◌, ℕ, zero, suc, take, drop, length-take, length-drop, ◌+◌, ◌<◌, ◌≤◌, Bool, List, [], ◌∷◌, ◌++◌, inl, inr, length, get_or, refl, sym, ap, subst, ◌∙◌, arith, append-nil, append_assoc, if◌then◌else◌, Some, ◌⊎◌, Text, Expression, Matches, numbers_at, AreBelow, Change, Rebuild, PartsOnly, Added, Dropped, Replaced, IsWithin, AddsColumn, IsNextLine, first_sought, past_sought, AddsMatching, cases_lt, All-push, All-nil, All-append}
+use Rattle.grep_session.proofs.Prelude.{AddsPairs, AddsSought, SearchesOne, CostWhere, AddsAtMost, Steps, search_cost, is_narrower, sought, true, false≢true, add-one, take-suc, drop-append_seam, ◌≡◌, ℕ, zero, suc, take, drop, length-take, length-drop, ◌+◌, ◌<◌, ◌≤◌, Bool, List, [], ◌∷◌, ◌++◌, inl, inr, length, get_or, refl, sym, ap, subst, ◌∙◌, arith, append-nil, append_assoc, if◌then◌else◌, Some, ◌⊎◌, Text, Expression, Matches, numbers_at, AreBelow, Change, Rebuild, PartsOnly, Added, Dropped, Replaced, IsWithin, AddsColumn, IsNextLine, first_sought, past_sought, AddsMatching, cases_lt, All-push, All-nil, All-append}
+use Rattle.re_meter.proofs.lemmas.Adding.{adds_none}
 use Rattle.line_chunks.proofs.lemmas.PairLaws.{eq_yes, eq_no, numbers_at-append}
 use Rattle.grep_session.proofs.lemmas.FindingLemmas.{adds_one_matching, passes_one_matching, adds_none_matching, adds_more_matching}
 
@@ -54,6 +55,21 @@ module _ (e : Expression) (entire : Bool) (number : ℕ) (texts : List Text) whe
               adds_one_matching (get_or texts k []) entire number e (numbers_at k old) (numbers_at k new) (subst (λ n. Matches e (get_or texts n []) entire) here found.2)
               (ap (numbers_at k) pushed ∙ ap (λ n. numbers_at k (mid ++ (n, number) ∷ [])) here ∙ one_here k number mid ∙ ap (λ l. l ++ number ∷ []) (s.left k late))
 
+  -- one more line is not matched
+  pub column_pass : (from : ℕ) (old new : List (ℕ × ℕ)) → (from < length texts → Matches e (get_or texts from []) entire → ⊥) → ColumnSoFar from old new → ColumnSoFar (from + 1) old new
+  column_pass from old new none s = record {
+    more = s.more;
+    added = s.added;
+    within = s.within;
+    done = λ k low high. elim (cases_lt k from) [
+      | inl early ↦ s.done k early high
+      | inr late ↦ (
+          let here : k ≡ from = omega (arith, low, late) in
+          subst (AddsMatching (get_or texts k []) entire number (e ∷ []) (numbers_at k old)) (sym (s.left k late)) (passes_one_matching (get_or texts k []) entire number e (numbers_at k old) (subst (λ n. n < length texts → Matches e (get_or texts n []) entire → ⊥) (sym here) none high)))
+    ];
+    left = λ k low. s.left k (omega (arith, low));
+  }
+
   -- no line is left that the expression matches
   pub column_done : (from : ℕ) (old new : List (ℕ × ℕ)) → ((k : ℕ) → from ≤ k → k < length texts → ¬ Matches e (get_or texts k []) entire) → ColumnSoFar from old new → AddsColumn texts entire number (e ∷ []) old new
   column_done from old new none s = record { more = s.more; added = s.added; within = s.within; numbers = λ k high. by_cases k high (cases_lt k from) }
@@ -97,10 +113,64 @@ module _ (texts : List Text) (entire : Bool) where
       let many : length (take number es) ≡ number = omega (arith, length-take number es, high) in
       columns_more first number (drop first (take number es)) (e ∷ []) (drop first (take (number + 1) es)) old mid new (omega (arith, length-drop first (take number es), many, low)) (ap (drop first) next ∙ drop_push first (take number es) e (omega (arith, low, many))) a b
 
+-- no pair is added, and one
+pub pairs_none : (size : ℕ) (old : List (ℕ × ℕ)) → AddsPairs size old old
+pairs_none size old = record { more = []; added = sym (append-nil old); within = All-nil (λ (pair : ℕ × ℕ). pair.0 < size) }
+
+pub pairs_next : (size k number : ℕ) (old mid new : List (ℕ × ℕ)) → k < size → new ≡ mid ++ (k, number) ∷ [] → AddsPairs size old mid → AddsPairs size old new
+pairs_next size k number old mid new within pushed s = record {
+  more = s.more ++ (k, number) ∷ [];
+  added = pushed ∙ ap (λ l. l ++ (k, number) ∷ []) s.added ∙ append_assoc old s.more ((k, number) ∷ []);
+  within = All-push (λ (pair : ℕ × ℕ). pair.0 < size) s.more (k, number) s.within within;
+}
+
+-- what was added whatever the pairs of the old pattern are
+pub added_sought : (change : Change) (texts : List Text) (entire : Bool) (es : List Expression) (old left mid : List (ℕ × ℕ)) → AddsColumn texts entire (first_sought change (length es)) (sought change es) left mid → AddsSought change texts entire es old left mid
+added_sought change texts entire es old left mid a = record { pairs = record { more = a.more; added = a.added; within = a.within }; adds = λ among. a }
+
+-- ---- a narrower expression
+
+module _ (change : Change) (is : is_narrower change ≡ true) where
+  -- it is one of all
+  pub narrower_within : (many : ℕ) → IsWithin change many → first_sought change many < many
+  narrower_within many within = by_change change is within
+    where
+      by_change : (c : Change) → is_narrower c ≡ true → IsWithin c many → first_sought c many < many
+      by_change (Replaced p narrower) is within = within
+      by_change Rebuild off within = absurd (false≢true off)
+      by_change PartsOnly off within = absurd (false≢true off)
+      by_change (Added first) off within = absurd (false≢true off)
+      by_change (Dropped p) off within = absurd (false≢true off)
+
+  -- it alone is searched for
+  pub narrower_alone : (es : List Expression) (d : Expression) → IsWithin change (length es) → sought change es ≡ get_or es (first_sought change (length es)) d ∷ []
+  narrower_alone es d within = by_change change is within
+    where
+      by_change : (c : Change) → is_narrower c ≡ true → IsWithin c (length es) → sought c es ≡ get_or es (first_sought c (length es)) d ∷ []
+      by_change (Replaced p narrower) is within =
+          let many : length (take p es) ≡ p = omega (arith, length-take p es, within) in
+          ap (λ n. drop p (take n es)) (add-one p) ∙ ap (drop p) (take-suc es p d within) ∙ ap (λ n. drop n (take p es ++ get_or es p d ∷ [])) (sym many) ∙ drop-append_seam (take p es) (get_or es p d ∷ [])
+      by_change Rebuild off within = absurd (false≢true off)
+      by_change PartsOnly off within = absurd (false≢true off)
+      by_change (Added first) off within = absurd (false≢true off)
+      by_change (Dropped p) off within = absurd (false≢true off)
+
+-- a search of a line that is passed costs nothing, and of one that is searched as much as it took
+module _ (P : Text → Type 0) (line : Text) (begun ended : Steps) where
+  pub costs_passed : (P line → ⊥) → SearchesOne (CostWhere P 1) line begun begun
+  costs_passed unmatched = record { at_most = (0, 0, (refl, inr (unmatched, refl)), adds_none 0 0 begun) }
+
+  pub costs_searched : P line → AddsAtMost (length line + 1) begun ended → SearchesOne (CostWhere P 1) line begun ended
+  costs_searched matched few = let once : length line + 1 ≡ search_cost 1 line = omega arith in record { at_most = (0, search_cost 1 line, (refl, inl (matched, refl)), subst (λ n. AddsAtMost n begun ended) once few) }
+
+-- a search of lines has a cost
+pub CostWhere-exists : (P : Text → Type 0) → ((line : Text) → Dec (P line)) → (line : Text) → (cost : ℕ) × CostWhere P 1 line 0 cost
+CostWhere-exists P d line = elim (d line) [ yes m ↦ (search_cost 1 line, (refl, inl (m, refl))) | no m ↦ (0, (refl, inr (m, refl))) ]
+
 -- the expressions that are searched for are some of all
 pub sought_within : (change : Change) (many : ℕ) → IsWithin change many → (first_sought change many ≤ past_sought change many) × (past_sought change many ≤ many)
 sought_within Rebuild many h = (omega arith, omega arith)
 sought_within PartsOnly many h = (omega arith, omega arith)
 sought_within (Added first) many h = (h, omega arith)
 sought_within (Dropped p) many h = (omega arith, omega arith)
-sought_within (Replaced p) many h = (omega arith, omega (arith, h))
+sought_within (Replaced p narrower) many h = (omega arith, omega (arith, h))

@@ -69,9 +69,12 @@ Touches-once (DropPattern n) old a b p q =
     let lines : p.2 ≡ q.2 = Chosen-determined (λ line. Matches q.0 line old.options.line_regexp) _ p.2 q.2 (subst (λ e. Chosen (λ line. Matches e line old.options.line_regexp) _ p.2) same p.3) q.3 in
     p.4 ∙ ap parts_alone lines ∙ sym q.4
 Touches-once (ChangePattern n text) old a b p q = IfHolds-both p q same_value (λ p q.
-    let both : p.0 ≡ q.0 = means_one old.syntax old.options (get_or old.patterns n [] ∷ text ∷ []) p.0 q.0 p.1 q.1 in
-    let lines : p.2 ≡ q.2 = Chosen-determined (Matched q.0 old.options) _ p.2 q.2 (subst (λ es. Chosen (Matched es old.options) _ p.2) both p.3) q.3 in
-    p.4 ∙ ap (λ l. record { patterns = 1; paired = all_lines old; lines = l }) lines ∙ sym q.4)
+    let gone : p.0 ≡ q.0 = IsMeant-determined old.syntax old.options.ignore_case (get_or old.patterns n []) p.0 q.0 p.1 q.1 in
+    let come : p.2 ≡ q.2 = IsMeant-determined old.syntax old.options.ignore_case text p.2 q.2 p.3 q.3 in
+    let both : p.0 ∷ p.2 ∷ [] ≡ q.0 ∷ q.2 ∷ [] = λ i. gone i ∷ come i ∷ [] in
+    let paired : p.4 ≡ q.4 = IfHolds-both p.5 q.5 (λ c d. Chosen-determined (λ line. Matches q.0 line old.options.line_regexp) (all_lines old) p.4 q.4 (subst (λ e. Chosen (λ line. Matches e line old.options.line_regexp) (all_lines old) p.4) gone c) d) same_value in
+    let lines : p.6 ≡ q.6 = Chosen-determined (Matched (q.0 ∷ q.2 ∷ []) old.options) (all_lines old) p.6 q.6 (subst (λ es. Chosen (Matched es old.options) (all_lines old) p.6) both p.7) q.7 in
+    p.8 ∙ (λ i. record { patterns = 1; paired = paired i; lines = lines i }) ∙ sym q.8)
 Touches-once (SetFlag flag on) old a b p q = IfHolds-both p q same_value same_value
 Touches-once (SetSyntax syntax) old a b p q = IfHolds-both p q same_value same_value
 Touches-once (SetContext context) old a b p q = same_value p q

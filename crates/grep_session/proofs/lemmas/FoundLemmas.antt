@@ -50,7 +50,7 @@ module _ (change : Change) (es : List Expression) (options : Options) where
 
   -- what was found in one chunk
   pub adds_column : (chunk : List KeptLine) (one : Option FoundIn) (old new : List (Option FoundIn)) → new ≡ old ++ one ∷ [] → FitsColumn chunk one
-      → ((before changed : List Expression) → HasChanged change es before changed → All (WasKept change before options) chunk → IsColumn es options chunk one) → AddsColumns change es options (chunk ∷ []) old new
+      → ((before changed : List Expression) → HasChanged change es before changed options → All (WasKept change before options) chunk → IsColumn es options chunk one) → AddsColumns change es options (chunk ∷ []) old new
   adds_column chunk one old new pushed fits right = record { found = one ∷ []; added = pushed; fit = (fits, tt); are_right = λ before changed h k. (right before changed h (k 0 chunk (omega arith)), tt) }
 
 -- ---- columns that are put

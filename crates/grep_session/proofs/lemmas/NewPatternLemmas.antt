@@ -1,6 +1,6 @@
 -- Patterns are added: the matchers after that, and the steps that it takes.
-use Rattle.grep_session.proofs.Prelude.{◌≡◌, ℕ, ◌+◌, ◌<◌, ◌≤◌, List, [], ◌∷◌, ◌++◌, Err, All, inl, inr, length, map, take, drop, refl, sym, ap, subst, ◌∙◌, arith, map-append, length-append, length-map, All-append, take-map, drop-map, Syntax, Text, Expression, list_of, IsMeant, Matcher, IsReadable, matched_expression, room_of, wants_whole, Steps, Options, Inputs, AreMeant, Added, EditFault, ChangeCost, HasChanged, SearchesEach, SameMatchers, IsSession, inputs_of, Inside, AddPatterns, EditGives, with_patterns, most_patterns, AreMatchers, RefusesFirst, TakesSteps, all_lines, pairs_cost}
-use Rattle.grep_session.proofs.lemmas.StepLemmas.{CostOfEach-sum, takes_touched}
+use Rattle.grep_session.proofs.Prelude.{◌≡◌, ℕ, ◌+◌, ◌<◌, ◌≤◌, List, [], ◌∷◌, ◌++◌, Err, All, inl, inr, length, map, take, drop, refl, sym, ap, subst, ◌∙◌, arith, map-append, length-append, length-map, All-append, take-map, drop-map, Syntax, Text, Expression, list_of, IsMeant, Matcher, IsReadable, matched_expression, room_of, wants_whole, Steps, Options, Inputs, AreMeant, Added, EditFault, ChangeCost, IsSought, HasChanged, SearchesEach, SameMatchers, IsSession, inputs_of, Inside, AddPatterns, EditGives, with_patterns, most_patterns, AreMatchers, RefusesFirst, TakesSteps, all_lines, pairs_cost}
+use Rattle.grep_session.proofs.lemmas.StepLemmas.{CostOfEach-sum, chosen_all, takes_touched}
 use Rattle.grep_core.proofs.lemmas.MatcherLemmas.{AllZip-append}
 
 -- the first elements of two lists joined, and the others
@@ -46,7 +46,7 @@ module _ (s : Inside) (list : Text) (old : IsSession s) (first : ℕ) (at : firs
 
   -- what is known of all matchers after `more` were added, those of the list
   pub record AreAdded (more all : List Matcher) : Type 0 where
-    pub changed : HasChanged (Added first) (map matched_expression all) (map matched_expression s.matchers.items) (map matched_expression more)
+    pub changed : HasChanged (Added first) (map matched_expression all) (map matched_expression s.matchers.items) (map matched_expression more) s.options
     pub are_matchers : AreMatchers s.syntax s.options ((inputs_of s).patterns ++ list_of list) all
     pub are_new : AreMatchers s.syntax s.options (list_of list) more
     pub as_many : length (map matched_expression more) ≡ length (list_of list)
@@ -89,4 +89,4 @@ module _ (list : Text) (old : Inputs) (few : most_patterns < length old.patterns
       let spent = s.at_most in
       let sum = CostOfEach-sum (Added first) changed es old.options (all_lines old) spent.0 spent.1 spent.2 in
       takes_touched (AddPatterns list) old (with_patterns (old.patterns ++ list_of list) old) es (record { patterns = length (list_of list); paired = all_lines old; lines = sum.0 }) spent.0 spent.1 sum.1 begun ended (inr (few, inl (readable, refl))) (changed, new, sum.0, sum.2, refl) meant sum.3
-      (sum.4 ∙ ap (λ n. pairs_cost n (all_lines old) + sum.1) many) spent.3
+      (sum.6 ∙ ap (λ ls. pairs_cost (length changed) ls + sum.1) (chosen_all (IsSought (Added first) changed old.options) (all_lines old) sum.4 (λ line. tt) sum.5) ∙ ap (λ n. pairs_cost n (all_lines old) + sum.1) many) spent.3

@@ -27,10 +27,10 @@ added_marks items change first size n old new (Ok marks) is counted grows marked
     marked k high ∙ ap (λ m. is_paired k (drop m new)) counted ∙ grown k old more.0 new more.1 ∙ ap (λ (c : Change). has_new_parts c (numbers_at k old) (numbers_at k new)) (sym is)
 
 -- the marks of the lines that a pattern matched, or the new one in its place does
-pub replaced_marks : (change : Change) (p size : ℕ) (old new : List (ℕ × ℕ)) (marks both : List Bool) → change ≡ Replaced p → ((k : ℕ) → k < size → get_or marks k false ≡ list_any (λ n. nat_eq n p) (numbers_at k old))
+pub replaced_marks : (change : Change) (p : ℕ) (narrower : Bool) (size : ℕ) (old new : List (ℕ × ℕ)) (marks both : List Bool) → change ≡ Replaced p narrower → ((k : ℕ) → k < size → get_or marks k false ≡ list_any (λ n. nat_eq n p) (numbers_at k old))
     → ((k : ℕ) → get_or both k false ≡ (get_or marks k false || list_any (λ n. nat_eq n p) (numbers_at k new)))
     → (k : ℕ) → k < size → get_or both k false ≡ has_new_parts change (numbers_at k old) (numbers_at k new)
-replaced_marks change p size old new marks both is marked more k high =
+replaced_marks change p narrower size old new marks both is marked more k high =
     more k ∙ ap (λ b. b || list_any (λ n. nat_eq n p) (numbers_at k new)) (marked k high) ∙ ap (λ (c : Change). has_new_parts c (numbers_at k old) (numbers_at k new)) (sym is)
 
 -- ---- one line

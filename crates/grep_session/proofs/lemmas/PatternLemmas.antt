@@ -15,7 +15,7 @@ AllZip-at P (x ∷ xs) (y ∷ ys) zero d e h l = h.0
 AllZip-at P (x ∷ xs) (y ∷ ys) (suc k) d e h l = AllZip-at P xs ys k d e h.1 (let less : k < length xs = omega (arith, l) in less)
 
 -- the elements with an equivalent property
-Chosen-as : {A : Type 0} (P Q : A → Type 0) → ((x : A) → P x → Q x) → ((x : A) → Q x → P x) → (xs ys : List A) → Chosen P xs ys → Chosen Q xs ys
+pub Chosen-as : {A : Type 0} (P Q : A → Type 0) → ((x : A) → P x → Q x) → ((x : A) → Q x → P x) → (xs ys : List A) → Chosen P xs ys → Chosen Q xs ys
 Chosen-as P Q there back [] ys c = c
 Chosen-as {A} P Q there back (x ∷ xs) ys c =
     let one : IfHolds (Q x) (c.0 ≡ x ∷ []) (c.0 ≡ []) = elim c.2 [ inl h ↦ inl (there x h.0, h.1) | inr h ↦ inr ((λ q. h.0 (back x q)), h.1) ] in
@@ -26,13 +26,13 @@ module _ (s : Inside) (p : ℕ) (old : IsSession s) (inside : p < length (inputs
   pub has_matcher : p < length s.matchers.items
   has_matcher = let counted : length s.matchers.items ≡ length (inputs_of s).patterns = old.matchers.counted in omega (arith, inside, counted)
 
-  pub has_dropped : (gone : Matcher) (left : List Matcher) → gone ≡ get_or s.matchers.items p gone → left ≡ remove s.matchers.items p → HasChanged (Dropped p) (map matched_expression left) (map matched_expression s.matchers.items) (matched_expression gone ∷ [])
+  pub has_dropped : (gone : Matcher) (left : List Matcher) → gone ≡ get_or s.matchers.items p gone → left ≡ remove s.matchers.items p → HasChanged (Dropped p) (map matched_expression left) (map matched_expression s.matchers.items) (matched_expression gone ∷ []) s.options
   has_dropped gone left at rest =
       let among : p < length (map matched_expression s.matchers.items) = omega (arith, has_matcher, length-map s.matchers.items matched_expression) in
       (matched_expression gone, among, ap matched_expression at ∙ sym (get_or-map matched_expression s.matchers.items p gone (matched_expression gone) has_matcher), map-remove matched_expression s.matchers.items left p rest, refl)
 
 -- the parts of the lines that the removed pattern matched were searched
-pub takes_drop : (p : ℕ) (old : Inputs) (es before : List Expression) (e : Expression) (begun ended : Steps) → p < length old.patterns → AreMeant old.syntax old.options old.patterns before → HasChanged (Dropped p) es before (e ∷ [])
+pub takes_drop : (p : ℕ) (old : Inputs) (es before : List Expression) (e : Expression) (begun ended : Steps) → p < length old.patterns → AreMeant old.syntax old.options old.patterns before → HasChanged (Dropped p) es before (e ∷ []) old.options
     → SearchesEach (ChangeCost (Dropped p) (e ∷ []) es old.options) (all_lines old) begun ended → TakesSteps (DropPattern p) old begun ended
 takes_drop p old es before e begun ended within meant h s =
     let same : e ≡ h.0 = ap (λ (l : List Expression). get_or l 0 e) h.4 in
@@ -42,7 +42,7 @@ takes_drop p old es before e begun ended within meant h s =
     let one = AllZip-at (λ text e. IsMeant old.syntax old.options.ignore_case text e) old.patterns before p [] e meant within in
     let chosen = Chosen-as (Matched (e ∷ []) old.options) (λ line. Matches e line old.options.line_regexp) (λ line m. Any-single (λ e. Matches e line old.options.line_regexp) e m) (λ line m. Any-first (λ e. Matches e line old.options.line_regexp) e [] m) (all_lines old) sum.0 sum.2 in
     takes_touched (DropPattern p) old (with_patterns (remove old.patterns p) old) es (parts_alone sum.0) spent.0 spent.1 sum.1 begun ended (inl (within, refl)) (e, subst (IsMeant old.syntax old.options.ignore_case (get_or old.patterns p [])) (sym is) one, sum.0, chosen, refl)
-    (subst (AreMeant old.syntax old.options (remove old.patterns p)) (sym h.3) (AllZip-remove (λ text e. IsMeant old.syntax old.options.ignore_case text e) old.patterns before p meant)) sum.3 (sum.4 ∙ ap (λ n. n + sum.1) (pairs_cost-none (all_lines old))) spent.3
+    (subst (AreMeant old.syntax old.options (remove old.patterns p)) (sym h.3) (AllZip-remove (λ text e. IsMeant old.syntax old.options.ignore_case text e) old.patterns before p meant)) sum.3 (sum.6 ∙ ap (λ n. n + sum.1) (pairs_cost-none sum.4)) spent.3
 
 -- an element that was removed is put back
 insert_first : {X : Type 0} (xs : List X) (y : X) → insert xs 0 y ≡ y ∷ xs

@@ -1,19 +1,36 @@
 -- Another pattern is put in the place of one: the matchers after that, and the steps that it takes.
-use Rattle.grep_session.proofs.Prelude.{◌≡◌, ℕ, zero, suc, ◌+◌, ◌<◌, ◌≤◌, List, [], ◌∷◌, Ok, Err, All, All-cons, All-head, All-nil, All-set, inl, inr, length, map, get_or, refl, sym, ap, subst, ◌∙◌, arith, set, map-set, length-map, slice_set, Text, Expression, IsMeant, Matcher, IsReadable, AllAnswer, matched_expression, room_of, wants_whole, Steps, Inputs, AreMeant, Replaced, EditFault, ChangeCost, HasChanged, SearchesEach, SameMatchers, IsSession, inputs_of, Inside, Applies, ChangePattern, EditGives, NeedsNoMemory, with_patterns, AreMatchers, RefusesFirst, TakesSteps, KeepAtMost, all_lines}
+use Rattle.grep_session.proofs.Prelude.{Bool, true, false, false≢true, MatchBool, Matches, Matched, Chosen, IfHolds, IsSought, IsNarrower, Narrows, ◌≡◌, ℕ, zero, suc, ◌<◌, ◌≤◌, List, [], ◌∷◌, Ok, Err, All, All-cons, All-head, All-nil, All-set, inl, inr, length, map, get_or, refl, sym, ap, subst, ◌∙◌, arith, set, map-set, length-map, slice_set, Text, Expression, IsMeant, Matcher, IsReadable, AllAnswer, matched_expression, room_of, wants_whole, Steps, Inputs, AreMeant, Replaced, EditFault, ChangeCost, HasChanged, SearchesEach, SameMatchers, IsSession, inputs_of, Inside, Applies, ChangePattern, EditGives, NeedsNoMemory, with_patterns, AreMatchers, RefusesFirst, TakesSteps, KeepAtMost, all_lines}
 use Rattle.std.proofs.lemmas.List.{get_or-map, length-set, set-get_or}
-use Rattle.grep_session.proofs.lemmas.StepLemmas.{CostOfEach-sum, takes_touched}
+use Rattle.re_syntax.proofs.lemmas.Decisions.{Any-first}
+use Rattle.re_syntax.proofs.lemmas.SomeOfJoined.{Any-single}
+use Rattle.grep_session.proofs.lemmas.StepLemmas.{CostOfEach-sum, chosen_all, takes_touched}
 use Rattle.grep_session.proofs.lemmas.FitLemmas.{zip-at, zip-set}
-use Rattle.grep_session.proofs.lemmas.PatternLemmas.{has_matcher}
+use Rattle.grep_session.proofs.lemmas.PatternLemmas.{Chosen-as, has_matcher}
+use Rattle.grep_session.proofs.lemmas.NarrowingLemmas.{narrower_string}
 
 module _ (s : Inside) (p : ℕ) (text : Text) (matcher : Matcher) (old : IsSession s) (inside : p < length (inputs_of s).patterns) (new : AreMatchers s.syntax s.options (text ∷ []) (matcher ∷ [])) where
+  -- whether the new text narrows
+  abbrev pub NarrowsIf : Bool → Type 0
+  NarrowsIf narrower = MatchBool narrower (Narrows s.syntax s.options (get_or (inputs_of s).patterns p []) text) (Narrows s.syntax s.options (get_or (inputs_of s).patterns p []) text → ⊥)
+
   was_at : (gone : Matcher) → gone ≡ get_or s.matchers.items p gone → get_or (map matched_expression s.matchers.items) p (matched_expression gone) ≡ matched_expression gone
   was_at gone at = get_or-map matched_expression s.matchers.items p gone (matched_expression gone) (has_matcher s p old inside) ∙ ap matched_expression (sym at)
 
-  pub has_put : (gone : Matcher) (all : List Matcher) → gone ≡ get_or s.matchers.items p gone → all ≡ slice_set s.matchers.items p matcher
-      → HasChanged (Replaced p) (map matched_expression all) (map matched_expression s.matchers.items) (matched_expression gone ∷ matched_expression matcher ∷ [])
-  has_put gone all at put =
+  -- the expression that the replaced one was read as
+  was_meant : (gone : Matcher) → gone ≡ get_or s.matchers.items p gone → IsMeant s.syntax s.options.ignore_case (get_or (inputs_of s).patterns p []) (matched_expression gone)
+  was_meant gone at =
+      subst (IsMeant s.syntax s.options.ignore_case (get_or (inputs_of s).patterns p [])) (was_at gone at) (zip-at (λ text e. IsMeant s.syntax s.options.ignore_case text e) (inputs_of s).patterns (map matched_expression s.matchers.items) p [] (matched_expression gone) inside old.matchers.meant)
+
+  -- a narrower text has a narrower expression
+  is_narrow : (narrower : Bool) (gone : Matcher) → gone ≡ get_or s.matchers.items p gone → NarrowsIf narrower → narrower ≡ true → IsNarrower (matched_expression matcher) (matched_expression gone) s.options
+  is_narrow true gone at narrows on = narrower_string s.syntax s.options (get_or (inputs_of s).patterns p []) text (matched_expression gone) (matched_expression matcher) narrows (was_meant gone at) new.meant.0
+  is_narrow false gone at narrows on = absurd (false≢true on)
+
+  pub has_put : (narrower : Bool) (gone : Matcher) (all : List Matcher) → gone ≡ get_or s.matchers.items p gone → all ≡ slice_set s.matchers.items p matcher → NarrowsIf narrower
+      → HasChanged (Replaced p narrower) (map matched_expression all) (map matched_expression s.matchers.items) (matched_expression gone ∷ matched_expression matcher ∷ []) s.options
+  has_put narrower gone all at put narrows =
       let among : p < length (map matched_expression s.matchers.items) = omega (arith, has_matcher s p old inside, length-map s.matchers.items matched_expression) in
-      (matched_expression gone, matched_expression matcher, among, sym (was_at gone at), ap (map matched_expression) put ∙ map-set matched_expression s.matchers.items p matcher, refl)
+      (matched_expression gone, matched_expression matcher, among, sym (was_at gone at), ap (map matched_expression) put ∙ map-set matched_expression s.matchers.items p matcher, refl, is_narrow narrower gone at narrows)
 
   -- the matchers are those of the patterns
   pub are_put : (all : List Matcher) → all ≡ slice_set s.matchers.items p matcher → AreMatchers s.syntax s.options (slice_set (inputs_of s).patterns p text) all
@@ -37,18 +54,27 @@ module _ (s : Inside) (p : ℕ) (text : Text) (matcher : Matcher) (old : IsSessi
       subst (All (λ room. room ≤ s.states)) (sym (ap (map room_of) put ∙ map-set room_of s.matchers.items p matcher))
       (All-set (λ room. room ≤ s.states) (map room_of s.matchers.items) p (room_of matcher) (All-head (λ room. room ≤ s.states) (room_of matcher) [] few) old.rooms)
 
-  -- all lines were searched by the new pattern, and those that it or the old one matches for parts
-  pub takes_put : (gone : Matcher) (all : List Matcher) (begun ended : Steps) → gone ≡ get_or s.matchers.items p gone → all ≡ slice_set s.matchers.items p matcher → (text ≡ get_or (inputs_of s).patterns p [] → ⊥)
-      → SearchesEach (ChangeCost (Replaced p) (matched_expression gone ∷ matched_expression matcher ∷ []) (map matched_expression all) s.options) (all_lines (inputs_of s)) begun ended → TakesSteps (ChangePattern p text) (inputs_of s) begun ended
-  takes_put gone all begun ended at put other searched =
+  -- the lines that were searched by the new pattern
+  put_paired : (narrower : Bool) (gone : Matcher) (lines paired : List Text) → NarrowsIf narrower → Chosen (IsSought (Replaced p narrower) (matched_expression gone ∷ matched_expression matcher ∷ []) s.options) lines paired
+      → IfHolds (Narrows s.syntax s.options (get_or (inputs_of s).patterns p []) text) (Chosen (λ line. Matches (matched_expression gone) line s.options.line_regexp) lines paired) (paired ≡ lines)
+  put_paired true gone lines paired narrows chosen =
+      let Matched_by : Text → Expression → Type 0 = λ line e. Matches e line s.options.line_regexp in
+      let e = matched_expression gone in
+      inl (narrows, Chosen-as (λ line. Matched (e ∷ []) s.options line) (λ line. Matches e line s.options.line_regexp) (λ line m. Any-single (Matched_by line) e m) (λ line m. Any-first (Matched_by line) e [] m) lines paired chosen)
+  put_paired false gone lines paired narrows chosen = inr (narrows, chosen_all (IsSought (Replaced p false) (matched_expression gone ∷ matched_expression matcher ∷ []) s.options) lines paired (λ line. tt) chosen)
+
+  -- these lines were searched by the new pattern, and those that it or the old one matches for parts
+  pub takes_put : (narrower : Bool) (gone : Matcher) (all : List Matcher) (begun ended : Steps) → NarrowsIf narrower → gone ≡ get_or s.matchers.items p gone → all ≡ slice_set s.matchers.items p matcher → (text ≡ get_or (inputs_of s).patterns p [] → ⊥)
+      → SearchesEach (ChangeCost (Replaced p narrower) (matched_expression gone ∷ matched_expression matcher ∷ []) (map matched_expression all) s.options) (all_lines (inputs_of s)) begun ended → TakesSteps (ChangePattern p text) (inputs_of s) begun ended
+  takes_put narrower gone all begun ended narrows at put other searched =
       let inputs = inputs_of s in
       let changed = matched_expression gone ∷ matched_expression matcher ∷ [] in
       let es = map matched_expression all in
       let spent = searched.at_most in
-      let sum = CostOfEach-sum (Replaced p) changed es s.options (all_lines inputs) spent.0 spent.1 spent.2 in
-      let was = subst (IsMeant s.syntax s.options.ignore_case (get_or inputs.patterns p [])) (was_at gone at) (zip-at (λ text e. IsMeant s.syntax s.options.ignore_case text e) inputs.patterns (map matched_expression s.matchers.items) p [] (matched_expression gone) inside old.matchers.meant) in
-      takes_touched (ChangePattern p text) inputs (with_patterns (slice_set inputs.patterns p text) inputs) es (record { patterns = 1; paired = all_lines inputs; lines = sum.0 }) spent.0 spent.1 sum.1 begun ended (inl (inside, inl (new.readable, refl))) (inr (other, (changed, (was, new.meant), sum.0, sum.2, refl)))
-      (are_put all put).meant sum.3 sum.4 spent.3
+      let sum = CostOfEach-sum (Replaced p narrower) changed es s.options (all_lines inputs) spent.0 spent.1 spent.2 in
+      let paired = put_paired narrower gone (all_lines inputs) sum.4 narrows sum.5 in
+      takes_touched (ChangePattern p text) inputs (with_patterns (slice_set inputs.patterns p text) inputs) es (record { patterns = 1; paired = sum.4; lines = sum.0 }) spent.0 spent.1 sum.1 begun ended (inl (inside, inl (new.readable, refl)))
+      (inr (other, (matched_expression gone, was_meant gone at, matched_expression matcher, new.meant.0, sum.4, paired, sum.0, sum.2, refl))) (are_put all put).meant sum.3 sum.6 spent.3
 
 -- ---- the old one is put back
 

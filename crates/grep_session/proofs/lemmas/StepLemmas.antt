@@ -1,5 +1,6 @@
 -- The cost of lines, and the steps that a search of them takes.
-use Rattle.grep_session.proofs.Prelude.{◌≡◌, ℕ, ◌+◌, List, [], ◌∷◌, ◌++◌, inl, inr, length, map, Ok, refl, sym, ap, subst, ◌∙◌, append_assoc, arith, length-map, Text, Expression, Matcher, matched_expression, Steps, Adds, Options, Chosen, search_cost, Inputs, AreMeant, AreMatchers, Change, Rebuild, PartsOnly, Added, Dropped, Replaced, Edit, Applies, PartsCost, PartsCostOf, Matched, TakesSteps, Touched, Touches, pairs_cost, parts_alone, searched_by, ChangeCost, CostAnew, CostOfEach, HasNewParts, NewPartsCost, SearchesEach, SearchesOne, searched_for}
+use Rattle.grep_session.proofs.Prelude.{◌≡◌, ℕ, ◌+◌, Bool, true, false, MatchBool, take, List, [], ◌∷◌, ◌++◌, inl, inr, length, map, Ok, refl, sym, ap, subst, ◌∙◌, append_assoc, arith, length-map, Text, Expression, Matcher, matched_expression, Steps, Adds, Options, Chosen, search_cost, Inputs, AreMeant, AreMatchers, Change, Rebuild, PartsOnly, Added, Dropped, Replaced, Edit, Applies, PartsCost, PartsCostOf, Matched, TakesSteps, Touched, Touches, pairs_cost, parts_alone, searched_by, ChangeCost, CostAnew, CostOfEach, CostWhere, IsSought, SearchCost, is_narrower, HasNewParts, NewPartsCost, SearchesEach, SearchesOne, searched_for}
+use Rattle.std.specs.Bool.{⊤}
 use Rattle.re_meter.proofs.lemmas.Adding.{adds_none, all_both}
 use Rattle.grep_core.proofs.lemmas.CostLaws.{cost_within}
 use Rattle.grep_core.proofs.lemmas.Decided.{dec_matched}
@@ -13,7 +14,7 @@ dec_new_parts Rebuild changed options line = yes tt
 dec_new_parts PartsOnly changed options line = yes tt
 dec_new_parts (Added first) changed options line = dec_matched changed options line
 dec_new_parts (Dropped p) changed options line = dec_matched changed options line
-dec_new_parts (Replaced p) changed options line = dec_matched changed options line
+dec_new_parts (Replaced p narrower) changed options line = dec_matched changed options line
 
 -- a line's parts have a cost if no allocation fails
 parts_cost_exists : (es : List Expression) (options : Options) (line : Text) → (cost : ℕ) × PartsCostOf es options line 0 cost
@@ -31,9 +32,28 @@ NewPartsCost-exists change changed es options line = by_verdict (dec_new_parts c
     by_verdict (yes m) = let own = parts_cost_exists es options line in (own.0, inl (m, own.1))
     by_verdict (no m) = (0, inr (m, (refl, refl)))
 
+-- whether a line is searched is decided
+dec_sought : (change : Change) (changed : List Expression) (options : Options) (line : Text) → Dec (IsSought change changed options line)
+dec_sought change changed options line = by_flag (is_narrower change)
+  where
+    by_flag : (narrower : Bool) → Dec (MatchBool narrower (Matched (take 1 changed) options line) ⊤)
+    by_flag true = dec_matched (take 1 changed) options line
+    by_flag false = yes tt
+
+-- so its search has a cost
+SearchCost-exists : (change : Change) (changed : List Expression) (options : Options) (line : Text) → (cost : ℕ) × SearchCost change changed options line 0 cost
+SearchCost-exists change changed options line = by_verdict (dec_sought change changed options line)
+  where
+    by_verdict : Dec (IsSought change changed options line) → (cost : ℕ) × SearchCost change changed options line 0 cost
+    by_verdict (yes m) = (search_cost (searched_for change changed) line, (refl, inl (m, refl)))
+    by_verdict (no m) = (0, (refl, inr (m, refl)))
+
 -- so has a line
 pub ChangeCost-exists : (change : Change) (changed es : List Expression) (options : Options) (line : Text) → (cost : ℕ) × ChangeCost change changed es options line 0 cost
-ChangeCost-exists change changed es options line = let own = NewPartsCost-exists change changed es options line in (search_cost (searched_for change changed) line + own.0, (own.0, own.1, refl))
+ChangeCost-exists change changed es options line =
+    let own = NewPartsCost-exists change changed es options line in
+    let search = SearchCost-exists change changed options line in
+    (search.0 + own.0, (own.0, own.1, search.0, search.1, refl))
 
 -- ---- lines
 
@@ -85,30 +105,38 @@ module _ (C : Text → ℕ → ℕ → Type 0) where
     each_next lines line more all begun mid ended both a b =
         each_front (lines ++ line ∷ []) more all begun ended (append_assoc lines (line ∷ []) more ∙ both) (each_one lines line (lines ++ line ∷ []) begun mid ended refl a b)
 
+-- one line more, which is searched or not
+sought_sum : (P : Text → Type 0) (many : ℕ) (line : Text) (lines paired : List Text) (cost : ℕ) → CostWhere P many line 0 cost → Chosen P lines paired → (all : List Text) × Chosen P (line ∷ lines) all × (cost + pairs_cost many paired ≡ pairs_cost many all)
+sought_sum P many line lines paired cost c chosen = elim c.1 [
+  | inl m ↦ (line ∷ paired, (line ∷ [], paired, inl (m.0, refl), chosen, refl), ap (λ n. n + pairs_cost many paired) m.1)
+  | inr m ↦ (paired, ([], paired, inr (m.0, refl), chosen, refl), omega (arith, m.1))
+]
+
 -- the cost of lines, in the form of the cost of an edit
 pub CostOfEach-sum : (change : Change) (changed es : List Expression) (options : Options) (lines : List Text) (refusals cost : ℕ) → CostOfEach (ChangeCost change changed es options) lines refusals cost
-    → (chosen : List Text) × (parts : ℕ) × Chosen (HasNewParts change changed options) lines chosen × PartsCost es options chosen refusals parts × (cost ≡ pairs_cost (searched_for change changed) lines + parts)
-CostOfEach-sum change changed es options [] refusals cost c = ([], 0, refl, (c.0, refl), omega (arith, c.1))
+    → (chosen : List Text) × (parts : ℕ) × Chosen (HasNewParts change changed options) lines chosen × PartsCost es options chosen refusals parts × (paired : List Text) × Chosen (IsSought change changed options) lines paired × (cost ≡ pairs_cost (searched_for change changed) paired + parts)
+CostOfEach-sum change changed es options [] refusals cost c = ([], 0, refl, (c.0, refl), [], refl, omega (arith, c.1))
 CostOfEach-sum change changed es options (line ∷ lines) refusals cost c =
     let rest = CostOfEach-sum change changed es options lines c.1 c.3 c.5 in
     let own = c.4 in
+    let pairs = sought_sum (IsSought change changed options) (searched_for change changed) line lines rest.4 own.2 own.3 rest.5 in
     elim own.1 [
-      | inl m ↦ (line ∷ rest.0, own.0 + rest.1, (line ∷ [], rest.0, inl (m.0, refl), rest.2, refl), (c.0, c.1, own.0, rest.1, m.1, rest.3, c.6, refl), omega (arith, c.7, own.2, rest.4))
+      | inl m ↦ (line ∷ rest.0, own.0 + rest.1, (line ∷ [], rest.0, inl (m.0, refl), rest.2, refl), (c.0, c.1, own.0, rest.1, m.1, rest.3, c.6, refl), pairs.0, pairs.1, omega (arith, c.7, own.4, rest.6, pairs.2))
       | inr m ↦ (
           let others : c.1 ≡ refusals = omega (arith, c.6, m.1.0) in
-          (rest.0, rest.1, ([], rest.0, inr (m.0, refl), rest.2, refl), subst (λ n. PartsCost es options rest.0 n rest.1) others rest.3, omega (arith, c.7, own.2, rest.4, m.1.1)))
+          (rest.0, rest.1, ([], rest.0, inr (m.0, refl), rest.2, refl), subst (λ n. PartsCost es options rest.0 n rest.1) others rest.3, pairs.0, pairs.1, omega (arith, c.7, own.4, rest.6, pairs.2, m.1.1)))
     ]
 
 -- the same where the parts of all lines are searched
-chosen_all : {A : Type 0} (P : A → Type 0) (xs ys : List A) → ((x : A) → P x) → Chosen P xs ys → ys ≡ xs
+pub chosen_all : {A : Type 0} (P : A → Type 0) (xs ys : List A) → ((x : A) → P x) → Chosen P xs ys → ys ≡ xs
 chosen_all P [] ys always c = c
 chosen_all P (x ∷ xs) ys always c = elim c.2 [ inl h ↦ c.4 ∙ (λ i. h.1 i ++ chosen_all P xs c.1 always c.3 i) | inr h ↦ absurd (h.0 (always x)) ]
 
-whole_sum : (change : Change) (changed es : List Expression) (options : Options) (lines : List Text) (refusals cost : ℕ) → ((line : Text) → HasNewParts change changed options line) → CostOfEach (ChangeCost change changed es options) lines refusals cost
+whole_sum : (change : Change) (changed es : List Expression) (options : Options) (lines : List Text) (refusals cost : ℕ) → ((line : Text) → HasNewParts change changed options line) → ((line : Text) → IsSought change changed options line) → CostOfEach (ChangeCost change changed es options) lines refusals cost
     → (parts : ℕ) × PartsCost es options lines refusals parts × (cost ≡ pairs_cost (searched_for change changed) lines + parts)
-whole_sum change changed es options lines refusals cost always c =
+whole_sum change changed es options lines refusals cost always searched c =
     let sum = CostOfEach-sum change changed es options lines refusals cost c in
-    (sum.1, subst (λ ls. PartsCost es options ls refusals sum.1) (chosen_all (HasNewParts change changed options) lines sum.0 always sum.2) sum.3, sum.4)
+    (sum.1, subst (λ ls. PartsCost es options ls refusals sum.1) (chosen_all (HasNewParts change changed options) lines sum.0 always sum.2) sum.3, sum.6 ∙ ap (λ ls. pairs_cost (searched_for change changed) ls + sum.1) (chosen_all (IsSought change changed options) lines sum.4 searched sum.5))
 
 -- ---- an edit
 
@@ -132,7 +160,7 @@ pub takes_lines : (edit : Edit) (old new : Inputs) (matchers : List Matcher) (li
 takes_lines edit old new matchers lines begun ended applies touches made same s =
     let es = map matched_expression matchers in
     let spent = s.at_most in
-    let sum = whole_sum Rebuild es es new.options lines spent.0 spent.1 (λ line. tt) spent.2 in
+    let sum = whole_sum Rebuild es es new.options lines spent.0 spent.1 (λ line. tt) (λ line. tt) spent.2 in
     let many : length es ≡ length old.patterns = length-map matchers matched_expression ∙ made.counted ∙ ap length same in
     takes_touched edit old new es (searched_by (length old.patterns) lines) spent.0 spent.1 sum.0 begun ended applies touches made.meant sum.1 (sum.2 ∙ ap (λ n. pairs_cost n lines + sum.0) many) spent.3
 
@@ -146,5 +174,5 @@ pub takes_parts : (edit : Edit) (old new : Inputs) (changed es : List Expression
     → TakesSteps edit old begun ended
 takes_parts edit old new changed es lines begun ended applies touches meant s =
     let spent = s.at_most in
-    let sum = whole_sum PartsOnly changed es new.options lines spent.0 spent.1 (λ line. tt) spent.2 in
+    let sum = whole_sum PartsOnly changed es new.options lines spent.0 spent.1 (λ line. tt) (λ line. tt) spent.2 in
     takes_touched edit old new es (parts_alone lines) spent.0 spent.1 sum.0 begun ended applies touches meant sum.1 (sum.2 ∙ ap (λ n. n + sum.0) (pairs_cost-none lines)) spent.3

@@ -1,9 +1,10 @@
 -- What becomes of what is kept when patterns change, and how many steps that takes.
-use Rattle.std.specs.Prelude.{◌≡◌, ℕ, ◌+◌, ◌<◌, ◌≤◌, ⊤, List, [], ◌∷◌, length, take, drop, get_or}
-use Rattle.std.specs.Prelude.{All, IfSome, slice_set}
+use Rattle.std.specs.Prelude.{◌≡◌, ℕ, ◌+◌, ◌<◌, ◌≤◌, ⊤, Bool, false, List, [], ◌∷◌, length, take}
+use Rattle.std.specs.Prelude.{All, IfSome, IsTrue, MatchBool, drop, get_or, slice_set}
 use Rattle.std.specs.List.{remove}
 use Rattle.re_syntax.specs.Bytes.{Text}
 use Rattle.re_syntax.specs.Expression.{Expression}
+use Rattle.re_syntax.specs.Holds.{Matches}
 use Rattle.grep_core.specs.Meters.{Steps, Adds}
 use Rattle.grep_core.specs.declared.options.Options.{Options}
 use Rattle.grep_core.specs.Choose.{IfHolds}
@@ -17,18 +18,25 @@ use Rattle.line_chunks.specs.Working.Chunks.{KeptLine}
 use Rattle.grep_session.specs.Touched.{PartsCostOf}
 use Rattle.grep_session.specs.Working.Kept.{AreMatching, IsKept, kept_lines}
 
+-- the first expression matches no line that the second does not match
+abbrev pub IsNarrower : Expression → Expression → Options → Type 0
+IsNarrower come gone options =
+    (line : Text) → Matches come line options.line_regexp → Matches gone line options.line_regexp
+
 -- the expressions after a change, those before it, and those that went or are new
-abbrev pub HasChanged : Change → List Expression → List Expression → List Expression → Type 0
-HasChanged Rebuild es before changed = changed ≡ es
-HasChanged PartsOnly es before changed = before ≡ es
-HasChanged (Added first) es before changed = (before ≡ take first es) × (changed ≡ drop first es)
-HasChanged (Dropped p) es before changed =
+abbrev pub HasChanged : Change → List Expression → List Expression → List Expression → Options →
+    Type 0
+HasChanged Rebuild es before changed options = changed ≡ es
+HasChanged PartsOnly es before changed options = before ≡ es
+HasChanged (Added first) es before changed options =
+    (before ≡ take first es) × (changed ≡ drop first es)
+HasChanged (Dropped p) es before changed options =
     (e : Expression) × (p < length before) × (e ≡ get_or before p e) × (es ≡ remove before p) ×
     (changed ≡ e ∷ [])
-HasChanged (Replaced p) es before changed =
+HasChanged (Replaced p narrower) es before changed options =
     (gone : Expression) × (come : Expression) × (p < length before) ×
     (gone ≡ get_or before p gone) × (es ≡ slice_set before p come) ×
-    (changed ≡ gone ∷ come ∷ [])
+    (changed ≡ gone ∷ come ∷ []) × (IsTrue narrower → IsNarrower come gone options)
 
 -- what has to be known of a line before a change, by the expressions before it: nothing if the line
 -- is searched anew, which expressions match it if its parts are, and otherwise all that is kept
@@ -45,7 +53,7 @@ WasFileKept change before options file =
 -- the patterns that a change names are among this number of patterns
 abbrev pub IsWithin : Change → ℕ → Type 0
 IsWithin (Added first) many = first ≤ many
-IsWithin (Replaced p) many = p < many
+IsWithin (Replaced p narrower) many = p < many
 IsWithin _ many = ⊤
 
 -- the number of expressions by which each line is searched
@@ -54,13 +62,34 @@ searched_for Rebuild changed = length changed
 searched_for PartsOnly changed = 0
 searched_for (Added first) changed = length changed
 searched_for (Dropped p) changed = 0
-searched_for (Replaced p) changed = 1
+searched_for (Replaced p narrower) changed = 1
+
+-- an expression was replaced by one that is narrower
+abbrev pub is_narrower : Change → Bool
+is_narrower (Replaced p narrower) = narrower
+is_narrower _ = false
+
+-- the line is searched by the new expressions: if the one that came is narrower, where the one that
+-- went matches it
+abbrev pub IsSought : Change → List Expression → Options → Text → Type 0
+IsSought change changed options line =
+    MatchBool (is_narrower change) (Matched (take 1 changed) options line) ⊤
+
+-- the cost of the search of a line by so many expressions, if it is searched where this holds
+abbrev pub CostWhere : (Text → Type 0) → ℕ → Text → ℕ → ℕ → Type 0
+CostWhere Holds many line refusals cost =
+    (refusals ≡ 0) × IfHolds (Holds line) (cost ≡ search_cost many line) (cost ≡ 0)
+
+-- the cost of a line's search by the new expressions
+abbrev pub SearchCost : Change → List Expression → Options → Text → ℕ → ℕ → Type 0
+SearchCost change changed options line refusals cost =
+    CostWhere (IsSought change changed options) (searched_for change changed) line refusals cost
 
 -- the parts of the line are searched: if patterns went or are new, where one of them matches
 abbrev pub HasNewParts : Change → List Expression → Options → Text → Type 0
 HasNewParts (Added first) changed options line = Matched changed options line
 HasNewParts (Dropped p) changed options line = Matched changed options line
-HasNewParts (Replaced p) changed options line = Matched changed options line
+HasNewParts (Replaced p narrower) changed options line = Matched changed options line
 HasNewParts _ changed options line = ⊤
 
 -- the cost of a line's parts, where the allocation for its list of ends failed so often
@@ -75,7 +104,7 @@ abbrev pub ChangeCost : Change → List Expression → List Expression → Optio
     Type 0
 ChangeCost change changed es options line refusals cost =
     (own : ℕ) × NewPartsCost change changed es options line refusals own
-    × (cost ≡ search_cost (searched_for change changed) line + own)
+    × (search : ℕ) × SearchCost change changed options line 0 search × (cost ≡ search + own)
 
 -- the cost of a line that is searched anew
 abbrev pub CostAnew : List Expression → Options → Text → ℕ → ℕ → Type 0

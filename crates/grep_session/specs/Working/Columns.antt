@@ -1,5 +1,5 @@
 -- What is found in the lines of a chunk after a change of the patterns, and put in a column.
-use Rattle.std.specs.Prelude.{◌≡◌, ℕ, ◌<◌, ⊤, Bool, true, false, List, [], ◌++◌, All, length, drop, get_or, nat_eq, nat_lt, slice_range, ◌+◌, ◌≤◌, ◌&&◌, Option, Some, None, MatchBool, take, ◌||◌}
+use Rattle.std.specs.Prelude.{◌≡◌, ℕ, ◌<◌, ⊤, Bool, true, false, List, [], ◌++◌, All, length, drop, get_or, nat_eq, nat_lt, slice_range, ◌+◌, ◌≤◌, ◌&&◌, Option, Some, None, MatchBool, IsTrue, take, ◌||◌}
 use Rattle.std.specs.List.{AllZip, list_any, filter}
 use Rattle.std.specs.Bool.{Decides}
 use Rattle.re_syntax.specs.Bytes.{Text}
@@ -16,6 +16,7 @@ use Rattle.grep_session.specs.declared.change.Change.{Change}
 use Rattle.grep_session.specs.declared.change.Change.TheVariants.{Rebuild, Added, Dropped, Replaced}
 use Rattle.grep_session.specs.Touched.{PartsSearchCost}
 use Rattle.grep_session.specs.Working.Changed.{HasChanged, HasNewParts, TakesAtMost, WasKept}
+use Rattle.grep_session.specs.Working.Changed.{is_narrower}
 use Rattle.grep_session.specs.Working.Found.{IsColumn}
 use Rattle.grep_session.specs.Working.Kept.{AddsMatching, ArePartsKept}
 
@@ -25,12 +26,12 @@ use Rattle.grep_session.specs.Working.Kept.{AddsMatching, ArePartsKept}
 abbrev pub first_sought : Change → ℕ → ℕ
 first_sought Rebuild many = 0
 first_sought (Added first) many = first
-first_sought (Replaced p) many = p
+first_sought (Replaced p narrower) many = p
 first_sought _ many = many
 
 -- the number after the last that is searched for
 abbrev pub past_sought : Change → ℕ → ℕ
-past_sought (Replaced p) many = p + 1
+past_sought (Replaced p narrower) many = p + 1
 past_sought _ many = many
 
 -- those that are searched for
@@ -42,12 +43,16 @@ sought change es = drop (first_sought change (length es)) (take (past_sought cha
 abbrev pub left_numbers : Change → List ℕ → List ℕ
 left_numbers Rebuild numbers = []
 left_numbers (Dropped p) numbers = without p numbers
-left_numbers (Replaced p) numbers = filter (λ n. nat_lt n p) numbers
+left_numbers (Replaced p narrower) numbers = filter (λ n. nat_lt n p) numbers
 left_numbers _ numbers = numbers
 
 abbrev pub later_numbers : Change → List ℕ → List ℕ
-later_numbers (Replaced p) numbers = filter (λ n. nat_lt p n) numbers
+later_numbers (Replaced p narrower) numbers = filter (λ n. nat_lt p n) numbers
 later_numbers _ numbers = []
+
+-- whether this number is among them
+abbrev pub has_number : ℕ → List ℕ → Bool
+has_number p numbers = list_any (λ n. nat_eq n p) numbers
 
 -- the pairs are those of `old` that stay; where patterns are added, all do
 abbrev pub KeepsAll : Change → List (ℕ × ℕ) → List (ℕ × ℕ) → Type 0
@@ -76,13 +81,46 @@ pub record AddsLater (change : Change) (size : ℕ) (old mid new : List (ℕ × 
   pub within : AreBelow size more
   pub numbers : (k : ℕ) → numbers_at k more ≡ later_numbers change (numbers_at k old)
 
+-- pairs of so many lines were added
+pub record AddsPairs (size : ℕ) (old new : List (ℕ × ℕ)) : Type 0 where
+  pub more : List (ℕ × ℕ)
+  pub added : new ≡ old ++ more
+  pub within : AreBelow size more
+
+-- whether an expression of these matches a line is said by the pairs of this number
+abbrev pub WereMatched : List Expression → Options → List Text → ℕ → List (ℕ × ℕ) → Type 0
+WereMatched es options texts number pairs =
+    (k : ℕ) → k < length texts →
+    Decides (has_number number (numbers_at k pairs)) (Matched es options (get_or texts k []))
+
+-- the lines that the expression matches have pairs of this number
+abbrev pub IsAmong : Expression → Bool → List Text → ℕ → List (ℕ × ℕ) → Type 0
+IsAmong e entire texts number pairs =
+    (k : ℕ) → k < length texts → Matches e (get_or texts k []) entire →
+    IsTrue (has_number number (numbers_at k pairs))
+
+-- if the expression that is searched for is narrower than the one before, it matches lines of old
+-- pairs alone
+abbrev pub IsAmongOld : Change → List Text → Bool → List Expression → List (ℕ × ℕ) → Type 0
+IsAmongOld change texts entire es old =
+    IsTrue (is_narrower change) → (e : Expression) →
+    e ≡ get_or es (first_sought change (length es)) e →
+    IsAmong e entire texts (first_sought change (length es)) old
+
+-- the pairs of the expressions that are searched for after a change were added
+pub record AddsSought (change : Change) (texts : List Text) (entire : Bool) (es : List Expression)
+    (old left mid : List (ℕ × ℕ)) : Type 0 where
+  pub pairs : AddsPairs (length texts) left mid
+  pub adds : IsAmongOld change texts entire es old →
+      AddsColumn texts entire (first_sought change (length es)) (sought change es) left mid
+
 -- the pairs that stay, and those of the expressions that are searched for after a change
 pub record AreMatches (change : Change) (texts : List Text) (entire : Bool) (es : List Expression)
     (old new : List (ℕ × ℕ)) : Type 0 where
   pub left : List (ℕ × ℕ)
   pub mid : List (ℕ × ℕ)
   pub are_left : AreLeft change (length texts) old left
-  pub adds : AddsColumn texts entire (first_sought change (length es)) (sought change es) left mid
+  pub sought : AddsSought change texts entire es old left mid
   pub later : AddsLater change (length texts) old mid new
 
 -- ---- the parts of a line
@@ -91,15 +129,15 @@ pub record AreMatches (change : Change) (texts : List Text) (entire : Bool) (es 
 -- of it and the new ones
 abbrev pub has_new_parts : Change → List ℕ → List ℕ → Bool
 has_new_parts (Added first) old new = nat_lt (length old) (length new)
-has_new_parts (Dropped p) old new = list_any (λ n. nat_eq n p) old
-has_new_parts (Replaced p) old new =
-    list_any (λ n. nat_eq n p) old || list_any (λ n. nat_eq n p) new
+has_new_parts (Dropped p) old new = has_number p old
+has_new_parts (Replaced p narrower) old new = has_number p old || has_number p new
 has_new_parts _ old new = true
 
--- patterns are added
-abbrev pub IsAdded : Change → Type 0
-IsAdded (Added first) = ⊤
-IsAdded _ = ⊥
+-- what was found stays: no pair was added, or none was there and none came
+abbrev pub StaysSame : Change → List (ℕ × ℕ) → List (ℕ × ℕ) → Type 0
+StaysSame (Added first) old new = length old ≡ length new
+StaysSame (Replaced p narrower) old new = (length old ≡ 0) × (length new ≡ 0)
+StaysSame _ old new = ⊥
 
 -- where patterns are added, the new pairs are the old ones and more
 abbrev pub Grows : Change → List (ℕ × ℕ) → List (ℕ × ℕ) → Type 0
@@ -138,7 +176,7 @@ pub record AddsColumns (change : Change) (es : List Expression) (options : Optio
   pub found : List (Option FoundIn)
   pub added : new ≡ old ++ found
   pub fit : AllZip FitsColumn chunks found
-  pub are_right : (before changed : List Expression) → HasChanged change es before changed →
+  pub are_right : (before changed : List Expression) → HasChanged change es before changed options →
       All (All (WasKept change before options)) chunks → AllZip (IsColumn es options) chunks found
 
 -- ---- the next line of a chunk that an expression matches

@@ -6,6 +6,6 @@ abbrev pub invariant-loop-i : goal.invariant-loop-i
 invariant-loop-i g l = record {
   found : AddsColumns l.fn.change (map g.M.LineMatch.expression l.fn.matchers) l.search.options (take l.i l.lines) l.fn.found.items l.found.items;
   same_matchers : SameMatchers g.M.LineMatch.expression g.M.LineMatch.whole g.M.LineMatch.room l.fn.matchers l.matchers;
-  steps : (before changed : List Expression) → HasChanged l.fn.change (map g.M.LineMatch.expression l.fn.matchers) before changed → All (WasKept l.fn.change before l.search.options) (all_of l.lines)
+  steps : (before changed : List Expression) → HasChanged l.fn.change (map g.M.LineMatch.expression l.fn.matchers) before changed l.search.options → All (WasKept l.fn.change before l.search.options) (all_of l.lines)
       → SearchesEach (ChangeCost l.fn.change changed (map g.M.LineMatch.expression l.fn.matchers) l.search.options) (map line_text (all_of (take l.i l.lines))) l.fn.meter l.meter;
 }

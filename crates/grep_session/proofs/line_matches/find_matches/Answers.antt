@@ -1,10 +1,48 @@
-use Rattle.grep_session.proofs.Prelude.{◌≡◌, ◌+◌, ◌-◌, ◌*◌, ◌<◌, ◌≤◌, length, map, take, drop, get_or, sym, ap, subst, ◌∙◌, take_all, length-take, arith, ◌∷◌, [], length-map, drop_all, terminated, AddsAtMost, line_text, AddsColumn, AddsLater, AreLeft, first_sought, past_sought}
+use Rattle.grep_session.proofs.Prelude.{true, refl, IsAmong, IsWithin, WereMatched, is_narrower, ◌≡◌, ◌+◌, ◌-◌, ◌*◌, ◌<◌, ◌≤◌, length, map, take, drop, get_or, sym, ap, subst, ◌∙◌, length-take, arith, ◌∷◌, [], length-map, drop_all, terminated, AddsAtMost, line_text, AddsColumn, AddsLater, AreLeft, first_sought, past_sought}
 use Rattle.re_search.proofs.lemmas.KeptMatchers.{none_asked, one_asked}
 use Rattle.re_search.proofs.lemmas.OneMatcherMore.{one_more, value_at, within}
 use Rattle.re_meter.proofs.lemmas.Adding.{adds_none}
 use Rattle.grep_core.proofs.lemmas.CostLaws.{adds_for_more, adds_once_more}
-use Rattle.grep_session.proofs.lemmas.ColumnLoops.{columns_none, columns_next, sought_within}
+use Rattle.grep_session.proofs.lemmas.ColumnLoops.{columns_none, columns_next, sought_within, added_sought, narrower_within}
+use Rattle.grep_session.proofs.lemmas.NarrowLoops.{narrow_sought, none_searched}
 use Rattle.grep_session.proofs.line_matches.find_matches.Goals as goal
+
+pub returns-in_err-matches-clause-narrow : goal.returns-in_err-matches-clause-narrow
+returns-in_err-matches-clause-narrow g c = λ on es were. none_searched es c.args.search.now.options (map line_text c.args.chunk.now) _ c.args.old.now were c.args.meter.now
+
+pub returns-then-is_narrower-clause-ok : goal.returns-then-is_narrower-clause-ok
+returns-then-is_narrower-clause-ok g c =
+    let expression = g.M.LineMatch.expression in
+    let whole = g.M.LineMatch.whole in
+    let old = c.args.matchers.now in
+    let change = c.args.change in
+    let texts = map line_text c.args.chunk.now in
+    let entire = c.args.search.now.options.line_regexp in
+    let left = c.in_ok-matches.matches in
+    let mid = c.narrow_column.new.matches in
+    let size : c.len-size.result ≡ length texts = c.len-size.ensures ∙ sym (length-map c.args.chunk.now line_text) in
+    let first = c.first_sought-first.result in
+    let d = c.index-matchers-first.result in
+    let e = expression (get_or old first d) in
+    let is : is_narrower change ≡ true = sym c.is_narrower.ensures ∙ c.if-is_narrower.true in
+    let h : first < length old = omega (arith, narrower_within change is (length old) c.requires.within, c.first_sought-first.ensures) in
+    let many : length old ≡ length (map expression old) = sym (length-map old expression) in
+    let asks : whole (get_or old first d) ≡ entire = sym (value_at whole old old refl first d h entire) ∙ c.requires.whole first entire (within whole old old refl first d h).1 in
+    let column = subst (λ w. IsAmong e w texts first c.args.old.now → AddsColumn texts w first (e ∷ []) left mid) asks c.in_ok-narrow_column.ensures.ok in
+    record {
+      left = left;
+      mid = mid;
+      are_left = subst (λ n. AreLeft change n c.args.old.now left) size c.in_ok-matches.ensures;
+      sought = narrow_sought change texts entire (map expression old) c.args.old.now left mid first e is (subst (IsWithin change) many c.requires.within) (c.first_sought-first.ensures ∙ ap (first_sought change) many)
+          (sym (value_at expression old old refl first d h e)) c.in_ok-narrow_column.ensures.pairs column;
+      later = subst (λ n. AddsLater change n c.args.old.now mid c.add_later.new.matches) size c.in_ok-add_later.ensures;
+    }
+
+pub returns-then-is_narrower-clause-same_matchers : goal.returns-then-is_narrower-clause-same_matchers
+returns-then-is_narrower-clause-same_matchers g c = one_asked none_asked c.first_sought-first.result c.index-matchers-first.result c.narrow_column.new.matcher c.narrow_column.ensures.same_expression c.narrow_column.ensures.same_whole c.narrow_column.ensures.same_room
+
+pub returns-then-is_narrower-clause-narrow : goal.returns-then-is_narrower-clause-narrow
+returns-then-is_narrower-clause-narrow g c = λ on es were. c.narrow_column.ensures.steps es (subst (λ n. WereMatched es c.args.search.now.options (map line_text c.args.chunk.now) n c.args.old.now) (sym c.first_sought-first.ensures) were)
 
 pub loop-number-init : goal.loop-number-init
 loop-number-init g c =
@@ -60,7 +98,7 @@ pub returns-in_err-add_column-clause-same_matchers : goal.returns-in_err-add_col
 returns-in_err-add_column-clause-same_matchers g c = one_asked c.loop-number.invariant.same_matchers c.loop-number.number c.index-matchers-number.result _ c.add_column.ensures.same_expression c.add_column.ensures.same_whole c.add_column.ensures.same_room
 
 pub returns-in_err-add_column-clause-steps : goal.returns-in_err-add_column-clause-steps
-returns-in_err-add_column-clause-steps g c =
+returns-in_err-add_column-clause-steps g c = λ plain.
     let s = c.loop-number.invariant in
     let k = c.loop-number.number in
     let first = c.first_sought-first.result in
@@ -76,30 +114,44 @@ returns-clause-ok g c =
     let texts = map line_text c.args.chunk.now in
     let entire = c.args.search.now.options.line_regexp in
     let first = c.first_sought-first.result in
+    let left = s.found.0 in
+    let mid = c.loop-number.matches in
     let many : length c.args.matchers.now ≡ length es = sym (length-map c.args.matchers.now g.M.LineMatch.expression) in
     let size : c.len-size.result ≡ length texts = c.len-size.ensures ∙ sym (length-map c.args.chunk.now line_text) in
     let begins : first ≡ first_sought c.args.change (length es) = c.first_sought-first.ensures ∙ ap (first_sought c.args.change) many in
     let reached : c.loop-number.number ≡ c.past_sought-past.result = omega (arith, s.high, c.loop-number-test.false) in
     let ends : c.loop-number.number ≡ past_sought c.args.change (length es) = reached ∙ c.past_sought-past.ensures ∙ ap (past_sought c.args.change) many in
-    let adds = subst (λ n. AddsColumn texts entire first (drop first (take n es)) s.found.0 c.loop-number.matches) ends s.found.2 in
+    let adds = subst (λ n. AddsColumn texts entire first (drop first (take n es)) left mid) ends s.found.2 in
     record {
-      left = s.found.0;
-      mid = c.loop-number.matches;
+      left = left;
+      mid = mid;
       are_left = s.found.1;
-      adds = subst (λ n. AddsColumn texts entire n (drop n (take (past_sought c.args.change (length es)) es)) s.found.0 c.loop-number.matches) begins adds;
-      later = subst (λ n. AddsLater c.args.change n c.args.old.now c.loop-number.matches c.add_later.new.matches) size c.in_ok-add_later.ensures;
+      sought = added_sought c.args.change texts entire es c.args.old.now left mid (subst (λ n. AddsColumn texts entire n (drop n (take (past_sought c.args.change (length es)) es)) left mid) begins adds);
+      later = subst (λ n. AddsLater c.args.change n c.args.old.now mid c.add_later-2.new.matches) size c.in_ok-add_later-2.ensures;
     }
 
 pub returns-clause-steps : goal.returns-clause-steps
-returns-clause-steps g c =
+returns-clause-steps g c = λ plain.
     let s = c.loop-number.invariant in
     let many = length c.args.matchers.now in
     let last : c.loop-number.number - c.first_sought-first.result ≡ past_sought c.args.change many - first_sought c.args.change many = omega (arith, s.high, c.loop-number-test.false, c.first_sought-first.ensures, c.past_sought-past.ensures) in
     subst (λ n. AddsAtMost (n * length (terminated (map line_text c.args.chunk.now))) c.args.meter.now c.loop-number.meter) last s.steps
 
-pub returns-in_err-add_later-clause-steps : goal.returns-in_err-add_later-clause-steps
-returns-in_err-add_later-clause-steps g c =
+pub returns-in_err-add_later-2-clause-steps : goal.returns-in_err-add_later-2-clause-steps
+returns-in_err-add_later-2-clause-steps g c = λ plain.
     let s = c.loop-number.invariant in
     let many = length c.args.matchers.now in
     let last : c.loop-number.number - c.first_sought-first.result ≡ past_sought c.args.change many - first_sought c.args.change many = omega (arith, s.high, c.loop-number-test.false, c.first_sought-first.ensures, c.past_sought-past.ensures) in
     subst (λ n. AddsAtMost (n * length (terminated (map line_text c.args.chunk.now))) c.args.meter.now c.loop-number.meter) last s.steps
+
+pub returns-in_err-narrow_column-clause-same_matchers : goal.returns-in_err-narrow_column-clause-same_matchers
+returns-in_err-narrow_column-clause-same_matchers g c = one_asked none_asked c.first_sought-first.result c.index-matchers-first.result c.narrow_column.new.matcher c.narrow_column.ensures.same_expression c.narrow_column.ensures.same_whole c.narrow_column.ensures.same_room
+
+pub returns-in_err-narrow_column-clause-narrow : goal.returns-in_err-narrow_column-clause-narrow
+returns-in_err-narrow_column-clause-narrow g c = λ on es were. c.narrow_column.ensures.steps es (subst (λ n. WereMatched es c.args.search.now.options (map line_text c.args.chunk.now) n c.args.old.now) (sym c.first_sought-first.ensures) were)
+
+pub returns-in_err-add_later-clause-same_matchers : goal.returns-in_err-add_later-clause-same_matchers
+returns-in_err-add_later-clause-same_matchers g c = one_asked none_asked c.first_sought-first.result c.index-matchers-first.result c.narrow_column.new.matcher c.narrow_column.ensures.same_expression c.narrow_column.ensures.same_whole c.narrow_column.ensures.same_room
+
+pub returns-in_err-add_later-clause-narrow : goal.returns-in_err-add_later-clause-narrow
+returns-in_err-add_later-clause-narrow g c = λ on es were. c.narrow_column.ensures.steps es (subst (λ n. WereMatched es c.args.search.now.options (map line_text c.args.chunk.now) n c.args.old.now) (sym c.first_sought-first.ensures) were)

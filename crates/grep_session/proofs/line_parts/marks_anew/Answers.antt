@@ -6,4 +6,4 @@ returns-in-Added-clause-marks c = added_marks (λ marks. marks.items) c.args.cha
 
 pub returns-in_ok-marks-in-Replaced-clause-marks : goal.returns-in_ok-marks-in-Replaced-clause-marks
 returns-in_ok-marks-in-Replaced-clause-marks c =
-    λ k high paired. replaced_marks c.args.change c.in-Replaced.p c.args.size c.args.old.now c.args.new.now c.in_ok-marks-in-Replaced.marks.items c.add_marks_of.new.marks.items c.in-Replaced.is c.in_ok-marks-in-Replaced.ensures.marks c.add_marks_of.ensures.marks k high
+    λ k high paired. replaced_marks c.args.change c.in-Replaced.p _ c.args.size c.args.old.now c.args.new.now c.in_ok-marks-in-Replaced.marks.items c.add_marks_of.new.marks.items c.in-Replaced.is c.in_ok-marks-in-Replaced.ensures.marks c.add_marks_of.ensures.marks k high

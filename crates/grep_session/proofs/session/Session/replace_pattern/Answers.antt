@@ -1,4 +1,4 @@
-use Rattle.grep_session.proofs.Prelude.{◌≡◌, ◌+◌, ◌≤◌, ◌<◌, Ok, length, map, inl, inr, refl, sym, ap, subst, ◌∙◌, arith, All, [], ◌∷◌, get_or, length-map, map-set, matched_expression, wants_whole, AllAnswer, AreMatchers, KeepAtMost, Inputs, Watched, most_patterns, IsFileKept, inputs_of, kept_file}
+use Rattle.grep_session.proofs.Prelude.{◌≡◌, ◌≤◌, ◌<◌, Ok, length, map, inl, inr, refl, sym, ap, subst, ◌∙◌, arith, All, [], ◌∷◌, get_or, length-map, map-set, matched_expression, AreMatchers, KeepAtMost, MatchBool, Narrows, Inputs, Watched, most_patterns, IsFileKept, inputs_of, kept_file}
 use Rattle.std.proofs.lemmas.List.{length-set}
 use Rattle.grep_core.proofs.lemmas.CostLaws.{same_length}
 use Rattle.grep_session.proofs.lemmas.EditLemmas.{AreMatchers-same, asked_session}
@@ -66,8 +66,9 @@ returns-in-Err-clause-steps c =
     let inside : p < length (inputs_of s).patterns = subst (λ (i : Inputs). p < length i.patterns) (sym (inputs_are c.self.view_is)) c.requires.within in
     let is_new = subst (λ (i : Inputs). AreMatchers i.syntax i.options (text ∷ []) (c.args.matcher ∷ [])) (sym (inputs_are c.self.view_is)) c.requires.is_new in
     let other : text ≡ get_or (inputs_of s).patterns p [] → ⊥ = λ same. c.requires.other (subst (λ (i : Inputs). text ≡ get_or i.patterns p []) (inputs_are c.self.view_is) same) in
-    let changed = has_put s p text c.args.matcher c.self.invariant inside is_new c.exchange-gone.result _ c.exchange-gone.ensures.gone c.exchange-gone.ensures.items in
-    rw (← c.self.view_is) (takes_put s p text c.args.matcher c.self.invariant inside is_new c.exchange-gone.result _ _ _ c.exchange-gone.ensures.gone c.exchange-gone.ensures.items other (c.find_columns.ensures.steps _ _ changed c.self.invariant.kept))
+    let narrows = subst (λ (i : Inputs). MatchBool c.args.narrower (Narrows i.syntax i.options (get_or i.patterns c.args.p []) c.args.text.items) (Narrows i.syntax i.options (get_or i.patterns c.args.p []) c.args.text.items → ⊥)) (sym (inputs_are c.self.view_is)) c.requires.narrower in
+    let changed = has_put s p text c.args.matcher c.self.invariant inside is_new c.args.narrower c.exchange-gone.result _ c.exchange-gone.ensures.gone c.exchange-gone.ensures.items narrows in
+    rw (← c.self.view_is) (takes_put s p text c.args.matcher c.self.invariant inside is_new c.args.narrower c.exchange-gone.result _ _ _ narrows c.exchange-gone.ensures.gone c.exchange-gone.ensures.items other (c.find_columns.ensures.steps _ _ changed c.self.invariant.kept))
 
 pub returns-clause-steps : goal.returns-clause-steps
 returns-clause-steps c =
@@ -77,8 +78,9 @@ returns-clause-steps c =
     let inside : p < length (inputs_of s).patterns = subst (λ (i : Inputs). p < length i.patterns) (sym (inputs_are c.self.view_is)) c.requires.within in
     let is_new = subst (λ (i : Inputs). AreMatchers i.syntax i.options (text ∷ []) (c.args.matcher ∷ [])) (sym (inputs_are c.self.view_is)) c.requires.is_new in
     let other : text ≡ get_or (inputs_of s).patterns p [] → ⊥ = λ same. c.requires.other (subst (λ (i : Inputs). text ≡ get_or i.patterns p []) (inputs_are c.self.view_is) same) in
-    let changed = has_put s p text c.args.matcher c.self.invariant inside is_new c.exchange-gone.result _ c.exchange-gone.ensures.gone c.exchange-gone.ensures.items in
-    rw (← c.self.view_is) (takes_put s p text c.args.matcher c.self.invariant inside is_new c.exchange-gone.result _ _ _ c.exchange-gone.ensures.gone c.exchange-gone.ensures.items other (c.find_columns.ensures.steps _ _ changed c.self.invariant.kept))
+    let narrows = subst (λ (i : Inputs). MatchBool c.args.narrower (Narrows i.syntax i.options (get_or i.patterns c.args.p []) c.args.text.items) (Narrows i.syntax i.options (get_or i.patterns c.args.p []) c.args.text.items → ⊥)) (sym (inputs_are c.self.view_is)) c.requires.narrower in
+    let changed = has_put s p text c.args.matcher c.self.invariant inside is_new c.args.narrower c.exchange-gone.result _ c.exchange-gone.ensures.gone c.exchange-gone.ensures.items narrows in
+    rw (← c.self.view_is) (takes_put s p text c.args.matcher c.self.invariant inside is_new c.args.narrower c.exchange-gone.result _ _ _ narrows c.exchange-gone.ensures.gone c.exchange-gone.ensures.items other (c.find_columns.ensures.steps _ _ changed c.self.invariant.kept))
 
 pub invariant_of-self-2 : goal.invariant_of-self-2
 invariant_of-self-2 c =
@@ -91,7 +93,8 @@ invariant_of-self-2 c =
     let is_new = subst (λ (i : Inputs). AreMatchers i.syntax i.options (text ∷ []) (c.args.matcher ∷ [])) (sym (inputs_are c.self.view_is)) c.requires.is_new in
     let few = subst (λ (w : Watched). KeepAtMost w.states (c.args.matcher ∷ [])) (sym c.self.view_is) c.requires.few in
     let put = c.exchange-gone.ensures.items in
-    let changed = has_put s p text c.args.matcher c.self.invariant inside is_new c.exchange-gone.result all c.exchange-gone.ensures.gone put in
+    let narrows = subst (λ (i : Inputs). MatchBool c.args.narrower (Narrows i.syntax i.options (get_or i.patterns c.args.p []) c.args.text.items) (Narrows i.syntax i.options (get_or i.patterns c.args.p []) c.args.text.items → ⊥)) (sym (inputs_are c.self.view_is)) c.requires.narrower in
+    let changed = has_put s p text c.args.matcher c.self.invariant inside is_new c.args.narrower c.exchange-gone.result all c.exchange-gone.ensures.gone put narrows in
     let texts = ap (map (λ text. text.items)) c.put_text.ensures ∙ map-set (λ text. text.items) s.texts.items p c.args.text in
     let made = are_put s p text c.args.matcher c.self.invariant inside is_new all put in
     let same = c.find_columns.ensures.same_matchers.same_expressions in
