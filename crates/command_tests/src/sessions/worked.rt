@@ -130,6 +130,49 @@ static ANOTHER_PATTERN: [Row; 9] = [
     (ChangePattern(1, "a"), DONE, b"a\na\n", b"", 0, 33),
 ];
 
+/// A string that has the one before in it is looked for in the lines of that alone, and another in
+/// all lines.
+static A_WORD_IS_TYPED: [Row; 8] = [
+    (AddFile("f", b"xa\nbab\nabc\nAbx\n"), DONE, b"", b"", 1, 0),
+    (SetSyntax(Fixed), DONE, b"", b"", 1, 0),
+    (AddPatterns(b"a"), DONE, b"xa\nbab\nabc\n", b"", 0, 15),
+    (ChangePattern(0, "ab"), DONE, b"bab\nabc\n", b"", 0, 11),
+    (ChangePattern(0, "abc"), DONE, b"abc\n", b"", 0, 8),
+    (ChangePattern(0, "xabcx"), DONE, b"", b"", 1, 4),
+    (ChangePattern(0, "xabcxy"), DONE, b"", b"", 1, 1),
+    (ChangePattern(0, "b"), DONE, b"bab\nabc\nAbx\n", b"", 0, 15),
+];
+
+/// So it is in both cases, inverted, and for parts. Under `-x` it may match other lines.
+static TYPED_WITH_FLAGS: [Row; 12] = [
+    (AddFile("f", b"xa\nbab\nabc\nAbx\n"), DONE, b"", b"", 1, 0),
+    (SetSyntax(Fixed), DONE, b"", b"", 1, 0),
+    (SetFlag(IgnoreCase, true), DONE, b"", b"", 1, 0),
+    (AddPatterns(b"b"), DONE, b"bab\nabc\nAbx\n", b"", 0, 15),
+    (SetFlag(InvertMatch, true), DONE, b"xa\n", b"", 0, 0),
+    (ChangePattern(0, "ab"), DONE, b"xa\n", b"", 0, 12),
+    (
+        SetFlag(InvertMatch, false),
+        DONE,
+        b"bab\nabc\nAbx\n",
+        b"",
+        0,
+        0,
+    ),
+    (
+        SetFlag(OnlyMatching, true),
+        DONE,
+        b"ab\nab\nAb\n",
+        b"",
+        0,
+        24,
+    ),
+    (ChangePattern(0, "abx"), DONE, b"Abx\n", b"", 0, 20),
+    (SetFlag(LineRegexp, true), DONE, b"Abx\n", b"", 0, 23),
+    (ChangePattern(0, "ab"), DONE, b"", b"", 1, 15),
+    (ChangePattern(0, "bab"), DONE, b"bab\n", b"", 0, 23),
+];
+
 /// Branches and repetitions of basic expressions have their parts.
 static BRANCHES: [Row; 3] = [
     (AddFile("f", b"ab\n"), DONE, b"", b"", 1, 0),
@@ -275,13 +318,15 @@ static NEWLINES: [Row; 8] = [
 ];
 
 /// The sessions.
-pub fn sessions() -> [&'static [Row]; 10] {
+pub fn sessions() -> [&'static [Row]; 12] {
     [
         &ONE_LINE_COMES,
         &ANOTHER_SYNTAX,
         &MEANINGS,
         &TOUCHED,
         &ANOTHER_PATTERN,
+        &A_WORD_IS_TYPED,
+        &TYPED_WITH_FLAGS,
         &BRANCHES,
         &PARTS,
         &LINEAR,
