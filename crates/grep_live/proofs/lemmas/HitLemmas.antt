@@ -1,5 +1,5 @@
 -- Lists of hits by their places: cut, moved and joined, and the hits of lines.
-use Rattle.grep_live.proofs.Prelude.{◌≡◌, ℕ, zero, suc, ◌+◌, ◌-◌, ◌<◌, ◌≤◌, true, false, cond, List, [], ◌∷◌, ◌++◌, length, map, get_or, ◌⊎◌, refl, sym, ap, subst, ◌∙◌, inl, inr, arith, cases_lt, lt-ltb, le-ltb, le-leb, nat_tests, append-nil, filter-append, nat_lt, nat_le, nat_eq, filter, enumerate_from, IfHolds, EachGives, Text, Hit, AreWithin, hits_before, moved, hits_from, spliced_hits, hits_at}
+use Rattle.grep_live.proofs.Prelude.{◌≡◌, ℕ, zero, suc, ◌+◌, ◌-◌, ◌<◌, ◌≤◌, true, false, cond, List, [], ◌∷◌, ◌++◌, length, map, get_or, ◌⊎◌, refl, sym, ap, subst, ◌∙◌, inl, inr, arith, cases_lt, lt-ltb, le-ltb, le-leb, nat_tests, append-nil, filter-append, nat_le, nat_eq, filter, enumerate_from, IfHolds, EachGives, Text, Hit, AreWithin, hits_before, moved, hits_from, spliced_hits, hits_at}
 
 -- ---- hits by their places
 

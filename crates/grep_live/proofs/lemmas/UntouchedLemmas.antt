@@ -1,5 +1,5 @@
 -- A line that edits leave is not reported.
-use Rattle.grep_live.proofs.Prelude.{◌≡◌, ℕ, zero, suc, ◌+◌, ◌-◌, ◌<◌, ◌≤◌, List, [], ◌∷◌, ◌++◌, length, map, take, drop, get_or, Result, Ok, Err, ◌⊎◌, refl, sym, ap, subst, ◌∙◌, inl, inr, arith, set, cases_eq, length-append, length-drop, length-map, length-set, length-take, get_or-set_same, get_or-set_other, get_or_append_left, slice_set, MatchResult, IfHolds, remove, splice, Text, Expression, Flag, Options, File, Inputs, file_at, EditFault, Edit, AddFile, AddMissing, DropFile, Splice, AddPatterns, ChangePattern, DropPattern, SetFlag, SetSyntax, SetContext, Applies, EditGives, with_context, whole_file, missing_file, spliced, Attempt, accepted, with_accepted, Marked, Stretch, Keeps, Moves, Splices, most_stretches, AllThree, Watched, whole_mark, new_mark, mark_at, MarksAfter, MarksGiven, Change, AreChanges, ChangesFile, all_known, changes_at, Stays, EachStays, LeaveLine, splices, UntouchedLines}
+use Rattle.grep_live.proofs.Prelude.{◌≡◌, ℕ, zero, suc, ◌+◌, ◌<◌, ◌≤◌, List, [], ◌∷◌, ◌++◌, length, take, drop, get_or, Result, Ok, Err, ◌⊎◌, refl, sym, ap, subst, ◌∙◌, inl, inr, arith, set, length-append, length-drop, length-map, length-set, length-take, get_or-set_same, get_or-set_other, get_or_append_left, slice_set, MatchResult, IfHolds, remove, splice, Text, Expression, Options, File, Inputs, file_at, EditFault, Edit, AddFile, AddMissing, DropFile, Splice, AddPatterns, ChangePattern, DropPattern, SetFlag, SetSyntax, SetContext, Applies, EditGives, whole_file, missing_file, spliced, Attempt, accepted, with_accepted, Marked, Stretch, Keeps, Moves, Splices, most_stretches, Watched, whole_mark, new_mark, mark_at, MarksAfter, MarksGiven, Change, AreChanges, ChangesFile, all_known, changes_at, Stays, EachStays, LeaveLine, splices, UntouchedLines}
 use Rattle.grep_live.proofs.lemmas.ListLemmas.{three-at}
 use Rattle.grep_live.proofs.lemmas.CarryLemmas.{added_file, added_missing, changed_pattern, context_set, file_dropped, option_set, refused_same, splice_accepted, syntax_set}
 use Rattle.grep_live.proofs.lemmas.OnlyLemmas.{kept_before, flag_leaves, known_at}
