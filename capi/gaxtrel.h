@@ -6,7 +6,7 @@
    - a matcher begins with GAXTREL_NONE, is written by these calls alone, is not copied or moved by
      memcpy, and is used by one call at a time. It may go to another thread in between, ordered by
      a lock, a start or a join;
-   - a thread that compiles has 1 MB of stack: patterns nest up to 256 deep;
+   - a thread has 64 KB of stack for a call, which is enough for any pattern;
    - no call from a signal handler, or in the child of a fork of a process with threads.
 
    Any other argument is allowed: any bytes as a pattern, a line or a text, any number as a syntax or

@@ -11,7 +11,16 @@ import tty
 from functools import partial
 
 from program import Answer, Bench, Cases, Skipped, Verdict, all_of, finish
-from samples import CANNOT_OPEN, INPUT_READ_ERROR, TWO_LINES, WRITE_ERROR
+from samples import (
+    CANNOT_OPEN,
+    DEEP,
+    DEEP_ENDS,
+    DEEP_HEADS,
+    DEEP_REPEATS,
+    INPUT_READ_ERROR,
+    TWO_LINES,
+    WRITE_ERROR,
+)
 from streams import (
     failing_input,
     feed_named_pipe,
@@ -20,6 +29,7 @@ from streams import (
     opened,
     pipe_without_reader,
     seen_within,
+    with_little_stack,
     with_room,
 )
 
@@ -408,6 +418,67 @@ def line_too_long_for_memory(bench: Bench) -> Verdict:
     little_memory = partial(resource.setrlimit, resource.RLIMIT_AS, (1 << 27, 1 << 27))
     given = bench.ask("-n", "a", "f", preexec_fn=little_memory)
     return Verdict(Answer(b"2:a\n", b"grep: out of memory\n", 2), given)
+
+
+# A little stack
+
+
+def ask_deep(bench: Bench, *words: str, stdin: bytes) -> Answer:
+    """What grep answers with a stack of 128 KB, on which nothing of the surroundings is."""
+    return bench.ask(*words, stdin=stdin, env={}, preexec_fn=with_little_stack)
+
+
+def deep(name: str, words: list[str], *lines: tuple[bool, str]) -> None:
+    """A case of patterns of 256 levels, and of lines, each with whether it is matched as a whole."""
+
+    @case(f"A stack of 128 KB is enough for {name}.")
+    def judge(bench: Bench) -> Verdict:
+        text = "".join(f"{line}\n" for _, line in lines)
+        wanted = [f"{number}:{line}\n" for number, (matched, line) in enumerate(lines, 1) if matched]
+        given = ask_deep(bench, "-n", "-x", *words, stdin=text.encode())
+        return Verdict(Answer("".join(wanted).encode()), given)
+
+
+def basic(pattern: str) -> str:
+    """The basic pattern that is an extended one's."""
+    return "".join("\\" * (byte in "()|+?{}") + byte for byte in pattern)
+
+
+LETTERS = ((True, "a"), (False, ""), (False, "b"), (False, "aa"))
+ENDS = ((True, "c" + "b" * 255), (False, "c" + "b" * 256), (True, "a" + "b" * 256), (False, "a" + "b" * 255))
+HEADS = tuple((matched, line[::-1]) for matched, line in ENDS)
+REPEATS = ((True, ""), (True, "bcb"), (True, "a" + "b" * 128), (False, "a" + "b" * 127))
+
+for syntax, option, written in (("extended", ["-E"], str), ("basic", [], basic)):
+    deep(f"groups of one item, {syntax}", [*option, written(DEEP)], *LETTERS)
+    deep(f"choices that go on after a group, {syntax}", [*option, written(DEEP_ENDS)], *ENDS)
+    deep(f"choices that go on before a group, {syntax}", [*option, written(DEEP_HEADS)], *HEADS)
+    deep(f"repeated choices, {syntax}", [*option, written(DEEP_REPEATS)], *REPEATS)
+    deep(f"letters of either case, {syntax}", [*option, "-i", written(DEEP_ENDS)],
+         *((matched, line.upper()) for matched, line in ENDS))
+    deep(f"several patterns, {syntax}",
+         [*option, *(word for one in (DEEP, DEEP_ENDS, DEEP_HEADS) for word in ("-e", written(one)))],
+         (True, "a"), *ENDS, *HEADS, (False, "aa"))
+    for times, none, many in (
+        ("*", True, True), ("+", False, True), ("?", True, False), ("{1}", False, False),
+        ("{1,}", False, True), ("{0,1}", True, False),
+    ):
+        deep(f"256 duplications {times}, {syntax}", [*option, written("a" + times * 256)],
+             (none, ""), (True, "a"), (many, "aaa"), (False, "b"))
+deep("a fixed string, with letters of either case", ["-F", "-i", DEEP_ENDS],
+     (True, DEEP_ENDS.upper()), (False, "c"))
+
+
+@case("A stack of 128 KB is enough for the parts of a pattern of 256 levels.")
+def deep_parts(bench: Bench) -> Verdict:
+    given = ask_deep(bench, "-o", "-E", DEEP_ENDS, stdin=b"abbcbbxc\nab\n")
+    return Verdict(Answer(b"cbb\nc\n"), given)
+
+
+@case("A stack of 128 KB is enough to refuse a pattern of 257 levels.")
+def too_deep(bench: Bench) -> Verdict:
+    given = ask_deep(bench, "-E", f"({DEEP})", stdin=b"a\n")
+    return Verdict(Answer(b"", b"grep: pattern 1: TooDeep at 256\n", 2), given)
 
 
 # Terminals

@@ -31,7 +31,7 @@ DEFINITIONS = {("grep_io", "re_runs"), ("line_chunks", "re_runs"), ("grep_sessio
 FROM_TOOLCHAIN = {
     "memchr": {"re_syntax", "re_auto", "re_runs", "re_needle", "re_strings", "re_match", "re_search", "grep_io",
                "grep_session"},
-    "arrayvec": {"line_marks"},
+    "arrayvec": {"line_marks", "re_syntax"},
     "lru": {"re_steps"},
     "indexmap": {"re_steps"},
     "itoa": {"grep_core"},

@@ -14,6 +14,9 @@ from pathlib import Path
 from dialogue import Step, exchange, hold
 from program import Answer, Bench, Cases, Verdict, Word, all_of, finish
 from samples import (
+    DEEP,
+    DEEP_ENDS,
+    DEEP_HEADS,
     REPLIES,
     REPLY_WRITE_ERROR,
     SCRIPT,
@@ -28,6 +31,7 @@ from streams import (
     opened,
     pipe_without_reader,
     seen_within,
+    with_little_stack,
     with_room,
 )
 
@@ -416,6 +420,27 @@ counted_in_little_memory(
     "A splice's count of 8 to 20 digits takes no room for lines that are not there.", "splice 0 0 0")
 counted_in_little_memory(
     "A count of patterns of 8 to 20 digits takes no room for those that are not there.", "patterns")
+
+
+@case("Patterns of 256 levels are read, changed and dropped on a stack of 128 KB.")
+def deep_patterns(bench: Bench) -> Verdict:
+    steps = (
+        ("file f 4\na\nCB\nBC\nb", "ok"),
+        ("flag x on", "ok"),
+        ("syntax extended", "ok"),
+        (f"patterns 3\n{DEEP}\n{DEEP_ENDS}\n{DEEP_HEADS}", "ok"),
+        ("show", "o a\nstatus 0"),
+        ("flag i on", "ok"),
+        ("show", "o a\no CB\no BC\nstatus 0"),
+        (f"pattern 0\n{DEEP_HEADS}", "ok"),
+        ("show", "o CB\no BC\nstatus 0"),
+        ("drop 1", "ok"),
+        ("show", "o BC\nstatus 0"),
+        (f"patterns 1\n({DEEP})", "refused Pattern 0 TooDeep 256"),
+    )
+    script, replies = ("".join(f"{line}\n" for line in lines).encode() for lines in zip(*steps))
+    given = bench.ask(stdin=script, env={}, preexec_fn=with_little_stack)
+    return Verdict(Answer(replies, b"", 1), given)
 
 
 # What is kept of each pattern

@@ -18,3 +18,15 @@ REPLIES = b"ok\nok\no ab\nstatus 0\n"
 SCRIPT_CANNOT_OPEN = b"occur: nofile: cannot open\n"
 SCRIPT_READ_ERROR = b"occur: read error\n"
 REPLY_WRITE_ERROR = b"occur: write error\n"
+
+DEEP = "(" * 256 + "a" + ")" * 256
+"""An extended pattern of 256 levels, the most there may be: groups of one item."""
+
+DEEP_ENDS = "(" * 256 + "a" + "b|c)" * 256
+"""Another, with a choice at each level: `a` and 256 times `b`, or `c` and `b` at most 255 times."""
+
+DEEP_HEADS = "(b" * 256 + "a" + "|c)" * 256
+"""The same from the other end: 256 times `b` and `a`, or `b` at most 255 times and `c`."""
+
+DEEP_REPEATS = "(" * 128 + "a" + "b|c)*" * 128
+"""Another, of 128 groups, each repeated: an `a` has `b` 128 times after it."""

@@ -74,6 +74,11 @@ def with_room(size: int) -> Callable[[], None]:
     return limit
 
 
+def with_little_stack() -> None:
+    """Gives the program a stack of 128 KB, which is what musl gives a thread."""
+    resource.setrlimit(resource.RLIMIT_STACK, (1 << 17, 1 << 17))
+
+
 def feed_slowly(handle: int, content: bytes) -> None:
     """Writes one byte after the other, with pauses, so that each is read by itself."""
     for byte in content:

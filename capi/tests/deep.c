@@ -1,51 +1,120 @@
-/* Patterns of groups one in another, compiled on a thread with a stack of so many KB as the argument
-   says: some that are read, and one that is too deep. */
+/* Patterns of 256 levels, and of more, on threads: each answer is right, and no call takes more KB of stack than the
+   argument says. The stack of a thread is painted first, and the paint that is left is counted. Then a thread makes
+   the same calls that has so much stack and the least of a system. */
 #include "gaxtrel.h"
+#include <limits.h>
 #include <pthread.h>
 #include <stdio.h>
 #include <stdlib.h>
+#include <string.h>
 
-static const size_t depths[] = {1, 100, 170, 256, 300, 5000};
+enum { PAINT = 0x5a, ERE = GAXTREL_EXTENDED, BRE = GAXTREL_BASIC };
 
-/* `a` in so many groups, each other one of them starred. */
-static size_t nest(uint8_t *pattern, size_t depth) {
-    size_t k = 0;
-    for (size_t i = 0; i < depth; i++) pattern[k++] = '(';
-    pattern[k++] = 'a';
-    for (size_t i = 0; i < depth; i++) {
-        pattern[k++] = ')';
-        if (i % 2) pattern[k++] = '*';
-    }
-    return k;
+/* A pattern: `before` at each level, `a`, and `after` at each level. It matches the line of `head`, `yes` times `B`, and
+   `tail`, and not the one with `no` times `B`. */
+struct deep {
+    uint32_t syntax;
+    size_t levels;
+    const char *before, *after, *head, *tail;
+    size_t yes, no;
+};
+
+static const struct deep patterns[] = {
+    {ERE, 256, "(", ")", "A", "", 0, 1},
+    {ERE, 256, "(", "b|c)", "C", "", 255, 256},
+    {ERE, 256, "(b", "|c)", "", "C", 255, 256},
+    {ERE, 128, "(", ")*", "A", "", 0, 1},
+    {ERE, 128, "(", "b|c)*", "A", "", 128, 127},
+    {ERE, 128, "(", "b)+", "A", "", 128, 127},
+    {ERE, 256, "", "*", "A", "", 0, 1},
+    {ERE, 256, "", "{0,1}", "A", "", 0, 1},
+    {ERE, 257, "(", ")", "", "", 0, 0},
+    {ERE, 5000, "(", ")", "", "", 0, 0},
+    {BRE, 256, "\\(", "\\)", "A", "", 0, 1},
+    {BRE, 256, "\\(", "b\\|c\\)", "C", "", 255, 256},
+    {BRE, 256, "\\(b", "\\|c\\)", "", "C", 255, 256},
+    {BRE, 128, "\\(", "b\\|c\\)*", "A", "", 128, 127},
+    {BRE, 256, "", "*", "A", "", 0, 1},
+    {BRE, 257, "", "*", "", "", 0, 0},
+};
+
+static _Alignas(4096) uint8_t stack[1 << 20];
+static uint8_t pattern[1 << 15], text[1 << 10];
+
+static size_t append(uint8_t *bytes, size_t at, const char *word, size_t times) {
+    for (size_t i = 0; i < times; i++, at += strlen(word)) memcpy(bytes + at, word, strlen(word));
+    return at;
 }
 
-static void *deep(void *wrong) {
-    static uint8_t pattern[20000];
-    for (size_t i = 0; i < sizeof depths / sizeof *depths; i++) {
-        gaxtrel_matcher m = GAXTREL_NONE;
-        gaxtrel_fault fault = {0, 0, 0};
-        size_t length = nest(pattern, depths[i]);
-        uint32_t status = gaxtrel_compile(&m, pattern, length, GAXTREL_EXTENDED, true, false, &fault);
-        uint32_t matched = gaxtrel_is_match(&m, (const uint8_t *)"xxA", 3);
-        bool right = status == GAXTREL_OK ? matched == GAXTREL_YES && depths[i] < 256
-                                          : status == GAXTREL_REFUSED && fault.kind == GAXTREL_TOO_DEEP &&
-                                                matched == GAXTREL_MISUSED && depths[i] > 170;
-        printf("%zu groups: status %u, kind %u at %zu%s\n", depths[i], status, fault.kind, fault.at,
-               right ? "" : ", which is wrong");
-        *(int *)wrong |= !right;
-        gaxtrel_free(&m);
-    }
+static size_t append_pattern(const struct deep *it, size_t at) {
+    at = append(pattern, append(pattern, at, it->before, it->levels), "a", 1);
+    return append(pattern, at, it->after, it->levels);
+}
+
+static size_t append_line(const struct deep *it, size_t at, size_t times) {
+    return append(text, append(text, append(text, at, it->head, 1), "B", times), it->tail, 1);
+}
+
+/* Each function on the pattern, as a whole line and as a list of it twice. */
+static bool is_right(const struct deep *it) {
+    gaxtrel_matcher m = GAXTREL_NONE;
+    gaxtrel_fault fault = {0, 0, 0};
+    gaxtrel_part line = {9, 9}, part = {9, 9};
+    uint64_t lines = 0;
+    size_t parts = 0;
+    size_t first = append_line(it, 0, it->yes), next = append(text, first, "\n", 1), end = append_line(it, next, it->no);
+    size_t length = append_pattern(it, 0), both = append_pattern(it, append(pattern, length, "\n", 1));
+    uint32_t status = gaxtrel_compile(&m, pattern, length, it->syntax, true, true, &fault);
+    if (it->levels > 256) return status == GAXTREL_REFUSED && fault.kind == GAXTREL_TOO_DEEP;
+    bool right = status == GAXTREL_OK && gaxtrel_is_match(&m, text, first) == GAXTREL_YES &&
+                 gaxtrel_is_match(&m, text + next, end - next) == GAXTREL_NO &&
+                 gaxtrel_next_line(&m, text, end, 0, &line) == GAXTREL_YES && line.start == 0 && line.end == first &&
+                 gaxtrel_count_lines(&m, text, end, &lines) == GAXTREL_YES && lines == 1 &&
+                 gaxtrel_compile_lines(&m, pattern, both, it->syntax, true, false, &fault) == GAXTREL_OK &&
+                 gaxtrel_find(&m, text, first, 0, &part) == GAXTREL_YES && part.start == 0 && part.end == first &&
+                 gaxtrel_parts(&m, text, first, 0, &part, 1, &parts) == GAXTREL_YES && parts == 1 && part.end == first;
+    gaxtrel_free(&m);
+    return right;
+}
+
+struct trial {
+    const struct deep *it;
+    uintptr_t base;
+    bool right;
+};
+
+static void *try_one(void *argument) {
+    struct trial *trial = argument;
+    uint8_t here = 0;
+    trial->base = (uintptr_t)&here;
+    trial->right = is_right(trial->it);
     return 0;
 }
 
-int main(int count, char **words) {
-    pthread_attr_t attributes;
+/* How much stack a thread takes for the pattern: 0 if it is not the painted one, SIZE_MAX if it is wrong. */
+static size_t taken(const struct deep *it, const pthread_attr_t *attributes) {
+    struct trial trial = {it, 0, false};
     pthread_t thread;
-    int wrong = count != 2;
-    if (wrong) return 2;
-    pthread_attr_init(&attributes);
-    pthread_attr_setstacksize(&attributes, (size_t)atol(words[1]) * 1024);
-    if (pthread_create(&thread, &attributes, deep, &wrong)) return 2;
-    pthread_join(thread, 0);
+    size_t unused = 0;
+    memset(stack, PAINT, sizeof stack);
+    if (pthread_create(&thread, attributes, try_one, &trial) || pthread_join(thread, 0) || !trial.right) return SIZE_MAX;
+    while (unused < sizeof stack && stack[unused] == PAINT) unused++;
+    return unused == sizeof stack ? 0 : trial.base - (uintptr_t)stack - unused;
+}
+
+int main(int count, char **words) {
+    if (count != 2) return 2;
+    size_t most = 0, limit = (size_t)atol(words[1]) * 1024;
+    pthread_attr_t painted, small;
+    bool wrong = pthread_attr_init(&painted) || pthread_attr_setstack(&painted, stack, sizeof stack) ||
+                 pthread_attr_init(&small) || pthread_attr_setstacksize(&small, limit + PTHREAD_STACK_MIN);
+    for (size_t i = 0; i < sizeof patterns / sizeof *patterns; i++) {
+        const struct deep *it = &patterns[i];
+        size_t here = taken(it, &painted);
+        most = here > most ? here : most;
+        if (here > limit) printf("%zu times %s a %s: %zu bytes of stack\n", it->levels, it->before, it->after, here);
+        wrong |= here > limit || taken(it, &small);
+    }
+    printf("patterns of 256 levels: %zu bytes of stack\n", most);
     return wrong;
 }

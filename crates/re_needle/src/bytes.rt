@@ -6,30 +6,43 @@ ghost use Rattle.re_needle.specs.Working.Needles.{HasBytesOf};
 
 use re_syntax::{ByteSet, Tree};
 
+// How many trees, one in another, are looked into: each of them takes stack.
+const MOST_DEPTH: u16 = 64;
+
 /// Bytes, among which are all of each match.
-#[cycle(bytes)]
 pub fn bytes_of(tree: &Tree) -> ByteSet
     ensures { HasBytesOf (members result) (expression_of tree.now) }
 {
+    bytes_within(tree, MOST_DEPTH)
+}
+
+/// The same of a tree that is looked into so deep. What is deeper may have any byte.
+#[cycle(bytes)]
+fn bytes_within(tree: &Tree, depth: u16) -> ByteSet
+    ensures { HasBytesOf (members result) (expression_of tree.now) }
+{
+    if depth == 0 {
+        return bytes_outside(&ByteSet::empty());
+    }
     match tree {
         Tree::Set(set) => *set,
         Tree::Not(set) => bytes_outside(set),
-        Tree::Cat(parts) => bytes_of_all(parts),
-        Tree::Alt(parts) => bytes_of_all(parts),
-        Tree::Repeat(part, _, _) => bytes_of(part),
+        Tree::Cat(parts) => bytes_of_all(parts, depth - 1),
+        Tree::Alt(parts) => bytes_of_all(parts, depth - 1),
+        Tree::Repeat(part, _, _) => bytes_within(part, depth - 1),
         _ => ByteSet::empty(),
     }
 }
 
 /// The same for parts that follow one another, and for a choice of them.
 #[cycle(bytes)]
-fn bytes_of_all(parts: &[Tree]) -> ByteSet
+fn bytes_of_all(parts: &[Tree], depth: u16) -> ByteSet
     ensures all { HasBytesOf (members result) (cat (map expression_of parts.now)) }
     ensures one { HasBytesOf (members result) (alt (map expression_of parts.now)) }
 {
     let mut set = ByteSet::empty();
     'parts: for i in 0..parts.len() {
-        set = set.union(bytes_of(&parts[i]));
+        set = set.union(bytes_within(&parts[i], depth));
     }
     set
 }

@@ -13,10 +13,12 @@ use std::alloc::{AllocError, Global};
 // How many times a repeated set is in an outline at most.
 const MOST_TURNS: u16 = 32;
 
+// How many trees, one in another, an outline looks into: each of them takes stack.
+const MOST_DEPTH: u16 = 64;
+
 /// Adds the outline of the expression. It goes through groups and into what is repeated once or
-/// more. It has a mark for each time that a set is repeated at least, and the sets that the
-/// branches of a choice begin with. The only error is that an allocation failed.
-#[cycle(outline)]
+/// more, unless they nest deep. It has a mark for each time that a set is repeated at least, and the
+/// sets that the branches of a choice begin with. The only error is that an allocation failed.
 pub fn add_outline(
     alloc: Global,
     tree: &Tree,
@@ -25,10 +27,28 @@ pub fn add_outline(
     ensures { IfOk result
         (λ _. AddsOutline marks.old.items (expression_of tree.now) marks.new.items) }
 {
+    add_tree(alloc, tree, MOST_DEPTH, marks)
+}
+
+/// The same of a tree that is looked into so deep. What is deeper is a stretch.
+#[cycle(outline)]
+fn add_tree(
+    alloc: Global,
+    tree: &Tree,
+    depth: u16,
+    marks: &mut Vec<OutlineItem>,
+) -> Result<(), AllocError>
+    ensures { IfOk result
+        (λ _. AddsOutline marks.old.items (expression_of tree.now) marks.new.items) }
+{
+    if depth == 0 {
+        return add_mark(marks, OutlineItem::Gap);
+    }
+    let inside = depth - 1;
     match tree {
         Tree::Set(set) => add_mark(marks, OutlineItem::Set(*set)),
-        Tree::Cat(parts) => add_all(alloc, parts, marks),
-        Tree::Alt(parts) => add_choice(alloc, parts, marks),
+        Tree::Cat(parts) => add_all(alloc, parts, inside, marks),
+        Tree::Alt(parts) => add_choice(alloc, parts, inside, marks),
         Tree::Repeat(part, least, most) => {
             if let Some(set) = one_set(part) {
                 return add_repeated(marks, set, *least, *most);
@@ -36,7 +56,7 @@ pub fn add_outline(
             if *least == 0 {
                 return add_mark(marks, OutlineItem::Gap);
             }
-            add_outline(alloc, part, marks)?;
+            add_tree(alloc, part, inside, marks)?;
             add_mark(marks, OutlineItem::Gap)
         }
         _ => add_mark(marks, OutlineItem::Gap),
@@ -45,12 +65,17 @@ pub fn add_outline(
 
 /// Adds the outlines of parts that follow one another.
 #[cycle(outline)]
-fn add_all(alloc: Global, parts: &[Tree], marks: &mut Vec<OutlineItem>) -> Result<(), AllocError>
+fn add_all(
+    alloc: Global,
+    parts: &[Tree],
+    depth: u16,
+    marks: &mut Vec<OutlineItem>,
+) -> Result<(), AllocError>
     ensures { IfOk result
         (λ _. AddsOutline marks.old.items (cat (map expression_of parts.now)) marks.new.items) }
 {
     'parts: for i in 0..parts.len() {
-        add_outline(alloc, &parts[i], marks)?;
+        add_tree(alloc, &parts[i], depth, marks)?;
     }
     Ok(())
 }
@@ -58,14 +83,19 @@ fn add_all(alloc: Global, parts: &[Tree], marks: &mut Vec<OutlineItem>) -> Resul
 /// Adds the outline of a choice: the sets that its branches begin with, joined place by place as
 /// far as each branch has one, and a stretch.
 #[cycle(outline)]
-fn add_choice(alloc: Global, parts: &[Tree], marks: &mut Vec<OutlineItem>) -> Result<(), AllocError>
+fn add_choice(
+    alloc: Global,
+    parts: &[Tree],
+    depth: u16,
+    marks: &mut Vec<OutlineItem>,
+) -> Result<(), AllocError>
     ensures { IfOk result
         (λ _. AddsOutline marks.old.items (alt (map expression_of parts.now)) marks.new.items) }
 {
     let mut front = Vec::new(alloc);
     'parts: for i in 0..parts.len() {
         let mut branch = Vec::new(alloc);
-        add_outline(alloc, &parts[i], &mut branch)?;
+        add_tree(alloc, &parts[i], depth, &mut branch)?;
         let sets = leading_sets(alloc, &branch, RunKind::SmallSets)?;
         if i == 0 {
             front = sets;

@@ -7,7 +7,7 @@ pub use Rattle.re_syntax.specs.EscapeFaults.{BeginsRefusedEscape, IsRefusedEscap
 pub use Rattle.re_syntax.specs.Escapes.{is_in, is_undefined}
 pub use Rattle.re_syntax.specs.Expression.{Expression, alt, alt_more, alt_none, begin, byte, cat, cat_more, cat_none, choice, empty, end, none_of, one_of, repeat, sequence}
 pub use Rattle.re_syntax.specs.Extended.{anchor, dollar}
-pub use Rattle.re_syntax.specs.ExtendedFaults.{HasNothingToRepeat, IsNoExtended, OpensDuplication, ShowsExtendedFault, opens_interval, opens_plus, opens_question, opens_star}
+pub use Rattle.re_syntax.specs.ExtendedFaults.{IsNoExtended, OpensDuplication, ShowsExtendedFault, opens_interval, opens_plus, opens_question, opens_star}
 pub use Rattle.re_syntax.specs.Faults.{IsNoBracket, ShowsBracketFault}
 pub use Rattle.re_syntax.specs.Holds.{Holds, IsWithin, Matches, Turns, folded, positions}
 pub use Rattle.re_syntax.specs.IntervalFaults.{IsDisallowed, OpensDisallowed, descending, least_too_large, most_too_large}
@@ -48,7 +48,7 @@ pub use Rattle.re_syntax.specs.declared.pieces.Pieces.{Pieces}
 pub use Rattle.re_syntax.specs.declared.span.Span.{Span}
 pub use Rattle.re_syntax.specs.declared.syntax.Syntax.{Syntax}
 pub use Rattle.re_syntax.specs.declared.syntax.Syntax.TheVariants.{Basic, Extended, Fixed}
-pub use Rattle.re_syntax.specs.declared.tree.Tree.{Tree, Tree-F, fold-roll-Tree}
+pub use Rattle.re_syntax.specs.declared.tree.Tree.{Tree, Tree-F, fold-roll-Tree, the_lemmas}
 pub use Rattle.re_syntax.specs.declared.tree.Tree.TheVariants.{Alt, Begin, Cat, Empty, End, Not, Repeat, Set, rolls-Alt, rolls-Begin, rolls-Cat, rolls-Empty, rolls-End, rolls-Not, rolls-Repeat, rolls-Set}
 pub use Rattle.std.proofs.Common.{All, Any, Bool, Box, Err, Global, IfErr, IfOk, IfSome, IsTrue, List, MatchBool, MatchOption, None, Ok, OnOk, Option, Result, Some, Vec, [], add-one, ap, append-nil, append_assoc, arith, below_more, bit_and, bit_or, codes, drop, drop-drop, eq-eqb, eq-or-lt_of_le, eqb-true, false, get_or, if◌then◌else◌, inl, inr, is_some, le-leb, le-ltb, leb-false, leb-true, length, length-append, length-drop, length-take, lt-ltb, ltb-false, ltb-true, map, max, min, nat_eq, nat_le, nat_lt, ne_eqb, not, option_map, refl, rules, slice_get, slice_index_or, subst, suc, sym, take, take-add, take-append-drop, take_all, true, true≢false, zero, ℕ, ◌&&◌, ◌*◌, ◌++◌, ◌+◌, ◌-◌, ◌<◌, ◌^◌, ◌||◌, ◌∙◌, ◌∷◌, ◌≡◌, ◌≢◌, ◌≤◌, ◌⊎◌}
 pub use Rattle.std.proofs.Math.Decide.{dec_le, map_dec, ℕ_discrete}

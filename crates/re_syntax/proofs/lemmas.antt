@@ -35,6 +35,8 @@ pub mod BasicAtoms
 pub mod BasicItems
 pub mod BasicBranches
 pub mod BasicGroups
+pub mod LevelsLaws
+pub mod BasicLevels
 pub mod ExtendedReading
 pub mod ExtendedBraces
 pub mod ExtendedRefusals
@@ -43,6 +45,7 @@ pub mod ExtendedOpenings
 pub mod ExtendedAtoms
 pub mod ExtendedItems
 pub mod ExtendedBranches
+pub mod ExtendedLevels
 pub mod CursorsLaws
 pub mod AheadLaws
 pub mod DigitsLaws
@@ -60,3 +63,4 @@ pub mod StandardKept
 pub mod ExpressionLaws
 pub mod ClosedLaws
 pub mod FoldedLaws
+pub mod NodesLaws

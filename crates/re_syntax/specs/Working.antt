@@ -1,4 +1,5 @@
 pub mod Trees
+pub mod Nodes
 pub mod Splits
 pub mod Cursors
 pub mod Ahead
@@ -8,9 +9,12 @@ pub mod EscapeSteps
 pub mod Counted
 pub mod BestStretches
 pub mod PieceSteps
+pub mod LevelSteps
 pub mod DuplicationSteps
 pub mod BasicSteps
+pub mod BasicLevels
 pub mod ExtendedSteps
+pub mod ExtendedLevels
 -- the grammars of the standard alone, for the law that what it defines keeps its meaning
 pub mod StandardIntervals
 pub mod StandardBasic

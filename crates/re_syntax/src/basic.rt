@@ -1,29 +1,34 @@
 //! Basic regular expressions (XBD 9.3), with GNU grep's `\+`, `\?` and `\|`, read in one pass from
 //! left to right.
 ghost use Rattle.std.specs.Prelude.{◌≡◌, ℕ, ◌≤◌, ◌⊎◌, IfOk, IfErr, MatchOption, MatchBool, codes};
-ghost use Rattle.std.specs.Prelude.{length, take, drop};
+ghost use Rattle.std.specs.Prelude.{length, take, drop, List};
 ghost use Rattle.re_syntax.specs.Bytes.{Begins};
 ghost use Rattle.re_syntax.specs.Expression.{Expression};
 ghost use Rattle.re_syntax.specs.Working.Trees.{expression_of};
-ghost use Rattle.re_syntax.specs.Basic.{ItemPlace, First, IsAtEnd};
+ghost use Rattle.re_syntax.specs.Basic.{ItemPlace, IsAtEnd};
 ghost use Rattle.re_syntax.specs.declared.syntax.Syntax.TheVariants.{Basic};
 ghost use Rattle.re_syntax.specs.Profile.{most_levels};
 ghost use Rattle.re_syntax.specs.Spelled.{IsSpelled, SpellsNoOther};
 ghost use Rattle.re_syntax.specs.BasicFaults.{NeedsItem, IsStart, HasNothingToRepeat, IsShownIn};
 ghost use Rattle.re_syntax.specs.BasicFaults.{IsNoBasic};
-ghost use Rattle.re_syntax.specs.Working.PieceSteps.{IsReported, IsRefused, RunsOut};
+ghost use Rattle.re_syntax.specs.Working.PieceSteps.{IsReported, AreReported, IsRefused, RunsOut};
 ghost use Rattle.re_syntax.specs.Working.BasicSteps.{AtomStands, HasNoAtom, HasItem, HasNoItem};
 ghost use Rattle.re_syntax.specs.Working.BasicSteps.{HasNoTail, ComesAfterTail, SoFar, IsEnded};
-ghost use Rattle.re_syntax.specs.Working.BasicSteps.{MayBegin, ItemStands, HasNoItems};
-ghost use Rattle.re_syntax.specs.Working.BasicSteps.{BranchStands, HasNoBranches, BranchesStand};
+ghost use Rattle.re_syntax.specs.Working.BasicSteps.{MayBegin, ItemSoFar, ItemStands, HasNoItems};
+ghost use Rattle.re_syntax.specs.Working.BasicSteps.{HasNoBranches, BranchesStand};
+ghost use Rattle.re_syntax.specs.Working.BasicLevels.{IsLeafHere, ItemsPause, LevelSoFar};
+ghost use Rattle.re_syntax.specs.Working.BasicLevels.{IsFurther, HasItemsTo, BranchesBefore};
+ghost use Rattle.re_syntax.specs.Working.BasicLevels.{IsBranchEnded, IsPaused};
 
 use self::duplications::{needs_item, read_duplication};
+use self::groups::read_groups;
 use crate::ahead::after;
 use crate::bytes::ByteSet;
 use crate::escape::read_escape;
 use crate::fault::{FaultKind, PatternFault};
 use crate::pieces::{
-    Piece, Pieces, all_of, any_of, joined, leaf, meant_by, no_pieces, read_bracket_atom, repeated,
+    Level, Piece, Pieces, any_of, joined, leaf, meant_by, no_pieces, read_bracket_atom, repeated,
+    with_branch,
 };
 use crate::profile::{BASIC_REFUSED, MOST_LEVELS};
 use crate::tree::Tree;
@@ -94,65 +99,18 @@ fn has_item(text: &[u8], at: usize) -> bool
     after_tail(text, at).is_none()
 }
 
-/// The group whose `\(` is at the place `at`, at most `levels` high.
-#[cycle(read_branches)]
-fn read_group(
-    alloc: Option<Global>,
-    text: &[u8],
-    at: usize,
-    levels: usize,
-) -> Result<Piece, PatternFault>
-    requires opens { Begins (codes "\\(") (drop at text.now) }
-    requires few { levels ≤ most_levels }
-    ensures read { IfOk result (λ piece. (p : ItemPlace) → AtomStands alloc p levels text.now at piece) }
-    ensures refused { IfErr result
-        (λ fault. (p : ItemPlace) →
-        IsRefused alloc (HasNoAtom p levels (drop at text.now)) (IsShownIn text.now fault) fault) }
-{
-    if levels == 0 {
-        return Err(PatternFault {
-            kind: FaultKind::TooDeep,
-            at,
-        });
-    }
-    let branches = read_branches(alloc, text, at + 2, levels - 1)?;
-    match after(text, branches.beyond, b"\\)") {
-        None => Err(PatternFault {
-            kind: FaultKind::UnclosedGroup,
-            at,
-        }),
-        Some(beyond) => {
-            let inside = any_of(branches);
-            Ok(Piece {
-                tree: inside.tree,
-                positions: inside.positions,
-                height: inside.height + 1,
-                beyond,
-            })
-        }
-    }
-}
-
-/// The group or the escaped byte whose backslash is at a place.
-#[cycle(read_branches)]
-fn read_escaped(
-    alloc: Option<Global>,
-    text: &[u8],
-    at: usize,
-    levels: usize,
-) -> Result<Piece, PatternFault>
+/// The escaped byte whose backslash is at a place where no group opens.
+fn read_escaped(alloc: Option<Global>, text: &[u8], at: usize) -> Result<Piece, PatternFault>
     requires escapes { Begins (codes "\\") (drop at text.now) }
+    requires no_group { ¬ Begins (codes "\\(") (drop at text.now) }
     requires not_end { ¬ IsAtEnd (drop at text.now) }
     requires opens { NeedsItem (drop at text.now) → HasNothingToRepeat (take at text.now) }
-    requires few { levels ≤ most_levels }
-    ensures read { IfOk result (λ piece. (p : ItemPlace) → AtomStands alloc p levels text.now at piece) }
+    ensures read { IfOk result
+        (λ piece. (p : ItemPlace) (levels : ℕ) → AtomStands alloc p levels text.now at piece) }
     ensures refused { IfErr result
-        (λ fault. (p : ItemPlace) →
+        (λ fault. (p : ItemPlace) (levels : ℕ) →
         IsRefused alloc (HasNoAtom p levels (drop at text.now)) (IsShownIn text.now fault) fault) }
 {
-    if after(text, at, b"\\(").is_some() {
-        return read_group(alloc, text, at, levels);
-    }
     if needs_item(text, at) {
         return Err(PatternFault {
             kind: FaultKind::NothingToRepeat,
@@ -163,52 +121,45 @@ fn read_escaped(
     Ok(leaf(alloc, Tree::Set(ByteSet::only(byte)), 1, at + 2))
 }
 
-/// The atom at a place where neither an anchor nor a duplication begins.
-#[cycle(read_branches)]
-fn read_atom(
-    alloc: Option<Global>,
-    text: &[u8],
-    at: usize,
-    levels: usize,
-) -> Result<Piece, PatternFault>
+/// The atom at a place where no group opens and neither an anchor nor a duplication begins.
+fn read_leaf(alloc: Option<Global>, text: &[u8], at: usize) -> Result<Piece, PatternFault>
     requires within { at ≤ length text.now }
     requires item { HasItem (drop at text.now) }
+    requires no_group { ¬ Begins (codes "\\(") (drop at text.now) }
     requires opens { NeedsItem (drop at text.now) → HasNothingToRepeat (take at text.now) }
-    requires few { levels ≤ most_levels }
     ensures read { IfOk result
-        (λ piece. (p : ItemPlace) → MayBegin p (drop at text.now) →
+        (λ piece. (p : ItemPlace) (levels : ℕ) → MayBegin p (drop at text.now) →
         AtomStands alloc p levels text.now at piece) }
     ensures refused { IfErr result
-        (λ fault. (p : ItemPlace) →
+        (λ fault. (p : ItemPlace) (levels : ℕ) →
         IsRefused alloc (HasNoAtom p levels (drop at text.now)) (IsShownIn text.now fault) fault) }
 {
     match text[at] {
         b'[' => read_bracket_atom(alloc, text, at),
-        b'\\' => read_escaped(alloc, text, at, levels),
+        b'\\' => read_escaped(alloc, text, at),
         byte => Ok(leaf(alloc, Tree::Set(meant_by(byte)), 1, at + 1)),
     }
 }
 
-/// The atom at a place, and the duplications after it.
-#[cycle(read_branches)]
-fn read_item(
+/// The atom with the duplications after it.
+pub(crate) fn with_duplications(
     alloc: Option<Global>,
     text: &[u8],
-    at: usize,
+    atom: Piece,
     levels: usize,
 ) -> Result<Piece, PatternFault>
-    requires within { at ≤ length text.now }
-    requires item { HasItem (drop at text.now) }
-    requires opens { NeedsItem (drop at text.now) → HasNothingToRepeat (take at text.now) }
+    requires within { atom.beyond ≤ length text.now }
+    requires height { atom.height ≤ levels }
     requires few { levels ≤ most_levels }
     ensures read { IfOk result
-        (λ piece. (p : ItemPlace) → MayBegin p (drop at text.now) →
-        ItemStands alloc p levels text.now at piece) }
+        (λ item. (p : ItemPlace) (at : ℕ) → ItemSoFar alloc p levels text.now at atom →
+        ItemStands alloc p levels text.now at item) }
+    ensures forward { IfOk result (λ item. atom.beyond ≤ item.beyond) }
     ensures refused { IfErr result
-        (λ fault. (p : ItemPlace) → MayBegin p (drop at text.now) →
+        (λ fault. (p : ItemPlace) (at : ℕ) → ItemSoFar alloc p levels text.now at atom →
         IsRefused alloc (HasNoItems p levels (drop at text.now)) (IsShownIn text.now fault) fault) }
 {
-    let mut piece = read_atom(alloc, text, at, levels)?;
+    let mut piece = atom;
     'duplications: while let Some((counts, beyond)) = read_duplication(text, piece.beyond)? {
         if piece.height == levels {
             return Err(PatternFault {
@@ -221,57 +172,167 @@ fn read_item(
     Ok(piece)
 }
 
-/// The branch that begins at a place, up to its end.
-#[cycle(read_branches)]
-fn read_branch(
-    alloc: Option<Global>,
-    text: &[u8],
-    from: usize,
-    levels: usize,
-) -> Result<Piece, PatternFault>
-    requires within { from ≤ length text.now }
-    requires starts { IsStart (take from text.now) }
-    requires few { levels ≤ most_levels }
-    ensures read { IfOk result (BranchStands alloc levels text.now from) }
-    ensures refused { IfErr result
-        (λ fault.
-        IsRefused alloc (HasNoItems First levels (drop from text.now)) (IsShownIn text.now fault)
-        fault) }
+/// Whether a group opens at a place.
+fn opens_group(text: &[u8], at: usize) -> bool
+    requires { at ≤ length text.now }
+    ensures { MatchBool result (Begins (codes "\\(") (drop at text.now))
+        (¬ Begins (codes "\\(") (drop at text.now)) }
 {
-    let mut items = read_lead(alloc, text, from)?;
-    'items: while has_item(text, items.beyond) {
-        let piece = read_item(alloc, text, items.beyond, levels)?;
-        items = joined(items, piece)?;
-    }
-    let all = read_tail(alloc, text, items)?;
-    Ok(all_of(all))
+    after(text, at, b"\\(").is_some()
 }
 
-/// The branches of the expression that begins at a place, up to its end.
-#[cycle(read_branches)]
-fn read_branches(
+/// Whether the items that are no groups go on at a place.
+fn goes_on_at(text: &[u8], at: usize) -> bool
+    requires { at ≤ length text.now }
+    ensures { MatchBool result (IsLeafHere (drop at text.now)) (ItemsPause (drop at text.now)) }
+{
+    if opens_group(text, at) {
+        return false;
+    }
+    has_item(text, at)
+}
+
+/// The level with one more item that is no group.
+fn read_item(
+    alloc: Option<Global>,
+    text: &[u8],
+    level: Level,
+    levels: usize,
+) -> Result<Level, PatternFault>
+    requires goes_on { IsLeafHere (drop level.items.beyond text.now) }
+    requires so_far { LevelSoFar alloc levels text.now level }
+    requires few { levels ≤ most_levels }
+    ensures read { IfOk result (IsFurther alloc levels text.now level) }
+    ensures refused { IfErr result
+        (λ fault.
+        IsRefused alloc (HasNoBranches levels (drop level.from text.now))
+        (IsShownIn text.now fault) fault) }
+{
+    let Level {
+        from,
+        branches,
+        items,
+    } = level;
+    let atom = read_leaf(alloc, text, items.beyond)?;
+    let item = with_duplications(alloc, text, atom, levels)?;
+    let items = joined(items, item)?;
+    Ok(Level {
+        from,
+        branches,
+        items,
+    })
+}
+
+/// The level with its next items, up to a group or the end of the branch.
+pub(crate) fn read_items(
+    alloc: Option<Global>,
+    text: &[u8],
+    level: Level,
+    levels: usize,
+) -> Result<Level, PatternFault>
+    requires so_far { LevelSoFar alloc levels text.now level }
+    requires few { levels ≤ most_levels }
+    ensures read { IfOk result (HasItemsTo alloc levels text.now level.from level.items.beyond) }
+    ensures refused { IfErr result
+        (λ fault.
+        IsRefused alloc (HasNoBranches levels (drop level.from text.now))
+        (IsShownIn text.now fault) fault) }
+{
+    let mut read = level;
+    'items: while goes_on_at(text, read.items.beyond) {
+        read = read_item(alloc, text, read, levels)?;
+    }
+    Ok(read)
+}
+
+/// The level that begins at `from`, with these branches and the first items of the branch after
+/// them, up to a group or the end of that branch.
+pub(crate) fn next_branch(
     alloc: Option<Global>,
     text: &[u8],
     from: usize,
+    branches: Pieces,
+    at: usize,
     levels: usize,
-) -> Result<Pieces, PatternFault>
-    requires within { from ≤ length text.now }
-    requires starts { IsStart (take from text.now) }
+) -> Result<Level, PatternFault>
+    requires within { at ≤ length text.now }
+    requires starts { IsStart (take at text.now) }
+    requires before { BranchesBefore alloc levels text.now from branches at }
     requires few { levels ≤ most_levels }
-    ensures read { IfOk result (BranchesStand alloc levels text.now from) }
+    ensures read { IfOk result (HasItemsTo alloc levels text.now from at) }
     ensures refused { IfErr result
         (λ fault.
         IsRefused alloc (HasNoBranches levels (drop from text.now)) (IsShownIn text.now fault)
         fault) }
 {
-    let none = no_pieces(alloc, from);
-    let first = read_branch(alloc, text, from, levels)?;
-    let mut branches = joined(none, first)?;
-    'branches: while let Some(beyond) = after(text, branches.beyond, b"\\|") {
-        let branch = read_branch(alloc, text, beyond, levels)?;
-        branches = joined(branches, branch)?;
+    let items = read_lead(alloc, text, at)?;
+    let level = Level {
+        from,
+        branches,
+        items,
+    };
+    read_items(alloc, text, level, levels)
+}
+
+/// The branches of a level whose last branch ends.
+fn end_branch(alloc: Option<Global>, text: &[u8], level: Level) -> Result<Pieces, PatternFault>
+    requires within { level.items.beyond ≤ length text.now }
+    requires ends { HasNoItem (drop level.items.beyond text.now) }
+    ensures ended { IfOk result (IsBranchEnded alloc text.now level) }
+    ensures refused { IfErr result
+        (λ fault. (es fs : List Expression) → AreReported alloc level.branches es →
+        AreReported alloc level.items fs → RunsOut alloc fault) }
+{
+    let items = read_tail(alloc, text, level.items)?;
+    with_branch(level.branches, items)
+}
+
+/// The level up to its end, or up to a group that opens in it.
+pub(crate) fn read_level(
+    alloc: Option<Global>,
+    text: &[u8],
+    level: Level,
+    levels: usize,
+) -> Result<Level, PatternFault>
+    requires so_far { LevelSoFar alloc levels text.now level }
+    requires pauses { ItemsPause (drop level.items.beyond text.now) }
+    requires few { levels ≤ most_levels }
+    ensures read { IfOk result (IsPaused alloc levels text.now level.from level.items.beyond) }
+    ensures refused { IfErr result
+        (λ fault.
+        IsRefused alloc (HasNoBranches levels (drop level.from text.now))
+        (IsShownIn text.now fault) fault) }
+{
+    let from = level.from;
+    let mut read = level;
+    'branches: while !opens_group(text, read.items.beyond) {
+        let branches = end_branch(alloc, text, read)?;
+        let Some(beyond) = after(text, branches.beyond, b"\\|") else {
+            let items = no_pieces(alloc, branches.beyond);
+            return Ok(Level {
+                from,
+                branches,
+                items,
+            });
+        };
+        read = next_branch(alloc, text, from, branches, beyond, levels)?;
     }
-    Ok(branches)
+    Ok(read)
+}
+
+/// The branches of the whole text, up to its end or a `\)` that closes no group.
+fn read_text(alloc: Option<Global>, text: &[u8]) -> Result<Pieces, PatternFault>
+    ensures read { IfOk result (BranchesStand alloc most_levels text.now 0) }
+    ensures refused { IfErr result
+        (λ fault.
+        IsRefused alloc (HasNoBranches most_levels text.now) (IsShownIn text.now fault) fault) }
+{
+    let first = next_branch(alloc, text, 0, no_pieces(alloc, 0), 0, MOST_LEVELS)?;
+    let level = read_level(alloc, text, first, MOST_LEVELS)?;
+    if !opens_group(text, level.items.beyond) {
+        return Ok(level.branches);
+    }
+    read_groups(alloc, text, level)
 }
 
 /// The basic regular expression that the whole text spells.
@@ -281,7 +342,7 @@ pub(crate) fn read_whole(alloc: Option<Global>, text: &[u8]) -> Result<Piece, Pa
     ensures refused { IfErr result
         (λ fault. RunsOut alloc fault ⊎ IsNoBasic text.now fault) }
 {
-    let branches = read_branches(alloc, text, 0, MOST_LEVELS)?;
+    let branches = read_text(alloc, text)?;
     if branches.beyond < text.len() {
         return Err(PatternFault {
             kind: FaultKind::UnopenedGroup,
@@ -313,3 +374,4 @@ pub fn read_basic(alloc: Global, text: &[u8]) -> Result<Tree, PatternFault>
 }
 
 mod duplications;
+mod groups;

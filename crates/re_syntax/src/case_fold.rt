@@ -3,40 +3,40 @@ ghost use Rattle.re_syntax.specs.Working.Trees.{expression_of};
 ghost use Rattle.re_syntax.specs.Holds.{folded};
 
 use crate::tree::Tree;
-use std::mem;
 
 /// The expression with both cases of each of its letters (XCU grep, option `-i`). The set of each
 /// `Set` or `Not` is closed under case, so a complement is taken after that. The tree is changed in
 /// place, and no memory is allocated.
-#[cycle(fold)]
-#[tactic(auto, using(crate::proofs::lemmas::FoldedLaws::folded_laws))]
-pub fn fold(tree: Tree) -> Tree
+pub fn fold(mut tree: Tree) -> Tree
     ensures { expression_of result ≡ folded (expression_of tree) }
 {
+    fold_tree(&mut tree);
+    tree
+}
+
+/// Folds a tree. Its frames are small, since a pattern may nest trees deep.
+#[cycle(fold)]
+fn fold_tree(tree: &mut Tree)
+    ensures { expression_of tree.new ≡ folded (expression_of tree.old) }
+{
     match tree {
-        Tree::Empty => Tree::Empty,
-        Tree::Begin => Tree::Begin,
-        Tree::End => Tree::End,
-        Tree::Set(set) => Tree::Set(set.closed()),
-        Tree::Not(set) => Tree::Not(set.closed()),
-        Tree::Cat(parts) => Tree::Cat(fold_all(parts)),
-        Tree::Alt(parts) => Tree::Alt(fold_all(parts)),
-        Tree::Repeat(mut part, least, most) => {
-            let inner = mem::replace(&mut *part, Tree::Empty);
-            *part = fold(inner);
-            Tree::Repeat(part, least, most)
-        }
+        Tree::Empty => {}
+        Tree::Begin => {}
+        Tree::End => {}
+        Tree::Set(set) => *set = set.closed(),
+        Tree::Not(set) => *set = set.closed(),
+        Tree::Cat(parts) => fold_all(parts),
+        Tree::Alt(parts) => fold_all(parts),
+        Tree::Repeat(part, _, _) => fold_tree(part),
     }
 }
 
-/// Each tree folded, in order.
+/// Folds each of the trees.
 #[cycle(fold)]
-fn fold_all(mut parts: Vec<Tree>) -> Vec<Tree>
-    ensures { map expression_of result.items ≡ map folded (map expression_of parts.items) }
+fn fold_all(parts: &mut Vec<Tree>)
+    ensures { map expression_of parts.new.items ≡ map folded (map expression_of parts.old.items) }
 {
     for i in 0..parts.len() {
-        let part = mem::replace(&mut parts[i], Tree::Empty);
-        parts[i] = fold(part);
+        fold_tree(&mut parts[i]);
     }
-    parts
 }

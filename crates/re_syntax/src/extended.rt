@@ -1,6 +1,6 @@
 //! Extended regular expressions (XBD 9.4), read in one pass from left to right.
-ghost use Rattle.std.specs.Prelude.{◌≡◌, ◌≤◌, ◌<◌, ◌⊎◌, ◌∷◌, [], false, IfOk, IfErr, MatchOption};
-ghost use Rattle.std.specs.Prelude.{MatchBool, codes, length, take, drop, map};
+ghost use Rattle.std.specs.Prelude.{◌≡◌, ◌≤◌, ◌<◌, ◌⊎◌, ◌∷◌, ℕ, Bool, [], false, IfOk, IfErr};
+ghost use Rattle.std.specs.Prelude.{MatchOption, MatchBool, codes, length, take, drop};
 ghost use Rattle.re_syntax.specs.Bytes.{Begins};
 ghost use Rattle.re_syntax.specs.Expression.{Expression};
 ghost use Rattle.re_syntax.specs.Working.Trees.{expression_of};
@@ -8,21 +8,25 @@ ghost use Rattle.re_syntax.specs.Extended.{Duplication};
 ghost use Rattle.re_syntax.specs.declared.syntax.Syntax.TheVariants.{Extended};
 ghost use Rattle.re_syntax.specs.Profile.{most_levels};
 ghost use Rattle.re_syntax.specs.Spelled.{IsSpelled, SpellsNoOther};
-ghost use Rattle.re_syntax.specs.ExtendedFaults.{OpensDuplication, IsStart, HasNothingToRepeat};
+ghost use Rattle.re_syntax.specs.ExtendedFaults.{OpensDuplication, HasNothingToRepeat};
 ghost use Rattle.re_syntax.specs.ExtendedFaults.{IsShownIn, IsNoExtended};
 ghost use Rattle.re_syntax.specs.Working.PieceSteps.{IsReported, IsRefused, RunsOut};
 ghost use Rattle.re_syntax.specs.Working.ExtendedSteps.{stops, IsNoSign, DuplicationStands};
 ghost use Rattle.re_syntax.specs.Working.ExtendedSteps.{HasBadInterval, MayBegin, AtomStands};
-ghost use Rattle.re_syntax.specs.Working.ExtendedSteps.{HasNoAtom, ItemStands, HasNoItems, IsNext};
-ghost use Rattle.re_syntax.specs.Working.ExtendedSteps.{BranchStands, HasNoBranches, BranchesStand};
+ghost use Rattle.re_syntax.specs.Working.ExtendedSteps.{HasNoAtom, ItemSoFar, ItemStands};
+ghost use Rattle.re_syntax.specs.Working.ExtendedSteps.{HasNoItems, IsNext, HasNoBranches};
+ghost use Rattle.re_syntax.specs.Working.ExtendedLevels.{pauses, in_group, LevelSoFar, IsFurther};
+ghost use Rattle.re_syntax.specs.Working.ExtendedLevels.{IsPaused, WholeStands};
 
+use self::groups::read_groups;
 use crate::ahead::{after, byte_at};
 use crate::bytes::ByteSet;
 use crate::escape::read_escape;
 use crate::fault::{FaultKind, PatternFault};
 use crate::interval::{Counts, counts_fault, read_interval};
 use crate::pieces::{
-    Piece, Pieces, all_of, any_of, joined, leaf, meant_by, no_pieces, read_bracket_atom, repeated,
+    Level, Piece, any_of, joined, leaf, meant_by, no_pieces, opened, read_bracket_atom, repeated,
+    with_branch,
 };
 use crate::profile::{EXTENDED_REFUSED, MOST_LEVELS};
 use crate::tree::Tree;
@@ -91,78 +95,31 @@ fn opens_duplication(text: &[u8], at: usize) -> bool
     }
 }
 
-/// Whether a branch ends at a place: at the text's end, at a bar, or in a group at its closing.
-fn stops_at(text: &[u8], at: usize, in_group: bool) -> bool
-    ensures { result ≡ stops in_group (drop at text.now) }
+/// Whether a level ends at a place or a group opens there: at the text's end, at a `(`, or in a
+/// group at its closing.
+fn pauses_at(text: &[u8], at: usize, in_group: bool) -> bool
+    ensures { result ≡ pauses in_group (drop at text.now) }
 {
     match byte_at(text, at) {
         None => true,
-        Some(byte) => (byte == b'|') | (in_group & (byte == b')')),
+        Some(byte) => (byte == b'(') | (in_group & (byte == b')')),
     }
 }
 
-/// The group whose `(` is at a place, at most `levels` high.
-#[cycle(read_branches)]
-fn read_group(
-    alloc: Option<Global>,
-    text: &[u8],
-    at: usize,
-    in_group: bool,
-    levels: usize,
-) -> Result<Piece, PatternFault>
-    requires opens { Begins (codes "(") (drop at text.now) }
-    requires few { levels ≤ most_levels }
-    ensures read { IfOk result (AtomStands alloc in_group levels text.now at) }
-    ensures refused { IfErr result
-        (λ fault.
-        IsRefused alloc (HasNoAtom in_group levels (drop at text.now)) (IsShownIn text.now fault)
-        fault) }
-{
-    if levels == 0 {
-        return Err(PatternFault {
-            kind: FaultKind::TooDeep,
-            at,
-        });
-    }
-    let branches = read_branches(alloc, text, at + 1, true, levels - 1)?;
-    match after(text, branches.beyond, b")") {
-        None => Err(PatternFault {
-            kind: FaultKind::UnclosedGroup,
-            at,
-        }),
-        Some(beyond) => {
-            let inside = any_of(branches);
-            Ok(Piece {
-                tree: inside.tree,
-                positions: inside.positions,
-                height: inside.height + 1,
-                beyond,
-            })
-        }
-    }
-}
-
-/// The atom at a place where the branch goes on and neither an anchor nor a duplication begins.
-#[cycle(read_branches)]
-fn read_atom(
-    alloc: Option<Global>,
-    text: &[u8],
-    at: usize,
-    in_group: bool,
-    levels: usize,
-) -> Result<Piece, PatternFault>
+/// The atom at a place where no group opens, the branch goes on and neither an anchor nor a
+/// duplication begins.
+fn read_leaf(alloc: Option<Global>, text: &[u8], at: usize) -> Result<Piece, PatternFault>
     requires within { at < length text.now }
-    requires begins { MayBegin in_group (drop at text.now) }
-    requires few { levels ≤ most_levels }
-    ensures read { IfOk result (AtomStands alloc in_group levels text.now at) }
+    requires no_group { ¬ Begins (codes "(") (drop at text.now) }
+    ensures read { IfOk result
+        (λ piece. (g : Bool) (levels : ℕ) → MayBegin g (drop at text.now) →
+        AtomStands alloc g levels text.now at piece) }
     ensures refused { IfErr result
-        (λ fault.
-        IsRefused alloc (HasNoAtom in_group levels (drop at text.now)) (IsShownIn text.now fault)
-        fault) }
+        (λ fault. (g : Bool) (levels : ℕ) →
+        IsRefused alloc (HasNoAtom g levels (drop at text.now)) (IsShownIn text.now fault) fault) }
 {
     match text[at] {
         b'[' => read_bracket_atom(alloc, text, at),
-        b'(' => read_group(alloc, text, at, in_group, levels),
         b'\\' => {
             let byte = read_escape(text, at, EXTENDED_REFUSED)?;
             Ok(leaf(alloc, Tree::Set(ByteSet::only(byte)), 1, at + 2))
@@ -172,25 +129,25 @@ fn read_atom(
     }
 }
 
-/// The atom at a place, and the duplications after it.
-#[cycle(read_branches)]
-fn read_item(
+/// The atom with the duplications after it.
+pub(crate) fn with_duplications(
     alloc: Option<Global>,
     text: &[u8],
-    at: usize,
-    in_group: bool,
+    atom: Piece,
     levels: usize,
 ) -> Result<Piece, PatternFault>
-    requires within { at < length text.now }
-    requires begins { MayBegin in_group (drop at text.now) }
+    requires within { atom.beyond ≤ length text.now }
+    requires height { atom.height ≤ levels }
     requires few { levels ≤ most_levels }
-    ensures read { IfOk result (ItemStands alloc in_group levels text.now at) }
+    ensures read { IfOk result
+        (λ item. (g : Bool) (at : ℕ) → ItemSoFar alloc g levels text.now at atom →
+        ItemStands alloc g levels text.now at item) }
+    ensures forward { IfOk result (λ item. atom.beyond ≤ item.beyond) }
     ensures refused { IfErr result
-        (λ fault.
-        IsRefused alloc (HasNoItems in_group levels (drop at text.now)) (IsShownIn text.now fault)
-        fault) }
+        (λ fault. (g : Bool) (at : ℕ) → ItemSoFar alloc g levels text.now at atom →
+        IsRefused alloc (HasNoItems g levels (drop at text.now)) (IsShownIn text.now fault) fault) }
 {
-    let mut piece = read_atom(alloc, text, at, in_group, levels)?;
+    let mut piece = atom;
     'duplications: while let Some((counts, beyond)) = read_duplication(text, piece.beyond)? {
         if piece.height == levels {
             return Err(PatternFault {
@@ -203,24 +160,23 @@ fn read_item(
     Ok(piece)
 }
 
-/// The anchor or the item at a place where the branch goes on.
-#[cycle(read_branches)]
+/// The anchor or the item at a place where no group opens and the branch goes on.
 fn read_next(
     alloc: Option<Global>,
     text: &[u8],
     at: usize,
-    in_group: bool,
     levels: usize,
 ) -> Result<Piece, PatternFault>
     requires within { at ≤ length text.now }
-    requires goes_on { stops in_group (drop at text.now) ≡ false }
+    requires goes_on { stops (in_group levels) (drop at text.now) ≡ false }
+    requires no_group { ¬ Begins (codes "(") (drop at text.now) }
     requires opens { OpensDuplication (drop at text.now) → HasNothingToRepeat (take at text.now) }
     requires few { levels ≤ most_levels }
-    ensures read { IfOk result (IsNext alloc in_group levels text.now at) }
+    ensures read { IfOk result (IsNext alloc (in_group levels) levels text.now at) }
     ensures refused { IfErr result
         (λ fault.
-        IsRefused alloc (HasNoItems in_group levels (drop at text.now)) (IsShownIn text.now fault)
-        fault) }
+        IsRefused alloc (HasNoItems (in_group levels) levels (drop at text.now))
+        (IsShownIn text.now fault) fault) }
 {
     if let Some(beyond) = after(text, at, b"^") {
         return Ok(leaf(alloc, Tree::Begin, 0, beyond));
@@ -231,61 +187,83 @@ fn read_next(
             at,
         });
     }
-    read_item(alloc, text, at, in_group, levels)
+    let atom = read_leaf(alloc, text, at)?;
+    with_duplications(alloc, text, atom, levels)
 }
 
-/// The branch that begins at a place, up to its end.
-#[cycle(read_branches)]
-fn read_branch(
+/// The level with its next bar, anchor or item.
+fn read_part(
     alloc: Option<Global>,
     text: &[u8],
-    from: usize,
-    in_group: bool,
+    level: Level,
     levels: usize,
-) -> Result<Piece, PatternFault>
-    requires within { from ≤ length text.now }
-    requires starts { IsStart (take from text.now) }
+) -> Result<Level, PatternFault>
+    requires goes_on { pauses (in_group levels) (drop level.items.beyond text.now) ≡ false }
+    requires so_far { LevelSoFar alloc levels text.now level }
     requires few { levels ≤ most_levels }
-    ensures read { IfOk result (BranchStands alloc in_group levels text.now from) }
+    ensures read { IfOk result (IsFurther alloc levels text.now level) }
     ensures refused { IfErr result
         (λ fault.
-        IsRefused alloc (HasNoItems in_group levels (drop from text.now)) (IsShownIn text.now fault)
-        fault) }
-{
-    let mut items = no_pieces(alloc, from);
-    'items: while !stops_at(text, items.beyond, in_group) {
-        let piece = read_next(alloc, text, items.beyond, in_group, levels)?;
-        items = joined(items, piece)?;
-    }
-    Ok(all_of(items))
-}
-
-/// The branches of the expression that begins at a place, up to its end.
-#[cycle(read_branches)]
-fn read_branches(
-    alloc: Option<Global>,
-    text: &[u8],
-    from: usize,
-    in_group: bool,
-    levels: usize,
-) -> Result<Pieces, PatternFault>
-    requires within { from ≤ length text.now }
-    requires starts { IsStart (take from text.now) }
-    requires few { levels ≤ most_levels }
-    ensures read { IfOk result (BranchesStand alloc in_group levels text.now from) }
-    ensures refused { IfErr result
-        (λ fault.
-        IsRefused alloc (HasNoBranches in_group levels (drop from text.now))
+        IsRefused alloc (HasNoBranches (in_group levels) levels (drop level.from text.now))
         (IsShownIn text.now fault) fault) }
 {
-    let none = no_pieces(alloc, from);
-    let first = read_branch(alloc, text, from, in_group, levels)?;
-    let mut branches = joined(none, first)?;
-    'branches: while let Some(beyond) = after(text, branches.beyond, b"|") {
-        let branch = read_branch(alloc, text, beyond, in_group, levels)?;
-        branches = joined(branches, branch)?;
+    let Level {
+        from,
+        branches,
+        items,
+    } = level;
+    if let Some(beyond) = after(text, items.beyond, b"|") {
+        let branches = with_branch(branches, items)?;
+        return Ok(Level {
+            from,
+            branches,
+            items: no_pieces(alloc, beyond),
+        });
     }
-    Ok(branches)
+    let piece = read_next(alloc, text, items.beyond, levels)?;
+    let items = joined(items, piece)?;
+    Ok(Level {
+        from,
+        branches,
+        items,
+    })
+}
+
+/// The level up to its end, or up to a group that opens in it.
+pub(crate) fn read_level(
+    alloc: Option<Global>,
+    text: &[u8],
+    level: Level,
+    levels: usize,
+) -> Result<Level, PatternFault>
+    requires so_far { LevelSoFar alloc levels text.now level }
+    requires few { levels ≤ most_levels }
+    ensures read { IfOk result (IsPaused alloc levels text.now level) }
+    ensures refused { IfErr result
+        (λ fault.
+        IsRefused alloc (HasNoBranches (in_group levels) levels (drop level.from text.now))
+        (IsShownIn text.now fault) fault) }
+{
+    let mut read = level;
+    'parts: while !pauses_at(text, read.items.beyond, levels < MOST_LEVELS) {
+        read = read_part(alloc, text, read, levels)?;
+    }
+    Ok(read)
+}
+
+/// The whole text as a level.
+fn read_text(alloc: Option<Global>, text: &[u8]) -> Result<Level, PatternFault>
+    ensures read { IfOk result (WholeStands alloc text.now) }
+    ensures refused { IfErr result
+        (λ fault.
+        IsRefused alloc (HasNoBranches false most_levels text.now) (IsShownIn text.now fault)
+        fault) }
+{
+    let level = read_level(alloc, text, opened(alloc, 0), MOST_LEVELS)?;
+    if level.items.beyond == text.len() {
+        return Ok(level);
+    }
+    read_groups(alloc, text, level)
 }
 
 /// The extended regular expression that the whole text spells.
@@ -295,7 +273,8 @@ pub(crate) fn read_whole(alloc: Option<Global>, text: &[u8]) -> Result<Piece, Pa
     ensures refused { IfErr result
         (λ fault. RunsOut alloc fault ⊎ IsNoExtended text.now fault) }
 {
-    let branches = read_branches(alloc, text, 0, false, MOST_LEVELS)?;
+    let level = read_text(alloc, text)?;
+    let branches = with_branch(level.branches, level.items)?;
     Ok(any_of(branches))
 }
 
@@ -320,3 +299,5 @@ pub fn read_extended(alloc: Global, text: &[u8]) -> Result<Tree, PatternFault>
         None => unreachable!(),
     }
 }
+
+mod groups;

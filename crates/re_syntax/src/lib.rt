@@ -14,6 +14,7 @@ mod fault;
 mod fixed;
 mod interval;
 mod laws;
+mod levels;
 mod pieces;
 mod positions;
 mod profile;

@@ -1,15 +1,17 @@
 //! Parts of an expression that were read, in basic and in extended expressions. A part has its
 //! number of positions, and where trees are kept the tree of what it means.
-ghost use Rattle.std.specs.Prelude.{◌≡◌, ◌<◌, ◌++◌, ◌∷◌, [], List, Option, Some, IfOk, IfErr, map};
-ghost use Rattle.std.specs.Prelude.{slice_get};
+ghost use Rattle.std.specs.Prelude.{◌≡◌, ◌<◌, ◌≤◌, ◌++◌, ◌∷◌, [], List, Option, Some, IfOk, IfErr};
+ghost use Rattle.std.specs.Prelude.{map, slice_get};
 ghost use Rattle.std.specs.Global.{Global};
 ghost use Rattle.re_syntax.specs.Expression.{Expression, choice, sequence, repeat};
 ghost use Rattle.re_syntax.specs.Working.Trees.{expression_of, members};
 ghost use Rattle.re_syntax.specs.Holds.{copies, positions};
 ghost use Rattle.re_syntax.specs.Faults.{IsNoBracket};
 ghost use Rattle.re_syntax.specs.Profile.{most_levels};
-ghost use Rattle.re_syntax.specs.Working.PieceSteps.{meant_bytes, Keeps, KeepsAll, IsReported, AreReported};
-ghost use Rattle.re_syntax.specs.Working.PieceSteps.{IsBracketPiece, IsRepeated, IsJoined, RunsOut};
+ghost use Rattle.re_syntax.specs.Working.PieceSteps.{meant_bytes, Keeps, KeepsAll};
+ghost use Rattle.re_syntax.specs.Working.PieceSteps.{IsReported, AreReported, IsBracketPiece};
+ghost use Rattle.re_syntax.specs.Working.PieceSteps.{IsRepeated, IsJoined, RunsOut};
+ghost use Rattle.re_syntax.specs.Working.LevelSteps.{IsOpened, HasBranchAdded, IsGroupOf};
 
 use crate::bracket::read_bracket;
 use crate::bytes::ByteSet;
@@ -44,6 +46,18 @@ pub struct Pieces {
     pub height: usize,
     /// The place after the last of them.
     pub beyond: usize,
+}
+
+/// The whole text, or a group that is open: its branches that were read, and the items of the
+/// branch after them.
+#[derive(Drop)]
+pub struct Level {
+    /// The place where its first branch begins.
+    pub from: usize,
+    /// The branches.
+    pub branches: Pieces,
+    /// The items.
+    pub items: Pieces,
 }
 
 /// The bytes that a byte means outside brackets and escapes: a period means any byte but NUL, any
@@ -207,8 +221,8 @@ fn choice_of(mut branches: Vec<Tree>) -> Tree
 
 /// The branches of an expression as one piece.
 pub fn any_of(branches: Pieces) -> Piece
-    ensures reported { (alloc : Option Global) (es : List Expression) → AreReported alloc branches es →
-        IsReported alloc result (choice es) }
+    ensures reported { (alloc : Option Global) (es : List Expression) →
+        AreReported alloc branches es → IsReported alloc result (choice es) }
     ensures height { result.height ≡ branches.height }
     ensures place { result.beyond ≡ branches.beyond }
 {
@@ -232,5 +246,39 @@ pub fn all_of(items: Pieces) -> Piece
         positions: items.positions,
         height: items.height,
         beyond: items.beyond,
+    }
+}
+
+/// The level whose first branch begins at a place.
+pub fn opened(alloc: Option<Global>, at: usize) -> Level
+    ensures { IsOpened alloc result at }
+{
+    Level {
+        from: at,
+        branches: no_pieces(alloc, at),
+        items: no_pieces(alloc, at),
+    }
+}
+
+/// The branches, and after them one of these items.
+pub fn with_branch(branches: Pieces, items: Pieces) -> Result<Pieces, PatternFault>
+    ensures made { IfOk result (HasBranchAdded branches items) }
+    ensures refused { IfErr result (RunsOut branches.trees) }
+{
+    let branch = all_of(items);
+    joined(branches, branch)
+}
+
+/// The group of these branches, up to the place after its closing.
+pub fn group_of(branches: Pieces, beyond: usize) -> Piece
+    requires { branches.height ≤ most_levels }
+    ensures { IsGroupOf branches beyond result }
+{
+    let inside = any_of(branches);
+    Piece {
+        tree: inside.tree,
+        positions: inside.positions,
+        height: inside.height + 1,
+        beyond,
     }
 }

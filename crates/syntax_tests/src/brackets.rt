@@ -34,15 +34,15 @@ fn answer(text: &[u8], from: usize) -> Result<(Tree, usize), PatternFault> {
 }
 
 fn is_set(text: &[u8], ranges: &[(u8, u8)], end: usize) -> bool {
-    match answer(text, 0) {
-        Ok((Tree::Set(set), beyond)) => beyond == end && has_exactly(&set, ranges),
+    match &answer(text, 0) {
+        Ok((Tree::Set(set), beyond)) => *beyond == end && has_exactly(set, ranges),
         _ => false,
     }
 }
 
 fn is_complement(text: &[u8], ranges: &[(u8, u8)], end: usize) -> bool {
-    match answer(text, 0) {
-        Ok((Tree::Not(set), beyond)) => beyond == end && has_exactly(&set, ranges),
+    match &answer(text, 0) {
+        Ok((Tree::Not(set), beyond)) => *beyond == end && has_exactly(set, ranges),
         _ => false,
     }
 }

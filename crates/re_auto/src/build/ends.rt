@@ -28,26 +28,37 @@ pub struct Ends {
 
 impl Ends {
     /// The ends of a part without positions, from a number on.
+    #[inline(never)]
     pub fn blank(
         alloc: Global,
         width: usize,
         begins: usize,
         empty: Empty,
-    ) -> Result<Ends, AllocError>
-        ensures { IfOk result (IsBlank width begins empty) }
+    ) -> Result<Box<Ends>, AllocError>
+        ensures { IfOk result (λ ends. IsBlank width begins empty ends.value) }
     {
-        Ok(Ends {
+        let ends = Ends {
             begins,
             first_at_begin: blank_set(alloc, width)?,
             first_inside: blank_set(alloc, width)?,
             last_at_end: blank_set(alloc, width)?,
             last_inside: blank_set(alloc, width)?,
             empty,
-        })
+        };
+        Ok(Box::new(alloc, ends)?)
     }
 
     /// The ends of one position.
-    pub fn one(alloc: Global, width: usize, position: usize) -> Result<Ends, AllocError>
+    pub fn one(alloc: Global, width: usize, position: usize) -> Result<Box<Ends>, AllocError>
+        requires { position < width * 64 }
+        ensures { IfOk result (λ ends. IsOne width position ends.value) }
+    {
+        let ends = Ends::of_position(alloc, width, position)?;
+        Ok(Box::new(alloc, ends)?)
+    }
+
+    // The same, without a box.
+    fn of_position(alloc: Global, width: usize, position: usize) -> Result<Ends, AllocError>
         requires { position < width * 64 }
         ensures { IfOk result (IsOne width position) }
     {
@@ -62,71 +73,103 @@ impl Ends {
     }
 
     /// The ends of a part that may be left out.
-    pub fn optional(self) -> Ends
-        requires { HasWidth (length self.first_inside.items) self }
-        ensures begins { result.begins ≡ self.begins }
-        ensures shows { Shows (optional (shown self)) (length self.first_inside.items) result }
+    #[inline(never)]
+    pub fn optional(part: Box<Ends>) -> Box<Ends>
+        requires { HasWidth (length part.value.first_inside.items) part.value }
+        ensures begins { result.value.begins ≡ part.value.begins }
+        ensures shows { Shows (optional (shown part.value)) (length part.value.first_inside.items)
+            result.value }
     {
-        Ends {
-            empty: Empty::anywhere(),
-            ..self
-        }
+        let mut ends = part;
+        ends.be_optional();
+        ends
+    }
+
+    // Adds that the part may be left out.
+    fn be_optional(&mut self)
+        requires { HasWidth (length self.old.first_inside.items) self.old }
+        ensures begins { self.new.begins ≡ self.old.begins }
+        ensures shows { Shows (optional (shown self.old)) (length self.old.first_inside.items)
+            self.new }
+    {
+        self.empty = Empty::anywhere();
     }
 
     /// The ends of two parts in turn.
-    pub fn in_turn(self, rest: Ends) -> Ends
-        requires left { HasWidth (length self.first_inside.items) self }
-        requires right { HasWidth (length self.first_inside.items) rest }
-        ensures begins { result.begins ≡ self.begins }
-        ensures shows { Shows (in_turn (shown self) (shown rest)) (length self.first_inside.items)
-            result }
+    pub fn in_turn(part: Box<Ends>, rest: Box<Ends>) -> Box<Ends>
+        requires left { HasWidth (length part.value.first_inside.items) part.value }
+        requires right { HasWidth (length part.value.first_inside.items) rest.value }
+        ensures begins { result.value.begins ≡ part.value.begins }
+        ensures shows { Shows (in_turn (shown part.value) (shown rest.value))
+            (length part.value.first_inside.items) result.value }
     {
-        let mut first_at_begin = self.first_at_begin;
-        let mut first_inside = self.first_inside;
+        let mut ends = part;
+        let rest = Box::into_inner(rest);
+        ends.add_after(rest);
+        ends
+    }
+
+    // Adds what comes after the part, whose ends these are.
+    fn add_after(&mut self, rest: Ends)
+        requires left { HasWidth (length self.old.first_inside.items) self.old }
+        requires right { HasWidth (length self.old.first_inside.items) rest }
+        ensures begins { self.new.begins ≡ self.old.begins }
+        ensures shows { Shows (in_turn (shown self.old) (shown rest))
+            (length self.old.first_inside.items) self.new }
+    {
         let mut last_at_end = rest.last_at_end;
         let mut last_inside = rest.last_inside;
         add_if(
-            &mut first_at_begin,
+            &mut self.first_at_begin,
             &rest.first_at_begin,
             self.empty.at_begin,
         );
-        add_if(&mut first_inside, &rest.first_inside, self.empty.inside);
+        add_if(
+            &mut self.first_inside,
+            &rest.first_inside,
+            self.empty.inside,
+        );
         add_if(&mut last_at_end, &self.last_at_end, rest.empty.at_end);
         add_if(&mut last_inside, &self.last_inside, rest.empty.inside);
-        Ends {
-            begins: self.begins,
-            first_at_begin,
-            first_inside,
-            last_at_end,
-            last_inside,
-            empty: self.empty.and(rest.empty),
-        }
+        self.last_at_end = last_at_end;
+        self.last_inside = last_inside;
+        self.empty = self.empty.and(rest.empty);
     }
 
     /// The ends of a choice between two parts.
-    pub fn either(self, rest: Ends) -> Ends
-        requires left { HasWidth (length self.first_inside.items) self }
-        requires right { HasWidth (length self.first_inside.items) rest }
-        ensures begins { result.begins ≡ self.begins }
-        ensures shows { Shows (either (shown self) (shown rest)) (length self.first_inside.items)
-            result }
+    #[inline(never)]
+    pub fn either(part: Box<Ends>, rest: Box<Ends>) -> Box<Ends>
+        requires left { HasWidth (length part.value.first_inside.items) part.value }
+        requires right { HasWidth (length part.value.first_inside.items) rest.value }
+        ensures begins { result.value.begins ≡ part.value.begins }
+        ensures shows { Shows (either (shown part.value) (shown rest.value))
+            (length part.value.first_inside.items) result.value }
     {
-        let mut first_at_begin = self.first_at_begin;
-        let mut first_inside = self.first_inside;
-        let mut last_at_end = self.last_at_end;
-        let mut last_inside = self.last_inside;
-        add_set(&mut first_at_begin, &rest.first_at_begin);
-        add_set(&mut first_inside, &rest.first_inside);
-        add_set(&mut last_at_end, &rest.last_at_end);
-        add_set(&mut last_inside, &rest.last_inside);
-        Ends {
-            begins: self.begins,
-            first_at_begin,
-            first_inside,
-            last_at_end,
-            last_inside,
-            empty: self.empty.or(rest.empty),
-        }
+        let mut ends = part;
+        ends.add_other(&rest);
+        ends
+    }
+
+    // Adds the other branches of a choice, the first of which has these ends.
+    fn add_other(&mut self, rest: &Ends)
+        requires left { HasWidth (length self.old.first_inside.items) self.old }
+        requires right { HasWidth (length self.old.first_inside.items) rest.now }
+        ensures begins { self.new.begins ≡ self.old.begins }
+        ensures shows { Shows (either (shown self.old) (shown rest.now))
+            (length self.old.first_inside.items) self.new }
+    {
+        add_set(&mut self.first_at_begin, &rest.first_at_begin);
+        add_set(&mut self.first_inside, &rest.first_inside);
+        add_set(&mut self.last_at_end, &rest.last_at_end);
+        add_set(&mut self.last_inside, &rest.last_inside);
+        self.empty = self.empty.or(rest.empty);
+    }
+
+    /// Drops the ends where memory ran out, and returns that error.
+    #[inline(never)]
+    pub fn out_of_memory(ends: Box<Ends>) -> AllocError {
+        drop(ends);
+        AllocError
     }
 }
 

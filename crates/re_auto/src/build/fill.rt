@@ -39,6 +39,7 @@ fn fill_tables(alloc: Global, tree: &Tree, count: usize) -> Result<Tables, Alloc
 {
     let mut rows = Rows::blank(alloc, count)?;
     let ends = rows.add(alloc, tree, count)?;
+    let ends = Box::into_inner(ends);
     let marks = bytes_meeting(&rows.takes, rows.width, &ends.first_inside);
     let classes = classes_of(alloc, &rows.takes, rows.width)?;
     let ranges = ranges_of(alloc, &rows.follow, rows.width, count)?;

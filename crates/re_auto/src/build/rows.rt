@@ -43,20 +43,23 @@ impl Rows {
     }
 
     /// Adds that the second part can follow the first, and returns the ends of both in turn.
-    pub fn in_turn(&mut self, part: Ends, rest: Ends) -> Ends
-        requires left { HasWidth self.old.width part }
-        requires right { HasWidth self.old.width rest }
+    #[inline(never)]
+    pub fn in_turn(&mut self, part: Box<Ends>, rest: Box<Ends>) -> Box<Ends>
+        requires left { HasWidth self.old.width part.value }
+        requires right { HasWidth self.old.width rest.value }
         requires few { self.old.width ≤ most_words }
-        requires rows { HasRows (Has part.last_inside.items) self.old }
-        ensures begins { result.begins ≡ part.begins }
-        ensures shows { Shows (in_turn (shown part) (shown rest)) self.old.width result }
-        ensures adds { Adds (in_turn (shown part) (shown rest)) self.old self.new }
+        requires rows { HasRows (Has part.value.last_inside.items) self.old }
+        ensures begins { result.value.begins ≡ part.value.begins }
+        ensures shows { Shows (in_turn (shown part.value) (shown rest.value)) self.old.width
+            result.value }
+        ensures adds { Adds (in_turn (shown part.value) (shown rest.value)) self.old self.new }
     {
         self.cross(&part.last_inside, &rest.first_inside);
-        part.in_turn(rest)
+        Ends::in_turn(part, rest)
     }
 
     /// Adds that the part can follow itself.
+    #[inline(never)]
     pub fn again(&mut self, part: &Ends)
         requires width { HasWidth self.old.width part.now }
         requires few { self.old.width ≤ most_words }

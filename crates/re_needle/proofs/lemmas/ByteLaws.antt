@@ -1,5 +1,5 @@
 -- The bytes of stretches on which an expression holds.
-use Rattle.re_needle.proofs.Prelude.{◌≡◌, ℕ, zero, suc, ◌+◌, ◌<◌, ◌≤◌, inl, inr, IsTrue, List, [], ◌∷◌, ◌++◌, length, map, take, get_or, slice_index, Option, sym, ap, ◌∙◌, subst, arith, cases_lt, map-append, take_more, get_or_from_slice_get, Bytes, Tree, Expression, one_of, cat, alt, repeat, expression_of, Holds, Turns, HasBytesOf}
+use Rattle.re_needle.proofs.Prelude.{◌≡◌, ℕ, zero, suc, ◌+◌, ◌<◌, ◌≤◌, inl, inr, IsTrue, List, [], ◌∷◌, ◌++◌, length, map, take, get_or, slice_index, Option, sym, ap, ◌∙◌, subst, arith, cases_lt, map-append, take_more, get_or_from_slice_get, false≢true, nothing, Bytes, Tree, Expression, one_of, cat, alt, repeat, expression_of, Holds, Turns, HasBytesOf}
 use Rattle.re_syntax.specs.Expression.{none_of}
 use Rattle.re_needle.proofs.lemmas.NeededLaws.{cat_cut}
 
@@ -8,6 +8,10 @@ bytes_set s line small i j (b, at, has, next) k low high =
     let same : i ≡ k = omega (arith, next, low, high) in
     let here : slice_index line i ≡ b = get_or_from_slice_get line i b 0 at in
     subst (λ n. IsTrue (s (slice_index line n))) same (subst (λ x. IsTrue (s x)) (sym here) has)
+
+-- what has each byte that is not in a set without any
+pub bytes_any : (none outside : Bytes) (e : Expression) → none ≡ nothing → ((x : ℕ) → x < 256 → (IsTrue (none x) → ⊥) → IsTrue (outside x)) → HasBytesOf outside e
+bytes_any none outside e is has line small i j h k low high = has (slice_index line k) (small k) (λ in_it. false≢true (subst (λ s. IsTrue (s (slice_index line k))) is in_it))
 
 pub bytes_not : (s outside : Bytes) → ((x : ℕ) → x < 256 → (IsTrue (s x) → ⊥) → IsTrue (outside x)) → HasBytesOf outside (none_of s)
 bytes_not s outside has line small i j (b, at, lacks, next) k low high =

@@ -1,12 +1,12 @@
 -- Groups of basic expressions, and a whole expression, by the branches at their places.
-use Rattle.re_syntax.proofs.Prelude.{◌≡◌, ◌≢◌, ℕ, suc, ◌+◌, ◌-◌, ◌<◌, ◌≤◌, ◌⊎◌, inl, inr, List, [], ◌∷◌, ◌++◌, length, take, drop, codes, refl, sym, ap, ◌∙◌, subst, arith, length-drop, Option, Global, nil_from_length, take-append-drop, Piece, Pieces, UnopenedGroup, PatternFault, Basic, Text, Begins, IsAfter, Expression, choice, ItemPlace, IsNoBasic, IsAtLast, text_ends, group_ends, IsRefused, RunsOut, memory, reported, IsReported, AreReported, most_levels, IsSpelled, as_basic}
+use Rattle.re_syntax.proofs.Prelude.{◌≡◌, ℕ, suc, ◌+◌, ◌<◌, ◌≤◌, ◌⊎◌, inl, inr, List, [], ◌∷◌, ◌++◌, length, drop, codes, refl, sym, ap, ◌∙◌, subst, arith, length-drop, Option, Global, nil_from_length, take-append-drop, Piece, Pieces, UnopenedGroup, PatternFault, Basic, Text, Begins, IsAfter, Expression, choice, ItemPlace, IsNoBasic, IsAtLast, text_ends, group_ends, IsRefused, RunsOut, memory, reported, IsReported, AreReported, most_levels, IsSpelled, as_basic}
 use Rattle.re_syntax.specs.Basic.{Branches, Atom, bracket, period, escaped, ordinary, group}
-use Rattle.re_syntax.specs.BasicFaults.{IsStart, OpensUnclosed, IsShownIn}
+use Rattle.re_syntax.specs.BasicFaults.{OpensUnclosed, IsShownIn}
 use Rattle.re_syntax.specs.Working.BasicSteps.{AtomStands, HasNoAtom, HasNoBranches, BranchesStand}
 use Rattle.re_syntax.proofs.lemmas.BracketsUnique.{heads, tails, apart, bracket_front}
 use Rattle.re_syntax.proofs.lemmas.AtomFronts.{not_ordinary, never_backslash, undefined_apart}
 use Rattle.re_syntax.proofs.lemmas.BasicUnique.{branches-unique}
-use Rattle.re_syntax.proofs.lemmas.Places.{beyond_first, take-after}
+use Rattle.re_syntax.proofs.lemmas.Places.{beyond_first}
 
 -- what follows a group's opening
 pub after_opening : (text : Text) (at : ℕ) → Begins (codes "\\(") (drop at text) → drop at text ≡ codes "\\(" ++ drop (at + 2) text
@@ -16,19 +16,11 @@ after_opening text at (rest, e) =
     let there : at + 1 + 1 ≡ at + 2 = omega arith in
     e ∙ ap (λ x. 92 ∷ 40 ∷ x) (two ∙ ap (λ n. drop n text) there)
 
--- a group's opening is within the text
-pub opening_within : (text : Text) (at : ℕ) → Begins (codes "\\(") (drop at text) → at + 2 ≤ length text
-opening_within text at (rest, e) = omega (arith, simp length-drop at (ap length e))
-
--- an expression starts after a group's opening
-pub opening_starts : (text : Text) (at : ℕ) → Begins (codes "\\(") (drop at text) → IsStart (take (at + 2) text)
-opening_starts text at b = inr (inl (take at text, take-after text at (codes "\\(") (drop (at + 2) text) (after_opening text at b)))
-
 -- a group whose branches were read is an atom
-pub group_stands : {alloc : Option Global} (levels : ℕ) (text : Text) (at : ℕ) (branches : Pieces) (piece : Piece) → Begins (codes "\\(") (drop at text) → levels ≢ 0 →
-    BranchesStand alloc (levels - 1) text (at + 2) branches → IsAfter (codes "\\)") text branches.beyond piece.beyond → piece.height ≡ branches.height + 1 →
-    ((es : List Expression) → AreReported alloc branches es → IsReported alloc piece (choice es)) → (p : ItemPlace) → AtomStands alloc p levels text at piece
-group_stands levels text at branches piece b n s c e f p =
+pub group_stands : {alloc : Option Global} (levels : ℕ) (text : Text) (at : ℕ) (branches : Pieces) (piece : Piece) → Begins (codes "\\(") (drop at text) →
+    BranchesStand alloc levels text (at + 2) branches → IsAfter (codes "\\)") text branches.beyond piece.beyond → piece.height ≡ branches.height + 1 →
+    ((es : List Expression) → AreReported alloc branches es → IsReported alloc piece (choice es)) → (p : ItemPlace) → AtomStands alloc p (levels + 1) text at piece
+group_stands levels text at branches piece b s c e f p =
     let es = s.members in
     let inner : Branches branches.height (drop (at + 2) text) (codes "\\)" ++ drop piece.beyond text) es =
     subst (λ u. Branches branches.height (drop (at + 2) text) u es) c.front s.stands in
@@ -68,8 +60,8 @@ pub no_group_left : (levels : ℕ) (text : Text) (at : ℕ) → Begins (codes "\
 no_group_left levels text at (w, e) n p = record { none = λ h u x a le. let g = is_group a e in absurd (omega (arith, g.height)) }
 
 -- where no branches are inside there is no group
-pub no_group_inside : (levels : ℕ) (text : Text) (at : ℕ) → Begins (codes "\\(") (drop at text) → HasNoBranches (levels - 1) (drop (at + 2) text) →
-    (p : ItemPlace) → HasNoAtom p levels (drop at text)
+pub no_group_inside : (levels : ℕ) (text : Text) (at : ℕ) → Begins (codes "\\(") (drop at text) → HasNoBranches levels (drop (at + 2) text) →
+    (p : ItemPlace) → HasNoAtom p (levels + 1) (drop at text)
 no_group_inside levels text at b k p = record {
   none = λ h u x a le.
       let g = is_group a (after_opening text at b) in
@@ -77,9 +69,9 @@ no_group_inside levels text at b k p = record {
 }
 
 -- where no end of the group follows the branches there is no group
-pub no_group_end : {alloc : Option Global} (levels : ℕ) (text : Text) (at : ℕ) (branches : Pieces) → Begins (codes "\\(") (drop at text) → BranchesStand alloc (levels - 1) text (at + 2) branches →
-    ¬ Begins (codes "\\)") (drop branches.beyond text) → (p : ItemPlace) → HasNoAtom p levels (drop at text)
-no_group_end levels text at branches b s k p = record {
+pub no_group_end : {alloc : Option Global} (most levels : ℕ) (text : Text) (at : ℕ) (branches : Pieces) → Begins (codes "\\(") (drop at text) → BranchesStand alloc levels text (at + 2) branches →
+    ¬ Begins (codes "\\)") (drop branches.beyond text) → (p : ItemPlace) → HasNoAtom p most (drop at text)
+no_group_end most levels text at branches b s k p = record {
   none = λ h u x a le.
       let g = is_group a (after_opening text at b) in
       let same = branches-unique g.inside s.stands refl group_ends s.at_end in

@@ -1,8 +1,8 @@
 -- Items of basic expressions, by their atoms and what follows them.
-use Rattle.re_syntax.proofs.Prelude.{◌≡◌, ◌≢◌, ℕ, suc, ◌<◌, ◌≤◌, inr, max, List, ◌∷◌, ◌++◌, length, drop, Option, IsTrue, true, false, refl, sym, ap, ◌∙◌, subst, arith, append_assoc, length-append, length-drop, Global, [], Piece, Pieces, Counts, TooDeep, PatternFault, Text, Expression, sequence, repeat, ItemPlace, AfterAnchor, Later, IsAtEnd, leading, OpensNoDuplication, HasItem, SoFar, IsEnded, IsReported, AreReported, IsRepeated, IsJoined}
-use Rattle.re_syntax.specs.Basic.{Duplication, star, plus, question, interval, Items, none, trailing, item, Item, atom, repeated, Atom}
+use Rattle.re_syntax.proofs.Prelude.{◌≡◌, ◌≢◌, ℕ, suc, ◌<◌, ◌≤◌, inr, max, List, ◌∷◌, ◌++◌, length, drop, Option, IsTrue, true, false, refl, sym, ap, ◌∙◌, subst, arith, append_assoc, length-append, length-drop, Global, [], Piece, Pieces, Counts, TooDeep, PatternFault, Text, Expression, repeat, ItemPlace, Later, IsAtEnd, leading, OpensNoDuplication, HasItem, SoFar, IsEnded, IsRepeated, IsJoined}
+use Rattle.re_syntax.specs.Basic.{First, Duplication, star, plus, question, interval, Items, none, trailing, item, Item, atom, repeated, Atom}
 use Rattle.re_syntax.specs.BasicFaults.{IsShownIn}
-use Rattle.re_syntax.specs.Working.BasicSteps.{DuplicationStands, HasBadInterval, MayBegin, AtomStands, HasNoAtom, ItemStands, HasNoItems, BranchStands}
+use Rattle.re_syntax.specs.Working.BasicSteps.{DuplicationStands, HasBadInterval, MayBegin, AtomStands, HasNoAtom, ItemSoFar, ItemStands, HasNoItems}
 use Rattle.re_syntax.proofs.lemmas.BracketsUnique.{heads, tails, apart}
 use Rattle.re_syntax.proofs.lemmas.Chains.{stands_some}
 use Rattle.re_syntax.proofs.lemmas.BasicUnique.{item_parts, item_front, end_front, items-after, items-higher}
@@ -10,10 +10,6 @@ use Rattle.re_syntax.proofs.lemmas.BasicIntervals.{opens_none}
 use Rattle.re_syntax.proofs.lemmas.Places.{regrouped}
 use Rattle.re_syntax.proofs.lemmas.BasicLeads.{at_height}
 use Rattle.re_syntax.proofs.lemmas.AtomFronts.{is_ending}
-
--- after the anchor an item may begin with any byte
-pub after_anchor : (t : Text) → MayBegin AfterAnchor t
-after_anchor t = record { no_lead = λ e. cc; no_duplication = λ e. cc }
 
 -- where an item has to begin and there is no atom, there are no items
 pub no_items_without_atom : {p : ItemPlace} {levels : ℕ} {t : Text} → HasItem t → MayBegin p t → HasNoAtom p levels t → HasNoItems p levels t
@@ -29,31 +25,14 @@ no_items_without_atom {p} {levels} {t} i b h = record { none = λ n u es is end'
         let there : Atom p parts.level t parts.rest parts.start = subst (λ x. Atom x parts.level t parts.rest parts.start) f here in
         h.none parts.level parts.rest parts.start there (omega (arith, parts.height))
 
--- the piece is an item that may be at this place of its branch
-pub record MeansItem (alloc : Option Global) (p : ItemPlace) (text : Text) (at : ℕ) (piece : Piece) : Type 0 where
-  pub meaning : Expression
-  pub is : IsReported alloc piece meaning
-  pub stands : Item p piece.height (drop at text) (drop piece.beyond text) meaning
-
--- an item that was read up to a place; duplications may follow
-pub record ItemSoFar (alloc : Option Global) (levels : ℕ) (text : Text) (at : ℕ) (piece : Piece) : Type 0 where
-  pub forward : at < piece.beyond
-  pub within : piece.beyond ≤ length text
-  pub height : piece.height ≤ levels
-  pub stands : (p : ItemPlace) → MayBegin p (drop at text) → MeansItem alloc p text at piece
-
 -- an atom is such an item
-pub item_of_atom : {alloc : Option Global} (levels : ℕ) (text : Text) (at : ℕ) (piece : Piece) → ((p : ItemPlace) → MayBegin p (drop at text) → AtomStands alloc p levels text at piece) → ItemSoFar alloc levels text at piece
-item_of_atom levels text at piece h =
-    let a = h AfterAnchor (after_anchor (drop at text)) in
-    record { forward = a.forward; within = a.within; height = a.height; stands = λ p b. record { meaning = (h p b).meaning; is = (h p b).is; stands = atom (h p b).stands } }
+pub item_of_atom : {alloc : Option Global} {p : ItemPlace} {levels : ℕ} {text : Text} {at : ℕ} {piece : Piece} → AtomStands alloc p levels text at piece → ItemSoFar alloc p levels text at piece
+item_of_atom a = record { forward = a.forward; within = a.within; height = a.height; meaning = a.meaning; is = a.is; stands = atom a.stands }
 
 -- where no duplication follows, the item is complete
-pub item_read : {alloc : Option Global} (levels : ℕ) (text : Text) (at : ℕ) (piece : Piece) → ItemSoFar alloc levels text at piece → OpensNoDuplication (drop piece.beyond text) →
-    (p : ItemPlace) → MayBegin p (drop at text) → ItemStands alloc p levels text at piece
-item_read levels text at piece h n p b =
-    let m = h.stands p b in
-    record { forward = h.forward; within = h.within; height = h.height; no_more = n; meaning = m.meaning; is = m.is; stands = m.stands }
+pub item_read : {alloc : Option Global} {p : ItemPlace} {levels : ℕ} {text : Text} {at : ℕ} {piece : Piece} → ItemSoFar alloc p levels text at piece →
+    OpensNoDuplication (drop piece.beyond text) → ItemStands alloc p levels text at piece
+item_read h n = record { forward = h.forward; within = h.within; height = h.height; no_more = n; meaning = h.meaning; is = h.is; stands = h.stands }
 
 -- a duplication takes at least one byte
 pub duplication_takes : {text : Text} {at : ℕ} {counts : Counts} {beyond : ℕ} → DuplicationStands text at counts beyond → at < beyond
@@ -66,29 +45,46 @@ duplication_takes {text} {at} {counts} {beyond} d = go d.duplication d.front
     go (interval {t = t} form allowed) e = omega (arith, simp (length-append, length-drop) at (ap length e), d.within)
 
 -- the item with one more duplication
-pub item_repeated : {alloc : Option Global} (levels : ℕ) (text : Text) (at : ℕ) (old new : Piece) (counts : Counts) (beyond : ℕ) → ItemSoFar alloc levels text at old → old.height ≢ levels →
-    DuplicationStands text old.beyond counts beyond → IsRepeated alloc old counts beyond new → ItemSoFar alloc levels text at new
-item_repeated levels text at old new counts beyond h n d r =
+pub item_repeated : {alloc : Option Global} (p : ItemPlace) (levels : ℕ) (text : Text) (at : ℕ) (old new : Piece) (counts : Counts) (beyond : ℕ) → ItemSoFar alloc p levels text at old → old.height ≢ levels →
+    DuplicationStands text old.beyond counts beyond → IsRepeated alloc old counts beyond new → ItemSoFar alloc p levels text at new
+item_repeated p levels text at old new counts beyond h n d r =
     let takes = duplication_takes d in
+    let there : Item p old.height (drop at text) (d.bytes ++ drop beyond text) h.meaning =
+    subst (λ t. Item p old.height (drop at text) t h.meaning) d.front h.stands in
+    let grown : suc old.height ≡ new.height = omega (arith, r.height) in
+    let again : Item p new.height (drop at text) (drop beyond text) (repeat h.meaning counts.least counts.most) =
+    subst (λ k. Item p k (drop at text) (drop beyond text) (repeat h.meaning counts.least counts.most)) grown (repeated there d.duplication) in
     record {
       forward = omega (arith, h.forward, r.place);
       within = omega (arith, d.within, r.place);
       height = omega (arith, h.height, r.height);
-      stands = λ p b.
-          let m = h.stands p b in
-          let there : Item p old.height (drop at text) (d.bytes ++ drop beyond text) m.meaning =
-          subst (λ t. Item p old.height (drop at text) t m.meaning) d.front m.stands in
-          let grown : suc old.height ≡ new.height = omega (arith, r.height) in
-          let again : Item p new.height (drop at text) (drop beyond text) (repeat m.meaning counts.least counts.most) =
-          subst (λ k. Item p k (drop at text) (drop beyond text) (repeat m.meaning counts.least counts.most)) grown (repeated there d.duplication) in
-          record { meaning = repeat m.meaning counts.least counts.most; is = r.means m.meaning m.is; stands = rw r.place again };
+      meaning = repeat h.meaning counts.least counts.most;
+      is = r.means h.meaning h.is;
+      stands = rw r.place again;
     }
 
+-- the piece is the other with duplications after it
+pub record IsRepeatedItem (alloc : Option Global) (levels : ℕ) (text : Text) (old new : Piece) : Type 0 where
+  pub forward : old.beyond ≤ new.beyond
+  pub within : new.beyond ≤ length text
+  pub height : new.height ≤ levels
+  pub means : (p : ItemPlace) (at : ℕ) → ItemSoFar alloc p levels text at old → ItemSoFar alloc p levels text at new
+
+-- with one more duplication too
+pub repeated_again : {alloc : Option Global} (levels : ℕ) (text : Text) (first old new : Piece) (counts : Counts) (beyond : ℕ) → IsRepeatedItem alloc levels text first old →
+    old.height ≢ levels → DuplicationStands text old.beyond counts beyond → IsRepeated alloc old counts beyond new → IsRepeatedItem alloc levels text first new
+repeated_again levels text first old new counts beyond i n d r = record {
+  forward = omega (arith, i.forward, duplication_takes d, r.place);
+  within = omega (arith, d.within, r.place);
+  height = let height = i.height in omega (arith, r.height);
+  means = λ p at h. item_repeated p levels text at old new counts beyond (i.means p at h) n d r;
+}
+
 -- one more duplication than there are levels is too many
-pub too_deep : {alloc : Option Global} (levels : ℕ) (text : Text) (at : ℕ) (piece : Piece) (counts : Counts) (beyond : ℕ) → ItemSoFar alloc levels text at piece → piece.height ≡ levels →
-    DuplicationStands text piece.beyond counts beyond → (p : ItemPlace) → MayBegin p (drop at text) → HasNoItems p levels (drop at text)
-too_deep levels text at piece counts beyond h e d p b = record {
-  none = λ n u es is end' le. let higher = items-higher is (h.stands p b).stands refl end' (stands_some d) in absurd (omega arith);
+pub too_deep : {alloc : Option Global} (p : ItemPlace) (levels : ℕ) (text : Text) (at : ℕ) (piece : Piece) (counts : Counts) (beyond : ℕ) → ItemSoFar alloc p levels text at piece → piece.height ≡ levels →
+    DuplicationStands text piece.beyond counts beyond → HasNoItems p levels (drop at text)
+too_deep p levels text at piece counts beyond h e d = record {
+  none = λ n u es is end' le. let higher = items-higher is h.stands refl end' (stands_some d) in absurd (omega arith);
 }
 
 -- a duplication that is too many shows at its place
@@ -107,11 +103,11 @@ later_not_interval (trailing l) w e h = apart 36 92 (heads e) refl
 later_not_interval (item i is) w e h = let (b, v, f, clear) = item_front i in clear.no_duplication (heads (sym f ∙ e)) 123 w (tails (sym f ∙ e)) refl
 
 -- so there are no items where an interval after an item is refused
-pub no_items_bad : {alloc : Option Global} (levels : ℕ) (text : Text) (at : ℕ) (piece : Piece) (fault : PatternFault) → ItemSoFar alloc levels text at piece → HasBadInterval text piece.beyond fault →
-    (p : ItemPlace) → MayBegin p (drop at text) → HasNoItems p levels (drop at text)
-no_items_bad levels text at piece fault h bad p b = record {
+pub no_items_bad : {alloc : Option Global} (p : ItemPlace) (levels : ℕ) (text : Text) (at : ℕ) (piece : Piece) (fault : PatternFault) → ItemSoFar alloc p levels text at piece →
+    HasBadInterval text piece.beyond fault → HasNoItems p levels (drop at text)
+no_items_bad p levels text at piece fault h bad = record {
   none = λ n u es is end' le.
-      let rest = items-after is (h.stands p b).stands refl end' bad.none in
+      let rest = items-after is h.stands refl end' bad.none in
       let (w, e) = bad.opens in
       later_not_interval rest.items w e end';
 }
@@ -119,10 +115,9 @@ no_items_bad levels text at piece fault h bad p b = record {
 -- The items so far, and one more.
 
 -- one more item
-pub one_more : {alloc : Option Global} (levels : ℕ) (text : Text) (from : ℕ) (old new : Pieces) (piece : Piece) → SoFar alloc levels text from old →
-    ((p : ItemPlace) → MayBegin p (drop old.beyond text) → ItemStands alloc p levels text old.beyond piece) → IsJoined old piece new → SoFar alloc levels text from new
-one_more {alloc} levels text from old new piece s h j =
-    let i = h s.place s.begins in
+pub one_more : {alloc : Option Global} (levels : ℕ) (text : Text) (from : ℕ) (old new : Pieces) (piece : Piece) (s : SoFar alloc levels text from old) →
+    ItemStands alloc s.place levels text old.beyond piece → IsJoined old piece new → SoFar alloc levels text from new
+one_more {alloc} levels text from old new piece s i j =
     record {
       forward = omega (arith, j.place, i.forward, s.forward);
       within = omega (arith, j.place, i.within);
@@ -143,17 +138,7 @@ one_more {alloc} levels text from old new piece s h j =
       });
     }
 
--- the end of the branch
-pub all_read : {alloc : Option Global} (levels : ℕ) (text : Text) (from : ℕ) (old new : Pieces) (piece : Piece) → SoFar alloc levels text from old → IsEnded alloc text old new →
-    ((es : List Expression) → AreReported alloc new es → IsReported alloc piece (sequence es)) → piece.height ≡ new.height → piece.beyond ≡ new.beyond → BranchStands alloc levels text from piece
-all_read levels text from old new piece s e means h b = record {
-  forward = omega (arith, s.forward, e.forward);
-  within = omega (arith, e.within);
-  at_end = rw b e.at_end;
-  height = omega (arith, e.height, s.height);
-  members = s.members ++ e.last;
-  stands =
-      let all = s.ahead 0 (drop new.beyond text) e.last (e.stands s.place) in
-      rw (h, b) (at_height (omega (arith, e.height)) all);
-  is = means (s.members ++ e.last) (e.means s.members s.are);
-}
+-- the items up to the end of the branch
+pub ended_items : {alloc : Option Global} (levels : ℕ) (text : Text) (from : ℕ) (old new : Pieces) (s : SoFar alloc levels text from old) (e : IsEnded alloc text old new) →
+    Items First old.height (drop from text) (drop new.beyond text) (s.members ++ e.last)
+ended_items levels text from old new s e = at_height (omega arith) (s.ahead 0 (drop new.beyond text) e.last (e.stands s.place))

@@ -1,8 +1,8 @@
 -- Items of extended expressions, and branches of them, by their atoms and what follows them.
-use Rattle.re_syntax.proofs.Prelude.{◌≡◌, ◌≢◌, ℕ, suc, ◌<◌, ◌≤◌, inl, inr, max, Bool, true, false, List, [], ◌∷◌, ◌++◌, length, take, drop, Option, codes, refl, sym, ap, ◌∙◌, subst, arith, append_assoc, append-nil, length-append, length-drop, Global, Piece, Pieces, Counts, TooDeep, PatternFault, Text, IsAfter, Expression, begin, repeat, sequence, anchor, OpensDuplication, HasNothingToRepeat, stops, IsNext, IsReported, AreReported, IsRepeated, IsJoined}
+use Rattle.re_syntax.proofs.Prelude.{◌≡◌, ◌≢◌, ℕ, suc, ◌<◌, ◌≤◌, inl, inr, max, Bool, true, false, List, [], ◌∷◌, ◌++◌, length, take, drop, Option, codes, refl, sym, ap, ◌∙◌, subst, arith, append_assoc, append-nil, length-append, length-drop, Global, Piece, Pieces, Counts, TooDeep, PatternFault, Text, Begins, IsAfter, Expression, begin, repeat, anchor, OpensDuplication, stops, IsNext, IsReported, AreReported, IsRepeated, IsJoined}
 use Rattle.re_syntax.specs.Extended.{Duplication, star, plus, question, interval, Items, none, item, Item, atom, repeated, Atom}
 use Rattle.re_syntax.specs.ExtendedFaults.{IsStart, IsShownIn}
-use Rattle.re_syntax.specs.Working.ExtendedSteps.{DuplicationStands, HasBadInterval, MayBegin, AtomStands, HasNoAtom, ItemStands, HasNoItems, BranchStands}
+use Rattle.re_syntax.specs.Working.ExtendedSteps.{DuplicationStands, HasBadInterval, MayBegin, AtomStands, HasNoAtom, ItemSoFar, ItemStands, HasNoItems, SoFar}
 use Rattle.re_syntax.proofs.lemmas.Chains.{stands_some}
 use Rattle.re_syntax.proofs.lemmas.ExtendedUnique.{item_parts}
 use Rattle.re_syntax.proofs.lemmas.ExtendedReading.{items-after, items-after-anchor, items-higher}
@@ -24,15 +24,6 @@ no_items_without_atom {g} {levels} {t} m h = record { none = λ n u es is p le. 
     go (item {h = n} {k = k} j js) e p le =
         let parts = item_parts j in
         h.none parts.level parts.rest parts.start (subst (λ x. Atom g parts.level x parts.rest parts.start) e parts.atom_first) (omega (arith, parts.height))
-
--- an item that was read up to a place; duplications may follow
-pub record ItemSoFar (alloc : Option Global) (g : Bool) (levels : ℕ) (text : Text) (at : ℕ) (piece : Piece) : Type 0 where
-  pub forward : at < piece.beyond
-  pub within : piece.beyond ≤ length text
-  pub height : piece.height ≤ levels
-  pub meaning : Expression
-  pub is : IsReported alloc piece meaning
-  pub stands : Item g piece.height (drop at text) (drop piece.beyond text) meaning
 
 -- an atom is such an item
 pub item_of_atom : {alloc : Option Global} {g : Bool} {levels : ℕ} {text : Text} {at : ℕ} {piece : Piece} → AtomStands alloc g levels text at piece → ItemSoFar alloc g levels text at piece
@@ -71,6 +62,23 @@ item_repeated g levels text at old new counts beyond h n d r =
       is = r.means h.meaning h.is;
       stands = rw r.place again;
     }
+
+-- the piece is the other with duplications after it
+pub record IsRepeatedItem (alloc : Option Global) (levels : ℕ) (text : Text) (old new : Piece) : Type 0 where
+  pub forward : old.beyond ≤ new.beyond
+  pub within : new.beyond ≤ length text
+  pub height : new.height ≤ levels
+  pub means : (g : Bool) (at : ℕ) → ItemSoFar alloc g levels text at old → ItemSoFar alloc g levels text at new
+
+-- with one more duplication too
+pub repeated_again : {alloc : Option Global} (levels : ℕ) (text : Text) (first old new : Piece) (counts : Counts) (beyond : ℕ) → IsRepeatedItem alloc levels text first old →
+    old.height ≢ levels → DuplicationStands text old.beyond counts beyond → IsRepeated alloc old counts beyond new → IsRepeatedItem alloc levels text first new
+repeated_again levels text first old new counts beyond i n d r = record {
+  forward = omega (arith, i.forward, duplication_takes d, r.place);
+  within = omega (arith, d.within, r.place);
+  height = let height = i.height in omega (arith, r.height);
+  means = λ g at h. item_repeated g levels text at old new counts beyond (i.means g at h) n d r;
+}
 
 -- one more duplication than there are levels is too many
 pub too_deep : {alloc : Option Global} (g : Bool) (levels : ℕ) (text : Text) (at : ℕ) (piece : Piece) (counts : Counts) (beyond : ℕ) → ItemSoFar alloc g levels text at piece → piece.height ≡ levels →
@@ -133,18 +141,6 @@ item_next i = record {
 
 -- The items so far, and one more.
 
--- the items that were read from one place on, and what they say of the items of the whole branch
-pub record SoFar (alloc : Option Global) (g : Bool) (levels : ℕ) (text : Text) (from : ℕ) (items : Pieces) : Type 0 where
-  pub forward : from ≤ items.beyond
-  pub within : items.beyond ≤ length text
-  pub height : items.height ≤ levels
-  pub opens : OpensDuplication (drop items.beyond text) → HasNothingToRepeat (take items.beyond text)
-  pub members : List Expression
-  pub are : AreReported alloc items members
-  pub ahead : (k : ℕ) (v : Text) (es : List Expression) → Items g k (drop items.beyond text) v es →
-      Items g (max items.height k) (drop from text) v (members ++ es)
-  pub back : HasNoItems g levels (drop items.beyond text) → HasNoItems g levels (drop from text)
-
 -- no items yet
 pub none_so_far : {alloc : Option Global} (g : Bool) (levels : ℕ) (text : Text) (from : ℕ) (items : Pieces) → from ≤ length text → IsStart (take from text) → AreReported alloc items [] →
     items.height ≡ 0 → items.beyond ≡ from → SoFar alloc g levels text from items
@@ -176,21 +172,16 @@ one_more {alloc} g levels text from old new piece s i j = record {
   back = λ h. s.back (i.back (rw j.place at h));
 }
 
--- the end of the branch
-pub branch_read : {alloc : Option Global} (g : Bool) (levels : ℕ) (text : Text) (from : ℕ) (items : Pieces) (piece : Piece) → SoFar alloc g levels text from items →
-    stops g (drop items.beyond text) ≡ true → ((es : List Expression) → AreReported alloc items es → IsReported alloc piece (sequence es)) → piece.height ≡ items.height →
-    piece.beyond ≡ items.beyond → BranchStands alloc g levels text from piece
-branch_read g levels text from items piece s p f h n =
+-- the items alone
+pub items_stand : {alloc : Option Global} (g : Bool) (levels : ℕ) (text : Text) (from : ℕ) (items : Pieces) (s : SoFar alloc g levels text from items) →
+    Items g items.height (drop from text) (drop items.beyond text) s.members
+items_stand g levels text from items s =
     let es = s.members in
     let all : Items g (max items.height 0) (drop from text) (drop items.beyond text) (es ++ []) = s.ahead 0 (drop items.beyond text) [] none in
     let whole : Items g (max items.height 0) (drop from text) (drop items.beyond text) es =
     subst (λ x. Items g (max items.height 0) (drop from text) (drop items.beyond text) x) (append-nil es) all in
-    record {
-      forward = omega (arith, s.forward);
-      within = omega (arith, s.within);
-      height = omega (arith, s.height);
-      at_end = rw n p;
-      members = es;
-      stands = rw (h, n) (items_at_height (omega arith) whole);
-      is = f es s.are;
-    }
+    items_at_height (omega arith) whole
+
+-- an atom begins where the branch goes on and neither an anchor nor a duplication is first
+pub begins_here : {g : Bool} {t : Text} → stops g t ≡ false → ¬ Begins (codes "^") t → ¬ OpensDuplication t → MayBegin g t
+begins_here h n o = record { goes_on = h; no_lead = n; no_duplication = o }

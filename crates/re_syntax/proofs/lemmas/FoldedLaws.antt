@@ -26,5 +26,3 @@ pub folded-Repeat : (new old : Box Tree Global) (least : ℕ) (most : Option ℕ
     expression_of (Repeat new least most) ≡ folded (expression_of (Repeat old least most))
 folded-Repeat new old least most e =
     expression-Repeat new least most ∙ ap (λ x. repeat x least most) e ∙ sym (ap folded (expression-Repeat old least most))
-
-pub ruleset folded_laws = (folded-cat, folded-alt)

@@ -11,7 +11,7 @@ use Rattle.re_syntax.specs.Bytes.{Text, Begins}
 use Rattle.re_syntax.specs.Working.Ahead.{IsAfter}
 use Rattle.re_syntax.specs.Working.DuplicationSteps.{HasNone, HasOne}
 use Rattle.re_syntax.specs.Working.PieceSteps.{IsReported, AreReported}
-use Rattle.re_syntax.specs.Expression.{Expression, sequence}
+use Rattle.re_syntax.specs.Expression.{Expression}
 use Rattle.re_syntax.specs.Basic.{ItemPlace, First, Later, Duplication, IsAtEnd, Branches, Items}
 use Rattle.re_syntax.specs.Basic.{Item, Atom}
 use Rattle.re_syntax.specs.BasicFaults.{NeedsItem, HasNothingToRepeat, IsShownIn}
@@ -76,6 +76,16 @@ pub record AtomStands (alloc : Option Global) (p : ItemPlace) (levels : ℕ) (te
 pub record HasNoAtom (p : ItemPlace) (levels : ℕ) (t : Text) : Type 0 where
   pub none : (h : ℕ) (u : Text) (e : Expression) → Atom p h t u e → h ≤ levels → ⊥
 
+-- an item was read up to a place; duplications may follow
+pub record ItemSoFar (alloc : Option Global) (p : ItemPlace) (levels : ℕ) (text : Text) (at : ℕ)
+    (piece : Piece) : Type 0 where
+  pub forward : at < piece.beyond
+  pub within : piece.beyond ≤ length text
+  pub height : piece.height ≤ levels
+  pub meaning : Expression
+  pub is : IsReported alloc piece meaning
+  pub stands : Item p piece.height (drop at text) (drop piece.beyond text) meaning
+
 -- an item goes from one place up to another, at most `levels` high, and no duplication follows it
 pub record ItemStands (alloc : Option Global) (p : ItemPlace) (levels : ℕ) (text : Text) (at : ℕ)
     (piece : Piece) : Type 0 where
@@ -127,17 +137,6 @@ pub record IsEnded (alloc : Option Global) (text : Text) (old new : Pieces) : Ty
   pub last : List Expression
   pub stands : (p : ItemPlace) → Items p 0 (drop old.beyond text) (drop new.beyond text) last
   pub means : (es : List Expression) → AreReported alloc old es → AreReported alloc new (es ++ last)
-
--- the items of a branch go from one place up to the branch's end, at most `levels` high
-pub record BranchStands (alloc : Option Global) (levels : ℕ) (text : Text) (from : ℕ)
-    (piece : Piece) : Type 0 where
-  pub forward : from ≤ piece.beyond
-  pub within : piece.beyond ≤ length text
-  pub height : piece.height ≤ levels
-  pub at_end : IsAtEnd (drop piece.beyond text)
-  pub members : List Expression
-  pub stands : Items First piece.height (drop from text) (drop piece.beyond text) members
-  pub is : IsReported alloc piece (sequence members)
 
 -- no branches of an expression begin the text, or only higher ones
 pub record HasNoBranches (levels : ℕ) (t : Text) : Type 0 where

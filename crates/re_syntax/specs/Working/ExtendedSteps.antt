@@ -1,7 +1,7 @@
 -- What each step of reading an extended expression says: which part of the grammar is at a place of
 -- the text, or that there is none and where that shows.
 use Rattle.std.specs.Prelude.{◌≡◌, ℕ, ◌<◌, ◌≤◌, max, Bool, true, false, ◌&&◌, ◌||◌, nat_eq, [], ◌∷◌}
-use Rattle.std.specs.Prelude.{List, length, take, drop, IsTrue, codes, Option}
+use Rattle.std.specs.Prelude.{List, ◌++◌, length, take, drop, IsTrue, codes, Option}
 use Rattle.std.specs.Global.{Global}
 use Rattle.re_syntax.specs.declared.pieces.Piece.{Piece}
 use Rattle.re_syntax.specs.declared.pieces.Pieces.{Pieces}
@@ -11,7 +11,7 @@ use Rattle.re_syntax.specs.Bytes.{Text, Begins}
 use Rattle.re_syntax.specs.Working.DuplicationSteps.{HasNone, HasOne}
 use Rattle.re_syntax.specs.Working.PieceSteps.{IsReported, AreReported}
 use Rattle.re_syntax.specs.Escapes.{is_in}
-use Rattle.re_syntax.specs.Expression.{Expression, sequence}
+use Rattle.re_syntax.specs.Expression.{Expression}
 use Rattle.re_syntax.specs.Extended.{Duplication, Branches, Items, Item, Atom}
 use Rattle.re_syntax.specs.ExtendedFaults.{OpensDuplication, HasNothingToRepeat, IsShownIn}
 
@@ -67,6 +67,16 @@ pub record AtomStands (alloc : Option Global) (in_group : Bool) (levels : ℕ) (
 pub record HasNoAtom (in_group : Bool) (levels : ℕ) (t : Text) : Type 0 where
   pub none : (h : ℕ) (u : Text) (e : Expression) → Atom in_group h t u e → h ≤ levels → ⊥
 
+-- an item was read up to a place; duplications may follow
+pub record ItemSoFar (alloc : Option Global) (in_group : Bool) (levels : ℕ) (text : Text)
+    (at : ℕ) (piece : Piece) : Type 0 where
+  pub forward : at < piece.beyond
+  pub within : piece.beyond ≤ length text
+  pub height : piece.height ≤ levels
+  pub meaning : Expression
+  pub is : IsReported alloc piece meaning
+  pub stands : Item in_group piece.height (drop at text) (drop piece.beyond text) meaning
+
 -- an item goes from one place up to another, at most `levels` high, and no duplication follows it
 pub record ItemStands (alloc : Option Global) (in_group : Bool) (levels : ℕ) (text : Text)
     (at : ℕ) (piece : Piece) : Type 0 where
@@ -100,16 +110,21 @@ pub record IsNext (alloc : Option Global) (in_group : Bool) (levels : ℕ) (text
   pub back : HasNoItems in_group levels (drop piece.beyond text) →
       HasNoItems in_group levels (drop at text)
 
--- the items of a branch go from one place up to the branch's end, at most `levels` high
-pub record BranchStands (alloc : Option Global) (in_group : Bool) (levels : ℕ) (text : Text)
-    (from : ℕ) (piece : Piece) : Type 0 where
-  pub forward : from ≤ piece.beyond
-  pub within : piece.beyond ≤ length text
-  pub height : piece.height ≤ levels
-  pub at_end : stops in_group (drop piece.beyond text) ≡ true
+-- the items that were read from one place on, and what they say of the items of the whole branch
+pub record SoFar (alloc : Option Global) (in_group : Bool) (levels : ℕ) (text : Text) (from : ℕ)
+    (items : Pieces) : Type 0 where
+  pub forward : from ≤ items.beyond
+  pub within : items.beyond ≤ length text
+  pub height : items.height ≤ levels
+  pub opens : OpensDuplication (drop items.beyond text) →
+      HasNothingToRepeat (take items.beyond text)
   pub members : List Expression
-  pub stands : Items in_group piece.height (drop from text) (drop piece.beyond text) members
-  pub is : IsReported alloc piece (sequence members)
+  pub are : AreReported alloc items members
+  pub ahead : (k : ℕ) (v : Text) (es : List Expression) →
+      Items in_group k (drop items.beyond text) v es →
+      Items in_group (max items.height k) (drop from text) v (members ++ es)
+  pub back : HasNoItems in_group levels (drop items.beyond text) →
+      HasNoItems in_group levels (drop from text)
 
 -- no branches of an expression begin the text, or only higher ones
 pub record HasNoBranches (in_group : Bool) (levels : ℕ) (t : Text) : Type 0 where

@@ -7,26 +7,30 @@ use Rattle.re_needle.proofs.outline.+outline.Goals as goal
 
 pub add_all-parts-preserved : goal.add_all-parts-preserved
 add_all-parts-preserved t c =
-    adds_more c.args.marks.now.items c.parts.marks.items c.add_outline.new.marks.items c.args.parts.now c.parts.i c.index-parts-i.result c.parts-test.true c.index-parts-i.is
-    c.parts.invariant c.in_ok-add_outline.ensures
+    adds_more c.args.marks.now.items c.parts.marks.items c.add_tree.new.marks.items c.args.parts.now c.parts.i c.index-parts-i.result c.parts-test.true c.index-parts-i.is
+    c.parts.invariant c.in_ok-add_tree.ensures
 
-pub add_outline-returns-then-least-eq0 : goal.add_outline-returns-then-least-eq0
-add_outline-returns-then-least-eq0 t c =
+pub add_tree-returns-then-depth-eq0 : goal.add_tree-returns-then-depth-eq0
+add_tree-returns-then-depth-eq0 t c =
+    ok_with c.add_mark.result (adds_stretch c.args.marks.now.items c.add_mark.new.marks.items (expression_of c.args.tree.now)) c.add_mark.ensures
+
+pub add_tree-returns-then-least-eq0 : goal.add_tree-returns-then-least-eq0
+add_tree-returns-then-least-eq0 t c =
     ok_with c.add_mark-then-least-eq0.result (adds_stretch c.args.marks.now.items c.add_mark-then-least-eq0.new.marks.items (expression_of c.args.tree.now)) c.add_mark-then-least-eq0.ensures
 
-pub add_outline-returns-in-Set : goal.add_outline-returns-in-Set
-add_outline-returns-in-Set t c =
-    ok_with c.add_mark.result (adds_set c.args.marks.now.items c.add_mark.new.marks.items (expression_of c.args.tree.now) c.in-Set.set (ap expression_of c.in-Set.is ∙ expression-Set c.in-Set.set)) c.add_mark.ensures
+pub add_tree-returns-in-Set : goal.add_tree-returns-in-Set
+add_tree-returns-in-Set t c =
+    ok_with c.add_mark-in-Set.result (adds_set c.args.marks.now.items c.add_mark-in-Set.new.marks.items (expression_of c.args.tree.now) c.in-Set.set (ap expression_of c.in-Set.is ∙ expression-Set c.in-Set.set)) c.add_mark-in-Set.ensures
 
-pub add_outline-returns-in_ok-add_outline-in-Repeat : goal.add_outline-returns-in_ok-add_outline-in-Repeat
-add_outline-returns-in_ok-add_outline-in-Repeat t c =
+pub add_tree-returns-in_ok-add_tree-in-Repeat : goal.add_tree-returns-in_ok-add_tree-in-Repeat
+add_tree-returns-in_ok-add_tree-in-Repeat t c =
     ok_with c.add_mark-in-Repeat.result
-    (adds_repeat c.args.marks.now.items c.add_outline.new.marks.items c.add_mark-in-Repeat.new.marks.items (expression_of c.in-Repeat.part.value) (expression_of c.args.tree.now) c.in-Repeat.least c.in-Repeat.most
-    (ap expression_of c.in-Repeat.is ∙ expression-Repeat c.in-Repeat.part c.in-Repeat.least c.in-Repeat.most) (search (arith, rules)) (rw (← c.deref-in-Repeat-2.ensures) c.in_ok-add_outline-in-Repeat.ensures))
+    (adds_repeat c.args.marks.now.items c.add_tree.new.marks.items c.add_mark-in-Repeat.new.marks.items (expression_of c.in-Repeat.part.value) (expression_of c.args.tree.now) c.in-Repeat.least c.in-Repeat.most
+    (ap expression_of c.in-Repeat.is ∙ expression-Repeat c.in-Repeat.part c.in-Repeat.least c.in-Repeat.most) (search (arith, rules)) (rw (← c.deref-in-Repeat-2.ensures) c.in_ok-add_tree-in-Repeat.ensures))
     c.add_mark-in-Repeat.ensures
 
-pub add_outline-returns-in_default : goal.add_outline-returns-in_default
-add_outline-returns-in_default t c =
+pub add_tree-returns-in_default : goal.add_tree-returns-in_default
+add_tree-returns-in_default t c =
     ok_with c.add_mark-in_default.result (adds_stretch c.args.marks.now.items c.add_mark-in_default.new.marks.items (expression_of c.args.tree.now)) c.add_mark-in_default.ensures
 
 pub add_choice-parts-preserved : goal.add_choice-parts-preserved
@@ -38,7 +42,7 @@ add_choice-parts-preserved t c =
     let front = map members c.if-i-eq0.front.items in
     let before = map members c.parts.front.items in
     let begins : BeginsWith sets e =
-    begins_branch c.new-branch.result.items c.add_outline.new.marks.items sets e c.new-branch.ensures.items c.in_ok-add_outline.ensures (rw c.deref.ensures.value at c.in_ok-sets.ensures) in
+    begins_branch c.new-branch.result.items c.add_tree.new.marks.items sets e c.new-branch.ensures.items c.in_ok-add_tree.ensures (rw c.deref.ensures.value at c.in_ok-sets.ensures) in
     parts_more front parts c.parts.i part c.parts-test.true c.index-parts-i.is
     (elim c.if-i-eq0.branch [
       | add_choice-then-i-eq0 w ↦ subst (λ n. BeginsWith front (alt (map expression_of (take n parts)))) (sym w.if-i-eq0.true) (no_branch front)
@@ -64,14 +68,14 @@ add_choice-returns t c =
     (adds_choice c.args.marks.now.items c.add_sets.new.marks.items c.add_mark.new.marks.items (map members c.parts.front.items) choice choice refl begins (rw c.deref-2.ensures.value at c.in_ok-add_sets.ensures))
     c.add_mark.ensures
 
-pub add_outline-returns-in-Cat : goal.add_outline-returns-in-Cat
-add_outline-returns-in-Cat t c = rw (ap expression_of c.in-Cat.is ∙ expression-Cat c.in-Cat.parts, ← c.deref.ensures.value) c.add_all.ensures
+pub add_tree-returns-in-Cat : goal.add_tree-returns-in-Cat
+add_tree-returns-in-Cat t c = rw (ap expression_of c.in-Cat.is ∙ expression-Cat c.in-Cat.parts, ← c.deref.ensures.value) c.add_all.ensures
 
-pub add_outline-returns-in-Alt : goal.add_outline-returns-in-Alt
-add_outline-returns-in-Alt t c = rw (ap expression_of c.in-Alt.is ∙ expression-Alt c.in-Alt.parts, ← c.deref-in-Alt.ensures.value) c.add_choice.ensures
+pub add_tree-returns-in-Alt : goal.add_tree-returns-in-Alt
+add_tree-returns-in-Alt t c = rw (ap expression_of c.in-Alt.is ∙ expression-Alt c.in-Alt.parts, ← c.deref-in-Alt.ensures.value) c.add_choice.ensures
 
-pub add_outline-returns-in-Some : goal.add_outline-returns-in-Some
-add_outline-returns-in-Some t c =
+pub add_tree-returns-in-Some : goal.add_tree-returns-in-Some
+add_tree-returns-in-Some t c =
     rw (ap expression_of c.in-Repeat.is ∙ expression-Repeat c.in-Repeat.part c.in-Repeat.least c.in-Repeat.most, ← c.deref-in-Repeat.ensures, c.in-Some.ensures) c.add_repeated.ensures
 
 pub add_all-returns : goal.add_all-returns

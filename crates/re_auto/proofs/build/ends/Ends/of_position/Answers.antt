@@ -1,0 +1,20 @@
+use Rattle.re_auto.proofs.Prelude.{true, false, refl}
+use Rattle.re_auto.proofs.lemmas.PartLemmas.{never_holds}
+use Rattle.re_auto.proofs.build.ends.Ends.of_position.Goals as goal
+
+pub returns : goal.returns
+returns c = record {
+  begins = refl;
+  shows = record {
+    first_at_begin = c.in_ok-one_member.ensures;
+    first_inside = c.in_ok-one_member-2.ensures;
+    last_at_end = c.in_ok-one_member-3.ensures;
+    last_inside = c.in_ok-one_member-4.ensures;
+    empty = record {
+      on_empty_line = never_holds (c.nowhere.ensures true true);
+      at_begin = never_holds (c.nowhere.ensures true false);
+      at_end = never_holds (c.nowhere.ensures false true);
+      inside = never_holds (c.nowhere.ensures false false);
+    };
+  };
+}
