@@ -37,11 +37,10 @@ unfoldable pub use Rattle.re_syntax.specs.Lines.{list_of}
 pub use Rattle.re_syntax.specs.Parts.{AreParts}
 pub use Rattle.re_syntax.specs.declared.span.Span.{Span}
 pub use Rattle.re_syntax.specs.declared.syntax.Syntax.{Syntax}
-pub use Rattle.std.proofs.Common.{Bool, Decides, Err, IfOk, List, MatchBool, MatchOption, MatchResult, Ok, Option, Result, Some, [], ap, append-nil, append_assoc, arith, codes, cond, decimal, drop, drop-cons, drop-drop, false, filter, flat_map, get_or, get_or-append-add, get_or-drop, get_or-set_other, get_or-set_same, get_or-take, if◌then◌else◌, inl, inr, le-leb, le-ltb, length, length-append, length-drop, length-set, length-take, length-take-le, lt-ltb, map, min, nat_eq, nat_le, nat_lt, refl, remove, set, slice_range, slice_set, subst, suc, sym, take, take-add, take-append-drop, take-take, take_all, true, zero, ℕ, ◌&&◌, ◌++◌, ◌+◌, ◌-◌, ◌<◌, ◌^◌, ◌∙◌, ◌∷◌, ◌≡◌, ◌≤◌, ◌⊎◌}
-pub use Rattle.std.proofs.Math.Seq.{drop-append-add}
+pub use Rattle.std.proofs.Common.{Bool, Decides, Err, IfOk, List, MatchBool, MatchOption, MatchResult, Ok, Option, Result, Some, [], ap, append-nil, append_assoc, arith, codes, cond, decimal, drop, drop-cons, drop-drop, false, filter, flat_map, get_or, get_or-append-add, get_or-drop, get_or-set_other, get_or-set_same, get_or-take, if◌then◌else◌, inl, inr, le-leb, le-ltb, length, length-append, length-drop, length-set, length-take, length-take-le, lt-ltb, map, min, nat_eq, nat_le, refl, remove, set, slice_range, slice_set, subst, suc, sym, take, take-add, take-append-drop, take_all, true, zero, ℕ, ◌&&◌, ◌++◌, ◌+◌, ◌-◌, ◌<◌, ◌^◌, ◌∙◌, ◌∷◌, ◌≡◌, ◌≤◌, ◌⊎◌}
 pub use Rattle.std.proofs.lemmas.Bool.{cases_eq, cases_lt}
 pub use Rattle.std.proofs.lemmas.Bool.Decides.{nat_tests}
 pub use Rattle.std.proofs.lemmas.Grind.{flat_map-append}
-pub use Rattle.std.proofs.lemmas.List.{drop_all, get_or_append_left, get_or_default, length-map, map-append, take-append-le, take_more}
+pub use Rattle.std.proofs.lemmas.List.{drop_all, get_or_append_left, get_or_default, length-map, map-append, take_more}
 pub use Rattle.std.proofs.lemmas.List.Elements.{filter-append}
 pub use Rattle.std.specs.List.{AllZip, enumerate_from, splice}

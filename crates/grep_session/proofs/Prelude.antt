@@ -29,7 +29,7 @@ pub use Rattle.grep_session.specs.Headline.{AcceptedEditsDecide, Attempt, ComesT
 pub use Rattle.grep_session.specs.Laws.{AreAlike, EditsAreDetermined, MemorySavesEditSteps}
 pub use Rattle.grep_session.specs.Listed.{ListedParts}
 pub use Rattle.grep_session.specs.Marks.{AreFit, IsFit, MarksAfter, MarksGiven, Watched, known_marks, mark_at}
-pub use Rattle.line_marks.specs.Stretches.{Fits, Keeps, Marked, Splices, lost, new_mark, whole_mark}
+pub use Rattle.line_marks.specs.Stretches.{Marked, Splices, lost, new_mark, whole_mark}
 pub use Rattle.grep_session.specs.Touched.{Costs, CostsAccepted, CostsAs, Narrows, NeedsNoMemory, PartsCost, PartsCostOf, PartsSearchCost, TakesSteps, Touched, Touches, all_lines, pairs_cost, parts_alone, searched_by, touched_by_flag}
 pub use Rattle.grep_session.specs.Working.Again.{AreReadable, ReadsAgain, read_as}
 pub use Rattle.grep_session.specs.Working.Changed.{ChangeCost, CostAnew, CostOfEach, CostWhere, HasChanged, HasNewParts, IsNarrower, IsSought, IsWithin, NewPartsCost, SearchCost, SearchesEach, SearchesOne, TakesAtMost, WasFileKept, WasKept, is_narrower, searched_for}

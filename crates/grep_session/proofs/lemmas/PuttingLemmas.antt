@@ -1,5 +1,5 @@
 -- Another pattern is put in the place of one: the matchers after that, and the steps that it takes.
-use Rattle.grep_session.proofs.Prelude.{Bool, true, false, false≢true, MatchBool, Matches, Matched, Chosen, IfHolds, IsSought, IsNarrower, Narrows, ◌≡◌, ℕ, zero, suc, ◌<◌, ◌≤◌, List, [], ◌∷◌, Ok, Err, All, All-cons, All-head, All-nil, All-set, inl, inr, length, map, get_or, refl, sym, ap, subst, ◌∙◌, arith, set, map-set, length-map, slice_set, Text, Expression, IsMeant, Matcher, IsReadable, AllAnswer, matched_expression, room_of, wants_whole, Steps, Inputs, AreMeant, Replaced, EditFault, ChangeCost, HasChanged, SearchesEach, SameMatchers, IsSession, inputs_of, Inside, Applies, ChangePattern, EditGives, NeedsNoMemory, with_patterns, AreMatchers, RefusesFirst, TakesSteps, KeepAtMost, all_lines}
+use Rattle.grep_session.proofs.Prelude.{Bool, true, false, false≢true, MatchBool, Matches, Matched, Chosen, IfHolds, IsSought, IsNarrower, Narrows, ◌≡◌, ℕ, zero, suc, ◌<◌, ◌≤◌, List, [], ◌∷◌, Ok, Err, All, All-cons, All-head, All-nil, All-set, inl, inr, length, map, get_or, refl, sym, ap, subst, ◌∙◌, arith, set, map-set, length-map, slice_set, Text, Expression, IsMeant, Matcher, IsReadable, AllAnswer, matched_expression, room_of, wants_whole, Steps, Inputs, AreMeant, Replaced, EditFault, ChangeCost, HasChanged, SearchesEach, SameMatchers, IsSession, inputs_of, Inside, Applies, ChangePattern, EditGives, with_patterns, AreMatchers, RefusesFirst, TakesSteps, KeepAtMost, all_lines}
 use Rattle.std.proofs.lemmas.List.{get_or-map, length-set, set-get_or}
 use Rattle.re_syntax.proofs.lemmas.Decisions.{Any-first}
 use Rattle.re_syntax.proofs.lemmas.SomeOfJoined.{Any-single}
@@ -118,8 +118,3 @@ module _ (p : ℕ) (text : Text) (old : Inputs) (inside : p < length old.pattern
   refuses_put T fault (inr reported) =
       let first = reported.2 in
       subst (λ f. EditGives {T = T} (ChangePattern p text) old old (Err f)) (sym reported.3) (inl (inside, inr ((λ all. first.unreadable (all reported.0 [] first.in_texts)), (reported.0, reported.1, first, refl))), refl)
-
-  -- memory is needed for another text
-  pub needs_for_put : (text ≡ get_or old.patterns p [] → ⊥) → NeedsNoMemory (ChangePattern p text) old → ⊥
-  needs_for_put other (inl same) = other same
-  needs_for_put other (inr past) = let no : ⊥ = omega (arith, past, inside) in no

@@ -14,15 +14,6 @@ loses_none stretches = record {
   after = λ place after. after;
 }
 
-pub covers_none : (start end : ℕ) (stretches : List Stretch) → Covers start end stretches stretches
-covers_none start end stretches = record {
-  fits = λ known lines within fit. fit;
-  only = λ line now keeps. keeps;
-  all = λ line now out keeps. keeps;
-  before = λ place low before. before;
-  after = λ place high after. after;
-}
-
 pub covers_more : (start end : ℕ) (old mid new : List Stretch) → Covers start end old mid → Covers start end mid new → Covers start end old new
 covers_more start end old mid new first then = record {
   fits = λ known lines within fit. then.fits known lines within (first.fits known lines within fit);

@@ -142,9 +142,6 @@ module _ (old mid : List Stretch) (start count added many rest lines : ℕ) (wit
       counted_past (take many mid) (drop many mid) start rest count known lines passes within few_known few_lines (subst (Fits known lines) (sym (take-append-drop many mid)) (loses.fits known lines fit))
 
   module _ (all : Touched) (takes : Takes rest (rest + count) (rest + count) (drop many mid) all) where
-    pub has_count : count ≤ all.one.added
-    has_count = omega (arith, takes.begins, takes.reaches)
-
     abbrev replaced_one : Stretch
     replaced_one = at all.one.kept all.one.removed (all.one.added - count + added)
 

@@ -1,5 +1,5 @@
 -- Lists of stretches of which two become one, or some are replaced by one.
-use Rattle.line_marks.proofs.Prelude.{◌≡◌, ℕ, zero, suc, ◌+◌, ◌-◌, ◌<◌, ◌≤◌, List, [], ◌∷◌, ◌++◌, length, take, drop, get_or, refl, sym, ap, subst, ◌∙◌, inl, inr, arith, drop_more, drop_all, drop_at, take_all, append-nil, length-append, length-drop, length-take-le, Stretch, Fits, Loses, led}
+use Rattle.line_marks.proofs.Prelude.{◌≡◌, ℕ, zero, suc, ◌+◌, ◌-◌, ◌<◌, ◌≤◌, List, [], ◌∷◌, ◌++◌, length, take, drop, get_or, refl, sym, ap, subst, ◌∙◌, inl, inr, arith, drop_more, drop_at, length-append, length-drop, length-take-le, Stretch, Fits, Loses, led}
 use Rattle.line_marks.proofs.lemmas.CoverLemmas.{at, both, both_lose}
 
 -- ---- two become one
@@ -84,9 +84,6 @@ lowered_at old gone new k lead here low less is gone_is low_is new_is =
     let cut : drop k old ≡ here ∷ drop (suc k) old = drop_more old k here less ∙ ap (λ s. s ∷ drop (k + 1) old) (sym is) ∙ ap (λ n. here ∷ drop n old) next in
     new_is ∙ ap (λ ss. take k ss ++ low ∷ drop k ss) gone_is ∙ inserted k old (drop (suc k) old) low (omega (arith, less)) ∙
     ap (λ s. take k old ++ s ∷ drop (suc k) old) low_is ∙ ap (λ ss. take k old ++ led lead ss) (sym cut)
-
-pub lowered_none : (old : List Stretch) (k lead : ℕ) → length old ≤ k → old ≡ take k old ++ led lead (drop k old)
-lowered_none old k lead past = sym (append-nil old) ∙ sym (λ i. take_all k old past i ++ led lead (drop_all k old past i))
 
 without : (first past : ℕ) (old rest : List Stretch) → first ≤ past → past ≤ length old → take first (take past old ++ rest) ++ drop past (take past old ++ rest) ≡ take first old ++ rest
 without zero past old rest le within = drop_at (take past old) rest past (length-take-le past old within)
