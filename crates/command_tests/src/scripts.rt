@@ -1,5 +1,5 @@
 //! Scripts and their replies, and devices that fail at each byte of them.
-use grep_cmd::{ScriptEnd, ScriptFault, run_script};
+use grep_cmd::{Script, ScriptEnd, ScriptFault};
 use grep_core::{Limited, Tally};
 use re_auto::fresh_meter;
 use std::alloc::Global;
@@ -30,14 +30,15 @@ const UNLIMITED: Limits = Limits {
 /// Runs a script; its answer and its replies.
 fn replies_to(
     alloc: Global,
-    script: &[u8],
+    text: &[u8],
     limits: Limits,
 ) -> (Result<ScriptEnd, ScriptFault>, Vec<u8>) {
-    let mut reader = Tally::new(Limited::new(script, limits.step, limits.read));
+    let mut reader = Tally::new(Limited::new(text, limits.step, limits.read));
     let replies = Limited::new(Vec::new(alloc), limits.step, limits.written);
     let mut writer = Tally::new(replies);
     let mut meter = fresh_meter();
-    let answer = run_script(alloc, &mut reader, &mut writer, STATES, &mut meter);
+    let mut script = Script::new(alloc, STATES);
+    let answer = script.answer(alloc, &mut reader, &mut writer, &mut meter);
     (answer, writer.into_inner().into_inner())
 }
 

@@ -1,16 +1,17 @@
 //! Scripts that are answered.
 
 // crates/grep_cmd/README.md
-use grep_cmd::{ScriptFault, run_script};
+use grep_cmd::{Script, ScriptFault};
 use grep_core::Tally;
 use re_auto::fresh_meter;
 use std::alloc::Global;
 
 /// The replies to a script.
-fn replies(alloc: Global, script: &[u8]) -> Result<Vec<u8>, ScriptFault> {
-    let mut reader = Tally::new(script);
+fn replies(alloc: Global, text: &[u8]) -> Result<Vec<u8>, ScriptFault> {
+    let mut script = Script::new(alloc, 256);
+    let mut reader = Tally::new(text);
     let mut writer = Tally::new(Vec::new(alloc));
-    run_script(alloc, &mut reader, &mut writer, 256, &mut fresh_meter())?;
+    script.answer(alloc, &mut reader, &mut writer, &mut fresh_meter())?;
     Ok(writer.into_inner())
 }
 // end

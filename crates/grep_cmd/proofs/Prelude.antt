@@ -1,13 +1,13 @@
 -- The words of specs and of std that proofs of this crate use, passed on from one place. Declares nothing.
 pub use Rattle.grep_cmd.specs.Editor.{AreButTexts, ArePresent, EditorsFollow, EndsWithStatus, HaveTexts, IsHeld, IsHeldChange, IsHeldHit, IsHeldPart, IsOneReply, ListsAfter, ListsAfterAll, MayLackText, ReadsChanges, Took, bytes_of, has_status, read_change, read_hit}
-pub use Rattle.grep_cmd.specs.Lists.{ReportsChanges, ReportsPage, WritesHits, WritesReport}
-pub use Rattle.grep_cmd.specs.Replies.{AllSearchAtMost, AnswersScript, BeginsScript, GaveLines, IsAnswered, ReadsScript, Replies, RepliesTo, ScriptGives, ScriptState, SearchesAtMost, SearchesTouched, StopsWriting, bad_command, end_for, is_refusal, new_state, refused_for, reply_to, truncated, version_line}
+pub use Rattle.grep_cmd.specs.Lists.{LeavesReport, ReportsChanges, ReportsPage, WritesHits, WritesReport}
+pub use Rattle.grep_cmd.specs.Replies.{AllSearchAtMost, AnswersScript, BeginsScript, GaveLines, IsAnswered, IsUpToReport, ReadsScript, Replies, RepliesTo, ScriptGives, ScriptState, SearchesAtMost, SearchesTouched, StopsWriting, bad_command, end_for, is_refusal, new_state, refused_for, reply_to, truncated, version_line}
 unfoldable pub use Rattle.grep_cmd.specs.Replies.{cause}
 pub use Rattle.grep_cmd.specs.Script.{AsksForMemory, Command, IsBegun, IsStep, IsUnfinished, Step, Steps, asking_command, asks_version, changes_command, close_command, context_command, context_from, counts, does, drop_command, edits, file_command, file_from, flag_command, flag_from, flag_of, is_bad, is_truncated, line_command, lists_changes, lists_page, missing_command, name_of, page_command, page_from, pattern_command, patterns_command, patterns_from, reports, reports_changes, reports_page, sets_text, show_command, shows, space, splice_command, splice_from, switch_of, switches_text, syntax_command, syntax_of, text_after, text_command, tells_version, unnamed_command, version_command}
 unfoldable pub use Rattle.grep_cmd.specs.Script.{command_of, words_of}
 pub use Rattle.grep_cmd.specs.Show.{AreShown, Shows, status_line, with_margin}
 pub use Rattle.grep_cmd.specs.Working.Answered.{AnsweredSoFar, AnswersLine, AreDone, DoesStep, FlushesAfter, FlushesFor, HasRead, LosesLines, ReadsNext, Replied, TakesLines, WantsLines, answer_for, state_of, was_refused}
-pub use Rattle.grep_cmd.specs.Working.Commands.{counted_meant, file_meant, line_meant, meant, pattern_meant}
+pub use Rattle.grep_cmd.specs.Working.Commands.{counted_meant, file_meant, line_meant, meant}
 pub use Rattle.grep_cmd.specs.Working.ScriptWords.{four_words, words_of_rest}
 pub use Rattle.grep_cmd.specs.declared.script.ScriptEnd.{ScriptEnd}
 pub use Rattle.grep_cmd.specs.declared.script.ScriptEnd.TheVariants.{Clean}
@@ -35,7 +35,7 @@ pub use Rattle.grep_io.specs.declared.input.lines.Stage.{Stage}
 pub use Rattle.grep_io.specs.declared.input.lines.Stage.TheVariants.{Ended, Failed, Open}
 pub use Rattle.grep_live.specs.Changes.{AreChanges, Change, ChangesFile, after, after_each, all_after, is_idle, moved, spliced_hits}
 pub use Rattle.grep_live.specs.Follows.{Follows, FollowsFile, view_after}
-pub use Rattle.grep_live.specs.Hits.{AreHits, Hit, HitOf, HitsFrom, View}
+pub use Rattle.grep_live.specs.Hits.{Hit, HitOf, HitsFrom, View}
 pub use Rattle.grep_live.specs.Lists.{AllThree}
 pub use Rattle.grep_live.specs.Reported.{WritesChanges, WritesPage}
 pub use Rattle.grep_live.specs.Rows.{all_hits, change_row, change_rows, changes_rows, hit_row, line_text, more_parts, page_row, page_rows, part_text, parts_text, spaced, total_row}

@@ -133,7 +133,7 @@ pub record Took (states : ℕ) (steps : List Step) (replies : List Text) (state 
 pub record EditorsFollow : Type 0 where
   -- an editor can take all replies to a script of fewer than 2^64 bytes
   pub can : (states : ℕ) (script : File) (replies rest : List Text) → bytes_of script.lines < 2 ^ 64 →
-      (answers : AnswersScript states script replies rest) →
+      (answers : AnswersScript (new_state states) script replies rest) →
       (view : View) × Took states answers.steps replies answers.after view
   -- the replies alone decide its lists, however it reads them
   pub one : (texts : Bool) (steps : List Step) (replies : List Text) (view a b : View) →

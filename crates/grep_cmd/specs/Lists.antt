@@ -1,6 +1,6 @@
 -- The replies to `changes` and `page` (occur(1), REPLIES).
 use Rattle.std.specs.Prelude.{◌≡◌, ℕ, ◌-◌, ◌^◌, min, List, [], ◌∷◌, ◌++◌, length, Option, Result}
-use Rattle.std.specs.Prelude.{IfOk, Bool}
+use Rattle.std.specs.Prelude.{MatchResult, ◌⊎◌, Bool}
 use Rattle.re_syntax.specs.Bytes.{Text}
 use Rattle.re_syntax.specs.Expression.{Expression}
 use Rattle.grep_core.specs.declared.status.Status.{Status}
@@ -46,12 +46,18 @@ pub record ReportsPage (texts : Bool) (inputs : Inputs) (first count : ℕ)
       page_rows texts first count (all_hits 0 view))
       ++ status_line status ∷ []
 
+-- what changed counts as reported; where a write failed it may still be to report
+abbrev pub LeavesReport : {T E : Type 0} → Watched → Watched → Watched → Result T E → Type 0
+LeavesReport before after then result =
+    MatchResult result (λ _. after ≡ then) (λ _. (after ≡ then) ⊎ (after ≡ before))
+
 module _ {W : Type 0} (contents : W → Option Text) (failures : W → ℕ) (old new : W) where
   -- what changed was written, or a beginning of it
   abbrev pub WritesReport : {T E : Type 0} → Bool → Watched → Watched → Result T E → Type 0
   WritesReport texts before after result =
       (rows : List Text) × (then : Watched) × ReportsChanges texts before then rows ×
-      Writes contents failures old new (written [] rows) result × IfOk result (λ _. after ≡ then)
+      Writes contents failures old new (written [] rows) result ×
+      LeavesReport before after then result
 
   -- a page was written, or a beginning of it
   abbrev pub WritesHits : {T E : Type 0} → Bool → Inputs → ℕ → ℕ → Result T E → Type 0

@@ -21,7 +21,7 @@ use Rattle.grep_cmd.specs.declared.script.ScriptEnd.{ScriptEnd}
 use Rattle.grep_cmd.specs.declared.script.ScriptEnd.TheVariants.{Clean, Refused}
 use Rattle.grep_cmd.specs.declared.script.ScriptFault.{ScriptFault}
 use Rattle.grep_cmd.specs.declared.script.ScriptFault.TheVariants.{Read, Write, Memory}
-use Rattle.grep_session.specs.Marks.{Watched, new_watched, MarksGiven}
+use Rattle.grep_session.specs.Marks.{Watched, new_watched, all_known, MarksGiven}
 use Rattle.grep_cmd.specs.Script.{Step, does, reports, reports_changes, reports_page, is_bad}
 use Rattle.grep_cmd.specs.Script.{is_truncated, tells_version, sets_text, Steps}
 use Rattle.grep_cmd.specs.Script.{IsUnfinished, IsBegun}
@@ -130,12 +130,12 @@ AllSearchAtMost (step ∷ steps) before replies after refusals most =
     (refusals ≡ mine + others) × (most ≡ own + rest)
 
 -- the commands of a script, answered so, took no more steps of search, and passed no more bytes, than
--- their edits cost; each pattern may keep so many states
-pub record SearchesTouched (states : ℕ) (steps : List Step) (replies : List Text)
+-- their edits cost
+pub record SearchesTouched (before : ScriptState) (steps : List Step) (replies : List Text)
     (after : ScriptState) (begun spent : StepCounts) : Type 0 where
   pub most : ℕ
   pub refusals : ℕ
-  pub is_most : AllSearchAtMost steps (new_state states) replies after refusals most
+  pub is_most : AllSearchAtMost steps before replies after refusals most
   pub few : Adds most most refusals begun spent
 
 -- ---- runs
@@ -145,12 +145,18 @@ abbrev pub end_for : List Text → ScriptEnd
 end_for replies = if list_any is_refusal replies then Refused else Clean
 
 -- the replies to the first steps of a script, whose lines are those of a file, with the lines
--- after them; each pattern may keep so many states
-pub record AnswersScript (states : ℕ) (file : File) (replies rest : List Text) : Type 0 where
-  pub steps : List Step
-  pub are_steps : Steps file.ending file.lines steps rest
-  pub after : ScriptState
-  pub are_replies : Replies steps (new_state states) replies after
+-- after them
+pub record AnswersScript (before : ScriptState) (file : File) (replies rest : List Text) : Type 0
+  where
+    pub steps : List Step
+    pub are_steps : Steps file.ending file.lines steps rest
+    pub after : ScriptState
+    pub are_replies : Replies steps before replies after
+
+-- a state is another, or that before what changed was reported
+abbrev pub IsUpToReport : ScriptState → ScriptState → Type 0
+IsUpToReport left after =
+    (left ≡ after) ⊎ (record left { session = all_known left.session } ≡ after)
 
 -- a script that was read is a file: what its reader had left before and has now, and how often its
 -- reads had failed before and have now
@@ -187,15 +193,16 @@ IsCutShort rest = (rest ≡ []) ⊎ IsUnfinished rest
 -- `has_read lines` says that these lines of the script were read, and no more
 module _ {W : Type 0} (contents : W → Option Text) (failures : W → ℕ)
     (has_read : List Text → Type 0) (known left : Option Text) (failed_before failed : ℕ)
-    (states : ℕ) (begun spent : StepCounts) (old new : W) where
+    (before after : ScriptState) (begun spent : StepCounts) (old new : W) where
   -- all commands were answered
   pub record Ends (ending : ScriptEnd) : Type 0 where
     pub file : File
     pub reads : ReadsScript known left failed_before failed file
     pub is_whole : file.ending ≡ whole
     pub replies : List Text
-    pub answers : AnswersScript states file replies []
-    pub work : SearchesTouched states answers.steps replies answers.after begun spent
+    pub answers : AnswersScript before file replies []
+    pub leaves : after ≡ answers.after
+    pub work : SearchesTouched before answers.steps replies answers.after begun spent
     pub goes : GoesOut contents failures old new (written [] replies)
     pub ended : ending ≡ end_for replies
 
@@ -207,9 +214,10 @@ module _ {W : Type 0} (contents : W → Option Text) (failures : W → ℕ)
     pub is_broken : file.ending ≡ broken
     pub replies : List Text
     pub rest : List Text
-    pub answers : AnswersScript states file replies rest
+    pub answers : AnswersScript before file replies rest
+    pub leaves : after ≡ answers.after
     pub cut_short : IsCutShort rest
-    pub work : SearchesTouched states answers.steps replies answers.after begun spent
+    pub work : SearchesTouched before answers.steps replies answers.after begun spent
     pub goes : GoesOut contents failures old new (written [] replies)
 
   -- an allocation failed: the lines that were read are those of all commands that were answered,
@@ -221,27 +229,30 @@ module _ {W : Type 0} (contents : W → Option Text) (failures : W → ℕ)
     pub done : List Text
     pub rest : List Text
     pub is_file : file.lines ≡ done ++ rest
-    pub answers : AnswersScript states file replies rest
+    pub answers : AnswersScript before file replies rest
+    pub leaves : after ≡ answers.after
     pub first : List Text
     pub others : List Text
     pub is_rest : rest ≡ first ++ others
     pub is_begun : IsBegun first
     pub were_read : has_read (done ++ first)
-    pub work : SearchesTouched states answers.steps replies answers.after begun spent
+    pub work : SearchesTouched before answers.steps replies answers.after begun spent
     pub goes : GoesOut contents failures old new (written [] replies)
 
-  -- a write failed: a beginning of the replies to the first commands was written
+  -- a write failed: a beginning of the replies to the first commands was written. These were done,
+  -- but where the last is `changes`, it may still have all to report
   pub record StopsWriting : Type 0 where
     pub file : File
     pub reads : BeginsScript known failed_before failed file ⊎
         ReadsScript known left failed_before failed file
     pub replies : List Text
     pub rest : List Text
-    pub answers : AnswersScript states file replies rest
-    pub work : SearchesTouched states answers.steps replies answers.after begun spent
+    pub answers : AnswersScript before file replies rest
+    pub leaves : IsUpToReport after answers.after
+    pub work : SearchesTouched before answers.steps replies answers.after begun spent
     pub stops : StopsWithin contents failures old new (written [] replies)
 
-  -- what a run of a script writes, counts and returns
+  -- what a script that is answered from a state on writes, counts, returns and leaves
   abbrev pub ScriptGives : Result ScriptEnd ScriptFault → Type 0
   ScriptGives (Ok ending) = Ends ending
   ScriptGives (Err Read) = IsCut

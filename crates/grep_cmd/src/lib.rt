@@ -11,4 +11,4 @@ pub use grep_utility::{
 };
 pub use laws::editors_follow;
 pub use reports::show;
-pub use script::{ScriptEnd, ScriptFault, VERSION, run_script};
+pub use script::{Script, ScriptEnd, ScriptFault, VERSION};

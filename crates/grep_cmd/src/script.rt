@@ -2,7 +2,7 @@
 ghost use Rattle.std.specs.Prelude.{◌≡◌, ◌≢◌, ◌≤◌, Err};
 ghost use Rattle.re_syntax.specs.Profile.{most_states};
 ghost use Rattle.grep_cmd.specs.declared.script.ScriptFault.{ScriptFault};
-ghost use Rattle.grep_cmd.specs.Replies.{GaveLines, ScriptGives};
+ghost use Rattle.grep_cmd.specs.Replies.{GaveLines, ScriptGives, new_state};
 ghost use Rattle.grep_cmd.specs.Working.Answered.{FlushesAfter};
 
 mod answer;
@@ -18,6 +18,7 @@ use crate::script::reply::Answer;
 use grep_core::{CountedRead, CountedWrite, Lines, WriteFault};
 use grep_session::{Meter, Session};
 use std::alloc::Global;
+use std::marker::Model;
 
 /// The version of the program, and that of scripts.
 pub const VERSION: &str = "0.9.0 script 2";
@@ -60,64 +61,93 @@ fn send_replies<W: CountedWrite>(
     }
 }
 
-/// Runs a script on a new session: reads its commands line by line, makes their edits, and writes
-/// the replies in the order of the commands. Each pattern keeps at most this number of states.
-///
-/// The replies are those that the definition of a script gives for its lines, but an edit may be
-/// refused as out of memory. All of them were sent. Before each read that may wait, all replies to
-/// the commands before it are sent, so that the sender of a command sees its reply without sending
-/// another. No more steps are counted than the edits cost, which search only what they touch.
-///
-/// # Errors
-///
-/// `ScriptFault::Read` where a read fails, or there are more lines than a `u64` can number, and
-/// `ScriptFault::Memory` where a line, a name or the lines of a command can't be held: all commands
-/// before that were answered. Of a script whose reading failed no whole command is left, and of one
-/// that ran out of memory no line after that command was taken. `ScriptFault::Write` where a write
-/// fails: a beginning of the replies was written. No read or write is tried again.
-pub fn run_script<R: CountedRead, W: CountedWrite>(
-    alloc: Global,
-    reader: &mut R,
-    writer: &mut W,
-    states: usize,
-    meter: &mut Meter,
-) -> Result<ScriptEnd, ScriptFault>
-    requires some { 1 ≤ states }
-    requires few { states ≤ most_states }
-    requires readable { R.may_be_read reader.old }
-    ensures gives { ScriptGives W.contents W.failures
-        (GaveLines (R.remaining reader.old) (R.remaining reader.new)) (R.remaining reader.old)
-        (R.remaining reader.new) (R.failures reader.old) (R.failures reader.new) states meter.old
-        meter.new writer.old writer.new result }
-    ensures sent { result ≢ Err ScriptFault.Write → W.waiting writer.new ≡ 0 }
-{
-    let mut lines = match Lines::new(alloc, reader) {
-        Ok(lines) => lines,
-        Err(_reader) => return send_replies(Err(ScriptFault::Memory), writer),
-    };
-    let mut session = Session::new(alloc, states);
-    let mut has_text = true;
-    let mut end = ScriptEnd::Clean;
-    let ended = loop {
-        match next_line(&mut lines, writer) {
-            Ok(true) => {}
-            Ok(false) => break Ok(end),
-            Err(fault) => break Err(fault),
+/// A script on its way: its session, and whether rows of hits have their text. Contracts see its
+/// state.
+#[derive(Drop)]
+pub struct Script {
+    session: Session,
+    has_text: bool,
+}
+
+impl Model for Script {
+    ghost use Rattle.grep_cmd.specs.Replies.{ScriptState};
+
+    ghost Value = { ScriptState };
+
+    ghost view = { λ s. record { session = s.session; texts = s.has_text } };
+}
+
+impl Script {
+    /// A script with a new session. Each pattern keeps at most this number of states.
+    pub fn new(alloc: Global, states: usize) -> Script
+        requires some { 1 ≤ states }
+        requires few { states ≤ most_states }
+        ensures { result ≡ new_state states }
+    {
+        Script {
+            session: Session::new(alloc, states),
+            has_text: true,
         }
-        match answer_command(
-            alloc,
-            &mut lines,
-            &mut session,
-            &mut has_text,
-            meter,
-            writer,
-        ) {
-            Ok(Answer::Accepted) => {}
-            Ok(Answer::Refused) => end = ScriptEnd::Refused,
-            Ok(Answer::Truncated) => break Ok(ScriptEnd::Refused),
-            Err(fault) => break Err(fault),
-        }
-    };
-    let _reader = lines.into_reader();
-    send_replies(ended, writer)
+    }
+
+    /// Answers the commands of a reader to its end, from the state that the script has: reads them
+    /// line by line, makes their edits, and writes the replies in the order of the commands.
+    ///
+    /// The replies are those that the definition of a script gives for its lines, but an edit may
+    /// be refused as out of memory. All of them were sent. Before each read that may wait, all
+    /// replies to the commands before it are sent, so that the sender of a command sees its reply
+    /// without sending another. No more steps are counted than the edits cost, which search only
+    /// what they touch.
+    ///
+    /// # Errors
+    ///
+    /// `ScriptFault::Read` where a read fails, or there are more lines than a `u64` can number, and
+    /// `ScriptFault::Memory` where a line, a name or the lines of a command can't be held: all
+    /// commands before that were answered. Of a script whose reading failed no whole command is
+    /// left, and of one that ran out of memory no line after that command was taken.
+    /// `ScriptFault::Write` where a write fails: a beginning of the replies was written, to commands
+    /// that were done; but a `changes`, the last of them, may still have all to report. No read or
+    /// write is tried again.
+    pub fn answer<R: CountedRead, W: CountedWrite>(
+        &mut self,
+        alloc: Global,
+        reader: &mut R,
+        writer: &mut W,
+        meter: &mut Meter,
+    ) -> Result<ScriptEnd, ScriptFault>
+        requires { R.may_be_read reader.old }
+        ensures gives { ScriptGives W.contents W.failures
+            (GaveLines (R.remaining reader.old) (R.remaining reader.new)) (R.remaining reader.old)
+            (R.remaining reader.new) (R.failures reader.old) (R.failures reader.new) self.old
+            self.new meter.old meter.new writer.old writer.new result }
+        ensures sent { result ≢ Err ScriptFault.Write → W.waiting writer.new ≡ 0 }
+    {
+        let mut lines = match Lines::new(alloc, reader) {
+            Ok(lines) => lines,
+            Err(_reader) => return send_replies(Err(ScriptFault::Memory), writer),
+        };
+        let mut end = ScriptEnd::Clean;
+        let ended = loop {
+            match next_line(&mut lines, writer) {
+                Ok(true) => {}
+                Ok(false) => break Ok(end),
+                Err(fault) => break Err(fault),
+            }
+            match answer_command(
+                alloc,
+                &mut lines,
+                &mut self.session,
+                &mut self.has_text,
+                meter,
+                writer,
+            ) {
+                Ok(Answer::Accepted) => {}
+                Ok(Answer::Refused) => end = ScriptEnd::Refused,
+                Ok(Answer::Truncated) => break Ok(ScriptEnd::Refused),
+                Err(fault) => break Err(fault),
+            }
+        };
+        let _reader = lines.into_reader();
+        send_replies(ended, writer)
+    }
 }

@@ -6,7 +6,7 @@ use Rattle.grep_core.specs.Buffer.{BufferedWriter, all_contents}
 use Rattle.grep_core.specs.Meters.{Steps}
 use Rattle.grep_core.specs.Run.{Writer}
 use Rattle.grep_cmd.specs.Bytes.{Text}
-use Rattle.grep_cmd.specs.Replies.{GaveLines, ScriptGives}
+use Rattle.grep_cmd.specs.Replies.{GaveLines, ScriptGives, ScriptState, new_state}
 use Rattle.grep_utility.specs.Command.{ReportsLines, SendsMessages}
 use Rattle.grep_cmd.specs.declared.script.ScriptEnd.{ScriptEnd}
 use Rattle.grep_cmd.specs.declared.script.ScriptEnd.TheVariants.{Clean, Refused}
@@ -61,13 +61,15 @@ streams script failures out messages waiting steps = record {
 }
 
 module _ {W : Type 0} (contents : W → Option Text) (failures waiting : W → ℕ) (states : ℕ) where
-  -- what the program does for a script: what a run of it does, in which each pattern may keep so
-  -- many states, and then how the program ends; unless a write failed, all replies were sent
+  -- what the program does for a script: it is answered from the state of a new session, in which
+  -- each pattern may keep so many states, and then the program ends; unless a write failed, all
+  -- replies were sent
   pub record ProgramGives (old new : Streams W) (status : ℕ) : Type 0 where
     pub ended : Result ScriptEnd ScriptFault
+    pub left : ScriptState
     pub script : ScriptGives (all_contents contents) (λ out. failures out.inner)
         (GaveLines old.script new.script) old.script new.script old.script_failures
-        new.script_failures states old.steps new.steps old.out new.out ended
+        new.script_failures (new_state states) left old.steps new.steps old.out new.out ended
     pub sent : ended ≢ Err Write → (new.out.waiting ≡ []) × (waiting new.out.inner ≡ 0)
     pub reported : Writer
     pub found : ℕ

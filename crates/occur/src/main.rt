@@ -13,7 +13,7 @@ ghost use Rattle.occur.specs.Exit.{ProgramGives, streams};
 use crate::exit::{end_script, program, refuse_script, words_status};
 use crate::words::{OccurFault, ScriptRequest, occur_words};
 use clap::Error;
-use grep_cmd::{FAILED, ScriptFault, run_script};
+use grep_cmd::{FAILED, Script, ScriptFault};
 use grep_core::{Buffered, CountedRead, CountedWrite, Tally};
 use grep_utility::send_messages;
 use re_auto::{Meter, fresh_meter};
@@ -58,7 +58,8 @@ fn run_on_devices<R: CountedRead, W: CountedWrite, M: CountedWrite>(
         (writer M.contents M.failures messages.new) (M.waiting messages.new) meter.new)
         result }
 {
-    let ended = run_script(alloc, reader, out, states, meter);
+    let mut script = Script::new(alloc, states);
+    let ended = script.answer(alloc, reader, out, meter);
     let found = end_script(messages, ended);
     send_messages(messages, found)
 }
@@ -93,7 +94,7 @@ fn read_words(rt: &HostRuntime) -> Result<ScriptRequest, u8>
 
 /// What is run.
 #[derive(Drop)]
-struct Script {
+struct Source {
     /// The file that has the script; none where it is standard input.
     file: Option<File>,
     /// How many states are kept for each pattern.
@@ -107,9 +108,9 @@ struct Script {
 /// # Errors
 ///
 /// The exit status, where there is no script that can be read. The cause was reported.
-fn open_script(rt: &HostRuntime) -> Result<Script, u8>
-    ensures least { IfOk result (λ script. 1 ≤ script.states) }
-    ensures most { IfOk result (λ script. script.states ≤ most_states) }
+fn open_script(rt: &HostRuntime) -> Result<Source, u8>
+    ensures least { IfOk result (λ source. 1 ≤ source.states) }
+    ensures most { IfOk result (λ source. source.states ≤ most_states) }
 {
     let request = read_words(rt)?;
     let states = request.states;
@@ -118,7 +119,7 @@ fn open_script(rt: &HostRuntime) -> Result<Script, u8>
         if is_output(fs::metadata(rt, "/dev/stdin"), output) {
             return Err(refuse_output(rt));
         }
-        return Ok(Script { file: None, states });
+        return Ok(Source { file: None, states });
     };
     let Ok(file) = fs::open(rt, name) else {
         return Err(refuse_script(&mut Tally::new(rt.stderr()), name));
@@ -127,11 +128,11 @@ fn open_script(rt: &HostRuntime) -> Result<Script, u8>
         return Err(refuse_output(rt));
     }
     let file = Some(file);
-    Ok(Script { file, states })
+    Ok(Source { file, states })
 }
 
 fn main(rt: HostRuntime) -> ExitCode {
-    let Script { file, states } = match open_script(&rt) {
+    let Source { file, states } = match open_script(&rt) {
         Ok(script) => script,
         Err(status) => return ExitCode::from(status),
     };

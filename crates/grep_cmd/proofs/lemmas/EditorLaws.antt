@@ -1,5 +1,5 @@
 -- The lists that an editor makes by the replies alone follow, and are the present hits.
-use Rattle.grep_cmd.proofs.Prelude.{Bool, ◌⊎◌, ◌≢◌, All, All-head, All-tail, All-cons, All-weaker, map, text_after, sets_text, HaveTexts, AreButTexts, read_hit, read_change, ScriptState, new_state, ◌≡◌, ℕ, ◌+◌, ◌<◌, ◌≤◌, ◌^◌, min, true, false, true≢false, List, [], ◌∷◌, ◌++◌, length, take, drop, get_or, codes, Result, Ok, Err, refl, sym, ap, subst, ◌∙◌, inl, inr, arith, append_assoc, ◌-◌, list_any, sum_by, Text, Status, IfHolds, File, Inputs, EditFault, Edit, Marked, View, AreHits, Watched, ChangesFile, all_after, FollowsFile, Follows, view_after, AreFit, changes_rows, total_row, page_row, page_rows, all_hits, all_known, Step, does, reports, reports_changes, reports_page, tells_version, is_bad, is_truncated, AreShown, with_margin, status_line, ReportsChanges, RepliesTo, Replies, IsAnswered, AnswersScript, cause, reply_to, IsHeld, bytes_of, has_status, EndsWithStatus, IsOneReply, ReadsChanges, ListsAfter, ListsAfterAll, ArePresent, Took, EditorsFollow, or_parts, All-nil, sum_by-cons}
+use Rattle.grep_cmd.proofs.Prelude.{Bool, ◌⊎◌, ◌≢◌, All, All-head, All-tail, All-cons, All-weaker, map, text_after, sets_text, HaveTexts, AreButTexts, read_change, ScriptState, new_state, ◌≡◌, ℕ, ◌+◌, ◌<◌, ◌≤◌, ◌^◌, min, true, false, true≢false, List, [], ◌∷◌, ◌++◌, length, take, drop, get_or, codes, Result, Ok, Err, refl, sym, ap, subst, ◌∙◌, inl, inr, arith, append_assoc, ◌-◌, list_any, sum_by, Text, Status, IfHolds, File, Inputs, EditFault, Edit, Marked, View, Watched, ChangesFile, all_after, FollowsFile, Follows, view_after, AreFit, changes_rows, total_row, page_row, page_rows, all_hits, all_known, Step, does, reports, reports_changes, reports_page, tells_version, is_bad, is_truncated, AreShown, with_margin, status_line, ReportsChanges, RepliesTo, Replies, IsAnswered, AnswersScript, cause, reply_to, IsHeld, bytes_of, has_status, EndsWithStatus, IsOneReply, ReadsChanges, ListsAfter, ListsAfterAll, ArePresent, Took, EditorsFollow, or_parts, All-nil, sum_by-cons}
 use Rattle.grep_core.specs.declared.status.Status.TheVariants as status
 use Rattle.grep_session.proofs.lemmas.FitLemmas.{known_fit, zip-length}
 use Rattle.grep_live.proofs.lemmas.CarryLemmas.{edits_carry}
@@ -341,7 +341,7 @@ new_within states = record { few = omega arith; files = All-nil (λ (file : File
 new_stands : (Lost : Type 0) (states : ℕ) → Stands Lost (new_state states) []
 new_stands Lost states = record { kept = inl refl; others = []; alike = tt; fit = tt; follows = tt }
 
-can_take : (states : ℕ) (script : File) (replies rest : List Text) → bytes_of script.lines < 2 ^ 64 → (a : AnswersScript states script replies rest) → (view : View) × Took states a.steps replies a.after view
+can_take : (states : ℕ) (script : File) (replies rest : List Text) → bytes_of script.lines < 2 ^ 64 → (a : AnswersScript (new_state states) script replies rest) → (view : View) × Took states a.steps replies a.after view
 can_take states script replies rest few a =
     let taken = can_from a.steps 0 (new_state states) a.after replies [] (omega (arith, few, steps_bring script.ending script.lines a.steps rest a.are_steps)) (new_within states) (new_stands (Unit {0}) states) a.are_replies in
     (taken.0, record { are_replies = a.are_replies; lists = taken.1 })

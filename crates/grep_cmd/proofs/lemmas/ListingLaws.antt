@@ -1,13 +1,17 @@
 -- The replies to `changes` and `page`, with the status after them.
-use Rattle.grep_cmd.proofs.Prelude.{Bool, ◌≡◌, ℕ, [], ◌∷◌, ◌++◌, length, min, Option, Result, Ok, Err, IfOk, refl, sym, subst, append-nil, ◌-◌, ◌^◌, IsErr, Text, Status, Inputs, written, output_line, Writes, Watched, all_after, changes_rows, total_row, page_rows, all_hits, WritesChanges, WritesPage, all_known, status_line, WritesReport, WritesHits}
+use Rattle.grep_cmd.proofs.Prelude.{Bool, ◌≡◌, ℕ, [], ◌∷◌, ◌++◌, length, min, Option, Result, Ok, Err, inl, inr, refl, sym, subst, append-nil, ◌-◌, ◌^◌, IsErr, Text, Status, Inputs, written, output_line, Writes, Watched, all_after, changes_rows, total_row, page_rows, all_hits, WritesChanges, WritesPage, all_known, status_line, LeavesReport, WritesReport, WritesHits}
 use Rattle.grep_core.proofs.lemmas.Exist.{StatusOf-exist}
-use Rattle.grep_session.proofs.lemmas.Writing.{if_ok, writes_err, writes_after, stops_before}
+use Rattle.grep_session.proofs.lemmas.Writing.{writes_err, writes_after, stops_before}
 use Rattle.grep_live.proofs.lemmas.CatchLemmas.{all_follow}
 
--- where nothing is said of the value
-either_way : {P : Type 0} {T E : Type 0} (r : Result T E) → P → IfOk r (λ _. P)
-either_way (Ok v) p = p
-either_way (Err e) p = tt
+-- a write failed before what changed counted as reported, or all of it does
+left_before : {T E : Type 0} (before after then : Watched) (r : Result T E) → IsErr r → after ≡ before → LeavesReport before after then r
+left_before before after then (Ok v) is same = absurd (let no : ⊥ = cc is in no)
+left_before before after then (Err e) is same = inr same
+
+left_after : {T E : Type 0} (before after then : Watched) (r : Result T E) → after ≡ then → LeavesReport before after then r
+left_after before after then (Ok v) same = same
+left_after before after then (Err e) same = inl same
 
 module _ (texts : Bool) {W : Type 0} (contents : W → Option Text) (failures : W → ℕ) where
   one_line : {T E : Type 0} (a b : W) (text : Text) (r : Result T E) → Writes contents failures a b (output_line [] text) r → Writes contents failures a b (written [] (text ∷ [])) r
@@ -33,7 +37,7 @@ module _ (texts : Bool) {W : Type 0} (contents : W → Option Text) (failures : 
           follows = (λ view f. all_follow t.es before.inputs t.are_meant before.inputs.files (all_after t.changes view) (t.catches_up view f));
         },
         writes_err contents failures [] a b _ r is (stops_before contents failures [] a b rows (status_line status.0 ∷ []) t.wrote),
-        if_ok (λ _. after ≡ all_known before) r is,
+        left_before before after (all_known before) r is t.leaves,
       )
 
   -- the changes were written, and the status by the last call
@@ -55,7 +59,7 @@ module _ (texts : Bool) {W : Type 0} (contents : W → Option Text) (failures : 
           follows = (λ view f. all_follow t.es before.inputs t.are_meant before.inputs.files (all_after t.changes view) (t.catches_up view f));
         },
         writes_after contents failures [] a b c rows (status_line status ∷ []) r t.wrote (one_line b c (status_line status) r w),
-        either_way r t.leaves,
+        left_after before after (all_known before) r t.leaves,
       )
 
   -- a write failed within the page

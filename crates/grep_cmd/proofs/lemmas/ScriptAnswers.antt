@@ -1,5 +1,5 @@
 -- What is taken and answered for one command of a script.
-use Rattle.grep_cmd.proofs.Prelude.{Bool, ScriptState, ◌≡◌, ◌≢◌, ℕ, ◌+◌, ◌<◌, false, List, [], ◌∷◌, ◌++◌, length, min, get_or, take, drop, ◌-◌, ◌^◌, IfOk, nat_eq, if◌then◌else◌, Option, Some, Result, Ok, Err, IfErr, inl, inr, refl, sym, ap, ◌∙◌, subst, append_assoc, append-nil, codes, arith, false_from_ne_true, eqb-true, take_more, length-take, list_any, Text, newline, joined, Status, Inputs, Adds, written, GoesOut, Numbered, HasHanded, EditFault, Edit, ScriptFault, Read, Write, Memory, Answer, Accepted, Truncated, Watched, changes_rows, total_row, page_row, page_rows, all_hits, AreShown, with_margin, status_line, ReportsChanges, ReportsPage, Step, counts, IsStep, line_command, RepliesTo, SearchesAtMost, reply_to, truncated, is_refusal, ReadsNext, TakesLines, FlushesFor, Replied, DoesStep, WantsLines, AnswersLine, answer_for, was_refused}
+use Rattle.grep_cmd.proofs.Prelude.{Bool, ScriptState, ◌≡◌, ◌≢◌, ℕ, ◌+◌, ◌<◌, false, List, [], ◌∷◌, ◌++◌, length, min, get_or, take, drop, ◌-◌, ◌^◌, IfOk, nat_eq, if◌then◌else◌, Option, Some, Result, Ok, Err, IfErr, inl, inr, refl, sym, ap, ◌∙◌, subst, append_assoc, append-nil, codes, arith, false_from_ne_true, eqb-true, take_more, length-take, list_any, Text, newline, joined, Status, Inputs, Adds, written, GoesOut, Numbered, HasHanded, EditFault, Edit, ScriptFault, Read, Write, Memory, Answer, Accepted, Truncated, Watched, changes_rows, total_row, page_row, page_rows, all_hits, AreShown, with_margin, status_line, all_known, state_of, LeavesReport, ReportsChanges, ReportsPage, Step, counts, IsStep, line_command, RepliesTo, SearchesAtMost, reply_to, truncated, is_refusal, ReadsNext, TakesLines, FlushesFor, Replied, IsUpToReport, DoesStep, WantsLines, AnswersLine, answer_for, was_refused}
 use Rattle.grep_core.specs.declared.status.Status.TheVariants as status
 use Rattle.grep_core.specs.Meters.{Steps as StepCounts}
 use Rattle.grep_core.proofs.lemmas.RowLemmas.{goes_on, stops_later}
@@ -71,6 +71,16 @@ not_for_memory (Err f) h = λ e. h (let same : f ≡ fault.Memory = cc in same)
 
 -- ---- replies
 
+-- what `changes` leaves
+pub report_left : {T E : Type 0} (before after told : Watched) (texts : Bool) (r : Result T E) → told ≡ all_known before → LeavesReport before after told r → IfErr r (λ _. IsUpToReport (state_of after texts) (state_of told texts))
+report_left before after told texts (Ok v) is l = tt
+report_left before after told texts (Err e) is (inl same) = inl (ap (λ s. state_of s texts) same)
+report_left before after told texts (Err e) is (inr same) = inr (ap (λ s. state_of s texts) (ap all_known same ∙ sym is))
+
+pub report_done : {T E : Type 0} (before after told : Watched) (r : Result T E) → LeavesReport before after told r → IfOk r (λ _. after ≡ told)
+report_done before after told (Ok v) l = l
+report_done before after told (Err e) l = tt
+
 -- ---- the lines that a command takes
 
 module _ {R : Type 0} (remaining : R → Option Text) (failures : R → ℕ) (reader : R) (handed : List Text) where
@@ -103,8 +113,8 @@ module _ {R W : Type 0} (remaining : R → Option Text) (failures : R → ℕ) (
   answers_step reply Refused (Ok Accepted) d none apart h = absurd (let no : ⊥ = cc (h.0) in no)
   answers_step reply Refused (Ok Truncated) d none apart h = absurd (let no : ⊥ = cc (h.0) in no)
   answers_step reply Truncated r d none apart h = absurd (apart refl)
-  answers_step reply Accepted (Err Write) d none apart h = inr (inl (after, reply, d, stops_later contents write_failures old mid new [] (written [] reply) flushed h))
-  answers_step reply Refused (Err Write) d none apart h = inr (inl (after, reply, d, stops_later contents write_failures old mid new [] (written [] reply) flushed h))
+  answers_step reply Accepted (Err Write) d none apart h = inr (inl (after, reply, d, inl refl, stops_later contents write_failures old mid new [] (written [] reply) flushed h))
+  answers_step reply Refused (Err Write) d none apart h = inr (inl (after, reply, d, inl refl, stops_later contents write_failures old mid new [] (written [] reply) flushed h))
   answers_step reply Accepted (Err Read) d none apart h = absurd h
   answers_step reply Refused (Err Read) d none apart h = absurd h
   answers_step reply Accepted (Err Memory) d none apart h = absurd h
@@ -112,13 +122,13 @@ module _ {R W : Type 0} (remaining : R → Option Text) (failures : R → ℕ) (
 
   -- the changes were written, and this was left
   pub answers_changes : (reply : List Text) (left : Watched) (r : Result Answer ScriptFault) → DoesStep remaining failures reader handed line now begun spent before (record after { session = left }) reply
-      → list_any is_refusal reply ≡ false → IfOk r (λ _. after.session ≡ left) → Replied contents write_failures mid new reply Accepted r → Answers r
-  answers_changes reply left (Ok Accepted) d none e h = (reply, subst (λ (w : Watched). DoesStep remaining failures reader handed line now begun spent before (record after { session = w }) reply) (sym e) d, goes_on contents write_failures old mid new [] (written [] reply) flushed h.1, none)
-  answers_changes reply left (Ok Refused) d none e h = absurd (let no : ⊥ = cc (h.0) in no)
-  answers_changes reply left (Ok Truncated) d none e h = absurd (let no : ⊥ = cc (h.0) in no)
-  answers_changes reply left (Err Write) d none e h = inr (inl (record after { session = left }, reply, d, stops_later contents write_failures old mid new [] (written [] reply) flushed h))
-  answers_changes reply left (Err Read) d none e h = absurd h
-  answers_changes reply left (Err Memory) d none e h = absurd h
+      → list_any is_refusal reply ≡ false → IfOk r (λ _. after.session ≡ left) → IfErr r (λ _. IsUpToReport after (record after { session = left })) → Replied contents write_failures mid new reply Accepted r → Answers r
+  answers_changes reply left (Ok Accepted) d none e f h = (reply, subst (λ (w : Watched). DoesStep remaining failures reader handed line now begun spent before (record after { session = w }) reply) (sym e) d, goes_on contents write_failures old mid new [] (written [] reply) flushed h.1, none)
+  answers_changes reply left (Ok Refused) d none e f h = absurd (let no : ⊥ = cc (h.0) in no)
+  answers_changes reply left (Ok Truncated) d none e f h = absurd (let no : ⊥ = cc (h.0) in no)
+  answers_changes reply left (Err Write) d none e f h = inr (inl (record after { session = left }, reply, d, f, stops_later contents write_failures old mid new [] (written [] reply) flushed h))
+  answers_changes reply left (Err Read) d none e f h = absurd h
+  answers_changes reply left (Err Memory) d none e f h = absurd h
 
   -- a command for which its line is enough
   pub does_alone : (step : Step) (reply : List Text) → HasHanded remaining failures reader now handed → IsStep (line_command line) [] step → RepliesTo step before reply after
@@ -150,6 +160,6 @@ module _ {R W : Type 0} (remaining : R → Option Text) (failures : R → ℕ) (
   -- not all lines that it counts were read
   pub answers_lost : (count : ℕ) (edit : List Text → Edit) (f : ScriptFault) → line_command line ≡ Some (counts count edit) → TakesLines remaining failures reader handed count now (Err f)
       → FlushesFor contents write_failures old new f → spent ≡ begun → AnswersLine remaining failures reader handed line now begun spent before before contents write_failures old new (Err f)
-  answers_lost count edit Read is t sent idle = (record { taken = t.0; wants = rw is t.1; stands = t.2; idle = idle }, sent)
-  answers_lost count edit Memory is t sent idle = (record { taken = t.0; asks = rw is t.1; has_handed = t.2; idle = idle }, sent)
-  answers_lost count edit Write is t sent idle = inl (record { taken = t.0; has_handed = t.2; idle = idle }, sent)
+  answers_lost count edit Read is t sent idle = (record { taken = t.0; wants = rw is t.1; stands = t.2; idle = idle; same = refl }, sent)
+  answers_lost count edit Memory is t sent idle = (record { taken = t.0; asks = rw is t.1; has_handed = t.2; idle = idle; same = refl }, sent)
+  answers_lost count edit Write is t sent idle = inl (record { taken = t.0; has_handed = t.2; idle = idle; same = refl }, sent)

@@ -1,5 +1,5 @@
 -- How a run of a script continues and ends.
-use Rattle.grep_cmd.proofs.Prelude.{◌≡◌, ℕ, ◌<◌, ◌≤◌, true, false, List, [], ◌∷◌, ◌++◌, length, Option, Result, Ok, Err, arith, inl, inr, refl, sym, ap, ◌∙◌, subst, append_assoc, append-nil, length-append, list_any, Text, HasNoNewline, lines_of, File, Ending, whole, broken, written, file_of, most_lines, GoesOut, StopsWithin, Numbered, HasHanded, StandsAs, AreHanded, IsOneLineAndFew, Stage, Open, Ended, Failed, ScriptState, new_state, ScriptFault, Read, Write, Memory, ScriptEnd, Clean, is_truncated, IsBegun, truncated, is_refusal, end_for, AnswersScript, ReadsScript, BeginsScript, GaveLines, SearchesTouched, StopsWriting, ScriptGives, HasRead, ReadsNext, FlushesFor, FlushesAfter, DoesStep, WantsLines, LosesLines, AnswersLine, AnsweredSoFar}
+use Rattle.grep_cmd.proofs.Prelude.{◌≡◌, ℕ, ◌<◌, ◌≤◌, true, false, List, [], ◌∷◌, ◌++◌, length, Option, Result, Ok, Err, arith, inl, inr, refl, sym, ap, ◌∙◌, subst, append_assoc, append-nil, length-append, list_any, Text, HasNoNewline, lines_of, File, Ending, whole, broken, written, file_of, most_lines, GoesOut, StopsWithin, Numbered, HasHanded, StandsAs, AreHanded, IsOneLineAndFew, Stage, Open, Ended, Failed, ScriptState, ScriptFault, Read, Write, Memory, ScriptEnd, Clean, is_truncated, IsBegun, truncated, is_refusal, end_for, AnswersScript, ReadsScript, BeginsScript, GaveLines, SearchesTouched, StopsWriting, ScriptGives, IsUpToReport, HasRead, ReadsNext, FlushesFor, FlushesAfter, DoesStep, WantsLines, LosesLines, AnswersLine, AnsweredSoFar}
 use Rattle.re_syntax.proofs.lemmas.LinesLaws.{lines_of-terminated}
 use Rattle.grep_core.specs.Meters.{Steps as StepCounts}
 use Rattle.re_meter.proofs.lemmas.Adding.{adds_none}
@@ -17,7 +17,7 @@ script_of lines ending = record { name = []; lines = lines; ending = ending }
 line_then : (handed : List Text) (line : Text) (taken : List Text) → (handed ++ line ∷ []) ++ taken ≡ handed ++ line ∷ taken
 line_then handed line taken = append_assoc handed (line ∷ []) taken
 
-module _ {R W : Type 0} (remaining : R → Option Text) (failures : R → ℕ) (contents : W → Option Text) (write_failures : W → ℕ) (reader : R) (states : ℕ) (begun : StepCounts) (old : W) where
+module _ {R W : Type 0} (remaining : R → Option Text) (failures : R → ℕ) (contents : W → Option Text) (write_failures : W → ℕ) (reader : R) (start : ScriptState) (begun : StepCounts) (old : W) where
   -- the lines of a reader, with their ending, are a script
   reads : (now : Numbered R) (lines : List Text) (ending : Ending) → StandsAs remaining failures reader now lines ending
       → ReadsScript (remaining reader) (remaining now.lines.reader) (failures reader) (failures now.lines.reader) (script_of lines ending)
@@ -53,7 +53,7 @@ module _ {R W : Type 0} (remaining : R → Option Text) (failures : R → ℕ) (
   stops_same a b c bytes first second = subst (StopsWithin contents write_failures a c) (append-nil bytes) (stops_later contents write_failures a b c bytes [] first second)
 
   -- no line was handed out
-  pub so_far_none : (now : Numbered R) → HasHanded remaining failures reader now [] → AnsweredSoFar remaining failures contents write_failures reader states begun old now (new_state states) begun old Clean
+  pub so_far_none : (now : Numbered R) → HasHanded remaining failures reader now [] → AnsweredSoFar remaining failures contents write_failures reader start begun old now start begun old Clean
   so_far_none now h = record {
     handed = [];
     has_handed = h;
@@ -61,19 +61,19 @@ module _ {R W : Type 0} (remaining : R → Option Text) (failures : R → ℕ) (
     are_done = refl;
     replies = [];
     are_replies = (refl, refl);
-    work = work_none states begun;
+    work = work_none start begun;
     goes = goes_nowhere contents write_failures old;
     ended = refl;
   }
 
   -- what a run gives that read so far, counted so many steps, and wrote so much
-  abbrev Gives : Numbered R → StepCounts → W → Result ScriptEnd ScriptFault → Type 0
-  Gives next last new result =
-      ScriptGives contents write_failures (HasRead remaining failures reader next) (remaining reader) (remaining next.lines.reader) (failures reader) (failures next.lines.reader) states begun last old new result
+  abbrev Gives : Numbered R → ScriptState → StepCounts → W → Result ScriptEnd ScriptFault → Type 0
+  Gives next left last new result =
+      ScriptGives contents write_failures (HasRead remaining failures reader next) (remaining reader) (remaining next.lines.reader) (failures reader) (failures next.lines.reader) start left begun last old new result
 
-  module _ (now : Numbered R) (inputs : ScriptState) (spent : StepCounts) (mid : W) (ending : ScriptEnd) (s : AnsweredSoFar remaining failures contents write_failures reader states begun old now inputs spent mid ending) where
+  module _ (now : Numbered R) (inputs : ScriptState) (spent : StepCounts) (mid : W) (ending : ScriptEnd) (s : AnsweredSoFar remaining failures contents write_failures reader start begun old now inputs spent mid ending) where
     -- the steps so far, of a script that continues
-    answers_so_far : (file : File) (rest : List Text) → file.lines ≡ s.handed ++ rest → AnswersScript states file s.replies rest
+    answers_so_far : (file : File) (rest : List Text) → file.lines ≡ s.handed ++ rest → AnswersScript start file s.replies rest
     answers_so_far file rest is = record {
       steps = s.steps;
       are_steps = rw is (done_alone file.ending s.handed rest s.steps s.are_done);
@@ -86,7 +86,7 @@ module _ {R W : Type 0} (remaining : R → Option Text) (failures : R → ℕ) (
     module _ (next : Numbered R) (new : W) where
       -- they are all
       pub ends_here : StandsAs remaining failures reader next s.handed whole → GoesOut contents write_failures mid new []
-          → Gives next spent new (Ok ending)
+          → Gives next inputs spent new (Ok ending)
       unfolding answers_so_far
       ends_here stands flushed = record {
         file = script_of s.handed whole;
@@ -94,6 +94,7 @@ module _ {R W : Type 0} (remaining : R → Option Text) (failures : R → ℕ) (
         is_whole = refl;
         replies = s.replies;
         answers = answers_so_far (script_of s.handed whole) [] (sym (append-nil s.handed));
+        leaves = refl;
         work = s.work;
         goes = goes_same old mid new (written [] s.replies) s.goes flushed;
         ended = s.ended;
@@ -101,7 +102,7 @@ module _ {R W : Type 0} (remaining : R → Option Text) (failures : R → ℕ) (
 
       -- a read failed
       pub cut_here : StandsAs remaining failures reader next s.handed broken → GoesOut contents write_failures mid new []
-          → Gives next spent new (Err Read)
+          → Gives next inputs spent new (Err Read)
       unfolding answers_so_far
       cut_here stands flushed = record {
         file = script_of s.handed broken;
@@ -110,27 +111,29 @@ module _ {R W : Type 0} (remaining : R → Option Text) (failures : R → ℕ) (
         replies = s.replies;
         rest = [];
         answers = answers_so_far (script_of s.handed broken) [] (sym (append-nil s.handed));
+        leaves = refl;
         cut_short = inl refl;
         work = s.work;
         goes = goes_same old mid new (written [] s.replies) s.goes flushed;
       }
 
       -- an allocation failed, with the next command or without it
-      pub runs_out : (first : List Text) → IsBegun first → IsOneLineAndFew next.lines.ahead → HasHanded remaining failures reader next (s.handed ++ first) → GoesOut contents write_failures mid new []
-          → Gives next spent new (Err Memory)
+      pub runs_out : (begin : List Text) → IsBegun begin → IsOneLineAndFew next.lines.ahead → HasHanded remaining failures reader next (s.handed ++ begin) → GoesOut contents write_failures mid new []
+          → Gives next inputs spent new (Err Memory)
       unfolding answers_so_far
-      runs_out first is_begun few handed flushed =
-          let b = begins next (s.handed ++ first) handed in
-          let is = b.2.1 ∙ append_assoc s.handed first b.2.0 in
+      runs_out begin is_begun few handed flushed =
+          let b = begins next (s.handed ++ begin) handed in
+          let is = b.2.1 ∙ append_assoc s.handed begin b.2.0 in
           record {
             file = b.0;
             reads = b.1;
             replies = s.replies;
             done = s.handed;
-            rest = first ++ b.2.0;
+            rest = begin ++ b.2.0;
             is_file = is;
-            answers = answers_so_far b.0 (first ++ b.2.0) is;
-            first = first;
+            answers = answers_so_far b.0 (begin ++ b.2.0) is;
+            leaves = refl;
+            first = begin;
             others = b.2.0;
             is_rest = refl;
             is_begun = is_begun;
@@ -141,7 +144,7 @@ module _ {R W : Type 0} (remaining : R → Option Text) (failures : R → ℕ) (
 
       -- what was buffered could not be sent
       pub stops_sending : (others : List Text) → HasHanded remaining failures reader next (s.handed ++ others) → StopsWithin contents write_failures mid new []
-          → Gives next spent new (Err Write)
+          → Gives next inputs spent new (Err Write)
       unfolding answers_so_far
       stops_sending others handed stops =
           let b = begins next (s.handed ++ others) handed in
@@ -151,13 +154,14 @@ module _ {R W : Type 0} (remaining : R → Option Text) (failures : R → ℕ) (
             replies = s.replies;
             rest = others ++ b.2.0;
             answers = answers_so_far b.0 (others ++ b.2.0) (b.2.1 ∙ append_assoc s.handed others b.2.0);
+            leaves = inl refl;
             work = s.work;
             stops = stops_same old mid new (written [] s.replies) s.goes stops;
           }
 
     -- no further line was read
     pub next_fails : (next : Numbered R) (new : W) (f : ScriptFault) → IsOneLineAndFew next.lines.ahead → ReadsNext remaining failures reader s.handed next (Err f) → FlushesFor contents write_failures mid new f
-        → Gives next spent new (Err f)
+        → Gives next inputs spent new (Err f)
     next_fails next new Read few stands sent = cut_here next new stands sent
     next_fails next new Memory few handed sent = runs_out next new [] tt few (subst (HasHanded remaining failures reader next) (sym (append-nil s.handed)) handed) sent
     next_fails next new Write few handed stops = stops_sending next new [] (subst (HasHanded remaining failures reader next) (sym (append-nil s.handed)) handed) stops
@@ -171,54 +175,54 @@ module _ {R W : Type 0} (remaining : R → Option Text) (failures : R → ℕ) (
       abbrev Wants : Type 0
       Wants = WantsLines remaining failures reader (s.handed ++ line ∷ []) line next spent last inputs after
 
-      works : (then : ScriptState) (reply : List Text) → (d : DoesStep remaining failures reader (s.handed ++ line ∷ []) line next spent last inputs then reply) → SearchesTouched states (s.steps ++ d.step ∷ []) (s.replies ++ reply) then begun last
-      works then reply d = work_push states s.steps d.step inputs then s.replies reply begun spent last d.refusals d.most s.work d.replies_to d.is_most d.few
+      works : (then : ScriptState) (reply : List Text) → (d : DoesStep remaining failures reader (s.handed ++ line ∷ []) line next spent last inputs then reply) → SearchesTouched start (s.steps ++ d.step ∷ []) (s.replies ++ reply) then begun last
+      works then reply d = work_push start s.steps d.step inputs then s.replies reply begun spent last d.refusals d.most s.work d.replies_to d.is_most d.few
 
       -- without a step
-      idles : last ≡ spent → SearchesTouched states s.steps s.replies inputs begun last
-      idles idle = subst (SearchesTouched states s.steps s.replies inputs begun) (sym idle) s.work
+      idles : last ≡ spent → SearchesTouched start s.steps s.replies inputs begun last
+      idles idle = subst (SearchesTouched start s.steps s.replies inputs begun) (sym idle) s.work
 
       -- it was answered
       answered : (reply : List Text) → Does reply → GoesOut contents write_failures sent new (written [] reply) → (end : ScriptEnd) → end ≡ end_for (s.replies ++ reply)
-          → AnsweredSoFar remaining failures contents write_failures reader states begun old next after last new end
+          → AnsweredSoFar remaining failures contents write_failures reader start begun old next after last new end
       answered reply d goes end is = record {
         handed = s.handed ++ line ∷ d.taken;
         has_handed = subst (HasHanded remaining failures reader next) (line_then s.handed line d.taken) d.has_handed;
         steps = s.steps ++ d.step ∷ [];
         are_done = done_push s.handed s.steps line d.taken d.step s.are_done d.is_step;
         replies = s.replies ++ reply;
-        are_replies = replies_push s.steps d.step (new_state states) inputs after s.replies reply s.are_replies d.replies_to;
+        are_replies = replies_push s.steps d.step start inputs after s.replies reply s.are_replies d.replies_to;
         work = works after reply d;
         goes = goes_both old mid sent new s.replies reply s.goes flushed goes;
         ended = is;
       }
 
       pub so_far_accepted : (reply : List Text) → Does reply → GoesOut contents write_failures sent new (written [] reply) → list_any is_refusal reply ≡ false
-          → AnsweredSoFar remaining failures contents write_failures reader states begun old next after last new ending
+          → AnsweredSoFar remaining failures contents write_failures reader start begun old next after last new ending
       so_far_accepted reply d goes none = answered reply d goes ending (s.ended ∙ sym (end_kept s.replies reply none))
 
       pub so_far_refused : (reply : List Text) → Does reply → GoesOut contents write_failures sent new (written [] reply) → list_any is_refusal reply ≡ true
-          → AnsweredSoFar remaining failures contents write_failures reader states begun old next after last new Refused
+          → AnsweredSoFar remaining failures contents write_failures reader start begun old next after last new Refused
       so_far_refused reply d goes some = answered reply d goes Refused (sym (end_refused s.replies reply some))
 
       -- fewer lines follow than it counts
-      truncates : (file : File) → (w : Wants) → file.lines ≡ s.handed ++ line ∷ w.taken → file.ending ≡ whole → AnswersScript states file (s.replies ++ truncated ∷ []) []
+      truncates : (file : File) → (w : Wants) → file.lines ≡ s.handed ++ line ∷ w.taken → file.ending ≡ whole → AnswersScript start file (s.replies ++ truncated ∷ []) []
       truncates file w is ends = record {
         steps = s.steps ++ is_truncated ∷ [];
         are_steps = rw is (done_steps file.ending s.handed (line ∷ w.taken) [] s.steps (is_truncated ∷ []) s.are_done (inr (ends, w.wants, refl, refl, refl)));
         after = inputs;
-        are_replies = replies_push s.steps is_truncated (new_state states) inputs inputs s.replies (truncated ∷ []) s.are_replies (refl, refl);
+        are_replies = replies_push s.steps is_truncated start inputs inputs s.replies (truncated ∷ []) s.are_replies (refl, refl);
       }
 
-      works_truncated : last ≡ spent → SearchesTouched states (s.steps ++ is_truncated ∷ []) (s.replies ++ truncated ∷ []) inputs begun last
-      works_truncated idle = work_push states s.steps is_truncated inputs inputs s.replies (truncated ∷ []) begun last last 0 0 (idles idle) (refl, refl) (refl, refl) (adds_none 0 0 last)
+      works_truncated : last ≡ spent → SearchesTouched start (s.steps ++ is_truncated ∷ []) (s.replies ++ truncated ∷ []) inputs begun last
+      works_truncated idle = work_push start s.steps is_truncated inputs inputs s.replies (truncated ∷ []) begun last last 0 0 (idles idle) (refl, refl) (refl, refl) (adds_none 0 0 last)
 
       reads_all : (taken : List Text) (kind : Ending) → StandsAs remaining failures reader next ((s.handed ++ line ∷ []) ++ taken) kind
           → ReadsScript (remaining reader) (remaining next.lines.reader) (failures reader) (failures next.lines.reader) (script_of (s.handed ++ line ∷ taken) kind)
       reads_all taken kind stands = reads next (s.handed ++ line ∷ taken) kind (subst (λ lines. StandsAs remaining failures reader next lines kind) (line_then s.handed line taken) stands)
 
       pub ends_truncated : Wants → GoesOut contents write_failures sent new (written [] (truncated ∷ []))
-          → Gives next last new (Ok Refused)
+          → Gives next after last new (Ok Refused)
       unfolding truncates
       ends_truncated w goes = record {
         file = script_of (s.handed ++ line ∷ w.taken) whole;
@@ -226,6 +230,7 @@ module _ {R W : Type 0} (remaining : R → Option Text) (failures : R → ℕ) (
         is_whole = refl;
         replies = s.replies ++ truncated ∷ [];
         answers = truncates (script_of (s.handed ++ line ∷ w.taken) whole) w refl refl;
+        leaves = w.same;
         work = works_truncated w.idle;
         goes = goes_both old mid sent new s.replies (truncated ∷ []) s.goes flushed goes;
         ended = sym (end_refused s.replies (truncated ∷ []) refl);
@@ -233,7 +238,7 @@ module _ {R W : Type 0} (remaining : R → Option Text) (failures : R → ℕ) (
 
       -- a read failed before all lines were read
       pub cut_within : LosesLines remaining failures reader (s.handed ++ line ∷ []) line next spent last inputs after → GoesOut contents write_failures sent new []
-          → Gives next last new (Err Read)
+          → Gives next after last new (Err Read)
       unfolding answers_so_far
       cut_within l goes = record {
         file = script_of (s.handed ++ line ∷ l.taken) broken;
@@ -242,6 +247,7 @@ module _ {R W : Type 0} (remaining : R → Option Text) (failures : R → ℕ) (
         replies = s.replies;
         rest = line ∷ l.taken;
         answers = answers_so_far (script_of (s.handed ++ line ∷ l.taken) broken) (line ∷ l.taken) refl;
+        leaves = l.same;
         cut_short = inr l.wants;
         work = idles l.idle;
         goes = goes_same old mid new (written [] s.replies) s.goes (goes_same mid sent new [] flushed goes);
@@ -254,9 +260,9 @@ module _ {R W : Type 0} (remaining : R → Option Text) (failures : R → ℕ) (
           (omega (arith, longer, h.counted, s.has_handed.counted), omega (arith, h.counted, h.few))
 
       -- a write failed within the reply
-      pub stops_replying : (then : ScriptState) (reply : List Text) → DoesStep remaining failures reader (s.handed ++ line ∷ []) line next spent last inputs then reply → StopsWithin contents write_failures sent new (written [] reply)
-          → Gives next last new (Err Write)
-      stops_replying then reply d stops =
+      pub stops_replying : (then : ScriptState) (reply : List Text) → DoesStep remaining failures reader (s.handed ++ line ∷ []) line next spent last inputs then reply → IsUpToReport after then → StopsWithin contents write_failures sent new (written [] reply)
+          → Gives next after last new (Err Write)
+      stops_replying then reply d leaves stops =
           let handed = subst (HasHanded remaining failures reader next) (line_then s.handed line d.taken) d.has_handed in
           let b = begins next (s.handed ++ line ∷ d.taken) handed in
           record {
@@ -268,14 +274,15 @@ module _ {R W : Type 0} (remaining : R → Option Text) (failures : R → ℕ) (
               steps = s.steps ++ d.step ∷ [];
               are_steps = rw b.2.1 (done_alone b.0.ending (s.handed ++ line ∷ d.taken) b.2.0 (s.steps ++ d.step ∷ []) (done_push s.handed s.steps line d.taken d.step s.are_done d.is_step));
               after = then;
-              are_replies = replies_push s.steps d.step (new_state states) inputs then s.replies reply s.are_replies d.replies_to;
+              are_replies = replies_push s.steps d.step start inputs then s.replies reply s.are_replies d.replies_to;
             };
+            leaves = leaves;
             work = works then reply d;
             stops = stops_both old mid sent new s.replies reply s.goes flushed stops;
           }
 
       pub stops_truncated : Wants → StopsWithin contents write_failures sent new (written [] (truncated ∷ []))
-          → Gives next last new (Err Write)
+          → Gives next after last new (Err Write)
       unfolding truncates
       stops_truncated w stops = record {
         file = script_of (s.handed ++ line ∷ w.taken) whole;
@@ -283,26 +290,31 @@ module _ {R W : Type 0} (remaining : R → Option Text) (failures : R → ℕ) (
         replies = s.replies ++ truncated ∷ [];
         rest = [];
         answers = truncates (script_of (s.handed ++ line ∷ w.taken) whole) w refl refl;
+        leaves = inl w.same;
         work = works_truncated w.idle;
         stops = stops_both old mid sent new s.replies (truncated ∷ []) s.goes flushed stops;
       }
 
+      -- where the command changed nothing
+      kept : after ≡ inputs → last ≡ spent → (result : Result ScriptEnd ScriptFault) → Gives next inputs spent new result → Gives next after last new result
+      kept same idle result g = subst (λ (n : StepCounts). Gives next after n new result) (sym idle) (subst (λ (i : ScriptState). Gives next i spent new result) (sym same) g)
+
       -- the command wasn't answered
       pub answer_fails : (f : ScriptFault) → IsOneLineAndFew next.lines.ahead → AnswersLine remaining failures reader (s.handed ++ line ∷ []) line next spent last inputs after contents write_failures sent new (Err f)
-          → Gives next last new (Err f)
+          → Gives next after last new (Err f)
       answer_fails Read few h = cut_within h.0 h.1
       answer_fails Memory few h =
           let handed = subst (HasHanded remaining failures reader next) (line_then s.handed line h.0.taken) h.0.has_handed in
-          subst (λ (n : StepCounts). Gives next n new (Err Memory)) (sym h.0.idle) (runs_out next new (line ∷ h.0.taken) h.0.asks few handed (goes_same mid sent new [] flushed h.1))
+          kept h.0.same h.0.idle (Err Memory) (runs_out next new (line ∷ h.0.taken) h.0.asks few handed (goes_same mid sent new [] flushed h.1))
       answer_fails Write few (inl h) =
           let handed = subst (HasHanded remaining failures reader next) (line_then s.handed line h.0.taken) h.0.has_handed in
-          subst (λ (n : StepCounts). Gives next n new (Err Write)) (sym h.0.idle) (stops_sending next new (line ∷ h.0.taken) handed (stops_same mid sent new [] flushed h.1))
-      answer_fails Write few (inr (inl h)) = stops_replying h.0 h.1 h.2 h.3
+          kept h.0.same h.0.idle (Err Write) (stops_sending next new (line ∷ h.0.taken) handed (stops_same mid sent new [] flushed h.1))
+      answer_fails Write few (inr (inl h)) = stops_replying h.0 h.1 h.2 h.3 h.4
       answer_fails Write few (inr (inr h)) = stops_truncated h.0 h.1
 
 -- ---- the end
 
-module _ {W : Type 0} (contents : W → Option Text) (failures : W → ℕ) (has_read : List Text → Type 0) (known left : Option Text) (failed_before failed : ℕ) (states : ℕ) (begun spent : StepCounts) (old mid new : W) where
+module _ {W : Type 0} (contents : W → Option Text) (failures : W → ℕ) (has_read : List Text → Type 0) (known left : Option Text) (failed_before failed : ℕ) (start after : ScriptState) (begun spent : StepCounts) (old mid new : W) where
   goes_on_same : (bytes : Text) → GoesOut contents failures old mid bytes → GoesOut contents failures mid new [] → GoesOut contents failures old new bytes
   goes_on_same bytes first second = subst (GoesOut contents failures old new) (append-nil bytes) (goes_on contents failures old mid new bytes [] first second)
 
@@ -310,28 +322,28 @@ module _ {W : Type 0} (contents : W → Option Text) (failures : W → ℕ) (has
   stops_on_same bytes first second = subst (StopsWithin contents failures old new) (append-nil bytes) (stops_later contents failures old mid new bytes [] first second)
 
   -- what was buffered was sent after a run, or that failed
-  pub sends_after : (ended result : Result ScriptEnd ScriptFault) → ScriptGives contents failures has_read known left failed_before failed states begun spent old mid ended → FlushesAfter contents failures mid new ended result
-      → ScriptGives contents failures has_read known left failed_before failed states begun spent old new result
+  pub sends_after : (ended result : Result ScriptEnd ScriptFault) → ScriptGives contents failures has_read known left failed_before failed start after begun spent old mid ended → FlushesAfter contents failures mid new ended result
+      → ScriptGives contents failures has_read known left failed_before failed start after begun spent old new result
   sends_after (Ok end) result e (inl (sent, is)) =
-      subst (ScriptGives contents failures has_read known left failed_before failed states begun spent old new) (sym is)
-      (record { file = e.file; reads = e.reads; is_whole = e.is_whole; replies = e.replies; answers = e.answers; work = e.work; goes = goes_on_same (written [] e.replies) e.goes sent; ended = e.ended })
+      subst (ScriptGives contents failures has_read known left failed_before failed start after begun spent old new) (sym is)
+      (record { file = e.file; reads = e.reads; is_whole = e.is_whole; replies = e.replies; answers = e.answers; leaves = e.leaves; work = e.work; goes = goes_on_same (written [] e.replies) e.goes sent; ended = e.ended })
   sends_after (Ok end) result e (inr (stops, is)) =
-      subst (ScriptGives contents failures has_read known left failed_before failed states begun spent old new) (sym is)
-      (record { file = e.file; reads = inr e.reads; replies = e.replies; rest = []; answers = e.answers; work = e.work; stops = stops_on_same (written [] e.replies) e.goes stops })
+      subst (ScriptGives contents failures has_read known left failed_before failed start after begun spent old new) (sym is)
+      (record { file = e.file; reads = inr e.reads; replies = e.replies; rest = []; answers = e.answers; leaves = inl e.leaves; work = e.work; stops = stops_on_same (written [] e.replies) e.goes stops })
   sends_after (Err Read) result e (inl (sent, is)) =
-      subst (ScriptGives contents failures has_read known left failed_before failed states begun spent old new) (sym is)
-      (record { file = e.file; reads = e.reads; is_broken = e.is_broken; replies = e.replies; rest = e.rest; answers = e.answers; cut_short = e.cut_short; work = e.work; goes = goes_on_same (written [] e.replies) e.goes sent })
+      subst (ScriptGives contents failures has_read known left failed_before failed start after begun spent old new) (sym is)
+      (record { file = e.file; reads = e.reads; is_broken = e.is_broken; replies = e.replies; rest = e.rest; answers = e.answers; leaves = e.leaves; cut_short = e.cut_short; work = e.work; goes = goes_on_same (written [] e.replies) e.goes sent })
   sends_after (Err Read) result e (inr (stops, is)) =
-      subst (ScriptGives contents failures has_read known left failed_before failed states begun spent old new) (sym is)
-      (record { file = e.file; reads = inr e.reads; replies = e.replies; rest = e.rest; answers = e.answers; work = e.work; stops = stops_on_same (written [] e.replies) e.goes stops })
+      subst (ScriptGives contents failures has_read known left failed_before failed start after begun spent old new) (sym is)
+      (record { file = e.file; reads = inr e.reads; replies = e.replies; rest = e.rest; answers = e.answers; leaves = inl e.leaves; work = e.work; stops = stops_on_same (written [] e.replies) e.goes stops })
   sends_after (Err Memory) result e (inl (sent, is)) =
-      subst (ScriptGives contents failures has_read known left failed_before failed states begun spent old new) (sym is)
-      (record { file = e.file; reads = e.reads; replies = e.replies; done = e.done; rest = e.rest; is_file = e.is_file; answers = e.answers; first = e.first; others = e.others; is_rest = e.is_rest; is_begun = e.is_begun; were_read = e.were_read; work = e.work; goes = goes_on_same (written [] e.replies) e.goes sent })
+      subst (ScriptGives contents failures has_read known left failed_before failed start after begun spent old new) (sym is)
+      (record { file = e.file; reads = e.reads; replies = e.replies; done = e.done; rest = e.rest; is_file = e.is_file; answers = e.answers; leaves = e.leaves; first = e.first; others = e.others; is_rest = e.is_rest; is_begun = e.is_begun; were_read = e.were_read; work = e.work; goes = goes_on_same (written [] e.replies) e.goes sent })
   sends_after (Err Memory) result e (inr (stops, is)) =
-      subst (ScriptGives contents failures has_read known left failed_before failed states begun spent old new) (sym is)
-      (record { file = e.file; reads = inl e.reads; replies = e.replies; rest = e.rest; answers = e.answers; work = e.work; stops = stops_on_same (written [] e.replies) e.goes stops })
+      subst (ScriptGives contents failures has_read known left failed_before failed start after begun spent old new) (sym is)
+      (record { file = e.file; reads = inl e.reads; replies = e.replies; rest = e.rest; answers = e.answers; leaves = inl e.leaves; work = e.work; stops = stops_on_same (written [] e.replies) e.goes stops })
   sends_after (Err Write) result e (same, is) =
-      subst (ScriptGives contents failures has_read known left failed_before failed states begun spent old new) (sym is) (subst (λ w. StopsWriting contents failures has_read known left failed_before failed states begun spent old w) (sym same) e)
+      subst (ScriptGives contents failures has_read known left failed_before failed start after begun spent old new) (sym is) (subst (λ w. StopsWriting contents failures has_read known left failed_before failed start after begun spent old w) (sym same) e)
 
 -- ---- what the reader gave
 
@@ -344,29 +356,29 @@ lines_handed Open given handed h = ap lines_of h.0 ∙ lines_of-terminated hande
 lines_handed Ended given handed h = h
 lines_handed Failed given handed h = absurd h
 
-module _ {R W : Type 0} (remaining : R → Option Text) (failures : R → ℕ) (contents : W → Option Text) (write_failures : W → ℕ) (reader : R) (states : ℕ) where
+module _ {R W : Type 0} (remaining : R → Option Text) (failures : R → ℕ) (contents : W → Option Text) (write_failures : W → ℕ) (reader : R) (start after : ScriptState) where
   gave : (now : Numbered R) (handed : List Text) → HasRead remaining failures reader now handed → GaveLines (remaining reader) (remaining now.lines.reader) handed
   gave now handed (h, few) = record { given = h.hands.given; are_lines = lines_handed now.lines.stage h.hands.given handed h.hands.are_handed; ahead = now.lines.ahead; gave = h.hands.gave; few = few }
 
   -- a run that handed out some lines is one whose reader gave them
   pub gives_by_reader : (now : Numbered R) (begun spent : StepCounts) (old new : W) (result : Result ScriptEnd ScriptFault)
-      → ScriptGives contents write_failures (HasRead remaining failures reader now) (remaining reader) (remaining now.lines.reader) (failures reader) (failures now.lines.reader) states begun spent old new result
-      → ScriptGives contents write_failures (GaveLines (remaining reader) (remaining now.lines.reader)) (remaining reader) (remaining now.lines.reader) (failures reader) (failures now.lines.reader) states begun spent old new result
+      → ScriptGives contents write_failures (HasRead remaining failures reader now) (remaining reader) (remaining now.lines.reader) (failures reader) (failures now.lines.reader) start after begun spent old new result
+      → ScriptGives contents write_failures (GaveLines (remaining reader) (remaining now.lines.reader)) (remaining reader) (remaining now.lines.reader) (failures reader) (failures now.lines.reader) start after begun spent old new result
   gives_by_reader now begun spent old new (Ok end) e =
-      record { file = e.file; reads = e.reads; is_whole = e.is_whole; replies = e.replies; answers = e.answers; work = e.work; goes = e.goes; ended = e.ended }
+      record { file = e.file; reads = e.reads; is_whole = e.is_whole; replies = e.replies; answers = e.answers; leaves = e.leaves; work = e.work; goes = e.goes; ended = e.ended }
   gives_by_reader now begun spent old new (Err Read) e =
-      record { file = e.file; reads = e.reads; is_broken = e.is_broken; replies = e.replies; rest = e.rest; answers = e.answers; cut_short = e.cut_short; work = e.work; goes = e.goes }
+      record { file = e.file; reads = e.reads; is_broken = e.is_broken; replies = e.replies; rest = e.rest; answers = e.answers; leaves = e.leaves; cut_short = e.cut_short; work = e.work; goes = e.goes }
   gives_by_reader now begun spent old new (Err Memory) e =
-      record { file = e.file; reads = e.reads; replies = e.replies; done = e.done; rest = e.rest; is_file = e.is_file; answers = e.answers; first = e.first; others = e.others; is_rest = e.is_rest; is_begun = e.is_begun; were_read = gave now (e.done ++ e.first) e.were_read; work = e.work; goes = e.goes }
+      record { file = e.file; reads = e.reads; replies = e.replies; done = e.done; rest = e.rest; is_file = e.is_file; answers = e.answers; leaves = e.leaves; first = e.first; others = e.others; is_rest = e.is_rest; is_begun = e.is_begun; were_read = gave now (e.done ++ e.first) e.were_read; work = e.work; goes = e.goes }
   gives_by_reader now begun spent old new (Err Write) e =
-      record { file = e.file; reads = e.reads; replies = e.replies; rest = e.rest; answers = e.answers; work = e.work; stops = e.stops }
+      record { file = e.file; reads = e.reads; replies = e.replies; rest = e.rest; answers = e.answers; leaves = e.leaves; work = e.work; stops = e.stops }
 
 -- no memory for a reader of lines
-pub runs_out_at_once : {R W : Type 0} (remaining : R → Option Text) (failures : R → ℕ) (contents : W → Option Text) (write_failures : W → ℕ) (reader : R) (states : ℕ) (steps : StepCounts) (out : W)
-    → ScriptGives contents write_failures (GaveLines (remaining reader) (remaining reader)) (remaining reader) (remaining reader) (failures reader) (failures reader) states steps steps out out (Err Memory)
+pub runs_out_at_once : {R W : Type 0} (remaining : R → Option Text) (failures : R → ℕ) (contents : W → Option Text) (write_failures : W → ℕ) (reader : R) (start : ScriptState) (steps : StepCounts) (out : W)
+    → ScriptGives contents write_failures (GaveLines (remaining reader) (remaining reader)) (remaining reader) (remaining reader) (failures reader) (failures reader) start start steps steps out out (Err Memory)
 unfolding so_far_none
-runs_out_at_once {R} remaining failures contents write_failures reader states steps out =
+runs_out_at_once {R} remaining failures contents write_failures reader start steps out =
     let now : Numbered R = record { lines = record { reader = reader; ahead = []; line = []; stage = Open }; number = 0 } in
     let none = has_handed_none remaining failures now refl refl refl in
-    gives_by_reader remaining failures contents write_failures reader states now steps steps out out (Err Memory)
-    (runs_out remaining failures contents write_failures reader states steps out now (new_state states) steps out Clean (so_far_none remaining failures contents write_failures reader states steps out now none) now out [] tt none_in_nothing none (goes_nowhere contents write_failures out))
+    gives_by_reader remaining failures contents write_failures reader start start now steps steps out out (Err Memory)
+    (runs_out remaining failures contents write_failures reader start steps out now start steps out Clean (so_far_none remaining failures contents write_failures reader start steps out now none) now out [] tt none_in_nothing none (goes_nowhere contents write_failures out))

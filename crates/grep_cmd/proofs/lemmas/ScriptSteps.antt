@@ -1,5 +1,5 @@
 -- The steps of a script, the replies to them and what they search, one more at a time.
-use Rattle.grep_cmd.proofs.Prelude.{◌≡◌, ℕ, ◌+◌, true, false, ◌||◌, if◌then◌else◌, List, [], ◌∷◌, ◌++◌, inl, refl, sym, ap, ◌∙◌, subst, append_assoc, append-nil, arith, or_right, list_any-append, list_any, Text, Ending, Adds, ScriptState, new_state, Clean, Step, IsStep, line_command, Steps, RepliesTo, Replies, SearchesAtMost, AllSearchAtMost, SearchesTouched, is_refusal, end_for, AreDone}
+use Rattle.grep_cmd.proofs.Prelude.{◌≡◌, ℕ, ◌+◌, true, false, ◌||◌, if◌then◌else◌, List, [], ◌∷◌, ◌++◌, inl, refl, sym, ap, ◌∙◌, subst, append_assoc, append-nil, arith, or_right, list_any-append, list_any, Text, Ending, Adds, ScriptState, Clean, Step, IsStep, line_command, Steps, RepliesTo, Replies, SearchesAtMost, AllSearchAtMost, SearchesTouched, is_refusal, end_for, AreDone}
 use Rattle.re_meter.proofs.lemmas.Adding.{adds_none, all_both}
 use Rattle.grep_core.specs.Meters.{Steps as StepCounts}
 use Rattle.grep_cmd.specs.declared.script.ScriptEnd.TheVariants.{Refused}
@@ -64,16 +64,16 @@ most_push (s ∷ steps) step before between after replies reply refusals mine mo
 )
 
 -- nothing was searched for no command
-pub work_none : (states : ℕ) (steps : StepCounts) → SearchesTouched states [] [] (new_state states) steps steps
-work_none states steps = record { most = 0; refusals = 0; is_most = (refl, refl, refl, refl); few = adds_none 0 0 steps }
+pub work_none : (before : ScriptState) (steps : StepCounts) → SearchesTouched before [] [] before steps steps
+work_none before steps = record { most = 0; refusals = 0; is_most = (refl, refl, refl, refl); few = adds_none 0 0 steps }
 
 -- one more command searches no more than it costs
-pub work_push : (states : ℕ) (steps : List Step) (step : Step) (between after : ScriptState) (replies reply : List Text) (begun spent last : StepCounts) (mine own : ℕ) → SearchesTouched states steps replies between begun spent
-    → RepliesTo step between reply after → SearchesAtMost step between.session.inputs mine own → Adds own own mine spent last → SearchesTouched states (steps ++ step ∷ []) (replies ++ reply) after begun last
-work_push states steps step between after replies reply begun spent last mine own w h cost few = record {
+pub work_push : (before : ScriptState) (steps : List Step) (step : Step) (between after : ScriptState) (replies reply : List Text) (begun spent last : StepCounts) (mine own : ℕ) → SearchesTouched before steps replies between begun spent
+    → RepliesTo step between reply after → SearchesAtMost step between.session.inputs mine own → Adds own own mine spent last → SearchesTouched before (steps ++ step ∷ []) (replies ++ reply) after begun last
+work_push before steps step between after replies reply begun spent last mine own w h cost few = record {
   most = w.most + own;
   refusals = w.refusals + mine;
-  is_most = most_push steps step (new_state states) between after replies reply w.refusals mine w.most own w.is_most h cost;
+  is_most = most_push steps step before between after replies reply w.refusals mine w.most own w.is_most h cost;
   few = all_both w.most own w.most own w.refusals mine begun spent last w.few few;
 }
 

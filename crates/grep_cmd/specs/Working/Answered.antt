@@ -18,7 +18,7 @@ use Rattle.grep_cmd.specs.declared.script.reply.Answer.TheVariants.{Accepted, Re
 use Rattle.grep_cmd.specs.Script.{Step, IsStep, WantsMore, AsksForMemory, line_command}
 use Rattle.grep_cmd.specs.Replies.{RepliesTo, Replies, SearchesAtMost, SearchesTouched, truncated}
 use Rattle.grep_session.specs.Marks.{Watched}
-use Rattle.grep_cmd.specs.Replies.{is_refusal, end_for, ScriptState, new_state}
+use Rattle.grep_cmd.specs.Replies.{is_refusal, end_for, ScriptState, IsUpToReport}
 
 -- the state of a script by its session and its flag
 abbrev pub state_of : Watched → Bool → ScriptState
@@ -122,6 +122,7 @@ module _ {R : Type 0} (remaining : R → Option Text) (failures : R → ℕ) (re
     pub wants : WantsMore (line_command line) taken
     pub stands : StandsAs remaining failures reader now (handed ++ taken) whole
     pub idle : spent ≡ begun
+    pub same : after ≡ before
 
   -- a read failed before all lines that the command counts were read
   pub record LosesLines : Type 0 where
@@ -129,6 +130,7 @@ module _ {R : Type 0} (remaining : R → Option Text) (failures : R → ℕ) (re
     pub wants : WantsMore (line_command line) taken
     pub stands : StandsAs remaining failures reader now (handed ++ taken) broken
     pub idle : spent ≡ begun
+    pub same : after ≡ before
 
   -- an allocation failed for the command; these of its lines were taken
   pub record RunsShort : Type 0 where
@@ -136,12 +138,14 @@ module _ {R : Type 0} (remaining : R → Option Text) (failures : R → ℕ) (re
     pub asks : AsksForMemory (line_command line) taken
     pub has_handed : HasHanded remaining failures reader now (handed ++ taken)
     pub idle : spent ≡ begun
+    pub same : after ≡ before
 
   -- the command was given up
   pub record GivesUp : Type 0 where
     pub taken : List Text
     pub has_handed : HasHanded remaining failures reader now (handed ++ taken)
     pub idle : spent ≡ begun
+    pub same : after ≡ before
 
   module _ {W : Type 0} (contents : W → Option Text) (write_failures : W → ℕ) (old new : W) where
     abbrev pub AnswersLine : Result Answer ScriptFault → Type 0
@@ -156,6 +160,7 @@ module _ {R : Type 0} (remaining : R → Option Text) (failures : R → ℕ) (re
     AnswersLine (Err Write) =
         (GivesUp × StopsWithin contents write_failures old new [])
         ⊎ (((then : ScriptState) × (reply : List Text) × Does then reply ×
+        IsUpToReport after then ×
         StopsWithin contents write_failures old new (written [] reply))
         ⊎ (WantsLines × StopsWithin contents write_failures old new (written [] (truncated ∷ []))))
 
@@ -169,8 +174,8 @@ AreDone lines (step ∷ steps) =
     IsStep (line_command line) taken step × AreDone more steps
 
 module _ {R W : Type 0} (remaining : R → Option Text) (failures : R → ℕ)
-    (contents : W → Option Text) (write_failures : W → ℕ) (reader : R) (states : ℕ)
-    (begun : StepCounts) (old : W) where
+    (contents : W → Option Text) (write_failures : W → ℕ) (reader : R)
+    (first : ScriptState) (begun : StepCounts) (old : W) where
   -- the lines handed out so far were answered
   pub record AnsweredSoFar (now : Numbered R) (state : ScriptState) (spent : StepCounts) (new : W)
       (ending : ScriptEnd) : Type 0 where
@@ -179,7 +184,7 @@ module _ {R W : Type 0} (remaining : R → Option Text) (failures : R → ℕ)
     pub steps : List Step
     pub are_done : AreDone handed steps
     pub replies : List Text
-    pub are_replies : Replies steps (new_state states) replies state
-    pub work : SearchesTouched states steps replies state begun spent
+    pub are_replies : Replies steps first replies state
+    pub work : SearchesTouched first steps replies state begun spent
     pub goes : GoesOut contents write_failures old new (written [] replies)
     pub ended : ending ≡ end_for replies

@@ -11,7 +11,7 @@ ghost use Rattle.grep_cmd.specs.Script.{line_command, counts};
 ghost use Rattle.grep_cmd.specs.declared.script.command.CountedEdit.{CountedEdit};
 ghost use Rattle.grep_cmd.specs.declared.script.reply.Answer.{Answer};
 ghost use Rattle.grep_cmd.specs.Show.{AreShown};
-ghost use Rattle.grep_cmd.specs.Lists.{ReportsChanges, ReportsPage};
+ghost use Rattle.grep_cmd.specs.Lists.{LeavesReport, ReportsChanges, ReportsPage};
 ghost use Rattle.grep_session.specs.Marks.{MarksGiven, Watched};
 ghost use Rattle.grep_cmd.specs.Replies.{reply_to, version_line};
 ghost use Rattle.grep_cmd.specs.Working.Answered.{AnswersLine, Replied, answer_for, state_of};
@@ -95,6 +95,7 @@ fn put_patterns(
         (λ _. TakesSteps (pattern_meant edit (joined (map (λ l. l.items) lines.items)))
         session.old.inputs meter.old meter.new) }
     ensures idle { IfErr result (λ _. meter.new ≡ meter.old) }
+    ensures kept { IfErr result (λ _. session.new ≡ session.old) }
     ensures memory { IfOk result
         (λ answer. NeedsNoMemory (pattern_meant edit (joined (map (λ l. l.items) lines.items)))
         session.old.inputs → IfErr answer (λ fault. fault ≢ Memory)) }
@@ -151,7 +152,7 @@ fn reply_to_changes<W: CountedWrite>(
     ensures { (rows : List Text) × (then : Watched) ×
         ReportsChanges has_text session.old then rows ×
         Replied W.contents W.failures out.old out.new rows Answer.Accepted result ×
-        IfOk result (λ _. session.new ≡ then) }
+        LeavesReport session.old session.new then result }
 {
     match show_changes(session, has_text, out) {
         Ok(()) => Ok(Answer::Accepted),

@@ -2,7 +2,7 @@ use Rattle.grep_cmd.proofs.Prelude.{ap, codes, counts, counted_meant, switches_t
 use Rattle.re_meter.proofs.lemmas.Adding.{adds_none}
 use Rattle.grep_core.proofs.lemmas.RowLemmas.{goes_nowhere}
 use Rattle.grep_cmd.specs.declared.script.reply.Answer.TheVariants.{Refused}
-use Rattle.grep_cmd.proofs.lemmas.ScriptAnswers.{answers_step, does_alone, refused_as, answered_in_time, not_for_memory, shown_is_no_refusal, changes_is_no_refusal, page_is_no_refusal, answers_changes}
+use Rattle.grep_cmd.proofs.lemmas.ScriptAnswers.{answers_step, does_alone, refused_as, answered_in_time, not_for_memory, shown_is_no_refusal, changes_is_no_refusal, page_is_no_refusal, answers_changes, report_done, report_left}
 use Rattle.grep_cmd.proofs.script.answer.answer_command.Goals as goal
 
 pub returns-in-Ok-Some-Edit-clause-answers : goal.returns-in-Ok-Some-Edit-clause-answers
@@ -47,7 +47,8 @@ returns-in-Ok-Some-Changes-clause-answers g c =
     let done = does_alone g.R.CountedRead.remaining g.R.CountedRead.failures reader handed c.args.lines.now.lines.line c.args.lines.now c.args.meter.now c.args.meter.now (state_of c.args.session.now c.args.has_text.now) (state_of t.1 c.args.has_text.now) g.W.CountedWrite.contents g.W.CountedWrite.failures c.args.out.now c.args.out.now c.reply_to_changes.new.out flushed
     reports_changes t.0 h (rw is (refl, refl)) (t.2, refl) 0 0 (refl, refl) (adds_none 0 0 c.args.meter.now) in
     answers_changes g.R.CountedRead.remaining g.R.CountedRead.failures reader handed c.args.lines.now.lines.line c.args.lines.now c.args.meter.now c.args.meter.now (state_of c.args.session.now c.args.has_text.now) (state_of c.reply_to_changes.new.session c.args.has_text.now) g.W.CountedWrite.contents g.W.CountedWrite.failures c.args.out.now c.args.out.now c.reply_to_changes.new.out flushed
-    t.0 t.1 c.reply_to_changes.result done (changes_is_no_refusal c.args.has_text.now c.args.session.now t.1 t.0 t.2) t.4 t.3
+    t.0 t.1 c.reply_to_changes.result done (changes_is_no_refusal c.args.has_text.now c.args.session.now t.1 t.0 t.2)
+    (report_done c.args.session.now c.reply_to_changes.new.session t.1 c.reply_to_changes.result t.4) (report_left c.args.session.now c.reply_to_changes.new.session t.1 c.args.has_text.now c.reply_to_changes.result t.2.leaves t.4) t.3
 
 pub returns-in-Ok-Some-Page-clause-answers : goal.returns-in-Ok-Some-Page-clause-answers
 returns-in-Ok-Some-Page-clause-answers g c =

@@ -11,7 +11,7 @@ returns-in-Ok-None-clause-answers g c =
     λ texts reader handed line h is.
     let t = takes reader handed h in
     answers_truncated g.R.CountedRead.remaining g.R.CountedRead.failures reader handed line c.take_lines.new.lines c.args.meter.now c.args.meter.now (state_of c.args.session.now texts) (state_of c.args.session.now texts) g.W.CountedWrite.contents g.W.CountedWrite.failures c.args.out.now c.take_lines.new.out c.reply_with.new.out c.in-Ok-None.ensures.sent
-    c.reply_with.result (record { taken = t.0; wants = rw is t.1; stands = t.2; idle = refl }) c.reply_with.ensures
+    c.reply_with.result (record { taken = t.0; wants = rw is t.1; stands = t.2; idle = refl; same = refl }) c.reply_with.ensures
 
 pub returns-in-Err-clause-answers : goal.returns-in-Err-clause-answers
 returns-in-Err-clause-answers g c =

@@ -1,4 +1,4 @@
-use Rattle.grep_cmd.proofs.Prelude.{state_of, ◌≤◌, length, map, refl, [], ◌∷◌, arith, does, reply_to, answer_for, counted_meant}
+use Rattle.grep_cmd.proofs.Prelude.{ap, state_of, ◌≤◌, length, map, refl, [], ◌∷◌, arith, does, reply_to, answer_for, counted_meant}
 use Rattle.grep_cmd.specs.declared.script.command.CountedEdit.TheVariants.{PutPatterns}
 use Rattle.grep_cmd.proofs.lemmas.ScriptAnswers.{answers_step, answers_truncated, answers_lost, refused_as, answered_in_time, not_for_memory}
 use Rattle.grep_cmd.proofs.script.answer.answer_patterns.Goals as goal
@@ -9,7 +9,7 @@ returns-in-Ok-None-clause-answers g c =
     λ texts reader handed line h is.
     let t = takes reader handed h in
     answers_truncated g.R.CountedRead.remaining g.R.CountedRead.failures reader handed line c.take_texts.new.lines c.args.meter.now c.args.meter.now (state_of c.args.session.now texts) (state_of c.args.session.now texts) g.W.CountedWrite.contents g.W.CountedWrite.failures c.args.out.now c.take_texts.new.out c.reply_with.new.out c.in-Ok-None.ensures.sent
-    c.reply_with.result (record { taken = t.0; wants = rw is t.1; stands = t.2; idle = refl }) c.reply_with.ensures
+    c.reply_with.result (record { taken = t.0; wants = rw is t.1; stands = t.2; idle = refl; same = refl }) c.reply_with.ensures
 
 pub returns-in-Err-clause-answers : goal.returns-in-Err-clause-answers
 returns-in-Err-clause-answers g c =
@@ -43,4 +43,4 @@ returns-in-Err-put_patterns-clause-answers g c =
     λ texts reader handed line h is.
     let t = takes reader handed h in
     let few : length (map (λ t. t.items) c.in-Ok-Some.taken.items) ≤ c.args.count = omega (arith, t.0) in
-    (record { taken = map (λ t. t.items) c.in-Ok-Some.taken.items; asks = rw is few; has_handed = t.1; idle = c.in-Err-put_patterns.ensures.idle }, c.in-Ok-Some.ensures.sent)
+    (record { taken = map (λ t. t.items) c.in-Ok-Some.taken.items; asks = rw is few; has_handed = t.1; idle = c.in-Err-put_patterns.ensures.idle; same = ap (λ s. state_of s texts) c.in-Err-put_patterns.ensures.kept }, c.in-Ok-Some.ensures.sent)

@@ -1,10 +1,10 @@
 use Rattle.grep_cmd.proofs.Prelude.{state_of, ◌≡◌, ◌-◌, ◌^◌, IsOneLineAndFew, AnsweredSoFar}
-use Rattle.grep_cmd.proofs.script.run_script.Given as goal
+use Rattle.grep_cmd.proofs.script.Script.answer.Given as goal
 
 -- the commands so far were answered
 abbrev pub invariant-loop-fault : goal.invariant-loop-fault
 invariant-loop-fault g l =
-    AnsweredSoFar (λ r. g.R.CountedRead.remaining r.now) (λ r. g.R.CountedRead.failures r.now) g.W.CountedWrite.contents g.W.CountedWrite.failures l.initial.lines.lines.reader l.fn.states l.fn.meter l.fn.writer l.lines (state_of l.session l.has_text) l.meter l.writer l.end
+    AnsweredSoFar (λ r. g.R.CountedRead.remaining r.now) (λ r. g.R.CountedRead.failures r.now) g.W.CountedWrite.contents g.W.CountedWrite.failures l.initial.lines.lines.reader l.fn.self l.fn.meter l.fn.writer l.lines (state_of l.self-inside.session l.self-inside.has_text) l.meter l.writer l.end
     × (l.lines.lines.reader.ghost_name ≡ l.initial.lines.lines.reader.ghost_name)
     × IsOneLineAndFew l.lines.lines.ahead
 
