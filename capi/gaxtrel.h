@@ -1,16 +1,16 @@
-/* gaxtrel.h: POSIX regular expressions over lines, proved.
+/* gaxtrel.h: POSIX regular expressions over lines, and live sessions of them, proved.
 
    What a caller owes, since nothing checks it:
    - each pointer points to what its type says, also where a length is 0, and no two overlap where
      one is written;
-   - a matcher begins with GAXTREL_NONE, is written by these calls alone, is not copied or moved by
-     memcpy, and is used by one call at a time. It may go to another thread in between, ordered by
-     a lock, a start or a join;
+   - a matcher or a session begins with GAXTREL_NONE, is written by these calls alone, is not copied
+     or moved by memcpy, and is used by one call at a time. It may go to another thread in between,
+     ordered by a lock, a start or a join;
    - a thread has 64 KB of stack for a call, which is enough for any pattern;
    - no call from a signal handler, or in the child of a fork of a process with threads.
 
-   Any other argument is allowed: any bytes as a pattern, a line or a text, any number as a syntax or
-   a place. No call exits, aborts or waits. See docs/LIBRARY.md for what is proved. */
+   Any other argument is allowed: any bytes as a pattern, a line or a text, any number as a syntax, a
+   place or a number of states. No call exits, aborts or waits. See docs/LIBRARY.md for what is proved. */
 #ifndef GAXTREL_H
 #define GAXTREL_H
 
@@ -38,6 +38,13 @@ typedef struct gaxtrel_matcher {
     gaxtrel_work work;
 } gaxtrel_matcher;
 
+/* A live session, or none, as a matcher is. */
+typedef struct gaxtrel_session {
+    void *private_at;
+    bool private_full;
+    gaxtrel_work work;
+} gaxtrel_session;
+
 #define GAXTREL_NONE {0, false, {0, 0, 0, 0}}
 
 /* Why a pattern is refused, and at which byte of it; of several patterns the number of the first
@@ -57,6 +64,8 @@ typedef struct gaxtrel_part {
 enum { GAXTREL_BASIC = 0, GAXTREL_EXTENDED = 1, GAXTREL_FIXED = 2 };
 
 enum { GAXTREL_OK = 0, GAXTREL_REFUSED = 1, GAXTREL_NO_MEMORY = 2, GAXTREL_NO_SYNTAX = 3 };
+
+enum { GAXTREL_NO_STATES = 3, GAXTREL_NO_SESSION = 3 };
 
 enum { GAXTREL_NO = 0, GAXTREL_YES = 1, GAXTREL_MISUSED = 2 };
 
@@ -124,6 +133,32 @@ uint32_t gaxtrel_next_line(gaxtrel_matcher *matcher, const uint8_t *text, size_t
 /* How many lines of a text are matched goes to `count`. At most p * (length + 1). */
 uint32_t gaxtrel_count_lines(gaxtrel_matcher *matcher, const uint8_t *text, size_t length,
                              uint64_t *count);
+
+/* Live sessions: what occur(1) keeps, which has the commands and their replies. */
+
+/* Makes a session without files, patterns and options, and frees what `session` held before. Each
+   pattern may keep so many states of its automaton, from 1 to 65,536; 256 serve. GAXTREL_OK: it is
+   made. GAXTREL_NO_MEMORY, GAXTREL_NO_STATES: as they say, and `session` then holds none. */
+uint32_t gaxtrel_session_open(gaxtrel_session *session, size_t states);
+
+/* Answers commands one after the other, each with the lines that it counts, and keeps the replies
+   until the next call of this function: how many bytes they have goes to `count`. The commands go
+   on from the session as the last call left it, and end with the text, whose last line may lack its
+   newline. Of them `work` has no more than their edits cost (occur(1), COST). GAXTREL_OK: none is
+   refused. GAXTREL_REFUSED: some are, as the replies say. GAXTREL_NO_MEMORY: the first commands were
+   answered, of the last reply perhaps a beginning; where that is to `changes`, the next may report it
+   again or not, so send the files anew. GAXTREL_NO_SESSION: `session` holds none, and nothing is
+   written. */
+uint32_t gaxtrel_session_answer(gaxtrel_session *session, const uint8_t *commands, size_t length,
+                                size_t *count);
+
+/* Copies the replies from a place on to `into`, as many bytes as it has room for. How many bytes all
+   replies have goes to `count`. GAXTREL_OK, or GAXTREL_NO_SESSION as above. */
+uint32_t gaxtrel_session_replies(gaxtrel_session *session, size_t from, uint8_t *into, size_t room,
+                                 size_t *count);
+
+/* Frees what `session` holds. It then holds none, and may be opened again. */
+void gaxtrel_session_free(gaxtrel_session *session);
 
 #ifdef __cplusplus
 }

@@ -1,11 +1,12 @@
 #!/usr/bin/env python3
-"""Asks the library what AT&T's cases (att/*.dat) and the rows of the repository (tests/rows/*.toml) ask:
+"""Asks the library what AT&T's cases (att/*.dat) and the rows and scripts of the repository (tests/rows/*.toml,
+tests/scripts/*.toml) ask:
 
     cases.py [--only TEXT]
 
 An AT&T case gives a pattern, a line, and the places of the match or a fault. A row gives a command line of grep and its
 answer: its words, as far as they say what is matched, are read here, and what the library finds is written as grep
-would write it. Rows on anything else (lines around, files that aren't there, words that are wrong) are left out, and
+would write it. Each step of a script is a call of its own. Rows on anything else (lines around, files that aren't there, words that are wrong) are left out, and
 counted.
 Each case that fails is printed. The last line is `N passed, M failed`.
 """
@@ -25,6 +26,7 @@ sys.path[:0] = [str(REPOSITORY / "build/python"), str(REPOSITORY / "tests")]
 
 import gaxtrel  # noqa: E402
 import row  # noqa: E402
+import script  # noqa: E402
 from gaxtrel import Kind, Syntax  # noqa: E402
 from program import Answer  # noqa: E402
 
@@ -203,12 +205,30 @@ def row_cases() -> Iterator[Case]:
             yield f"{it.source}: {it.name}", lambda it=it: wrong_row(it)
 
 
+# Scripts
+
+
+def wrong_script(it: script.Script) -> str | None:
+    """What is wrong with the replies to a script whose steps are answered one by one."""
+    with gaxtrel.Session() as session:
+        for step in it.steps:
+            if (reply := session.answer(step.sent)) != step.reply:
+                return f"{step.sent!r}: wanted {step.reply!r}\n  given  {reply!r}"
+    return None
+
+
+def script_cases() -> Iterator[Case]:
+    """All of occur."""
+    for it in script.read_scripts():
+        yield f"{it.source}: {it.name}", lambda it=it: wrong_script(it)
+
+
 def main() -> int:
-    parser = argparse.ArgumentParser(description="Asks the library what AT&T's cases and the rows of tests/ ask.")
+    parser = argparse.ArgumentParser(description="Asks the library what AT&T's cases, rows and scripts ask.")
     parser.add_argument("--only", default="", help="only cases with this text in their title")
     only = parser.parse_args().only
     ends = {"passed": 0, "failed": 0, "left out": 0}
-    for title, judge in [*att_cases(), *row_cases()]:
+    for title, judge in [*att_cases(), *row_cases(), *script_cases()]:
         if only not in title:
             continue
         try:

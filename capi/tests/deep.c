@@ -1,6 +1,6 @@
-/* Patterns of 256 levels, and of more, on threads: each answer is right, and no call takes more KB of stack than the
-   argument says. The stack of a thread is painted first, and the paint that is left is counted. Then a thread makes
-   the same calls that has so much stack and the least of a system. */
+/* Patterns of 256 levels, and of more, in matchers and sessions, on threads: each answer is right, and no call takes
+   more KB of stack than the argument says. The stack of a thread is painted first, and the paint that is left is
+   counted. Then a thread makes the same calls that has so much stack and the least of a system. */
 #include "gaxtrel.h"
 #include <limits.h>
 #include <pthread.h>
@@ -39,7 +39,7 @@ static const struct deep patterns[] = {
 };
 
 static _Alignas(4096) uint8_t stack[1 << 20];
-static uint8_t pattern[1 << 15], text[1 << 10];
+static uint8_t pattern[1 << 15], text[1 << 10], commands[1 << 16];
 
 static size_t append(uint8_t *bytes, size_t at, const char *word, size_t times) {
     for (size_t i = 0; i < times; i++, at += strlen(word)) memcpy(bytes + at, word, strlen(word));
@@ -49,6 +49,16 @@ static size_t append(uint8_t *bytes, size_t at, const char *word, size_t times) 
 static size_t append_pattern(const struct deep *it, size_t at) {
     at = append(pattern, append(pattern, at, it->before, it->levels), "a", 1);
     return append(pattern, at, it->after, it->levels);
+}
+
+/* Commands by which a session finds the pattern's line. */
+static size_t append_commands(const struct deep *it, size_t length, size_t first) {
+    size_t at = append(commands, 0, it->syntax == ERE ? "syntax extended\n" : "syntax basic\n", 1);
+    at = append(commands, at, "flag i on\nflag x on\npatterns 1\n", 1);
+    memcpy(commands + at, pattern, length);
+    at = append(commands, at + length, "\nfile f 1\n", 1);
+    memcpy(commands + at, text, first);
+    return append(commands, at + first, "\nchanges\n", 1);
 }
 
 static size_t append_line(const struct deep *it, size_t at, size_t times) {
@@ -77,6 +87,23 @@ static bool is_right(const struct deep *it) {
     return right;
 }
 
+/* A session that finds the pattern's line, or refuses the pattern. */
+static bool is_right_in_a_session(const struct deep *it) {
+    static const char found[] = "ok\nok\nok\nok\nok\nh 0 0 0 1 1\nr 0 - ";
+    static const char deep[] = "ok\nok\nok\nrefused Pattern 0 TooDeep ";
+    gaxtrel_session s = GAXTREL_NONE;
+    uint8_t replies[64];
+    size_t count = 0, first = append_line(it, 0, it->yes), length = append_pattern(it, 0);
+    const char *wanted = it->levels > 256 ? deep : found;
+    bool right = gaxtrel_session_open(&s, 256) == GAXTREL_OK &&
+                 gaxtrel_session_answer(&s, commands, append_commands(it, length, first), &count) ==
+                     (it->levels > 256 ? GAXTREL_REFUSED : GAXTREL_OK) &&
+                 gaxtrel_session_replies(&s, 0, replies, sizeof replies, &count) == GAXTREL_OK &&
+                 count >= strlen(wanted) && memcmp(replies, wanted, strlen(wanted)) == 0;
+    gaxtrel_session_free(&s);
+    return right;
+}
+
 struct trial {
     const struct deep *it;
     uintptr_t base;
@@ -87,7 +114,7 @@ static void *try_one(void *argument) {
     struct trial *trial = argument;
     uint8_t here = 0;
     trial->base = (uintptr_t)&here;
-    trial->right = is_right(trial->it);
+    trial->right = is_right(trial->it) && is_right_in_a_session(trial->it);
     return 0;
 }
 

@@ -1,10 +1,13 @@
-"""POSIX regular expressions over lines of bytes, by the proved library libgaxtrel.
+"""POSIX regular expressions over lines of bytes, and live sessions of them, by the proved library
+libgaxtrel.
 
     pattern = gaxtrel.compile(b"ab|abcd|bc")
     pattern.is_match(b"xabcde")                          # True
     pattern.search(b"xabcde").span()                     # (1, 5): leftmost, and there longest
     [m.group() for m in pattern.finditer(b"xabcdebc")]   # [b"abcd", b"bc"]
     gaxtrel.compile(b"a(b", fold=True)                   # Error: pattern 1: UnclosedGroup at 1
+    session = gaxtrel.Session()
+    session.answer(b"file f 1\\nab\\npatterns 1\\na\\nshow\\n")  # b"ok\\nok\\no ab\\nstatus 0\\n"
 """
 
 from __future__ import annotations
@@ -16,7 +19,8 @@ from collections.abc import Callable, Iterator
 from pathlib import Path
 from typing import Any, NamedTuple
 
-__all__ = ["Error", "Kind", "Match", "Pattern", "Syntax", "Work", "compile", "compile_lines"]
+__all__ = ["Error", "Kind", "Match", "Pattern", "Session", "Syntax", "Work", "compile",
+           "compile_lines"]
 
 
 class Syntax(enum.IntEnum):
@@ -107,6 +111,10 @@ class _Matcher(ctypes.Structure):
     _fields_ = [("private_at", ctypes.c_void_p), ("private_full", ctypes.c_bool), ("work", _Work)]
 
 
+class _Session(ctypes.Structure):
+    _fields_ = _Matcher._fields_
+
+
 class _Fault(ctypes.Structure):
     _fields_ = [("kind", ctypes.c_uint32), ("at", ctypes.c_size_t), ("pattern", ctypes.c_size_t)]
 
@@ -123,9 +131,9 @@ _FIRST_ROOM = 64
 """For so many parts a search has room at first."""
 
 
-def _call(name: str, *types: Any, result: Any = ctypes.c_uint32) -> _Call:
+def _call(name: str, *types: Any, result: Any = ctypes.c_uint32, held: Any = _Matcher) -> _Call:
     function = getattr(_library, f"gaxtrel_{name}")
-    function.argtypes, function.restype = [ctypes.POINTER(_Matcher), *types], result
+    function.argtypes, function.restype = [ctypes.POINTER(held), *types], result
     return function  # type: ignore[no-any-return]
 
 
@@ -138,6 +146,11 @@ _parts = _call("parts", *_TEXT, ctypes.c_size_t, ctypes.POINTER(_Part), ctypes.c
 _next_line = _call("next_line", *_TEXT, ctypes.c_size_t, ctypes.POINTER(_Part))
 _count_lines = _call("count_lines", *_TEXT, ctypes.POINTER(ctypes.c_uint64))
 _free = _call("free", result=None)
+_open = _call("session_open", ctypes.c_size_t, held=_Session)
+_answer = _call("session_answer", *_TEXT, ctypes.POINTER(ctypes.c_size_t), held=_Session)
+_replies = _call("session_replies", ctypes.c_size_t, *_TEXT, ctypes.POINTER(ctypes.c_size_t),
+                 held=_Session)
+_close = _call("session_free", result=None, held=_Session)
 
 
 def _bytes(text: bytes) -> bytes:
@@ -247,6 +260,58 @@ class Pattern:
 
     def __repr__(self) -> str:
         return f"<gaxtrel.Pattern {self.pattern!r} {self.syntax.name}>"
+
+
+class Session:
+    """What `occur` keeps: files, patterns and options, and what was found in each line. Each pattern
+    may keep so many states, from 1 to 65,536. Threads that share one take turns."""
+
+    def __init__(self, states: int = 256) -> None:
+        self._lock, self._work = threading.Lock(), Work(0, 0, 0, 0)
+        self._session = _Session()
+        self._at = ctypes.byref(self._session)
+        if not 1 <= states <= 65536:
+            raise ValueError(f"{states} states")
+        if _open(self._at, states):
+            raise MemoryError
+
+    def answer(self, commands: bytes) -> bytes:
+        """The replies to commands, by the language of occur(1), with the lines that they count.
+        After a `MemoryError` the first of them may have been answered."""
+        count = ctypes.c_size_t()
+        with self._lock:
+            status = _answer(self._at, _bytes(commands), len(commands), ctypes.byref(count))
+            if status == 2:
+                raise MemoryError
+            if status > 2:
+                raise ValueError("the session is closed")
+            self._work = Work(*(getattr(self._session.work, name) for name in Work._fields))
+            replies = ctypes.create_string_buffer(count.value)
+            _replies(self._at, 0, replies, count.value, ctypes.byref(count))
+        return replies.raw
+
+    @property
+    def work(self) -> Work:
+        """What the commands of the last `answer` took."""
+        return self._work
+
+    def close(self) -> None:
+        """Frees what is held; nothing can be answered afterwards."""
+        with self._lock:
+            _close(self._at)
+
+    def __enter__(self) -> Session:
+        return self
+
+    def __exit__(self, *_: object) -> None:
+        self.close()
+
+    def __del__(self, _close: _Call = _close) -> None:
+        if hasattr(self, "_at"):
+            _close(self._at)
+
+    def __reduce__(self) -> tuple[Any, ...]:
+        raise TypeError("a session has no copy")
 
 
 def compile(pattern: bytes, syntax: Syntax = Syntax.EXTENDED, *, fold: bool = False,  # noqa: A001

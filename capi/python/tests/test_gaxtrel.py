@@ -146,6 +146,37 @@ class Objects(unittest.TestCase):
 
         self.run_threads(work)
 
+    def test_a_session_goes_on(self) -> None:
+        with gaxtrel.Session() as session:
+            self.assertEqual(session.answer(b"file f 2\nab\nb\npatterns 1\na\nchanges\n"),
+                             b"ok\nok\nh 0 0 0 2 1\nr 0 - ab\nstatus 0\n")
+            self.assertEqual(session.answer(b"splice 0 1 1 1\nba\nchanges"),
+                             b"ok\nh 0 1 1 1 1\nr 1 - ba\nstatus 0\n")
+            self.assertEqual(session.work.refused, 0)
+            self.assertEqual(session.answer(b""), b"")
+            self.assertEqual(session.answer(b"close 7\n"), b"refused NoSuchFile\n")
+            self.assertEqual(session.answer(b"file g 1000\n" + b"xay\n" * 1000 + b"page 0 9000\n").count(b"\np "),
+                             1002)
+            with self.assertRaises(TypeError):
+                session.answer("show\n")  # type: ignore[arg-type]
+            with self.assertRaises(TypeError):
+                copy.copy(session)
+        with self.assertRaises(ValueError):
+            session.answer(b"show\n")
+        for states in (0, 65537, -1):
+            with self.assertRaises(ValueError):
+                gaxtrel.Session(states)
+
+    def test_one_session_for_all_threads(self) -> None:
+        session = gaxtrel.Session(1)
+        session.answer(b"patterns 1\n[ab]\n")
+
+        def work(seen: list[bool]) -> None:
+            seen.append(all(session.answer(b"file f 1\na\n") == b"ok\n" for _ in range(100)))
+
+        self.run_threads(work)
+        self.assertEqual(session.answer(b"page 0 0\n"), b"hits 800\nstatus 0\n")
+
     def run_threads(self, work: object) -> None:
         seen: list[bool] = []
         threads = [threading.Thread(target=work, args=(seen,)) for _ in range(8)]

@@ -1,9 +1,12 @@
 -- the machine values of what owns a box by its pointer
 pub mod Values
 pub mod HandleValues
+pub mod LiveValues
 -- lemmas by subject; the answers to goals of functions lie in folders of their modules
 pub mod PartLemmas
 pub mod TextLemmas
 pub mod KeptLemmas
+pub mod CommandLemmas
 -- what may go to another thread
 pub mod PatternsSend
+pub mod LiveSend

@@ -36,7 +36,7 @@ cached =
       sendable,
     ) depth 60 fits 20000
 
-matcher : IsSend matcher_row.the_row
+pub matcher : IsSend matcher_row.the_row
 matcher = search (strings.the_send, cached, box.the_send, global.the_send, heap.the_frees, sendable) depth 60 fits 20000
 
 pub patterns : IsSend patterns_row.the_row

@@ -1,5 +1,7 @@
 -- what C keeps, and what a handle owns
 pub mod Kept
 pub mod Held
+pub mod Live
+pub mod LiveHeld
 -- what the calls of the library take and answer
 pub mod Calls

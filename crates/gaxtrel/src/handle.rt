@@ -1,4 +1,4 @@
-//! Boxed patterns behind a pointer that C keeps.
+//! The pointer to boxed patterns that C keeps.
 ghost use Rattle.std.specs.Prelude.{◌≡◌, Some, None, Option};
 ghost use Rattle.std.specs.Coded.{codes};
 ghost use Rattle.gaxtrel.specs.Kept.{Kept};

@@ -1,20 +1,27 @@
-//! Matchers for programs that are not Rattle: a static library with the calls of `gaxtrel.h`.
+//! Matchers and live sessions for programs that are not Rattle: a static library with the calls of
+//! `gaxtrel.h`.
 #![tactic(auto)]
 
 mod compile;
 mod counted_lines;
 mod handle;
 mod kept;
+mod kept_live;
 mod line_parts;
+mod live;
+mod live_handle;
 mod loose;
 mod numbers;
 mod part;
 mod patterns;
 mod search;
+mod session;
+mod text_reader;
 mod text_search;
 mod work;
 
 pub use kept::GaxtrelMatcher;
+pub use kept_live::GaxtrelSession;
 pub use numbers::GaxtrelFault;
 pub use part::GaxtrelPart;
 pub use work::GaxtrelWork;

@@ -1,8 +1,10 @@
-//! The numbers by which C names syntaxes and faults.
-ghost use Rattle.std.specs.Prelude.{◌≡◌, MatchOption};
+//! The numbers by which C names syntaxes, faults and ends.
+ghost use Rattle.std.specs.Prelude.{◌≡◌, IfErr, IfOk, MatchOption};
 ghost use Rattle.re_syntax.specs.declared.syntax.Syntax.{Syntax};
 ghost use Rattle.gaxtrel.specs.Calls.{syntax_number, kind_number};
+ghost use Rattle.gaxtrel.specs.Live.{end_number};
 
+use grep_cmd::{ScriptEnd, ScriptFault};
 use re_search::Syntax;
 use re_syntax::{FaultKind, PatternFault};
 
@@ -64,5 +66,17 @@ fn number_of(kind: FaultKind) -> u32
         FaultKind::TooDeep => 13,
         FaultKind::TooLarge => 14,
         FaultKind::Memory => 15,
+    }
+}
+
+/// The number of how the commands of a text were answered.
+pub(crate) fn number_of_end(ended: Result<ScriptEnd, ScriptFault>) -> u32
+    ensures answered { IfOk ended (λ end. result ≡ end_number end) }
+    ensures short { IfErr ended (λ _. result ≡ 2) }
+{
+    match ended {
+        Ok(ScriptEnd::Clean) => 0,
+        Ok(ScriptEnd::Refused) => 1,
+        Err(_) => 2,
     }
 }

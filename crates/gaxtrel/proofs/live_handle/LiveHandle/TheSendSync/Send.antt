@@ -1,0 +1,28 @@
+-- A handle may go to another thread: its session may, and any thread may free their block.
+use Rattle.std.specs.Prelude.{Option, Some, None}
+use base.Shift.{Keyless}
+use mir.Raw.{raw}
+use denote.Builtin.{RawPtr}
+use denote.Memory.{lone}
+use denote.Param.Send.{IsSend, owning_send, struct_send, sendable}
+use denote.RawPtr.{Ptr}
+use denote.Struct.Struct.{exits_of}
+use denote.Struct.Owning.{shape, fields, to}
+use Rattle.std.specs.contracts.alloc.Global as global_heap
+use Rattle.std.proofs.Crossing.{frees}
+use Rattle.std_alloc.proofs.SendSync.{quiet, lies}
+use Rattle.std.proofs.alloc.Global.TheSendSync as global
+use Rattle.gaxtrel.specs.Live.{LiveKept}
+use Rattle.gaxtrel.specs.contracts.live.Live as live
+use Rattle.gaxtrel.proofs.LiveSend as live_send
+use Rattle.gaxtrel.specs.LiveHeld.{held_owns}
+use Rattle.gaxtrel.specs.contracts.live_handle.LiveHandle.{the_row, the_type}
+
+held_keyless : (alloc : (global_heap.the_row).Denot) (at : Ptr) (held : Option LiveKept) → Keyless (held_owns alloc at held)
+held_keyless alloc at (Some m) = (lies live.the_row live_send.live at m, frees.frees alloc (raw (lone (live.the_row).mir)) at)
+held_keyless alloc at None = tt
+
+pub send : IsSend the_row
+send = let O = the_type in let ps : IsSend RawPtr = search sendable in let sa = global.the_field_send in
+    owning_send O (ps, (sa, tt)) (λ d. held_keyless d.alloc d.at d.held)
+    (λ k. quiet (to O) (exits_of k (fields O)) ((struct_send (shape O) (ps, (sa, tt))).leaving k))
