@@ -9,6 +9,7 @@ use super::harness::{Row, assert_row, assert_same, assert_seen, number_of, obser
 use super::worked;
 use crate::harness::Devices;
 use crate::marks::{refuse, was_refused};
+use grep_core::Flag;
 use grep_session::{EditFault, Session};
 use re_auto::fresh_meter;
 use re_search::Meter;
@@ -32,17 +33,20 @@ fn assert_seen_without_memory(
     let status = written_by(session, &mut devices)?;
     let same = session.status();
     let refused = was_refused(alloc);
-    assert!(rt; !refused, "behind {:?}", row.0);
+    assert!(rt; !refused, "after {:?}", row.0);
     assert_eq!(rt; number_of(same), status);
     assert_seen(rt, &devices.outcome(status), row);
     Ok(())
 }
 
-/// Whether the edit of a row may ask for memory: it adds something, reads patterns or takes steps.
+/// Whether the edit of a row may ask for memory: it adds something, reads patterns, makes the
+/// findings of all lines anew or takes steps.
 fn may_grow(row: Row) -> bool {
     let (edit, answer, _, _, _, most) = row;
     match edit {
         Edit::AddFile(_, _) | Edit::AddMissing(_) | Edit::AddPatterns(_) => true,
+        Edit::SetSyntax(_) => true,
+        Edit::SetFlag(Flag::IgnoreCase, _) | Edit::SetFlag(Flag::LineRegexp, _) => true,
         _ => answer.is_err() || most > 0,
     }
 }
