@@ -137,17 +137,23 @@ All buffers and processes that it makes are taken away after it."
 (defconst live-occur-test--old-commands
   "s/^version$/no &/; s/^text o[nf]*$/no &/; s/^pattern [0-9]*$/no &/")
 
-(defmacro live-occur-test--with-old-program (&rest body)
-  "Run BODY where the program knows only the first version of the script."
-  (declare (indent 0) (debug t))
+(defmacro live-occur-test--with-program (script &rest body)
+  "Run BODY where the program is a shell SCRIPT, in which %s is the one under test."
+  (declare (indent 1) (debug t))
   `(let* ((program (make-temp-file "live-occur" nil nil
-                                   (format "#!/bin/sh\nsed -u '%s' | '%s' \"$@\"\n"
-                                           live-occur-test--old-commands
+                                   (format (concat "#!/bin/sh\n" ,script)
                                            (executable-find live-occur-program))))
           (live-occur-program program))
      (set-file-modes program #o700)
      (unwind-protect (progn ,@body)
        (delete-file program))))
+
+(defmacro live-occur-test--with-old-program (&rest body)
+  "Run BODY where the program knows only the first version of the script."
+  (declare (indent 0) (debug t))
+  `(live-occur-test--with-program
+       (concat "sed -u '" live-occur-test--old-commands "' | '%s' \"$@\"\n")
+     ,@body))
 
 (defmacro live-occur-test--commands (&rest body)
   "Run BODY, and list the commands that are sent meanwhile, with their lines."
@@ -872,11 +878,15 @@ All buffers and processes that it makes are taken away after it."
       (should (equal (buffer-list) buffers))
       (should (equal (process-list) processes)))))
 
+;; A batch Emacs that writes into a pipe which nobody reads is ended by a signal, so
+;; the program stays for a moment.
 (ert-deftest live-occur-tells-of-words-that-are-refused ()
   (live-occur-test--with '("a\n")
-    (let ((live-occur-states 0))
-      (should (string-match-p "ended with status 2 (.*0.*--states.*)\\'"
-                              (cadr (should-error (live-occur "a") :type 'user-error)))))))
+    (live-occur-test--with-program
+        "'%s' \"$@\" < /dev/null\nstatus=$?\nsleep 0.2\nexit $status\n"
+      (let ((live-occur-states 0))
+        (should (string-match-p "ended with status 2 (.*0.*--states.*)\\'"
+                                (cadr (should-error (live-occur "a") :type 'user-error))))))))
 
 ;;;; The program
 
