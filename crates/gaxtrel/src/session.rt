@@ -15,7 +15,7 @@ use std::mem::replace;
 /// How many states of its automaton a pattern may keep at most.
 const MOST_STATES: usize = 65_536;
 
-/// Makes a session without files, patterns and options, of which each pattern may keep so many
+/// Makes a session without files, patterns and options, in which each pattern may keep so many
 /// states. What `session` held before is freed. Answers 0; or 2 if memory is refused, 3 if `states`
 /// is 0 or above 65,536: then `session` holds none.
 #[unsafe(no_mangle)]

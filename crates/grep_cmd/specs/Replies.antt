@@ -153,7 +153,8 @@ pub record AnswersScript (before : ScriptState) (file : File) (replies rest : Li
     pub after : ScriptState
     pub are_replies : Replies steps before replies after
 
--- a state is another, or that before what changed was reported
+-- the state that is left is the one after the commands; or what the last of them, `changes`, had to
+-- report is still to report
 abbrev pub IsUpToReport : ScriptState → ScriptState → Type 0
 IsUpToReport left after =
     (left ≡ after) ⊎ (record left { session = all_known left.session } ≡ after)

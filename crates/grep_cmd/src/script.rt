@@ -61,8 +61,8 @@ fn send_replies<W: CountedWrite>(
     }
 }
 
-/// A script on its way: its session, and whether rows of hits have their text. Contracts see its
-/// state.
+/// A session on which commands are answered, and whether rows of hits have their text. Contracts
+/// see its state.
 #[derive(Drop)]
 pub struct Script {
     session: Session,
@@ -78,7 +78,7 @@ impl Model for Script {
 }
 
 impl Script {
-    /// A script with a new session. Each pattern keeps at most this number of states.
+    /// A new session. Each pattern keeps at most this number of states.
     pub fn new(alloc: Global, states: usize) -> Script
         requires some { 1 ≤ states }
         requires few { states ≤ most_states }
@@ -90,8 +90,8 @@ impl Script {
         }
     }
 
-    /// Answers the commands of a reader to its end, from the state that the script has: reads them
-    /// line by line, makes their edits, and writes the replies in the order of the commands.
+    /// Answers the commands of a reader to its end, from the state that the last ones left: reads
+    /// them line by line, makes their edits, and writes the replies in the order of the commands.
     ///
     /// The replies are those that the definition of a script gives for its lines, but an edit may
     /// be refused as out of memory. All of them were sent. Before each read that may wait, all

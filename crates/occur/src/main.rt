@@ -92,7 +92,7 @@ fn read_words(rt: &HostRuntime) -> Result<ScriptRequest, u8>
     }
 }
 
-/// What is run.
+/// The script that is run.
 #[derive(Drop)]
 struct Source {
     /// The file that has the script; none where it is standard input.
