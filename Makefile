@@ -15,7 +15,7 @@
 # make test-nvim  tests the Neovim client on the built programs (needs Neovim 0.7)
 # make lib        proves what libgaxtrel needs, and builds it into build/lib
 # make test-lib   tries it in C (plain, under sanitizers, with each allocation refused, from eight threads) and in
-#                 Python, on AT&T's cases and the rows of tests/, and beside the built grep on 100,000 random patterns
+#                 Python, on AT&T's cases, rows and scripts of tests/, and beside the built grep on 100,000 patterns
 #                 (needs a C compiler and Python 3.11)
 # make figures    makes docs/figures/*.svg of crates.txt and of tables of the pages
 # make evidence   writes docs/EVIDENCE.md: the newest run of each of the targets above

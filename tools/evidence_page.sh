@@ -14,7 +14,7 @@ rows() {
 }
 
 newest=$(rows | awk -F '\t' -v targets="$targets" '
-    { row[$1] = "| " $1 " | " $2 " | " $3 " | " $4 " | " $5 " | " $6 " |" }
+    { sub(/ .*/, "", $3); row[$1] = "| " $1 " | " $2 " | " $3 " | " $4 " | " $5 " | " $6 " |" }
     END { for (count = split(targets, name, " "); at++ < count;) if (name[at] in row) print row[name[at]] }')
 {
     cat << 'END'
