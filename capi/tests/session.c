@@ -1,37 +1,10 @@
 /* A live session: each call, and each allocation refused in turn. The answer is then "no memory",
-   with a beginning of the replies, or the right one, and nothing leaks or is freed twice. Link with
-   -Wl,--wrap=malloc,--wrap=realloc,--wrap=free. */
+   with a beginning of the replies, or the right one, and nothing leaks or is freed twice. */
 #include "gaxtrel.h"
+#include "refusals.h"
 #include <stdio.h>
 #include <stdlib.h>
 #include <string.h>
-
-void *__real_malloc(size_t n);
-void *__real_realloc(void *p, size_t n);
-void __real_free(void *p);
-
-static long left = -1, live = 0;
-
-static int fails(void) { return left >= 0 && left-- == 0; }
-
-void *__wrap_malloc(size_t n) {
-    if (fails()) return 0;
-    void *p = __real_malloc(n);
-    live += p != 0;
-    return p;
-}
-
-void *__wrap_realloc(void *p, size_t n) {
-    if (fails()) return 0;
-    void *q = __real_realloc(p, n);
-    live += (p == 0) && q;
-    return q;
-}
-
-void __wrap_free(void *p) {
-    live -= p != 0;
-    __real_free(p);
-}
 
 /* Texts of commands that are answered one after the other, with their replies. */
 static const struct {

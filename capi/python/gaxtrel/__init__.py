@@ -17,7 +17,7 @@ import enum
 import threading
 from collections.abc import Callable, Iterator
 from pathlib import Path
-from typing import Any, NamedTuple
+from typing import Any, NamedTuple, Self
 
 __all__ = ["Error", "Kind", "Match", "Pattern", "Session", "Syntax", "Work", "compile",
            "compile_lines"]
@@ -160,21 +160,47 @@ def _bytes(text: bytes) -> bytes:
     return text
 
 
+def _work_of(held: Any) -> Work:
+    """What the last call on it took."""
+    return Work(*(getattr(held.work, name) for name in Work._fields))
+
+
 def _place(text: bytes, start: int) -> int:
     """A place as C can take it: all places after the end are alike."""
     return max(0, min(start, len(text) + 1))
 
 
-class Pattern:
+class _Held:
+    """What the library holds for an object, and frees by a call."""
+
+    def __init__(self, held: ctypes.Structure, free: _Call) -> None:
+        self._lock, self._held, self._free = threading.Lock(), held, free
+        self._at = ctypes.byref(held)
+
+    def close(self) -> None:
+        """Frees what is held; nothing can be asked for afterwards."""
+        with self._lock:
+            self._free(self._at)
+
+    def __enter__(self) -> Self:
+        return self
+
+    def __exit__(self, *_: object) -> None:
+        self.close()
+
+    def __del__(self) -> None:
+        if hasattr(self, "_at"):
+            self._free(self._at)
+
+
+class Pattern(_Held):
     """What `compile` and `compile_lines` make. Threads that share one take turns."""
 
     def __init__(self, pattern: bytes, syntax: Syntax = Syntax.EXTENDED, fold: bool = False,
                  whole: bool = False, several: bool = False) -> None:
         self.pattern, self.syntax, self.fold, self.whole = _bytes(pattern), Syntax(syntax), fold, whole
         self.several = several
-        self._lock = threading.Lock()
-        self._matcher = _Matcher()
-        self._at = ctypes.byref(self._matcher)
+        super().__init__(_Matcher(), _free)
         fault = _Fault()
         make = _compile_lines if several else _compile
         status = make(self._at, pattern, len(pattern), syntax, fold, whole, ctypes.byref(fault))
@@ -238,22 +264,7 @@ class Pattern:
     def work(self) -> Work:
         """What the last call took."""
         with self._lock:
-            return Work(*(getattr(self._matcher.work, name) for name in Work._fields))
-
-    def close(self) -> None:
-        """Frees what is held; nothing can be searched for afterwards."""
-        with self._lock:
-            _free(self._at)
-
-    def __enter__(self) -> Pattern:
-        return self
-
-    def __exit__(self, *_: object) -> None:
-        self.close()
-
-    def __del__(self, _free: _Call = _free) -> None:
-        if hasattr(self, "_at"):
-            _free(self._at)
+            return _work_of(self._held)
 
     def __reduce__(self) -> tuple[Any, ...]:
         return Pattern, (self.pattern, self.syntax, self.fold, self.whole, self.several)
@@ -262,14 +273,13 @@ class Pattern:
         return f"<gaxtrel.Pattern {self.pattern!r} {self.syntax.name}>"
 
 
-class Session:
+class Session(_Held):
     """What `occur` keeps: files, patterns and options, and what was found in each line. Each pattern
     may keep so many states, from 1 to 65,536. Threads that share one take turns."""
 
     def __init__(self, states: int = 256) -> None:
-        self._lock, self._work = threading.Lock(), Work(0, 0, 0, 0)
-        self._session = _Session()
-        self._at = ctypes.byref(self._session)
+        super().__init__(_Session(), _close)
+        self._work = Work(0, 0, 0, 0)
         if not 1 <= states <= 65536:
             raise ValueError(f"{states} states")
         if _open(self._at, states):
@@ -285,7 +295,7 @@ class Session:
                 raise MemoryError
             if status > 2:
                 raise ValueError("the session is closed")
-            self._work = Work(*(getattr(self._session.work, name) for name in Work._fields))
+            self._work = _work_of(self._held)
             replies = ctypes.create_string_buffer(count.value)
             _replies(self._at, 0, replies, count.value, ctypes.byref(count))
         return replies.raw
@@ -294,21 +304,6 @@ class Session:
     def work(self) -> Work:
         """What the commands of the last `answer` took."""
         return self._work
-
-    def close(self) -> None:
-        """Frees what is held; nothing can be answered afterwards."""
-        with self._lock:
-            _close(self._at)
-
-    def __enter__(self) -> Session:
-        return self
-
-    def __exit__(self, *_: object) -> None:
-        self.close()
-
-    def __del__(self, _close: _Call = _close) -> None:
-        if hasattr(self, "_at"):
-            _close(self._at)
 
     def __reduce__(self) -> tuple[Any, ...]:
         raise TypeError("a session has no copy")
