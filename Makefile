@@ -24,7 +24,8 @@
 #                 $(DESTDIR)$(NVIM_SITE), if SITE_LISP and NVIM_SITE name folders; EMACS compiles its client, where it
 #                 is there; another grep that is there is kept, unless FORCE=1 is given; the symbols stay in build/debug
 # make install-occur  does so without grep
-# make uninstall  removes what `make install` copied, with the same words
+# make uninstall  removes what `make install` copied, with the same words; where another grep is there, nothing
+# make uninstall-occur  removes what `make install-occur` copied, beside any grep
 # make install-lib    copies libgaxtrel.a and .so, gaxtrel.h and gaxtrel.pc below $(DESTDIR)$(PREFIX)
 # make uninstall-lib  removes them, with the same words
 # make dist       packs archives into build/: the programs, their pages and the clients; their symbols; the sources
@@ -41,7 +42,8 @@ EMACS = emacs
 NVIM = nvim
 
 .PHONY: all programs gate audit test test-program test-random test-growth test-changes test-memory test-editor test-nvim \
-    lib test-lib figures evidence install install-occur uninstall install-lib uninstall-lib dist deb clean
+    lib test-lib figures evidence install install-occur uninstall uninstall-occur install-lib \
+    uninstall-lib dist deb clean
 
 all: programs
 
@@ -120,10 +122,10 @@ figures:
 evidence:
 	tools/evidence_page.sh
 
-KEEP_OTHER_GREP = test "$(FORCE)" = 1 || tools/keep_other_grep.sh "$(DESTDIR)$(PREFIX)/bin/$(GREP_NAME)"
+KEEP_OTHER_GREP = tools/keep_other_grep.sh $@ "$(DESTDIR)$(PREFIX)/bin/$(GREP_NAME)"
 
 install: build/grep build/occur
-	@$(KEEP_OTHER_GREP)
+	@test "$(FORCE)" = 1 || $(KEEP_OTHER_GREP)
 	tools/install.sh install "$(DESTDIR)$(PREFIX)" "$(GREP_NAME)" grep
 	$(MAKE) install-occur
 
@@ -141,7 +143,11 @@ NVIM_CLIENT = plugin/live_occur.lua doc/live-occur.txt lua/live_occur
 
 uninstall:
 	@$(KEEP_OTHER_GREP)
-	tools/install.sh remove "$(DESTDIR)$(PREFIX)" "$(GREP_NAME)" grep occur
+	tools/install.sh remove "$(DESTDIR)$(PREFIX)" "$(GREP_NAME)" grep
+	$(MAKE) uninstall-occur
+
+uninstall-occur:
+	tools/install.sh remove "$(DESTDIR)$(PREFIX)" "$(GREP_NAME)" occur
 	test -z "$(SITE_LISP)" || rm -f $(foreach file,$(EMACS_CLIENT),"$(DESTDIR)$(SITE_LISP)/$(file)")
 	test -z "$(NVIM_SITE)" || rm -rf $(foreach file,$(NVIM_CLIENT),"$(DESTDIR)$(NVIM_SITE)/$(file)")
 

@@ -30,7 +30,7 @@ INSTALLED = sorted([*installed_of("grep"), *installed_of("occur"), *TEXTS])
 LUA = REPOSITORY / "editors/nvim/lua/live_occur"
 NVIM_CLIENT = ["doc/live-occur.txt", *sorted(f"lua/live_occur/{file.name}" for file in LUA.iterdir()),
                "plugin/live_occur.lua"]
-CHECKED_OUT = ["CHANGELOG.md", "LICENSE-APACHE", "LICENSE-MIT", "Makefile", "README.md", "VERSION", "completions",
+CHECKED_OUT = ["CHANGELOG.md", "LICENSE-APACHE", "LICENSE-MIT", "Makefile", "README.md", "VERSION", "capi", "completions",
                "dist", "editors", "man", "tools"]
 FAILED = 2
 """The exit status of make where a command failed."""
@@ -67,12 +67,16 @@ def make(bench: Bench, *words: str, **variables: str) -> int:
 
 def make_in(folder: Path, *words: str, **variables: str) -> int:
     """Runs make in a folder, as above."""
+    return ran_in(folder, *words, **variables).returncode
+
+
+def ran_in(folder: Path, *words: str, **variables: str) -> subprocess.CompletedProcess[bytes]:
+    """Runs make in a folder, and answers what it wrote, too."""
     if not shutil.which("make"):
         raise Skipped("no make")
     environment = {"PATH": os.environ["PATH"], **variables}
-    ran = subprocess.run(["make", "-s", *words], cwd=folder, env=environment, timeout=PATIENCE,
-                         stdin=subprocess.DEVNULL, capture_output=True, check=False)
-    return ran.returncode
+    return subprocess.run(["make", "-s", *words], cwd=folder, env=environment, timeout=PATIENCE,
+                          stdin=subprocess.DEVNULL, capture_output=True, check=False)
 
 
 def install(bench: Bench, *words: str, **variables: str) -> int:
@@ -251,12 +255,54 @@ def uninstalled(bench: Bench) -> Verdict:
     return Verdict(Answer(b"bin/grep (0, 0)"), Answer(files_in(bench.folder / "there") + f" {statuses}".encode()))
 
 
-@grep_case("`make uninstall` leaves another grep that is there as it is, and removes nothing.")
+@grep_case("`make uninstall` leaves another grep that is there as it is, removes nothing, and names what does.")
 def not_uninstalled(bench: Bench) -> Verdict:
     put_grep(bench, OTHER_GREP)
     bench.write("there/bin/occur", b"")
-    status = make(bench, "uninstall", f"PREFIX={bench.folder / 'there'}")
-    return Verdict(Answer(b"bin/grep\nbin/occur", b"", FAILED), Answer(files_in(bench.folder / "there"), b"", status))
+    ran = ran_in(checkout(bench), "uninstall", f"PREFIX={bench.folder / 'there'}")
+    named = b"uninstall-occur" if b"make uninstall-occur" in ran.stderr else ran.stderr
+    return Verdict(Answer(b"bin/grep\nbin/occur", b"uninstall-occur", FAILED),
+                   Answer(files_in(bench.folder / "there"), named, ran.returncode))
+
+
+@grep_case("Another grep stays as it is, whatever is uninstalled, and by whatever words; occur goes.")
+def survives(bench: Bench) -> Verdict:
+    there, answers = bench.folder / "there", []
+    for target in ("uninstall", "uninstall-occur", "uninstall-lib"):
+        for words in ([], ["FORCE=1"], ["FORCE=1", "GREP_NAME=grep"], [f"DESTDIR={bench.folder}", "PREFIX=/there"]):
+            put_grep(bench, OTHER_GREP)
+            make(bench, "install-occur", f"PREFIX={there}")
+            make(bench, target, f"PREFIX={there}", *words, FORCE="1")
+            answers.append(f"{target} {(there / 'bin/grep').read_bytes() == OTHER_GREP} {(there / 'bin/occur').exists()}")
+    wanted = [f"{target} True {target != 'uninstall-occur'}"
+              for target in ("uninstall", "uninstall-occur", "uninstall-lib") for _ in range(4)]
+    return Verdict(Answer("\n".join(wanted).encode()), Answer("\n".join(answers).encode()))
+
+
+@grep_case("`make uninstall` knows this grep where none is built.")
+def uninstalled_without_a_build(bench: Bench) -> Verdict:
+    there = bench.folder / "there"
+    statuses = [install(bench), make(bench, "clean"), make(bench, "uninstall", f"PREFIX={there}")]
+    return Verdict(Answer(b"[0, 0, 0]"), Answer(f"{statuses}".encode() + files_in(there)))
+
+
+@grep_case("`make` without `rt` says that it is not on the path, and where README says more.")
+def without_rt(bench: Bench) -> Verdict:
+    folder = checkout(bench)
+    shutil.rmtree(folder / "build")
+    paths = [path for path in os.environ["PATH"].split(":") if not (Path(path) / "rt").exists()]
+    ran = ran_in(folder, PATH=":".join(paths))
+    said = [text for text in (b"`rt` is not on the path", b"README") if text in ran.stderr]
+    return Verdict(Answer(b"`rt` is not on the path README", b"", FAILED), Answer(b" ".join(said), b"", ran.returncode))
+
+
+@occur_case("`make uninstall-occur` removes all that `make install-occur` has installed, and nothing else.")
+def occur_uninstalled(bench: Bench) -> Verdict:
+    there = bench.folder / "there"
+    words = [f"PREFIX={there}", f"SITE_LISP={there / 'lisp'}", f"NVIM_SITE={there / 'nvim'}"]
+    put_grep(bench, OTHER_GREP)
+    statuses = make(bench, "install-occur", *words), make(bench, "uninstall-occur", *words)
+    return Verdict(Answer(b"bin/grep (0, 0)"), Answer(files_in(there) + f" {statuses}".encode()))
 
 
 @occur_case("`make install-occur` installs occur alone, which needs no grep.")

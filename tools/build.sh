@@ -100,6 +100,8 @@ stop() {
     wait
 }
 
+command -v rt > /dev/null ||
+    fail '`rt` is not on the path. It is the command of the Rattle toolchain: README, under Install, says more of it.'
 mkdir -p build/log
 exec {lock}> build/lock
 flock -n "$lock" || { report 'waiting for another build here to end'; flock "$lock"; }
