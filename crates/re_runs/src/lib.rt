@@ -19,6 +19,7 @@ pub use block::{
     has_no_newline, line_end, line_start, next_line_with,
 };
 pub use newline::first_newline;
+pub use nibbles::Nibbles;
 pub use run_finder::{RunFinder, sets_of};
 pub use set_finder::SetFinder;
 pub use survey::{HALVED, Survey, rank_of};

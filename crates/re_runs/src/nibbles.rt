@@ -93,7 +93,7 @@ impl Nibbles {
 }
 
 // The tables of the set. High halves that go with the same low halves share one of eight bits, and
-// the last bit is for all that are left.
+// the last bit is for all that are left. A high half without members has no bit.
 fn tables_of(set: &ByteSet) -> Nibbles {
     let mut nibbles = Nibbles {
         low: [0; 16],
@@ -102,6 +102,9 @@ fn tables_of(set: &ByteSet) -> Nibbles {
     let mut rows = [0u16; 8];
     for half in 0..16usize {
         let row = row_of(set, half);
+        if row == 0 {
+            continue;
+        }
         let group = group_of(&rows, row);
         rows[group] |= row;
         nibbles.high[half] = 1 << group;

@@ -1,4 +1,4 @@
-//! The tests of `re_auto` and `re_search`: nothing but tests, by what these show.
+//! The tests of `re_auto` and `re_search`, and of the tables of `re_runs`: nothing but tests, by what these show.
 #![tactic(auto)]
 
 #[cfg(test)]
@@ -11,6 +11,8 @@ mod cache;
 mod courses;
 #[cfg(test)]
 mod filters;
+#[cfg(test)]
+mod half_bytes;
 #[cfg(test)]
 mod many_strings;
 #[cfg(test)]
