@@ -83,7 +83,8 @@ enum {
     GAXTREL_UNDEFINED_ESCAPE,
     GAXTREL_BACK_REFERENCE,
     GAXTREL_TOO_DEEP,
-    GAXTREL_TOO_LARGE
+    GAXTREL_TOO_LARGE,
+    GAXTREL_TOO_MANY_PATTERNS
 };
 
 /* Makes a matcher of a pattern, and frees what `matcher` held before. With `fold` both cases of
@@ -96,7 +97,8 @@ uint32_t gaxtrel_compile(gaxtrel_matcher *matcher, const uint8_t *pattern, size_
 
 /* The same for several patterns, which are the lines of `patterns` (the last may lack its newline):
    a line is matched where one of them matches it, and no bytes are no pattern, which match nothing.
-   The fault is that of the first line that is refused, and `pattern` its number. */
+   The fault is that of the first line that is refused, and `pattern` its number. More than 65,535
+   patterns are refused as GAXTREL_TOO_MANY_PATTERNS at pattern 65,535, whatever they are. */
 uint32_t gaxtrel_compile_lines(gaxtrel_matcher *matcher, const uint8_t *patterns, size_t length,
                                uint32_t syntax, bool fold, bool whole, gaxtrel_fault *fault);
 

@@ -68,6 +68,30 @@ static int several(void) {
     return 0;
 }
 
+/* As many patterns as are allowed, and one more. */
+static int most_patterns(void) {
+    enum { MOST = 65535 };
+    static uint8_t text[2 * (MOST + 1)];
+    gaxtrel_matcher m = GAXTREL_NONE;
+    gaxtrel_fault fault = {0, 7, 0};
+    for (size_t k = 0; k < sizeof text; k += 2) {
+        text[k] = '(';
+        text[k + 1] = '\n';
+    }
+    CHECK(41, gaxtrel_compile_lines(&m, text, 2 * MOST, GAXTREL_BASIC, false, false, &fault) == GAXTREL_OK);
+    CHECK(42, gaxtrel_is_match(&m, P("a(b")) == GAXTREL_YES);
+    /* whatever the patterns are: each is refused as an extended expression, too */
+    for (uint32_t syntax = GAXTREL_BASIC; syntax <= GAXTREL_FIXED; syntax++) {
+        CHECK(43, gaxtrel_compile_lines(&m, text, sizeof text, syntax, false, false, &fault) == GAXTREL_REFUSED);
+        CHECK(44, fault.kind == GAXTREL_TOO_MANY_PATTERNS && fault.at == 0 && fault.pattern == MOST);
+        CHECK(45, gaxtrel_is_match(&m, P("a(b")) == GAXTREL_MISUSED);
+    }
+    CHECK(46, gaxtrel_compile_lines(&m, text, sizeof text, 7, false, false, &fault) == GAXTREL_NO_SYNTAX);
+    CHECK(47, gaxtrel_compile_lines(&m, text, 2 * MOST, GAXTREL_EXTENDED, false, false, &fault) == GAXTREL_REFUSED);
+    CHECK(48, fault.kind == GAXTREL_UNCLOSED_GROUP && fault.pattern == 0);
+    return 0;
+}
+
 /* All parts of a line at once. */
 static int parts(void) {
     gaxtrel_matcher m = GAXTREL_NONE;
@@ -151,6 +175,7 @@ static int hostile(void) {
 int main(void) {
     int failed = one();
     if (!failed) failed = several();
+    if (!failed) failed = most_patterns();
     if (!failed) failed = parts();
     if (!failed) failed = lines();
     if (!failed) failed = hostile();

@@ -48,6 +48,7 @@ class Kind(enum.Enum):
     BackReference = 12
     TooDeep = 13
     TooLarge = 14
+    TooManyPatterns = 15
 
 
 class Error(ValueError):

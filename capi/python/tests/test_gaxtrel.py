@@ -102,6 +102,9 @@ class Errors(unittest.TestCase):
                               b"(" * 300 + b")" * 300: Kind.TooDeep, b"(a{255}){255}": Kind.TooLarge}.items():
             self.assertEqual(self.refusal(pattern).kind, kind, pattern)
         self.assertEqual(self.refusal(rb"a\)", Syntax.BASIC).kind, Kind.UnopenedGroup)
+        with self.assertRaises(gaxtrel.Error) as refused:
+            gaxtrel.compile_lines(b"a\n" * 65_536)
+        self.assertEqual((refused.exception.kind, refused.exception.pattern), (Kind.TooManyPatterns, 65_535))
 
     def test_types(self) -> None:
         for wrong in ("a", bytearray(b"a"), memoryview(b"a"), None, 7):

@@ -7,9 +7,11 @@ use Rattle.re_syntax.specs.declared.fault.FaultKind.{FaultKind}
 use Rattle.re_syntax.specs.declared.fault.FaultKind.TheVariants as f
 use Rattle.re_syntax.specs.declared.span.Span.{Span}
 use Rattle.re_syntax.specs.Lines.{lines_of}
+use Rattle.re_syntax.specs.Profile.{most_patterns}
 use Rattle.re_meter.specs.Meters.{Steps, Adds, AddsAtMost}
 use Rattle.re_auto.specs.Searches.{searches_for}
 use Rattle.re_search.specs.Working.Sought.{FindsSought, Sought}
+use Rattle.gaxtrel.specs.declared.numbers.GaxtrelFault.{GaxtrelFault}
 use Rattle.gaxtrel.specs.declared.part.GaxtrelPart.{GaxtrelPart}
 use Rattle.gaxtrel.specs.declared.work.GaxtrelWork.{GaxtrelWork}
 
@@ -19,7 +21,7 @@ syntax_number s.Basic = 0
 syntax_number s.Extended = 1
 syntax_number s.Fixed = 2
 
--- the numbers of the kinds of faults
+-- the numbers of the kinds of faults; memory that is refused is no fault of a pattern
 abbrev pub kind_number : FaultKind → ℕ
 kind_number f.UnclosedBracket = 1
 kind_number f.BadClass = 2
@@ -35,7 +37,11 @@ kind_number f.UndefinedEscape = 11
 kind_number f.BackReference = 12
 kind_number f.TooDeep = 13
 kind_number f.TooLarge = 14
-kind_number f.Memory = 15
+kind_number f.Memory = 0
+
+-- the fault of more patterns than are allowed: the first of them that is too many
+abbrev pub too_many_patterns : GaxtrelFault
+too_many_patterns = record { kind = 15; at = 0; pattern = most_patterns }
 
 -- ---- parts in an array
 

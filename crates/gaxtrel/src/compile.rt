@@ -1,21 +1,23 @@
 //! The calls that make a matcher, and the one that frees it.
-ghost use Rattle.std.specs.Prelude.{◌≡◌, ◌≤◌, ◌↔◌, [], ◌∷◌, List, All, None};
+ghost use Rattle.std.specs.Prelude.{◌≡◌, ◌≤◌, ◌<◌, ◌↔◌, [], ◌∷◌, List, All, None, length};
 ghost use Rattle.std.specs.List.{AllZip};
 ghost use Rattle.re_syntax.specs.declared.syntax.Syntax.{Syntax};
 ghost use Rattle.re_syntax.specs.declared.fault.PatternFault.{PatternFault};
 ghost use Rattle.re_syntax.specs.Expression.{Expression};
 ghost use Rattle.re_syntax.specs.Lines.{lines_of};
+ghost use Rattle.re_syntax.specs.Profile.{most_patterns};
 ghost use Rattle.re_syntax.specs.Spelled.{IsMeant};
 ghost use Rattle.re_search.specs.Reading.{IsSmallFor, IsReadable, IsRefusedFor};
 ghost use Rattle.grep_core.specs.Matchers.{IsFirstRefused};
 ghost use Rattle.gaxtrel.specs.Kept.{IsFor};
-ghost use Rattle.gaxtrel.specs.Calls.{syntax_number, kind_number};
+ghost use Rattle.gaxtrel.specs.Calls.{syntax_number, kind_number, too_many_patterns};
 
 use crate::kept::GaxtrelMatcher;
-use crate::numbers::{GaxtrelFault, fault_of, syntax_of};
+use crate::numbers::{GaxtrelFault, TOO_MANY_PATTERNS, fault_of, syntax_of};
 use crate::patterns::Patterns;
+use grep_utility::has_more_than;
 use re_auto::fresh_meter;
-use re_syntax::FaultKind;
+use re_syntax::{FaultKind, MOST_PATTERNS};
 use std::alloc::Global;
 
 /// Makes a matcher of a pattern. What `matcher` held before is freed. Answers 0; or 1 if the
@@ -68,8 +70,8 @@ pub extern "C" fn gaxtrel_compile(
 }
 
 /// Makes one matcher of several patterns, which are the lines of `patterns`. What `matcher` held
-/// before is freed. Answers 0; or 1 if a pattern is refused, 2 if memory is refused, 3 if
-/// `syntax` is no syntax: then `matcher` holds none.
+/// before is freed. Answers 0; or 1 if a pattern is refused or there are more than 65,535, 2 if
+/// memory is refused, 3 if `syntax` is no syntax: then `matcher` holds none.
 #[unsafe(no_mangle)]
 pub extern "C" fn gaxtrel_compile_lines(
     alloc: Global,
@@ -85,7 +87,11 @@ pub extern "C" fn gaxtrel_compile_lines(
         (es : List Expression) × AllZip (λ text e. IsMeant s fold text e) (lines_of patterns.now) es
         × All (IsReadable s fold) (lines_of patterns.now)
         × IsFor matcher.new.handle.held (record { expressions = es; whole = whole }) }
-    ensures refused { result ≡ 1 → (s : Syntax) → syntax ≡ syntax_number s →
+    ensures many { most_patterns < length (lines_of patterns.now) →
+        (s : Syntax) → syntax ≡ syntax_number s →
+        (result ≡ 1) × (fault.new ≡ too_many_patterns) }
+    ensures refused { result ≡ 1 → length (lines_of patterns.now) ≤ most_patterns →
+        (s : Syntax) → syntax ≡ syntax_number s →
         (f : PatternFault)
         × IsFirstRefused s fold (lines_of patterns.now) fault.new.pattern f
         × (fault.new.kind ≡ kind_number f.kind) × (fault.new.at ≡ f.at) }
@@ -97,6 +103,10 @@ pub extern "C" fn gaxtrel_compile_lines(
     let Some(syntax) = syntax_of(syntax) else {
         return 3;
     };
+    if has_more_than(MOST_PATTERNS, patterns) {
+        *fault = TOO_MANY_PATTERNS;
+        return 1;
+    }
     match Patterns::of_lines(alloc, patterns, syntax, fold, whole) {
         Ok(made) => match Box::new(alloc, made) {
             Ok(boxed) => {

@@ -6,19 +6,26 @@ ghost use Rattle.gaxtrel.specs.Live.{end_number};
 
 use grep_cmd::{ScriptEnd, ScriptFault};
 use re_search::Syntax;
-use re_syntax::{FaultKind, PatternFault};
+use re_syntax::{FaultKind, MOST_PATTERNS, PatternFault};
 
 /// Why a pattern is refused, and where.
 #[repr(C)]
 #[derive(Clone, Copy, Drop)]
 pub struct GaxtrelFault {
-    /// The number of the kind; 0 if there is no fault.
+    /// The number of the kind.
     pub kind: u32,
     /// The place in the pattern.
     pub at: usize,
     /// The number of the pattern, counted from 0.
     pub pattern: usize,
 }
+
+/// The fault of more patterns than are allowed: the first of them that is too many.
+pub(crate) const TOO_MANY_PATTERNS: GaxtrelFault = GaxtrelFault {
+    kind: 15,
+    at: 0,
+    pattern: MOST_PATTERNS,
+};
 
 /// The fault of a pattern.
 pub(crate) fn fault_of(pattern: usize, fault: PatternFault) -> GaxtrelFault
@@ -46,7 +53,7 @@ pub(crate) fn syntax_of(number: u32) -> Option<Syntax>
     }
 }
 
-/// The number of a kind of fault.
+/// The number of a kind of fault. Memory that is refused is no fault of a pattern.
 fn number_of(kind: FaultKind) -> u32
     ensures { result ≡ kind_number kind }
 {
@@ -65,7 +72,7 @@ fn number_of(kind: FaultKind) -> u32
         FaultKind::BackReference => 12,
         FaultKind::TooDeep => 13,
         FaultKind::TooLarge => 14,
-        FaultKind::Memory => 15,
+        FaultKind::Memory => 0,
     }
 }
 

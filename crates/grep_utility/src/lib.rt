@@ -26,6 +26,7 @@ pub use message_texts::{fail, send_messages};
 pub use number::read_number;
 pub use program::Program;
 pub use refusal::write_pattern_refused;
+pub use searchers::has_more_than;
 pub use texts::{FAILED, OUT_OF_MEMORY, USAGE, WRITE_ERROR};
 pub use usage::write_usage_fault;
 pub use words::around::Side;
