@@ -6,9 +6,11 @@ from __future__ import annotations
 
 import os
 import pty
+import re
 import resource
 import tty
 from functools import partial
+from itertools import product
 from pathlib import Path
 
 from dialogue import Step, exchange, hold
@@ -47,11 +49,28 @@ cases = all_of(case)
 # Help and the version
 
 
-@case("Help is written to standard output, names the words, and gives 0.")
+READER = Path(__file__).resolve().parent.parent / "crates/grep_cmd/src/script/command.rt"
+"""What reads commands."""
+
+
+def formed(command: str) -> list[str]:
+    """The commands of a form of the help, as `flag LETTER on|off`: a name or number is 1, a letter c."""
+    choices = [word.split("|") if word.islower() else ["c" if word == "LETTER" else "1"] for word in command.split()]
+    return [" ".join(words) for words in product(*choices)]
+
+
+@case("Help is written to standard output, names the words and all commands, and gives 0.")
 def help_wanted(bench: Bench) -> Verdict:
     given = bench.ask("--help", stdin=b"show\n")
     named = [word for word in (b"--states", b"SCRIPT") if word in given.out]
-    return Verdict(Answer(b"--states SCRIPT"), Answer(b" ".join(named), given.err, given.status))
+    forms = re.findall(r"(?m)^  ([a-z]+(?: \S+)*)  ", given.out.decode())
+    # A line follows each, for those that count one.
+    unread = [command for form in forms for command in formed(form)
+              if bench.ask(stdin=f"{command}\nx\n".encode()).out.startswith(b"refused BadCommand")]
+    words = sorted({form.split()[0] for form in forms})
+    wanted = sorted(re.findall(r'word == b"(\w+)".as_slice\(\) {\n +return read_', READER.read_text()))
+    return Verdict(Answer(f"--states SCRIPT {wanted} []".encode()),
+                   Answer(b" ".join(named) + f" {words} {unread}".encode(), given.err, given.status))
 
 
 @case("The option `--version` writes the version that the file VERSION has, and gives 0.")

@@ -23,6 +23,7 @@ The script has a command on each line. The lines or patterns that a command coun
   changes                      asks what changed of the lines found, since the last time
   page FIRST COUNT             asks for COUNT of the lines found, from number FIRST on
   version                      asks for the version of occur, and that of scripts
+  text on|off                  writes the lines found with their text, or without it
 
 An edit is answered by 'ok' or 'refused CAUSE'; show by grep's output after 'o ', its messages after
 'e ' and 'status N'; changes and page by rows for an editor, and 'status N'; version by one line.
