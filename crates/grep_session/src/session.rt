@@ -370,6 +370,7 @@ impl Session {
     ///
     /// `EditFault::TooManyPatterns`, `EditFault::Pattern` with the place in the list of the first
     /// text that is not a valid pattern, or `EditFault::Memory`.
+    #[tactic(auto, using(crate::proofs::lemmas::StepLemmas::takes_none))]
     pub fn add_patterns(&mut self, list: &[u8], meter: &mut Meter) -> Result<(), EditFault>
         ensures gives { EditGives (AddPatterns list.now) self.old.inputs self.new.inputs result }
         ensures same_states { self.new.states ≡ self.old.states }

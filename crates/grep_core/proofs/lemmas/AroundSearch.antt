@@ -18,10 +18,25 @@ use Rattle.grep_core.proofs.lemmas.WriterLaws.{TakesAll-nothing, TakesAll-more, 
 
 -- ---- the turns of the search
 
-module _ {R : Type 0} (remaining : R → Option Text) (failures : R → ℕ) (es : List Expression) (options : Options) (many shown : Bool) (name : Text) (reader : R) (context : Context) where
+-- what a search is of: a reader and its source, and how it searches
+pub record Following (R : Type 0) : Type 0 where
+  pub remaining : R → Option Text
+  pub failures : R → ℕ
+  pub es : List Expression
+  pub options : Options
+  pub many : Bool
+  pub shown : Bool
+  pub name : Text
+  pub reader : R
+  pub context : Context
+
+module _ {R : Type 0} (f : Following R) where
+  open f use {remaining, failures, es, options, many, shown, name, reader, context}
+
   -- the lines that were handed out were searched, and what is shown of them so far was written; the
   -- last of them are held
   pub record FollowedSoFar (now : Numbered R) (old new : Writer) (began ended : Steps) (selected : ℕ) (p : Progress) (recent : List Text) : Type 0 where
+    pub asked : form options ≡ around context
     pub lines : List Text
     pub rows : List Text
     pub handed : HasHanded remaining failures reader now lines
@@ -35,40 +50,46 @@ module _ {R : Type 0} (remaining : R → Option Text) (failures : R → ℕ) (es
     pub few : selected ≤ now.number
     pub steps : SearchesLines es options (length es) lines began ended
 
-module _ {R : Type 0} (remaining : R → Option Text) (failures : R → ℕ) (es : List Expression) (options : Options) (many shown : Bool) (name : Text) (reader : R) (context : Context) (asked : form options ≡ around context) where
-  abbrev Follows : Progress → List Text → List Text → Type 0
-  Follows = Tracks es options many name context shown
+  -- what the search of such a source gives, when a reader of it is left so
+  abbrev pub FollowingGives : Numbered R → Writer → Writer → Steps → Steps → Result FileFound SearchFault → Type 0
+  FollowingGives now old new began ended = SearchGives es options many shown (open_source name (remaining reader)) (OneLeft (remaining now.lines.reader)) (failures reader) (failures now.lines.reader) old new began ended
 
-  abbrev Followed : Numbered R → Writer → Writer → Steps → Steps → ℕ → Progress → List Text → Type 0
-  Followed = FollowedSoFar remaining failures es options many shown name reader context
+-- the same search, further on
+abbrev pub FollowedOn : {R : Type 0} {f : Following R} {before : Numbered R} {old mid : Writer} {began amid : Steps} {selected : ℕ} {p : Progress} {recent : List Text} → FollowedSoFar f before old mid began amid selected p recent → Numbered R → Writer → Steps → ℕ → Progress → List Text → Type 0
+FollowedOn {f = f} {old = old} {began = began} s now new ended selected p recent = FollowedSoFar f now old new began ended selected p recent
 
-  -- the rows that are tracked are written of the lines
-  written_around : (p : Progress) (lines rows : List Text) → Follows p lines rows → WrittenOf es options many shown name (around context) lines rows
-  written_around p lines rows t =
-      let now = tracked_groups es options many name context shown p lines rows t in
-      record {
-        groups = now.0;
-        are_groups = now.1;
-        are_rows = now.2;
-        further = λ file more named has.
-            let later = tracks_further es options many name context shown p lines rows more t in
-            let all = tracked_groups es options many name context shown later.0 (lines ++ more) (rows ++ later.1) later.2 in (
-              all.0,
-              later.1,
-              subst (λ f. EachGives (GroupsOf es options many context) (f ∷ []) all.0) (sym (file_is file name (lines ++ more) named has)) (EachGives-one (GroupsOf es options many context) (file_with name (lines ++ more) file.ending) all.0 all.1),
-              sym all.2,
-            );
-      }
+-- the rows that are tracked are written of the lines
+written_tracked : {es : List Expression} {options : Options} {many shown : Bool} {name : Text} {context : Context} {p : Progress} {lines rows : List Text} → form options ≡ around context → Tracks es options many name context shown p lines rows → WrittenOf es options many shown name (form options) lines rows
+written_tracked {es} {options} {many} {shown} {name} {context} {p} {lines} {rows} asked t =
+    let now = tracked_groups es options many name context shown p lines rows t in
+    subst (λ shape. WrittenOf es options many shown name shape lines rows) (sym asked)
+    (record {
+      groups = now.0;
+      are_groups = now.1;
+      are_rows = now.2;
+      further = λ file more named has.
+          let later = tracks_further es options many name context shown p lines rows more t in
+          let all = tracked_groups es options many name context shown later.0 (lines ++ more) (rows ++ later.1) later.2 in (
+            all.0,
+            later.1,
+            subst (λ f. EachGives (GroupsOf es options many context) (f ∷ []) all.0) (sym (file_is file name (lines ++ more) named has)) (EachGives-one (GroupsOf es options many context) (file_with name (lines ++ more) file.ending) all.0 all.1),
+            sym all.2,
+          );
+    })
 
-  written_tracked : (p : Progress) (lines rows : List Text) → Follows p lines rows → WrittenOf es options many shown name (form options) lines rows
-  written_tracked p lines rows t = subst (λ shape. WrittenOf es options many shown name shape lines rows) (sym asked) (written_around p lines rows t)
+-- the limit of held lines stays that of the context
+pub waiting_limit : {n : ℕ} {passed : List Text} {p q : Progress} {recent held : LastLines} → Waits passed p q recent held → recent.limit ≡ n → held.limit ≡ n
+waiting_limit waits limit = elim waits [
+  | inl none ↦ ap (λ (x : LastLines). x.limit) none.2 ∙ limit
+  | inr some ↦ ap (λ (x : LastLines). x.limit) some.2 ∙ limit
+]
 
-  -- a source is not left early
-  pub never_early : {P : Type 0} → IsTrue (leaves_early options) → P
-  never_early early = absurd (elim (early_form options early) [ inl e ↦ (let no : ⊥ = cc (asked, e) in no) | inr e ↦ (let no : ⊥ = cc (asked, e) in no) ])
+module _ {R : Type 0} {f : Following R} where
+  open f use {remaining, failures, es, options, many, shown, name, reader, context}
 
-  pub followed_none : (now : Numbered R) (w : Writer) (steps : Steps) (recent : List Text) → now.lines.reader ≡ reader → now.lines.ahead ≡ [] → now.lines.stage ≡ Open → now.number ≡ 0 → recent ≡ [] → Followed now w w steps steps 0 (progress_from context shown) recent
-  followed_none now w steps recent same none is_open zero empty = record {
+  pub followed_none : {now : Numbered R} {w : Writer} {steps : Steps} {recent : List Text} → form options ≡ around context → now.lines.reader ≡ reader → now.lines.ahead ≡ [] → now.lines.stage ≡ Open → now.number ≡ 0 → recent ≡ [] → FollowedSoFar f now w w steps steps 0 (progress_from context shown) recent
+  followed_none {now} {w} {steps} asked same none is_open zero empty = record {
+    asked = asked;
     lines = [];
     rows = [];
     handed = subst (λ r. HasHanded remaining failures r now []) same (has_handed_none remaining failures now none is_open zero);
@@ -83,17 +104,47 @@ module _ {R : Type 0} (remaining : R → Option Text) (failures : R → ℕ) (es
     steps = unsearched_lines es options (length es) [] steps;
   }
 
+  module _ {before : Numbered R} {old mid : Writer} {began amid : Steps} {selected : ℕ} {p : Progress} {recent : List Text} (s : FollowedSoFar f before old mid began amid selected p recent) where
+    -- a source is not left early
+    pub never_early : {P : Type 0} → IsTrue (leaves_early options) → P
+    never_early early = absurd (elim (early_form options early) [ inl e ↦ (let no : ⊥ = cc (s.asked, e) in no) | inr e ↦ (let no : ⊥ = cc (s.asked, e) in no) ])
+
+    pub writes : WritesLines es options many shown name s.lines old mid selected
+    writes = record { rows = s.rows; of = written_tracked s.asked s.tracks; wrote = s.wrote; chosen = s.chosen; are_chosen = s.are_chosen; counted = s.counted }
+
+    pub same_before : p.context.before ≡ context.before
+    same_before = ap (λ (c : Context). c.before) s.tracks.same_context
+
+    -- buffered output was sent
+    pub followed_sent : {new : Writer} → TakesAll mid new [] → FollowedSoFar f before old new began amid selected p recent
+    followed_sent {new} sent = record {
+      asked = s.asked;
+      lines = s.lines;
+      rows = s.rows;
+      handed = s.handed;
+      tracks = s.tracks;
+      apart = s.apart;
+      held = s.held;
+      wrote = subst (TakesAll old new) (append-nil s.rows) (TakesAll-more old mid new s.rows [] s.wrote sent);
+      chosen = s.chosen;
+      are_chosen = s.are_chosen;
+      counted = s.counted;
+      few = s.few;
+      steps = s.steps;
+    }
+
   -- some lines were passed, which wait if any does
-  pub followed_waiting : (before now : Numbered R) (old new : Writer) (began mid ended : Steps) (selected : ℕ) (p q : Progress) (recent held : LastLines) → recent.limit ≡ context.before → (s : Followed before old new began mid selected p recent.lines)
-      → (passed : List Text) → HasHanded remaining failures reader now (s.lines ++ passed) → AreUnselected es options passed → Waits passed p q recent held → SearchesLines es options (length es) passed mid ended → (t : Followed now old new began ended selected q held.lines) × (t.lines ≡ s.lines ++ passed)
-  followed_waiting before now old new began mid ended selected p q recent held limit s passed handed unselected waits spent = (
+  pub followed_waiting : {before now : Numbered R} {old new : Writer} {began mid ended : Steps} {selected : ℕ} {p q : Progress} {recent held : LastLines} {passed : List Text} → recent.limit ≡ context.before → (s : FollowedSoFar f before old new began mid selected p recent.lines)
+      → HasHanded remaining failures reader now (s.lines ++ passed) → AreUnselected es options passed → Waits passed p q recent held → SearchesLines es options (length es) passed mid ended → (t : FollowedSoFar f now old new began ended selected q held.lines) × (t.lines ≡ s.lines ++ passed)
+  followed_waiting {began = began} {mid = mid} {ended = ended} {p = p} {q = q} {recent = recent} {passed = passed} limit s handed unselected waits spent = (
     record {
+      asked = s.asked;
       lines = s.lines ++ passed;
       rows = s.rows;
       handed = handed;
       tracks = elim waits [
-        | inl none ↦ subst (λ r. Follows r (s.lines ++ passed) s.rows) (sym none.1) (subst (λ ls. Follows p ls s.rows) (sym (ap (λ ls. s.lines ++ ls) none.0 ∙ append-nil s.lines)) s.tracks)
-        | inr some ↦ subst (λ r. Follows r (s.lines ++ passed) s.rows) (sym some.1) (tracks_passed es options many name context shown p s.lines s.rows passed unselected some.0 s.tracks)
+        | inl none ↦ subst (λ r. Tracks es options many name context shown r (s.lines ++ passed) s.rows) (sym none.1) (subst (λ ls. Tracks es options many name context shown p ls s.rows) (sym (ap (λ ls. s.lines ++ ls) none.0 ∙ append-nil s.lines)) s.tracks)
+        | inr some ↦ subst (λ r. Tracks es options many name context shown r (s.lines ++ passed) s.rows) (sym some.1) (tracks_passed es options many name context shown p s.lines s.rows passed unselected some.0 s.tracks)
       ];
       apart = elim waits [
         | inl none ↦ subst WaitsNot (sym none.1) s.apart
@@ -116,42 +167,12 @@ module _ {R : Type 0} (remaining : R → Option Text) (failures : R → ℕ) (es
     refl,
   )
 
-  -- the limit of held lines stays that of the context
-  pub waiting_limit : (passed : List Text) (p q : Progress) (recent held : LastLines) → Waits passed p q recent held → recent.limit ≡ context.before → held.limit ≡ context.before
-  waiting_limit passed p q recent held waits limit = elim waits [
-    | inl none ↦ ap (λ (x : LastLines). x.limit) none.2 ∙ limit
-    | inr some ↦ ap (λ (x : LastLines). x.limit) some.2 ∙ limit
-  ]
-
-  -- buffered output was sent
-  pub followed_sent : (now : Numbered R) (old mid new : Writer) (began ended : Steps) (selected : ℕ) (p : Progress) (recent : List Text) → Followed now old mid began ended selected p recent → TakesAll mid new [] → Followed now old new began ended selected p recent
-  followed_sent now old mid new began ended selected p recent s sent = record {
-    lines = s.lines;
-    rows = s.rows;
-    handed = s.handed;
-    tracks = s.tracks;
-    apart = s.apart;
-    held = s.held;
-    wrote = subst (TakesAll old new) (append-nil s.rows) (TakesAll-more old mid new s.rows [] s.wrote sent);
-    chosen = s.chosen;
-    are_chosen = s.are_chosen;
-    counted = s.counted;
-    few = s.few;
-    steps = s.steps;
-  }
-
-  module _ (before now : Numbered R) (old mid : Writer) (began amid : Steps) (selected : ℕ) (p : Progress) (recent : List Text) (s : Followed before old mid began amid selected p recent) where
-    pub writes : WritesLines es options many shown name s.lines old mid selected
-    writes = record { rows = s.rows; of = written_tracked p s.lines s.rows s.tracks; wrote = s.wrote; chosen = s.chosen; are_chosen = s.are_chosen; counted = s.counted }
-
-    pub same_before : p.context.before ≡ context.before
-    same_before = ap (λ (c : Context). c.before) s.tracks.same_context
-
+  module _ {before now : Numbered R} {old mid : Writer} {began amid : Steps} {selected : ℕ} {p : Progress} {recent : List Text} (s : FollowedSoFar f before old mid began amid selected p recent) where
     -- lines that were searched could not be kept
-    pub followed_unkept : now.lines.reader ≡ before.lines.reader → IsOneLineAndFew before.lines.ahead → (all : List Text) (ended : Steps) → HasHanded remaining failures reader now (s.lines ++ all) → SearchesLines es options (length es) all amid ended → (count : ℕ) → before.number ≡ count
+    pub followed_unkept : {all : List Text} {ended : Steps} {count : ℕ} → now.lines.reader ≡ before.lines.reader → IsOneLineAndFew before.lines.ahead → HasHanded remaining failures reader now (s.lines ++ all) → SearchesLines es options (length es) all amid ended → before.number ≡ count
         → StopsSource es options many shown (open_source name (remaining reader)) (OneLeft (remaining now.lines.reader)) count (failures reader) (failures now.lines.reader) old mid began ended
-    followed_unkept same few all ended h spent count is_count =
-        stops_among es options many shown name (remaining reader) (remaining now.lines.reader) old mid began ended s.lines all selected count writes (searched_more_lines es options (length es) s.lines all began amid ended s.steps spent)
+    followed_unkept {all = all} {ended = ended} {count = count} same few h spent is_count =
+        stops_among es options many shown name (remaining reader) (remaining now.lines.reader) old mid began ended s.lines all selected count (writes s) (searched_more_lines es options (length es) s.lines all began amid ended s.steps spent)
         (begins_with remaining failures name reader now.lines (s.lines ++ all) h.hands h.few) (s.handed.counted ∙ is_count)
         (subst (λ r. HasRead (open_source name (remaining reader)) (remaining r) s.lines) (sym same) (has_read remaining failures name reader before.lines s.lines s.handed.hands few)) (failures reader) (failures now.lines.reader) h.hands.none_failed
 
@@ -168,7 +189,7 @@ module _ {R : Type 0} (remaining : R → Option Text) (failures : R → ℕ) (es
       pub numbers_left : 2 ^ 64 - now.number < 2 ^ 64 - before.number
       numbers_left = omega (arith, one_further, next.counted, next.few)
 
-      module _ (count : ℕ) (is_number : count ≡ now.number) where
+      module _ {count : ℕ} (is_number : count ≡ now.number) where
         is_count : count ≡ length s.lines + 1
         is_count = is_number ∙ one_further ∙ ap (λ n. n + 1) (sym s.handed.counted)
 
@@ -176,26 +197,27 @@ module _ {R : Type 0} (remaining : R → Option Text) (failures : R → ℕ) (es
         pub held_few : length recent ≤ count
         held_few = omega (arith, is_count, ap length s.held ∙ length-last_of p.waiting s.lines s.tracks.within, s.tracks.within)
 
-        module _ (found : Bool) (reported : Decides found (Selected es options line)) (ended : Steps) (spent : SearchesLines es options (length es) (s.lines ++ line ∷ []) began ended) where
+        module _ {found : Bool} (reported : Decides found (Selected es options line)) {ended : Steps} (spent : SearchesLines es options (length es) (s.lines ++ line ∷ []) began ended) where
           abbrev added : List Text
           added = rows_at options many name found (next_shown p found) (last_of p.waiting s.lines) (length s.lines + 1) line
 
-          tracked : Follows (after_line p found) (s.lines ++ line ∷ []) (s.rows ++ added)
+          tracked : Tracks es options many name context shown (after_line p found) (s.lines ++ line ∷ []) (s.rows ++ added)
           tracked = tracks_line es options many name context shown p s.lines s.rows line found reported s.tracks
 
           at_line : rows_at options many name found (next_shown p found) recent count line ≡ added
           at_line = ap (λ ls. rows_at options many name found (next_shown p found) ls count line) s.held ∙ ap (λ n. rows_at options many name found (next_shown p found) (last_of p.waiting s.lines) n line) is_count
 
           -- what is shown at it was written, and it is held if it is not shown
-          pub followed_line : (new : Writer) (more : ℕ) (later : List Text) → TakesAll mid new (rows_at options many name found (next_shown p found) recent count line) → more ≡ (if found then selected + 1 else selected)
-              → later ≡ (if (next_shown p found).itself then [] else last_of context.before (recent ++ line ∷ [])) → Followed now old new began ended more (after_line p found) later
-          followed_line new more later took e kept = record {
+          pub followed_line : {new : Writer} {more : ℕ} {later : List Text} → TakesAll mid new (rows_at options many name found (next_shown p found) recent count line) → more ≡ (if found then selected + 1 else selected)
+              → later ≡ (if (next_shown p found).itself then [] else last_of context.before (recent ++ line ∷ [])) → FollowedSoFar f now old new began ended more (after_line p found) later
+          followed_line {new = new} {more = more} {later = later} took e kept = record {
+            asked = s.asked;
             lines = s.lines ++ line ∷ [];
             rows = s.rows ++ added;
             handed = next;
             tracks = tracked;
             apart = waits_not_next p found s.apart;
-            held = held_next p s.lines line recent later s.held s.tracks.few s.tracks.within s.apart found (kept ∙ ap (λ n. if (next_shown p found).itself then [] else last_of n (recent ++ line ∷ [])) (sym same_before));
+            held = held_next p s.lines line recent later s.held s.tracks.few s.tracks.within s.apart found (kept ∙ ap (λ n. if (next_shown p found).itself then [] else last_of n (recent ++ line ∷ [])) (sym (same_before s)));
             wrote = TakesAll-more old mid new s.rows added s.wrote (subst (TakesAll mid new) at_line took);
             chosen = s.chosen ++ picked found (length s.lines + 1, line);
             are_chosen = chosen_line es options many name s.lines line s.chosen found s.are_chosen reported;
@@ -213,7 +235,7 @@ module _ {R : Type 0} (remaining : R → Option Text) (failures : R → ℕ) (es
               → BreaksSource es options many shown (open_source name (remaining reader)) (OneLeft (remaining now.lines.reader)) (failures reader) (failures now.lines.reader) old new began ended
           followed_breaks new front counted =
               breaks_in es options many shown name (remaining reader) (remaining now.lines.reader) old mid new began ended selected (failures reader) (failures now.lines.reader) next.hands.none_failed
-              (s.lines ++ line ∷ []) (s.rows ++ added) (written_tracked (after_line p found) (s.lines ++ line ∷ []) (s.rows ++ added) tracked) (TakesFront-more old mid new s.rows added s.wrote (subst (TakesFront mid new) at_line front)) (counted ∙ ap one_more s.wrote.none_failed)
+              (s.lines ++ line ∷ []) (s.rows ++ added) (written_tracked s.asked tracked) (TakesFront-more old mid new s.rows added s.wrote (subst (TakesFront mid new) at_line front)) (counted ∙ ap one_more s.wrote.none_failed)
               spent (begins_with remaining failures name reader now.lines (s.lines ++ line ∷ []) next.hands next.few)
 
           -- the line could not be kept
@@ -224,7 +246,7 @@ module _ {R : Type 0} (remaining : R → Option Text) (failures : R → ℕ) (es
               stops_after es options many shown name (remaining reader) (remaining now.lines.reader) old new began ended (s.lines ++ line ∷ []) (length chosen) count
               (record {
                 rows = s.rows ++ added;
-                of = written_tracked (after_line p found) (s.lines ++ line ∷ []) (s.rows ++ added) tracked;
+                of = written_tracked s.asked tracked;
                 wrote = TakesAll-more old mid new s.rows added s.wrote (subst (TakesAll mid new) at_line took);
                 chosen = chosen;
                 are_chosen = chosen_line es options many name s.lines line s.chosen found s.are_chosen reported;
@@ -235,13 +257,12 @@ module _ {R : Type 0} (remaining : R → Option Text) (failures : R → ℕ) (es
 
           -- what is shown at it could not be written, or the line could not be kept
           pub followed_stops : IsOneLineAndFew now.lines.ahead → (new : Writer) (waits : LastLines) → waits.lines ≡ recent → (fault : SearchFault) → ShowStops options many name found count line p waits mid new fault
-              → (result : Result FileFound SearchFault) → IsErrAnd result (λ final. final ≡ fault)
-              → SearchGives es options many shown (open_source name (remaining reader)) (OneLeft (remaining now.lines.reader)) (failures reader) (failures now.lines.reader) old new began ended result
+              → (result : Result FileFound SearchFault) → IsErrAnd result (λ final. final ≡ fault) → FollowingGives f now old new began ended result
           followed_stops few_held new waits is fault shows (Ok f) kept = absurd kept
           followed_stops few_held new waits is Write shows (Err final) kept =
-              subst (λ f. SearchGives es options many shown (open_source name (remaining reader)) (OneLeft (remaining now.lines.reader)) (failures reader) (failures now.lines.reader) old new began ended (Err f)) (sym kept)
+              subst (λ e. FollowingGives f now old new began ended (Err e)) (sym kept)
               (followed_breaks new (subst (λ ls. TakesFront mid new (rows_at options many name found (next_shown p found) ls count line)) is shows.wrote) shows.counted)
           followed_stops few_held new waits is (Memory n) shows (Err final) kept =
-              subst (λ f. SearchGives es options many shown (open_source name (remaining reader)) (OneLeft (remaining now.lines.reader)) (failures reader) (failures now.lines.reader) old new began ended (Err f)) (sym kept)
+              subst (λ e. FollowingGives f now old new began ended (Err e)) (sym kept)
               (subst (λ m. StopsSource es options many shown (open_source name (remaining reader)) (OneLeft (remaining now.lines.reader)) m (failures reader) (failures now.lines.reader) old new began ended) shows.0
               (followed_refused few_held new (subst (λ ls. TakesAll mid new (rows_at options many name found (next_shown p found) ls count line)) is shows.1)))

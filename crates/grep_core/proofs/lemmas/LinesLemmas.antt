@@ -331,8 +331,17 @@ module _ {R : Type 0} (remaining : R → Option Text) (failures : R → ℕ) (es
     pub none_early : IsTrue (leaves_early options) → selected ≡ 0
     pub steps : SearchesLines es options (length es) lines began ended
 
-  pub searched_none : WrittenOf es options many shown name (form options) [] [] → (now : Numbered R) (w : Writer) (steps : Steps) → now.lines.reader ≡ reader → now.lines.ahead ≡ [] → now.lines.stage ≡ Open → now.number ≡ 0 → SearchedSoFar now w w steps steps 0
-  searched_none of now w steps same none is_open zero = record {
+-- the same search, further on
+abbrev pub SearchedOn : {R : Type 0} {remaining : R → Option Text} {failures : R → ℕ} {es : List Expression} {options : Options} {many shown : Bool} {name : Text} {reader : R} {before : Numbered R} {old mid : Writer} {began amid : Steps} {selected : ℕ} → SearchedSoFar remaining failures es options many shown name reader before old mid began amid selected → Numbered R → Writer → Steps → ℕ → Type 0
+SearchedOn {remaining = remaining} {failures = failures} {es = es} {options = options} {many = many} {shown = shown} {name = name} {reader = reader} {old = old} {began = began} s now new ended selected = SearchedSoFar remaining failures es options many shown name reader now old new began ended selected
+
+-- the source begins with the lines that were handed out
+begins : {R : Type 0} {remaining : R → Option Text} {failures : R → ℕ} {reader : R} {now : Numbered R} {lines : List Text} (name : Text) → HasHanded remaining failures reader now lines → BeginsWith name (remaining reader) lines
+begins {remaining = remaining} {failures = failures} {reader = reader} {now = now} {lines = lines} name h = begins_with remaining failures name reader now.lines lines h.hands h.few
+
+module _ {R : Type 0} {remaining : R → Option Text} {failures : R → ℕ} {es : List Expression} {options : Options} {many shown : Bool} {name : Text} {reader : R} where
+  pub searched_none : WrittenOf es options many shown name (form options) [] [] → {now : Numbered R} {w : Writer} {steps : Steps} → now.lines.reader ≡ reader → now.lines.ahead ≡ [] → now.lines.stage ≡ Open → now.number ≡ 0 → SearchedSoFar remaining failures es options many shown name reader now w w steps steps 0
+  searched_none of {now} {w} {steps} same none is_open zero = record {
     lines = [];
     handed = subst (λ r. HasHanded remaining failures r now []) same (has_handed_none remaining failures now none is_open zero);
     wrote = writes_none es options many shown name of w;
@@ -341,13 +350,9 @@ module _ {R : Type 0} (remaining : R → Option Text) (failures : R → ℕ) (es
     steps = unsearched_lines es options (length es) [] steps;
   }
 
-  -- the source begins with the lines that were handed out
-  pub begins : (now : Numbered R) (lines : List Text) → HasHanded remaining failures reader now lines → BeginsWith name (remaining reader) lines
-  begins now lines h = begins_with remaining failures name reader now.lines lines h.hands h.few
-
   -- a block was passed where the selected lines are only counted
-  module _ (before now : Numbered R) (block : Text) (count : ℕ) (ahead : AreAhead before block count) (passed : PassesNext remaining failures before now (lines_of (take (length block) before.lines.ahead)))
-      (old new : Writer) (began mid ended : Steps) (selected : ℕ) (s : SearchedSoFar before old new began mid selected) where
+  module _ {before now : Numbered R} {block : Text} {count : ℕ} (ahead : AreAhead before block count) (passed : PassesNext remaining failures before now (lines_of (take (length block) before.lines.ahead)))
+      {old new : Writer} {began mid : Steps} {selected : ℕ} (s : SearchedSoFar remaining failures es options many shown name reader before old new began mid selected) where
     abbrev block_lines : List Text
     block_lines = lines_of block
 
@@ -358,8 +363,8 @@ module _ {R : Type 0} (remaining : R → Option Text) (failures : R → ℕ) (es
     pub counted_further : before.number ≤ now.number
     counted_further = omega (arith, s.handed.counted, handed_on.counted, length-append s.lines block_lines)
 
-    pub searched_counted : form options ≡ counts → (matched own more : ℕ) → HoldsOfMany (Matched es options) block_lines matched → AddsAtMost (length es * length block) mid ended → own ≡ (if options.invert_match then count - matched else matched) → more ≡ min (selected + own) (2 ^ 64 - 1) → SearchedSoFar now old new began ended more
-    searched_counted asked matched own more found spent own_is added =
+    pub searched_counted : form options ≡ counts → (matched : ℕ) {own more : ℕ} {ended : Steps} → HoldsOfMany (Matched es options) block_lines matched → AddsAtMost (length es * length block) mid ended → own ≡ (if options.invert_match then count - matched else matched) → more ≡ min (selected + own) (2 ^ 64 - 1) → SearchedOn s now new ended more
+    searched_counted asked matched {own} {more} {ended} found spent own_is added =
         let chosen = subst (HoldsOfMany (Selected es options) block_lines) (sym own_is) (counted_block es options block count matched ahead.counted found) in
         let within = many_within (Selected es options) block_lines own chosen in
         let sum : selected + own ≡ more = omega (arith, added, within, s.few, s.handed.counted, handed_on.few, length-append s.lines block_lines) in
@@ -372,13 +377,13 @@ module _ {R : Type 0} (remaining : R → Option Text) (failures : R → ℕ) (es
           steps = searched_more_lines es options (length es) s.lines block_lines began mid ended s.steps (block_spent es options block mid ended ahead.whole spent);
         }
 
-  module _ (now : Numbered R) (old mid new : Writer) (began ended : Steps) (selected : ℕ) (s : SearchedSoFar now old mid began ended selected) where
+  module _ {now : Numbered R} {old mid : Writer} {began ended : Steps} {selected : ℕ} (s : SearchedSoFar remaining failures es options many shown name reader now old mid began ended selected) where
     -- buffered output was sent
-    pub searched_sent : TakesAll mid new [] → SearchedSoFar now old new began ended selected
-    searched_sent sent = record { lines = s.lines; handed = s.handed; wrote = writes_sent es options many shown name s.lines old mid new selected s.wrote sent; few = s.few; none_early = s.none_early; steps = s.steps }
+    pub searched_sent : {new : Writer} → TakesAll mid new [] → SearchedOn s now new ended selected
+    searched_sent {new} sent = record { lines = s.lines; handed = s.handed; wrote = writes_sent es options many shown name s.lines old mid new selected s.wrote sent; few = s.few; none_early = s.none_early; steps = s.steps }
 
   -- lines that are held were searched at once
-  module _ (before now : Numbered R) (old mid : Writer) (began amid : Steps) (selected : ℕ) (s : SearchedSoFar before old mid began amid selected) (all : List Text) (next : HasHanded remaining failures reader now (s.lines ++ all)) where
+  module _ {before now : Numbered R} {old mid : Writer} {began amid : Steps} {selected : ℕ} (s : SearchedSoFar remaining failures es options many shown name reader before old mid began amid selected) (all : List Text) (next : HasHanded remaining failures reader now (s.lines ++ all)) where
     first_number : before.number + 1 ≡ length s.lines + 1
     first_number = ap (λ n. n + 1) (sym s.handed.counted)
 
@@ -389,11 +394,11 @@ module _ {R : Type 0} (remaining : R → Option Text) (failures : R → ℕ) (es
     pub numbers_further : before.number ≤ now.number
     numbers_further = omega (arith, numbers_on)
 
-    module _ (new : Writer) (ended : Steps) (plain : IsPlain (form options)) (spent : SearchesLines es options (length es) all amid ended) where
+    module _ {ended : Steps} (plain : IsPlain (form options)) (spent : SearchesLines es options (length es) all amid ended) where
       all_spent : SearchesLines es options (length es) (s.lines ++ all) began ended
       all_spent = searched_more_lines es options (length es) s.lines all began amid ended s.steps spent
 
-      module _ (found more : ℕ) (took : TakesLines es options many name (before.number + 1) all mid new found) (is : more ≡ min (selected + found) (2 ^ 64 - 1)) where
+      module _ {new : Writer} {found more : ℕ} (took : TakesLines es options many name (before.number + 1) all mid new found) (is : more ≡ min (selected + found) (2 ^ 64 - 1)) where
         sum : selected + found ≡ more
         sum = omega (arith, is, s.few, numbers_on, next.counted, next.few, found_within es options many name (before.number + 1) all took.rows found took.are_rows)
 
@@ -401,7 +406,7 @@ module _ {R : Type 0} (remaining : R → Option Text) (failures : R → ℕ) (es
         all_written = subst (WritesLines es options many shown name (s.lines ++ all) old new) sum (writes_lines es options many shown name plain all s.lines old mid new selected found s.wrote (subst (λ n. TakesLines es options many name n all mid new found) first_number took))
 
         -- their rows were written
-        pub searched_among : (IsTrue (leaves_early options) → found ≡ 0) → SearchedSoFar now old new began ended more
+        pub searched_among : (IsTrue (leaves_early options) → found ≡ 0) → SearchedOn s now new ended more
         searched_among none = record {
           lines = s.lines ++ all;
           handed = next;
@@ -416,17 +421,17 @@ module _ {R : Type 0} (remaining : R → Option Text) (failures : R → ℕ) (es
             → SearchesSource es options many shown (open_source name (remaining reader)) (OneLeft (remaining now.lines.reader)) (failures reader) (failures now.lines.reader) old new began ended Left more
         leaves_among some early =
             searches_left es options many shown name (remaining reader) (remaining now.lines.reader) old new began ended (failures reader) (failures now.lines.reader) (s.lines ++ all) more all_written all_spent
-            (begins now (s.lines ++ all) next) next.hands.none_failed early (omega (arith, some, sum))
+            (begins name next) next.hands.none_failed early (omega (arith, some, sum))
 
       -- a write failed in their rows
-      pub breaks_in_lines : BreaksLines es options many name (before.number + 1) all mid new
+      pub breaks_in_lines : {new : Writer} → BreaksLines es options many name (before.number + 1) all mid new
           → BreaksSource es options many shown (open_source name (remaining reader)) (OneLeft (remaining now.lines.reader)) (failures reader) (failures now.lines.reader) old new began ended
-      breaks_in_lines broke =
+      breaks_in_lines {new} broke =
           breaks_lines es options many shown name (remaining reader) (remaining now.lines.reader) old mid new began ended selected (failures reader) (failures now.lines.reader) next.hands.none_failed plain
-          s.lines all s.wrote all_spent (begins now (s.lines ++ all) next) (subst (λ n. BreaksLines es options many name n all mid new) first_number broke)
+          s.lines all s.wrote all_spent (begins name next) (subst (λ n. BreaksLines es options many name n all mid new) first_number broke)
 
   -- one more line was handed out
-  module _ (before now : Numbered R) (old mid : Writer) (began amid : Steps) (selected : ℕ) (s : SearchedSoFar before old mid began amid selected) (next : HasHanded remaining failures reader now (s.lines ++ now.lines.line ∷ [])) where
+  module _ {before now : Numbered R} {old mid : Writer} {began amid : Steps} {selected : ℕ} (s : SearchedSoFar remaining failures es options many shown name reader before old mid began amid selected) (next : HasHanded remaining failures reader now (s.lines ++ now.lines.line ∷ [])) where
     -- its number
     pub is_next : now.number ≡ before.number + 1
     is_next = sym next.counted ∙ length_push s.lines now.lines.line ∙ ap (λ n. n + 1) s.handed.counted
@@ -439,23 +444,23 @@ module _ {R : Type 0} (remaining : R → Option Text) (failures : R → ℕ) (es
     pub fewer_left : 2 ^ 64 - now.number < 2 ^ 64 - before.number
     fewer_left = omega (arith, is_next, next.counted, next.few)
 
-    module _ (new : Writer) (ended : Steps) (line : Text) (is : line ≡ now.lines.line) (count : ℕ) (is_number : count ≡ now.number) where
+    module _ {line : Text} (is : line ≡ now.lines.line) {count : ℕ} (is_number : count ≡ now.number) where
       pub handed : HasHanded remaining failures reader now (s.lines ++ line ∷ [])
       handed = subst (λ l. HasHanded remaining failures reader now (s.lines ++ l ∷ [])) (sym is) next
 
       pub number : count ≡ length s.lines + 1
       number = is_number ∙ is_next ∙ ap (λ n. n + 1) (sym s.handed.counted)
 
-      took : IsPlain (form options) → (found : Bool) → TakesLine es options many name count line mid new found → WritesLines es options many shown name (s.lines ++ line ∷ []) old new (if found then selected + 1 else selected)
-      took plain found t = writes_line es options many shown name plain s.lines line old mid new selected found s.wrote (subst (λ n. TakesLine es options many name n line mid new found) number t)
+      took : {new : Writer} → IsPlain (form options) → (found : Bool) → TakesLine es options many name count line mid new found → WritesLines es options many shown name (s.lines ++ line ∷ []) old new (if found then selected + 1 else selected)
+      took {new} plain found t = writes_line es options many shown name plain s.lines line old mid new selected found s.wrote (subst (λ n. TakesLine es options many name n line mid new found) number t)
 
-      pub spent : SearchesLine es options (length es) line amid ended → SearchesLines es options (length es) (s.lines ++ line ∷ []) began ended
-      spent one = searched_one_line es options (length es) s.lines line began amid ended s.steps one
+      pub spent : {ended : Steps} → SearchesLine es options (length es) line amid ended → SearchesLines es options (length es) (s.lines ++ line ∷ []) began ended
+      spent {ended} one = searched_one_line es options (length es) s.lines line began amid ended s.steps one
 
       -- it was searched, and the search continues
-      pub searched_line : IsPlain (form options) → (found : Bool) (more : ℕ) → TakesLine es options many name count line mid new found → SearchesLine es options (length es) line amid ended
-          → more ≡ (if found then selected + 1 else selected) → (IsTrue (leaves_early options) → found ≡ false) → SearchedSoFar now old new began ended more
-      searched_line plain found more t one e goes_on = record {
+      pub searched_line : IsPlain (form options) → {new : Writer} {ended : Steps} {found : Bool} {more : ℕ} → TakesLine es options many name count line mid new found → SearchesLine es options (length es) line amid ended
+          → more ≡ (if found then selected + 1 else selected) → (IsTrue (leaves_early options) → found ≡ false) → SearchedOn s now new ended more
+      searched_line plain {new} {ended} {found} {more} t one e goes_on = record {
         lines = s.lines ++ line ∷ [];
         handed = handed;
         wrote = subst (WritesLines es options many shown name (s.lines ++ line ∷ []) old new) (sym e) (took plain found t);
@@ -469,22 +474,22 @@ module _ {R : Type 0} (remaining : R → Option Text) (failures : R → ℕ) (es
           at_most false eq = omega (arith, eq, s.few, is_next)
 
       -- it is selected, and the source is left there
-      leaves_here : IsPlain (form options) → (more : ℕ) → TakesLine es options many name count line mid new true → SearchesLine es options (length es) line amid ended → more ≡ selected + 1 → IsTrue (leaves_early options)
+      leaves_here : IsPlain (form options) → {new : Writer} {ended : Steps} {more : ℕ} → TakesLine es options many name count line mid new true → SearchesLine es options (length es) line amid ended → more ≡ selected + 1 → IsTrue (leaves_early options)
           → SearchesSource es options many shown (open_source name (remaining reader)) (OneLeft (remaining now.lines.reader)) (failures reader) (failures now.lines.reader) old new began ended Left more
-      leaves_here plain more t one e early =
+      leaves_here plain {new} {ended} {more} t one e early =
           searches_left es options many shown name (remaining reader) (remaining now.lines.reader) old new began ended (failures reader) (failures now.lines.reader) (s.lines ++ line ∷ []) more (subst (WritesLines es options many shown name (s.lines ++ line ∷ []) old new) (sym e) (took plain true t)) (spent one)
-          (begins now (s.lines ++ line ∷ []) handed) next.hands.none_failed early (omega (arith, e))
+          (begins name handed) next.hands.none_failed early (omega (arith, e))
 
-      pub leaves_at : IsPlain (form options) → (found early : Bool) (more : ℕ) → TakesLine es options many name count line mid new found → SearchesLine es options (length es) line amid ended
+      pub leaves_at : IsPlain (form options) → {new : Writer} {ended : Steps} {found early : Bool} {more : ℕ} → TakesLine es options many name count line mid new found → SearchesLine es options (length es) line amid ended
           → more ≡ (if found then selected + 1 else selected) → early ≡ leaves_early options → (found && early) ≡ true
           → SearchesSource es options many shown (open_source name (remaining reader)) (OneLeft (remaining now.lines.reader)) (failures reader) (failures now.lines.reader) old new began ended Left more
-      leaves_at plain true true more t one e is_early both = leaves_here plain more t one e (sym is_early)
-      leaves_at plain true false more t one e is_early both = absurd (false≢true both)
-      leaves_at plain false early more t one e is_early both = absurd (false≢true both)
+      leaves_at plain {found = true} {early = true} t one e is_early both = leaves_here plain t one e (sym is_early)
+      leaves_at plain {found = true} {early = false} t one e is_early both = absurd (false≢true both)
+      leaves_at plain {found = false} t one e is_early both = absurd (false≢true both)
 
       -- a write failed in its rows
-      pub breaks_at : IsPlain (form options) → BreaksLine es options many name count line mid new → SearchesLine es options (length es) line amid ended
+      pub breaks_at : IsPlain (form options) → {new : Writer} {ended : Steps} → BreaksLine es options many name count line mid new → SearchesLine es options (length es) line amid ended
           → BreaksSource es options many shown (open_source name (remaining reader)) (OneLeft (remaining now.lines.reader)) (failures reader) (failures now.lines.reader) old new began ended
-      breaks_at plain broke one =
+      breaks_at plain {new} {ended} broke one =
           breaks_within es options many shown name (remaining reader) (remaining now.lines.reader) old mid new began ended selected (failures reader) (failures now.lines.reader) next.hands.none_failed plain
-          s.lines line s.wrote (spent one) (begins now (s.lines ++ line ∷ []) handed) (subst (λ n. BreaksLine es options many name n line mid new) number broke)
+          s.lines line s.wrote (spent one) (begins name handed) (subst (λ n. BreaksLine es options many name n line mid new) number broke)

@@ -34,23 +34,23 @@ block_spent es options ready old new block spent =
 
 -- ---- lines that are the next ones
 
-module _ {R : Type 0} (now : Numbered R) (all : List Text) (n : IsNextOf now all) (free : All HasNoNewline all) where
+module _ {R : Type 0} {now : Numbered R} {all : List Text} (n : IsNextOf now all) (free : All HasNoNewline all) where
   -- they are ahead
-  pub are_ahead : (bytes count : ℕ) → bytes ≡ length (terminated all) → count ≡ length all → (block : Text) × (bytes ≡ length block) × AreAhead now block count
-  are_ahead bytes count width counted =
+  pub are_ahead : {bytes count : ℕ} → bytes ≡ length (terminated all) → count ≡ length all → (block : Text) × (bytes ≡ length block) × AreAhead now block count
+  are_ahead width counted =
       (terminated all, width, record { rest = n.rest; ahead = n.ahead; whole = (all, free, refl); counted = counted ∙ ap length (sym (lines_of-terminated all free)); few = subst (λ m. now.number + m ≤ most_lines) (sym counted) n.few })
 
   -- the state once they are passed
   abbrev pub passed_state : Numbered R
   passed_state = record { lines = record { reader = now.lines.reader; ahead = n.rest; line = []; stage = now.lines.stage }; number = now.number + length all }
 
-  module _ (remaining : R → Option Text) (failures : R → ℕ) (reader : R) (handed : List Text) (h : HasHanded remaining failures reader now handed) where
+  module _ {remaining : R → Option Text} {failures : R → ℕ} {reader : R} {handed : List Text} (h : HasHanded remaining failures reader now handed) where
     pub handed_with : HasHanded remaining failures reader passed_state (handed ++ all)
     handed_with = HasHanded-pass remaining failures reader now passed_state handed all h n.open_still free n.ahead refl refl refl n.few
 
     -- they were passed
-    pub handed_passed : (new : Numbered R) (bytes : ℕ) → bytes ≡ length (terminated all) → PassesNext remaining failures now new (lines_of (take bytes now.lines.ahead)) → HasHanded remaining failures reader new (handed ++ all)
-    handed_passed new bytes width next =
+    pub handed_passed : {new : Numbered R} {bytes : ℕ} → bytes ≡ length (terminated all) → PassesNext remaining failures now new (lines_of (take bytes now.lines.ahead)) → HasHanded remaining failures reader new (handed ++ all)
+    handed_passed {new = new} {bytes = bytes} width next =
         let taken : take bytes now.lines.ahead ≡ terminated all = ap (λ k. take k now.lines.ahead) width ∙ ap (take (length (terminated all))) n.ahead ∙ take-append_seam (terminated all) n.rest in
         subst (λ ls. HasHanded remaining failures reader new (handed ++ ls)) (ap lines_of taken ∙ lines_of-terminated all free) (next reader handed h)
 

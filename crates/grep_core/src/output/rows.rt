@@ -49,6 +49,7 @@ fn write_number_part<W: CountedWrite>(
     push_all(out, &[separator])
 }
 
+#[tactic(auto, using(crate::proofs::lemmas::RowLemmas::writing))]
 fn write_head<W: CountedWrite>(
     out: &mut W,
     separator: u8,
@@ -65,6 +66,7 @@ fn write_head<W: CountedWrite>(
 /// Writes the text and a newline.
 ///
 /// Returns `WriteFault` if a write fails. It is not tried again.
+#[tactic(auto, using(crate::proofs::lemmas::RowLemmas::writing))]
 pub fn write_line<W: CountedWrite>(out: &mut W, text: &[u8]) -> Result<(), WriteFault>
     ensures { Writes W.contents W.failures out.old out.new (output_line [] text.now) result }
 {
@@ -97,6 +99,7 @@ pub fn write_separator<W: CountedWrite>(out: &mut W, margin: &[u8]) -> Result<()
     write_line_after(out, margin, b"--")
 }
 
+#[tactic(auto, using(crate::proofs::lemmas::RowLemmas::writing))]
 fn write_headed<W: CountedWrite>(
     out: &mut W,
     separator: u8,

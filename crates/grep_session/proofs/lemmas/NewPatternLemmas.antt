@@ -37,13 +37,7 @@ AreMatchers-append syntax options texts others old more all both a b = subst (Ar
   counted = length-append old more ∙ (λ i. a.counted i + b.counted i) ∙ sym (length-append texts others);
 })
 
-module _ (s : Inside) (list : Text) (old : IsSession s) (first : ℕ) (at : first ≡ length s.matchers.items) (room : first + length (list_of list) ≤ most_patterns) where
-  -- there is room for the patterns of the list
-  pub not_too_many : most_patterns < length (inputs_of s).patterns + length (list_of list) → ⊥
-  not_too_many many = let counted : length s.matchers.items ≡ length (inputs_of s).patterns = old.matchers.counted in
-      let false : ⊥ = omega (arith, counted, at, room, many) in
-      false
-
+module _ (s : Inside) (list : Text) (first : ℕ) where
   -- what is known of all matchers after `more` were added, those of the list
   pub record AreAdded (more all : List Matcher) : Type 0 where
     pub changed : HasChanged (Added first) (map matched_expression all) (map matched_expression s.matchers.items) (map matched_expression more) s.options
@@ -53,7 +47,14 @@ module _ (s : Inside) (list : Text) (old : IsSession s) (first : ℕ) (at : firs
     pub few : length all ≤ most_patterns
     pub within : first ≤ length all
 
-  pub are_added : (texts : List Text) (more all : List Matcher) → texts ≡ list_of list → AreMatchers s.syntax s.options texts more → all ≡ s.matchers.items ++ more → AreAdded more all
+module _ (s : Inside) (list : Text) (old : IsSession s) (first : ℕ) (at : first ≡ length s.matchers.items) (room : first + length (list_of list) ≤ most_patterns) where
+  -- there is room for the patterns of the list
+  pub not_too_many : most_patterns < length (inputs_of s).patterns + length (list_of list) → ⊥
+  not_too_many many = let counted : length s.matchers.items ≡ length (inputs_of s).patterns = old.matchers.counted in
+      let false : ⊥ = omega (arith, counted, at, room, many) in
+      false
+
+  pub are_added : (texts : List Text) (more all : List Matcher) → texts ≡ list_of list → AreMatchers s.syntax s.options texts more → all ≡ s.matchers.items ++ more → AreAdded s list first more all
   are_added texts more all is made both =
       let new = subst (λ ts. AreMatchers s.syntax s.options ts more) is made in
       let sum : length all ≡ length s.matchers.items + length more = ap length both ∙ length-append s.matchers.items more in

@@ -1,4 +1,4 @@
-use Rattle.grep_core.proofs.Prelude.{Decides, ◌≡◌, ◌+◌, ◌≤◌, ◌∙◌, [], ◌∷◌, ◌++◌, true, length, length-append, append_assoc, map, take, refl, sym, ap, subst, arith, if◌then◌else◌, terminated, SearchesLines, Selected, writer, IsOneLineAndFew, LastLines, Waits, Numbered, HasHanded, next_shown, last_of, IsNextOf}
+use Rattle.grep_core.proofs.Prelude.{Decides, ◌≡◌, ◌+◌, ◌≤◌, ◌∙◌, [], ◌∷◌, ◌++◌, true, length, length-append, append_assoc, map, take, refl, sym, ap, subst, arith, if◌then◌else◌, terminated, SearchesLines, Selected, writer, IsOneLineAndFew, LastLines, Text, Waits, Numbered, HasHanded, next_shown, last_of, IsNextOf}
 use Rattle.re_search.proofs.lemmas.KeptMatchers.{unasked, asked_over, same_sought}
 use Rattle.grep_io.proofs.lemmas.WindowLemmas.{none_in_nothing, few_after}
 use Rattle.grep_core.proofs.lemmas.WaitingRows.{if_kept}
@@ -7,7 +7,7 @@ use Rattle.grep_core.proofs.lemmas.PassedLines.{are_ahead, next_first, passed_st
 use Rattle.grep_core.proofs.lemmas.SearchedBlockLemmas.{asked_forward, asked_due, divided_kept, stretch_spent, unselected_before, selected_matched, plain_if, before_within, before_block, before_lines, before_counted, before_free}
 use Rattle.grep_core.proofs.lemmas.Verdicts.{decided_yes}
 use Rattle.grep_core.proofs.lemmas.WrittenLemmas.{TakesAll-written}
-use Rattle.grep_core.proofs.lemmas.AroundSearch.{FollowedSoFar, followed_none, followed_waiting, waiting_limit, followed_unkept, followed_sent, writes, never_early, counts_on, numbers_left, held_few, followed_line, followed_stops}
+use Rattle.grep_core.proofs.lemmas.AroundSearch.{FollowedOn, followed_none, followed_waiting, waiting_limit, followed_unkept, followed_sent, writes, never_early, counts_on, numbers_left, held_few, followed_line, followed_stops}
 use Rattle.grep_core.proofs.lemmas.EndLemmas.{ends_as, stops_as}
 use Rattle.grep_core.proofs.search.around.search_around.Given as given
 use Rattle.grep_core.proofs.search.around.search_around.Goals as goal
@@ -15,9 +15,9 @@ use Rattle.grep_core.proofs.search.around.search_around.Goals.{After-pass-in-lin
 
 -- a line that is held is selected, none of those before it is, and these were searched
 at_selected : (g : given.Over) (c : In-Some g)
-    → (mid : Numbered g.row.R.Denot) × (s : FollowedSoFar g.R.CountedRead.remaining g.R.CountedRead.failures (map g.M.LineMatch.expression c.args.searchers.now.matchers.now) c.args.request.now.options c.args.request.now.many c.args.surroundings.now.progress.shown c.args.request.now.name.now c.args.lines.now.lines.reader c.args.surroundings.now.progress.context
-    mid (writer g.W.CountedWrite.contents g.W.CountedWrite.failures c.args.out.now) (writer g.W.CountedWrite.contents g.W.CountedWrite.failures c.lines.out) c.args.meter.now c.lines.meter c.lines.selected c.wait.new.surroundings.progress c.wait.new.surroundings.recent.lines)
+    → (mid : Numbered g.row.R.Denot) × (s : FollowedOn c.lines.invariant.so_far mid (writer g.W.CountedWrite.contents g.W.CountedWrite.failures c.lines.out) c.lines.meter c.lines.selected c.wait.new.surroundings.progress c.wait.new.surroundings.recent.lines)
     × (c.lines.invariant.so_far.lines ++ c.next_held-stretch.ensures.divided.1 ≡ s.lines ++ c.in-Some.text.now ∷ [])
+    × HasHanded g.R.CountedRead.remaining g.R.CountedRead.failures c.args.lines.now.lines.reader (passed_state c.next_held-stretch.ensures.divided.3 c.next_held-stretch.ensures.divided.2.free) (s.lines ++ c.in-Some.text.now ∷ [])
     × SearchesLines (map g.M.LineMatch.expression c.args.searchers.now.matchers.now) c.args.request.now.options (length (map g.M.LineMatch.expression c.args.searchers.now.matchers.now)) (s.lines ++ c.in-Some.text.now ∷ []) c.args.meter.now c.next_held-stretch.new.meter
     × Decides true (Selected (map g.M.LineMatch.expression c.args.searchers.now.matchers.now) c.args.request.now.options c.in-Some.text.now) × (1 ≤ c.next_held-stretch.result.count)
 at_selected g c =
@@ -38,15 +38,14 @@ at_selected g c =
     let some : 1 ≤ count = omega (arith, d.counted, ap length is, length-append before (line ∷ [])) in
     let reported = decided_yes (selected_matched es w.options c.args.searchers.now.whole c.requires.whole (plain_if w.options.invert_match count forward some) line holds) in
     let first = next_first c.lines.lines before (line ∷ []) (subst (IsNextOf c.lines.lines) is n) in
-    let mid = passed_state c.lines.lines before first (before_free d) in
-    let (s, are) = followed_waiting g.R.CountedRead.remaining g.R.CountedRead.failures es w.options w.many c.args.surroundings.now.progress.shown w.name.now reader c.args.surroundings.now.progress.context c.requires.is_asked c.lines.lines mid _ _ _ c.lines.meter c.lines.meter c.lines.selected c.lines.surroundings.progress c.wait.new.surroundings.progress c.lines.surroundings.recent c.wait.new.surroundings.recent i.limit i.so_far before (handed_with c.lines.lines before first (before_free d) g.R.CountedRead.remaining g.R.CountedRead.failures reader i.so_far.lines i.so_far.handed) unselected waits (unsearched_lines es w.options (length es) before c.lines.meter) in
+    let (s, are) = followed_waiting i.limit i.so_far (handed_with first (before_free d) i.so_far.handed) unselected waits (unsearched_lines es w.options (length es) before c.lines.meter) in
     let same : i.so_far.lines ++ all ≡ s.lines ++ line ∷ [] = ap (λ ls. i.so_far.lines ++ ls) is ∙ sym (append_assoc i.so_far.lines before (line ∷ [])) ∙ ap (λ ls. ls ++ line ∷ []) (sym are) in
     let all_spent = subst (λ ls. SearchesLines es w.options (length es) ls c.args.meter.now c.next_held-stretch.new.meter) same (searched_more_lines es w.options (length es) i.so_far.lines all c.args.meter.now c.lines.meter c.next_held-stretch.new.meter i.so_far.steps spent) in
-    (mid, s, same, all_spent, reported, some)
+    let next = subst (λ ls. HasHanded g.R.CountedRead.remaining g.R.CountedRead.failures reader (passed_state n d.free) ls) same (handed_with n d.free i.so_far.handed) in
+    (passed_state first (before_free d), s, same, next, all_spent, reported, some)
 
 -- the lines that are held were searched, and none of them is selected
-held_searched : (g : given.Over) (c : After-pass-in-lines g) → FollowedSoFar g.R.CountedRead.remaining g.R.CountedRead.failures (map g.M.LineMatch.expression c.args.searchers.now.matchers.now) c.args.request.now.options c.args.request.now.many c.args.surroundings.now.progress.shown c.args.request.now.name.now c.args.lines.now.lines.reader c.args.surroundings.now.progress.context
-    c.pass-in-lines.new.self (writer g.W.CountedWrite.contents g.W.CountedWrite.failures c.args.out.now) (writer g.W.CountedWrite.contents g.W.CountedWrite.failures c.lines.out) c.args.meter.now c.next_held-stretch.new.meter c.lines.selected c.wait.new.surroundings.progress c.wait.new.surroundings.recent.lines
+held_searched : (g : given.Over) (c : After-pass-in-lines g) → FollowedOn c.lines.invariant.so_far c.pass-in-lines.new.self (writer g.W.CountedWrite.contents g.W.CountedWrite.failures c.lines.out) c.next_held-stretch.new.meter c.lines.selected c.wait.new.surroundings.progress c.wait.new.surroundings.recent.lines
 held_searched g c =
     let w = c.args.request.now in
     let es = map g.M.LineMatch.expression c.args.searchers.now.matchers.now in
@@ -62,254 +61,174 @@ held_searched g c =
     let waits = subst (λ ls. Waits ls c.lines.surroundings.progress c.wait.new.surroundings.progress c.lines.surroundings.recent c.wait.new.surroundings.recent) (before_lines d) (if_kept c.wait.result c.is_err.result c.is_err.ensures.value c.if-is_err.false c.wait.ensures) in
     let is : all ≡ before = rw c.in_default.is at d.next in
     let now = c.pass-in-lines.new.self in
-    let passed = subst (λ ls. HasHanded g.R.CountedRead.remaining g.R.CountedRead.failures reader now (i.so_far.lines ++ ls)) is (handed_passed c.lines.lines all n d.free g.R.CountedRead.remaining g.R.CountedRead.failures reader i.so_far.lines i.so_far.handed now c.next_held-stretch.result.bytes d.width c.pass-in-lines.ensures.passed) in
-    (followed_waiting g.R.CountedRead.remaining g.R.CountedRead.failures es w.options w.many c.args.surroundings.now.progress.shown w.name.now reader c.args.surroundings.now.progress.context c.requires.is_asked c.lines.lines now _ _ _ c.lines.meter c.next_held-stretch.new.meter c.lines.selected c.lines.surroundings.progress c.wait.new.surroundings.progress c.lines.surroundings.recent c.wait.new.surroundings.recent i.limit i.so_far before passed unselected waits (subst (λ ls. SearchesLines es w.options (length es) ls c.lines.meter c.next_held-stretch.new.meter) is spent)).0
+    let passed = subst (λ ls. HasHanded g.R.CountedRead.remaining g.R.CountedRead.failures reader now (i.so_far.lines ++ ls)) is (handed_passed n d.free i.so_far.handed d.width c.pass-in-lines.ensures.passed) in
+    (followed_waiting i.limit i.so_far passed unselected waits (subst (λ ls. SearchesLines es w.options (length es) ls c.lines.meter c.next_held-stretch.new.meter) is spent)).0
 
--- and buffered output was sent
-sent : (g : given.Over) (c : In-Ok-None g) → FollowedSoFar g.R.CountedRead.remaining g.R.CountedRead.failures (map g.M.LineMatch.expression c.args.searchers.now.matchers.now) c.args.request.now.options c.args.request.now.many c.args.surroundings.now.progress.shown c.args.request.now.name.now c.args.lines.now.lines.reader c.args.surroundings.now.progress.context
-    c.pass-in-lines.new.self (writer g.W.CountedWrite.contents g.W.CountedWrite.failures c.args.out.now) (writer g.W.CountedWrite.contents g.W.CountedWrite.failures c.lines.out) c.args.meter.now c.next_held-stretch.new.meter c.lines.selected c.wait.new.surroundings.progress c.wait.new.surroundings.recent.lines
-    → FollowedSoFar g.R.CountedRead.remaining g.R.CountedRead.failures (map g.M.LineMatch.expression c.args.searchers.now.matchers.now) c.args.request.now.options c.args.request.now.many c.args.surroundings.now.progress.shown c.args.request.now.name.now c.args.lines.now.lines.reader c.args.surroundings.now.progress.context
-    c.pass-in-lines.new.self (writer g.W.CountedWrite.contents g.W.CountedWrite.failures c.args.out.now) (writer g.W.CountedWrite.contents g.W.CountedWrite.failures c.take_next.new.out) c.args.meter.now c.next_held-stretch.new.meter c.lines.selected c.wait.new.surroundings.progress c.wait.new.surroundings.recent.lines
-sent g c p =
-    let w = c.args.request.now in
-    let es = map g.M.LineMatch.expression c.args.searchers.now.matchers.now in
+-- buffered output was sent, and one more line was handed out
+next_line : (g : given.Over) (c : In-Ok-None g) (line : Text) → line ≡ c.take_next.new.lines.lines.line
+    → (s : FollowedOn c.lines.invariant.so_far c.pass-in-lines.new.self (writer g.W.CountedWrite.contents g.W.CountedWrite.failures c.take_next.new.out) c.next_held-stretch.new.meter c.lines.selected c.wait.new.surroundings.progress c.wait.new.surroundings.recent.lines)
+    × HasHanded g.R.CountedRead.remaining g.R.CountedRead.failures c.args.lines.now.lines.reader c.take_next.new.lines (s.lines ++ line ∷ []) × IsOneLineAndFew c.take_next.new.lines.lines.ahead
+next_line g c line is =
     let reader = c.args.lines.now.lines.reader in
-    let now = c.pass-in-lines.new.self in
+    let p = held_searched g (goal.at.In-Ok-None g c).After-pass-in-lines in
     let taken = rw c.in-Ok-None.field-0-is at c.in-Ok-None.ensures in
-    followed_sent g.R.CountedRead.remaining g.R.CountedRead.failures es w.options w.many c.args.surroundings.now.progress.shown w.name.now reader c.args.surroundings.now.progress.context c.requires.is_asked now _ _ _ _ _ c.lines.selected c.wait.new.surroundings.progress c.wait.new.surroundings.recent.lines p (TakesAll-written g.W.CountedWrite.contents g.W.CountedWrite.failures c.lines.out c.take_next.new.out [] (taken reader p.lines p.handed).2)
+    let s = followed_sent p (TakesAll-written g.W.CountedWrite.contents g.W.CountedWrite.failures c.lines.out c.take_next.new.out [] (taken reader p.lines p.handed).2) in
+    let (next, few, went) = taken reader s.lines s.handed in
+    (s, subst (λ l. HasHanded g.R.CountedRead.remaining g.R.CountedRead.failures reader c.take_next.new.lines (s.lines ++ l ∷ [])) (sym is) next, few)
 
 pub lines-init : goal.lines-init
-lines-init g c =
-    let w = c.args.request.now in
-    let es = map g.M.LineMatch.expression c.args.searchers.now.matchers.now in
-    let reader = c.args.lines.now.lines.reader in
-    record {
-      so_far = rw c.requires.none_done (followed_none g.R.CountedRead.remaining g.R.CountedRead.failures es w.options w.many c.args.surroundings.now.progress.shown w.name.now reader c.args.surroundings.now.progress.context c.requires.is_asked c.args.lines.now _ _ c.args.surroundings.now.recent.lines refl c.requires.none_ahead c.requires.still_open c.requires.none_numbered (ap (λ (h : LastLines). h.lines) c.requires.none_after));
-      limit = ap (λ (h : LastLines). h.limit) c.requires.none_after;
-      few_held = subst IsOneLineAndFew (sym c.requires.none_ahead) none_in_nothing;
-      same = unasked;
-    }
+lines-init g c = record {
+  so_far = rw c.requires.none_done (followed_none c.requires.is_asked refl c.requires.none_ahead c.requires.still_open c.requires.none_numbered (ap (λ (h : LastLines). h.lines) c.requires.none_after));
+  limit = ap (λ (h : LastLines). h.limit) c.requires.none_after;
+  few_held = subst IsOneLineAndFew (sym c.requires.none_ahead) none_in_nothing;
+  same = unasked;
+}
 
 pub wait-requires : goal.wait-requires
 wait-requires g c =
-    let i = c.lines.invariant in
     let held = c.next_held-stretch.ensures in
     let (before, all, d, n) = held.divided in
     record {
       block = before_block d;
       counted = d.many ∙ ap length (sym (before_lines d));
-      few = i.so_far.tracks.few;
+      few = c.lines.invariant.so_far.tracks.few;
       due = asked_due c.lines.surroundings.progress.left c.args.request.now.options.invert_match c.next_held-stretch.result.count held.none c.next_held-stretch.result.before_count (before_counted d);
     }
 
 pub pass-requires : goal.pass-requires
 pass-requires g c =
     let (before, all, d, n) = c.next_held-stretch.ensures.divided in
-    are_ahead c.lines.lines all n d.free c.next_held-stretch.result.bytes c.next_held-stretch.result.count d.width d.counted
+    are_ahead n d.free d.width d.counted
 
 pub returns-then-is_err-clause-given : goal.returns-then-is_err-clause-given
 returns-then-is_err-clause-given g c =
-    let w = c.args.request.now in
     let es = map g.M.LineMatch.expression c.args.searchers.now.matchers.now in
-    let reader = c.args.lines.now.lines.reader in
     let i = c.lines.invariant in
     let held = c.next_held-stretch.ensures in
     let (before, all, d, n) = held.divided in
-    let spent = searched_bytes es w.options (length es) all c.lines.meter c.next_held-stretch.new.meter (stretch_spent es _ _ _ i.same.same_matchers.same_expressions d held.steps) in
-    let now = passed_state c.lines.lines all n d.free in
-    followed_unkept g.R.CountedRead.remaining g.R.CountedRead.failures es w.options w.many c.args.surroundings.now.progress.shown w.name.now reader c.args.surroundings.now.progress.context c.requires.is_asked c.lines.lines now _ _ _ c.lines.meter c.lines.selected c.lines.surroundings.progress c.lines.surroundings.recent.lines i.so_far refl i.few_held all c.next_held-stretch.new.meter (handed_with c.lines.lines all n d.free g.R.CountedRead.remaining g.R.CountedRead.failures reader i.so_far.lines i.so_far.handed) spent c.number.result (sym c.number.ensures)
+    let spent = searched_bytes es c.args.request.now.options (length es) all c.lines.meter c.next_held-stretch.new.meter (stretch_spent es _ _ _ i.same.same_matchers.same_expressions d held.steps) in
+    followed_unkept i.so_far refl i.few_held (handed_with n d.free i.so_far.handed) spent (sym c.number.ensures)
 
 pub show_line-requires : goal.show_line-requires
 show_line-requires g c =
-    let w = c.args.request.now in
-    let es = map g.M.LineMatch.expression c.args.searchers.now.matchers.now in
-    let reader = c.args.lines.now.lines.reader in
-    let i = c.lines.invariant in
-    let held = c.next_held-stretch.ensures in
-    let (before, all, d, n) = held.divided in
-    let count = c.next_held-stretch.result.count in
-    let line = c.in-Some.text.now in
-    let (mid, s, same, all_spent, reported, some) = at_selected g (goal.at.show_line-requires g c).In-Some in
-    let now = passed_state c.lines.lines all n d.free in
-    let next = subst (λ ls. HasHanded g.R.CountedRead.remaining g.R.CountedRead.failures reader now ls) same (handed_with c.lines.lines all n d.free g.R.CountedRead.remaining g.R.CountedRead.failures reader i.so_far.lines i.so_far.handed) in
-    let is_number : c.number-in-Some.result + count ≡ now.number = omega (arith, c.number-in-Some.ensures, d.counted) in
-    record { few = s.tracks.few; held = held_few g.R.CountedRead.remaining g.R.CountedRead.failures es w.options w.many c.args.surroundings.now.progress.shown w.name.now reader c.args.surroundings.now.progress.context c.requires.is_asked mid now _ _ _ c.lines.meter c.lines.selected c.wait.new.surroundings.progress c.wait.new.surroundings.recent.lines s line next (c.number-in-Some.result + count) is_number }
+    let (before, all, d, n) = c.next_held-stretch.ensures.divided in
+    let (mid, s, same, next, all_spent, reported, some) = at_selected g (goal.at.show_line-requires g c).In-Some in
+    let is_number : c.number-in-Some.result + c.next_held-stretch.result.count ≡ (passed_state n d.free).number = omega (arith, c.number-in-Some.ensures, d.counted) in
+    record { few = s.tracks.few; held = held_few s c.in-Some.text.now next is_number }
 
 pub returns-in_err-show_line-clause-given : goal.returns-in_err-show_line-clause-given
 returns-in_err-show_line-clause-given g c =
-    let w = c.args.request.now in
-    let es = map g.M.LineMatch.expression c.args.searchers.now.matchers.now in
-    let reader = c.args.lines.now.lines.reader in
-    let i = c.lines.invariant in
-    let held = c.next_held-stretch.ensures in
-    let (before, all, d, n) = held.divided in
-    let count = c.next_held-stretch.result.count in
-    let line = c.in-Some.text.now in
-    let (mid, s, same, all_spent, reported, some) = at_selected g (goal.at.returns-in_err-show_line-clause-given g c).In-Some in
-    let now = passed_state c.lines.lines all n d.free in
-    let next = subst (λ ls. HasHanded g.R.CountedRead.remaining g.R.CountedRead.failures reader now ls) same (handed_with c.lines.lines all n d.free g.R.CountedRead.remaining g.R.CountedRead.failures reader i.so_far.lines i.so_far.handed) in
-    let is_number : c.number-in-Some.result + count ≡ now.number = omega (arith, c.number-in-Some.ensures, d.counted) in
-    followed_stops g.R.CountedRead.remaining g.R.CountedRead.failures es w.options w.many c.args.surroundings.now.progress.shown w.name.now reader c.args.surroundings.now.progress.context c.requires.is_asked mid now _ _ _ c.lines.meter c.lines.selected c.wait.new.surroundings.progress c.wait.new.surroundings.recent.lines s line next (c.number-in-Some.result + count) is_number true reported c.next_held-stretch.new.meter all_spent
-    (few_after (terminated all) n.rest (subst IsOneLineAndFew n.ahead i.few_held)) _ c.wait.new.surroundings.recent refl c.in_err-show_line.field-0.0 c.in_err-show_line.ensures c.from_residual.result c.from_residual.ensures.1
+    let (before, all, d, n) = c.next_held-stretch.ensures.divided in
+    let (mid, s, same, next, all_spent, reported, some) = at_selected g (goal.at.returns-in_err-show_line-clause-given g c).In-Some in
+    let is_number : c.number-in-Some.result + c.next_held-stretch.result.count ≡ (passed_state n d.free).number = omega (arith, c.number-in-Some.ensures, d.counted) in
+    followed_stops s c.in-Some.text.now next is_number reported all_spent
+    (few_after (terminated all) n.rest (subst IsOneLineAndFew n.ahead c.lines.invariant.few_held)) _ c.wait.new.surroundings.recent refl c.in_err-show_line.field-0.0 c.in_err-show_line.ensures c.from_residual.result c.from_residual.ensures.1
 
 pub lines-preserved-in-Some : goal.lines-preserved-in-Some
 lines-preserved-in-Some g c =
-    let w = c.args.request.now in
-    let es = map g.M.LineMatch.expression c.args.searchers.now.matchers.now in
     let reader = c.args.lines.now.lines.reader in
     let i = c.lines.invariant in
-    let held = c.next_held-stretch.ensures in
-    let (before, all, d, n) = held.divided in
-    let count = c.next_held-stretch.result.count in
+    let (before, all, d, n) = c.next_held-stretch.ensures.divided in
     let waits = subst (λ ls. Waits ls c.lines.surroundings.progress c.wait.new.surroundings.progress c.lines.surroundings.recent c.wait.new.surroundings.recent) (before_lines d) (if_kept c.wait.result c.is_err.result c.is_err.ensures.value c.if-is_err.false c.wait.ensures) in
     let line = c.in-Some.text.now in
-    let (mid, s, same, all_spent, reported, some) = at_selected g (goal.at.lines-preserved-in-Some g c).In-Some in
+    let (mid, s, same, next, all_spent, reported, some) = at_selected g (goal.at.lines-preserved-in-Some g c).In-Some in
     let now = c.pass.new.self in
-    let next = subst (λ ls. HasHanded g.R.CountedRead.remaining g.R.CountedRead.failures reader now ls) same (handed_passed c.lines.lines all n d.free g.R.CountedRead.remaining g.R.CountedRead.failures reader i.so_far.lines i.so_far.handed now c.next_held-stretch.result.bytes d.width c.pass.ensures.passed) in
-    let is_number : c.number-in-Some.result + count ≡ now.number = omega (arith, c.number-in-Some.ensures, d.counted, next.counted, i.so_far.handed.counted, ap length same, length-append i.so_far.lines all) in
+    let next = subst (λ ls. HasHanded g.R.CountedRead.remaining g.R.CountedRead.failures reader now ls) same (handed_passed n d.free i.so_far.handed d.width c.pass.ensures.passed) in
+    let is_number : c.number-in-Some.result + c.next_held-stretch.result.count ≡ now.number = omega (arith, c.number-in-Some.ensures, d.counted, next.counted, i.so_far.handed.counted, ap length same, length-append i.so_far.lines all) in
     let shown = c.in_ok-show_line.ensures in
+    let limit = waiting_limit waits i.limit in
     record {
-      so_far = rw shown.goes_on (followed_line g.R.CountedRead.remaining g.R.CountedRead.failures es w.options w.many c.args.surroundings.now.progress.shown w.name.now reader c.args.surroundings.now.progress.context c.requires.is_asked mid now _ _ _ c.lines.meter c.lines.selected c.wait.new.surroundings.progress c.wait.new.surroundings.recent.lines s line next (c.number-in-Some.result + count) is_number true reported c.next_held-stretch.new.meter all_spent _ c.count_found-selected.result c.show_line.new.surroundings.recent.lines shown.wrote c.count_found-selected.ensures (shown.holds ∙ ap (λ n. if (next_shown c.wait.new.surroundings.progress true).itself then [] else last_of n (c.wait.new.surroundings.recent.lines ++ line ∷ [])) (waiting_limit g.R.CountedRead.remaining g.R.CountedRead.failures es w.options w.many c.args.surroundings.now.progress.shown w.name.now reader c.args.surroundings.now.progress.context c.requires.is_asked before c.lines.surroundings.progress c.wait.new.surroundings.progress c.lines.surroundings.recent c.wait.new.surroundings.recent waits i.limit)));
-      limit = shown.same_limit ∙ waiting_limit g.R.CountedRead.remaining g.R.CountedRead.failures es w.options w.many c.args.surroundings.now.progress.shown w.name.now reader c.args.surroundings.now.progress.context c.requires.is_asked before c.lines.surroundings.progress c.wait.new.surroundings.progress c.lines.surroundings.recent c.wait.new.surroundings.recent waits i.limit;
+      so_far = rw shown.goes_on (followed_line s line next is_number reported all_spent shown.wrote c.count_found-selected.ensures (shown.holds ∙ ap (λ n. if (next_shown c.wait.new.surroundings.progress true).itself then [] else last_of n (c.wait.new.surroundings.recent.lines ++ line ∷ [])) limit));
+      limit = shown.same_limit ∙ limit;
       few_held = few_after (take c.next_held-stretch.result.bytes c.lines.lines.lines.ahead) now.lines.ahead (subst IsOneLineAndFew c.pass.ensures.ahead i.few_held);
-      same = asked_over held.same i.same;
+      same = asked_over c.next_held-stretch.ensures.same i.same;
     }
 
 pub lines-smaller-in-Some : goal.lines-smaller-in-Some
 lines-smaller-in-Some g c =
     let reader = c.args.lines.now.lines.reader in
     let i = c.lines.invariant in
-    let held = c.next_held-stretch.ensures in
-    let (before, all, d, n) = held.divided in
-    let count = c.next_held-stretch.result.count in
-    let (mid, s, same, all_spent, reported, some) = at_selected g (goal.at.lines-smaller-in-Some g c).In-Some in
+    let (before, all, d, n) = c.next_held-stretch.ensures.divided in
+    let (mid, s, same, next, all_spent, reported, some) = at_selected g (goal.at.lines-smaller-in-Some g c).In-Some in
     let now = c.pass.new.self in
-    let next = subst (λ ls. HasHanded g.R.CountedRead.remaining g.R.CountedRead.failures reader now ls) same (handed_passed c.lines.lines all n d.free g.R.CountedRead.remaining g.R.CountedRead.failures reader i.so_far.lines i.so_far.handed now c.next_held-stretch.result.bytes d.width c.pass.ensures.passed) in
-    let is_number : c.number-in-Some.result + count ≡ now.number = omega (arith, c.number-in-Some.ensures, d.counted, next.counted, i.so_far.handed.counted, ap length same, length-append i.so_far.lines all) in
+    let next = subst (λ ls. HasHanded g.R.CountedRead.remaining g.R.CountedRead.failures reader now ls) same (handed_passed n d.free i.so_far.handed d.width c.pass.ensures.passed) in
+    let is_number : c.number-in-Some.result + c.next_held-stretch.result.count ≡ now.number = omega (arith, c.number-in-Some.ensures, d.counted, next.counted, i.so_far.handed.counted, ap length same, length-append i.so_far.lines all) in
     omega (arith, is_number, some, next.few, next.counted, c.number-in-Some.ensures)
 
 pub count_found-selected-requires : goal.count_found-selected-requires
 count_found-selected-requires g c =
-    let w = c.args.request.now in
-    let es = map g.M.LineMatch.expression c.args.searchers.now.matchers.now in
-    let reader = c.args.lines.now.lines.reader in
-    let i = c.lines.invariant in
-    let held = c.next_held-stretch.ensures in
-    let (before, all, d, n) = held.divided in
-    let line = c.in-Some.text.now in
-    let (mid, s, same, all_spent, reported, some) = at_selected g (goal.at.count_found-selected-requires g c).In-Some in
-    let now = passed_state c.lines.lines all n d.free in
-    let next = subst (λ ls. HasHanded g.R.CountedRead.remaining g.R.CountedRead.failures reader now ls) same (handed_with c.lines.lines all n d.free g.R.CountedRead.remaining g.R.CountedRead.failures reader i.so_far.lines i.so_far.handed) in
-    counts_on g.R.CountedRead.remaining g.R.CountedRead.failures es w.options w.many c.args.surroundings.now.progress.shown w.name.now reader c.args.surroundings.now.progress.context c.requires.is_asked mid now _ _ _ c.lines.meter c.lines.selected c.wait.new.surroundings.progress c.wait.new.surroundings.recent.lines s line next
+    let (mid, s, same, next, all_spent, reported, some) = at_selected g (goal.at.count_found-selected-requires g c).In-Some in
+    counts_on s c.in-Some.text.now next
 
 pub pass-requires-in-lines : goal.pass-requires-in-lines
 pass-requires-in-lines g c =
     let (before, all, d, n) = c.next_held-stretch.ensures.divided in
-    are_ahead c.lines.lines all n d.free c.next_held-stretch.result.bytes c.next_held-stretch.result.count d.width d.counted
+    are_ahead n d.free d.width d.counted
 
 pub show_line-requires-in-lines-clause-held : goal.show_line-requires-in-lines-clause-held
 show_line-requires-in-lines-clause-held g c =
-    let w = c.args.request.now in
-    let es = map g.M.LineMatch.expression c.args.searchers.now.matchers.now in
-    let reader = c.args.lines.now.lines.reader in
-    let now = c.pass-in-lines.new.self in
-    let taken = rw c.in-Ok-None.field-0-is at c.in-Ok-None.ensures in
-    let s = sent g (goal.at.show_line-requires-in-lines-clause-held g c).In-Ok-None (held_searched g (goal.at.show_line-requires-in-lines-clause-held g c).After-pass-in-lines) in
-    let line = c.line-text.result.now in
-    let next = subst (λ l. HasHanded g.R.CountedRead.remaining g.R.CountedRead.failures reader c.take_next.new.lines (s.lines ++ l ∷ [])) (sym c.line-text.ensures) (taken reader s.lines s.handed).0 in
-    held_few g.R.CountedRead.remaining g.R.CountedRead.failures es w.options w.many c.args.surroundings.now.progress.shown w.name.now reader c.args.surroundings.now.progress.context c.requires.is_asked now c.take_next.new.lines _ _ _ _ c.lines.selected c.wait.new.surroundings.progress c.wait.new.surroundings.recent.lines s line next c.number-number.result c.number-number.ensures
+    let (s, next, few) = next_line g (goal.at.show_line-requires-in-lines-clause-held g c).In-Ok-None c.line-text.result.now c.line-text.ensures in
+    held_few s c.line-text.result.now next c.number-number.ensures
 
 pub returns-in_err-show_line-2-clause-given : goal.returns-in_err-show_line-2-clause-given
 returns-in_err-show_line-2-clause-given g c =
-    let w = c.args.request.now in
+    let (s, next, few) = next_line g (goal.at.returns-in_err-show_line-2-clause-given g c).In-Ok-None c.line-text.result.now c.line-text.ensures in
+    let line = c.line-text.result.now in
     let es = map g.M.LineMatch.expression c.args.searchers.now.matchers.now in
-    let reader = c.args.lines.now.lines.reader in
     let i = c.lines.invariant in
     let held = c.next_held-stretch.ensures in
-    let now = c.pass-in-lines.new.self in
-    let taken = rw c.in-Ok-None.field-0-is at c.in-Ok-None.ensures in
-    let s = sent g (goal.at.returns-in_err-show_line-2-clause-given g c).In-Ok-None (held_searched g (goal.at.returns-in_err-show_line-2-clause-given g c).After-pass-in-lines) in
-    let line = c.line-text.result.now in
-    let next = subst (λ l. HasHanded g.R.CountedRead.remaining g.R.CountedRead.failures reader c.take_next.new.lines (s.lines ++ l ∷ [])) (sym c.line-text.ensures) (taken reader s.lines s.handed).0 in
     let same = (asked_over held.same i.same).same_matchers.same_expressions in
     let reported = rw same at c.is_selected-found.ensures.reported in
-    let once = searched_once es w.options line (length es) _ _ (rw same at c.is_selected-found.ensures.steps) in
-    let all_spent = searched_one_line es w.options (length es) s.lines line _ _ _ s.steps once in
-    followed_stops g.R.CountedRead.remaining g.R.CountedRead.failures es w.options w.many c.args.surroundings.now.progress.shown w.name.now reader c.args.surroundings.now.progress.context c.requires.is_asked now c.take_next.new.lines _ _ _ _ c.lines.selected c.wait.new.surroundings.progress c.wait.new.surroundings.recent.lines s line next c.number-number.result c.number-number.ensures c.is_selected-found.result reported c.is_selected-found.new.meter all_spent
-    (taken reader s.lines s.handed).1 _ c.wait.new.surroundings.recent refl c.in_err-show_line-2.field-0.0 c.in_err-show_line-2.ensures c.from_residual-in_err-show_line-2.result c.from_residual-in_err-show_line-2.ensures.1
+    let once = searched_once es c.args.request.now.options line (length es) _ _ (rw same at c.is_selected-found.ensures.steps) in
+    let all_spent = searched_one_line es c.args.request.now.options (length es) s.lines line _ _ _ s.steps once in
+    followed_stops s line next c.number-number.ensures reported all_spent
+    few _ c.wait.new.surroundings.recent refl c.in_err-show_line-2.field-0.0 c.in_err-show_line-2.ensures c.from_residual-in_err-show_line-2.result c.from_residual-in_err-show_line-2.ensures.1
 
 pub count_found-selected-requires-in-lines : goal.count_found-selected-requires-in-lines
 count_found-selected-requires-in-lines g c =
-    let w = c.args.request.now in
-    let es = map g.M.LineMatch.expression c.args.searchers.now.matchers.now in
-    let reader = c.args.lines.now.lines.reader in
-    let now = c.pass-in-lines.new.self in
-    let taken = rw c.in-Ok-None.field-0-is at c.in-Ok-None.ensures in
-    let s = sent g (goal.at.count_found-selected-requires-in-lines g c).In-Ok-None (held_searched g (goal.at.count_found-selected-requires-in-lines g c).After-pass-in-lines) in
-    let line = c.line-text.result.now in
-    let next = subst (λ l. HasHanded g.R.CountedRead.remaining g.R.CountedRead.failures reader c.take_next.new.lines (s.lines ++ l ∷ [])) (sym c.line-text.ensures) (taken reader s.lines s.handed).0 in
-    counts_on g.R.CountedRead.remaining g.R.CountedRead.failures es w.options w.many c.args.surroundings.now.progress.shown w.name.now reader c.args.surroundings.now.progress.context c.requires.is_asked now c.take_next.new.lines _ _ _ _ c.lines.selected c.wait.new.surroundings.progress c.wait.new.surroundings.recent.lines s line next
+    let (s, next, few) = next_line g (goal.at.count_found-selected-requires-in-lines g c).In-Ok-None c.line-text.result.now c.line-text.ensures in
+    counts_on s c.line-text.result.now next
 
 pub lines-smaller : goal.lines-smaller
 lines-smaller g c =
-    let w = c.args.request.now in
-    let es = map g.M.LineMatch.expression c.args.searchers.now.matchers.now in
-    let reader = c.args.lines.now.lines.reader in
+    let (s, next, few) = next_line g (goal.at.lines-smaller g c).In-Ok-None c.line-text.result.now c.line-text.ensures in
     let i = c.lines.invariant in
-    let held = c.next_held-stretch.ensures in
-    let (before, all, d, n) = held.divided in
-    let is : all ≡ before = rw c.in_default.is at d.next in
-    let now = c.pass-in-lines.new.self in
-    let passed = subst (λ ls. HasHanded g.R.CountedRead.remaining g.R.CountedRead.failures reader now (i.so_far.lines ++ ls)) is (handed_passed c.lines.lines all n d.free g.R.CountedRead.remaining g.R.CountedRead.failures reader i.so_far.lines i.so_far.handed now c.next_held-stretch.result.bytes d.width c.pass-in-lines.ensures.passed) in
-    let taken = rw c.in-Ok-None.field-0-is at c.in-Ok-None.ensures in
-    let s = sent g (goal.at.lines-smaller g c).In-Ok-None (held_searched g (goal.at.lines-smaller g c).After-pass-in-lines) in
-    let line = c.line-text.result.now in
-    let next = subst (λ l. HasHanded g.R.CountedRead.remaining g.R.CountedRead.failures reader c.take_next.new.lines (s.lines ++ l ∷ [])) (sym c.line-text.ensures) (taken reader s.lines s.handed).0 in
-    omega (arith, numbers_left g.R.CountedRead.remaining g.R.CountedRead.failures es w.options w.many c.args.surroundings.now.progress.shown w.name.now reader c.args.surroundings.now.progress.context c.requires.is_asked now c.take_next.new.lines _ _ _ _ c.lines.selected c.wait.new.surroundings.progress c.wait.new.surroundings.recent.lines s line next, passed.counted, i.so_far.handed.counted, length-append i.so_far.lines before)
+    let (before, all, d, n) = c.next_held-stretch.ensures.divided in
+    let passed = handed_passed n d.free i.so_far.handed d.width c.pass-in-lines.ensures.passed in
+    omega (arith, numbers_left s c.line-text.result.now next, passed.counted, i.so_far.handed.counted, length-append i.so_far.lines all)
 
 pub lines-preserved : goal.lines-preserved
 lines-preserved g c =
-    let w = c.args.request.now in
+    let (s, next, few) = next_line g (goal.at.lines-preserved g c).In-Ok-None c.line-text.result.now c.line-text.ensures in
+    let line = c.line-text.result.now in
     let es = map g.M.LineMatch.expression c.args.searchers.now.matchers.now in
-    let reader = c.args.lines.now.lines.reader in
     let i = c.lines.invariant in
     let held = c.next_held-stretch.ensures in
-    let (before, all, d, n) = held.divided in
-    let waits = subst (λ ls. Waits ls c.lines.surroundings.progress c.wait.new.surroundings.progress c.lines.surroundings.recent c.wait.new.surroundings.recent) (before_lines d) (if_kept c.wait.result c.is_err.result c.is_err.ensures.value c.if-is_err.false c.wait.ensures) in
-    let now = c.pass-in-lines.new.self in
-    let taken = rw c.in-Ok-None.field-0-is at c.in-Ok-None.ensures in
-    let s = sent g (goal.at.lines-preserved g c).In-Ok-None (held_searched g (goal.at.lines-preserved g c).After-pass-in-lines) in
-    let line = c.line-text.result.now in
-    let next = subst (λ l. HasHanded g.R.CountedRead.remaining g.R.CountedRead.failures reader c.take_next.new.lines (s.lines ++ l ∷ [])) (sym c.line-text.ensures) (taken reader s.lines s.handed).0 in
     let same = (asked_over held.same i.same).same_matchers.same_expressions in
     let reported = rw same at c.is_selected-found.ensures.reported in
-    let once = searched_once es w.options line (length es) _ _ (rw same at c.is_selected-found.ensures.steps) in
-    let all_spent = searched_one_line es w.options (length es) s.lines line _ _ _ s.steps once in
+    let once = searched_once es c.args.request.now.options line (length es) _ _ (rw same at c.is_selected-found.ensures.steps) in
+    let all_spent = searched_one_line es c.args.request.now.options (length es) s.lines line _ _ _ s.steps once in
     let shown = c.in_ok-show_line-2.ensures in
-    let limit = waiting_limit g.R.CountedRead.remaining g.R.CountedRead.failures es w.options w.many c.args.surroundings.now.progress.shown w.name.now reader c.args.surroundings.now.progress.context c.requires.is_asked before c.lines.surroundings.progress c.wait.new.surroundings.progress c.lines.surroundings.recent c.wait.new.surroundings.recent waits i.limit in
+    let (before, all, d, n) = held.divided in
+    let waits = subst (λ ls. Waits ls c.lines.surroundings.progress c.wait.new.surroundings.progress c.lines.surroundings.recent c.wait.new.surroundings.recent) (before_lines d) (if_kept c.wait.result c.is_err.result c.is_err.ensures.value c.if-is_err.false c.wait.ensures) in
+    let limit = waiting_limit waits i.limit in
     record {
-      so_far = rw shown.goes_on (followed_line g.R.CountedRead.remaining g.R.CountedRead.failures es w.options w.many c.args.surroundings.now.progress.shown w.name.now reader c.args.surroundings.now.progress.context c.requires.is_asked now c.take_next.new.lines _ _ _ _ c.lines.selected c.wait.new.surroundings.progress c.wait.new.surroundings.recent.lines s line next c.number-number.result c.number-number.ensures c.is_selected-found.result reported c.is_selected-found.new.meter all_spent _ c.count_found-selected-in-lines.result c.show_line-in-lines.new.surroundings.recent.lines shown.wrote c.count_found-selected-in-lines.ensures (shown.holds ∙ ap (λ n. if (next_shown c.wait.new.surroundings.progress c.is_selected-found.result).itself then [] else last_of n (c.wait.new.surroundings.recent.lines ++ line ∷ [])) limit));
+      so_far = rw shown.goes_on (followed_line s line next c.number-number.ensures reported all_spent shown.wrote c.count_found-selected-in-lines.ensures (shown.holds ∙ ap (λ n. if (next_shown c.wait.new.surroundings.progress c.is_selected-found.result).itself then [] else last_of n (c.wait.new.surroundings.recent.lines ++ line ∷ [])) limit));
       limit = shown.same_limit ∙ limit;
-      few_held = (taken reader s.lines s.handed).1;
+      few_held = few;
       same = asked_over c.is_selected-found.ensures.same (asked_over held.same i.same);
     }
 
 pub returns-in-Ok-Some-clause-given : goal.returns-in-Ok-Some-clause-given
 returns-in-Ok-Some-clause-given g c =
     let w = c.args.request.now in
-    let es = map g.M.LineMatch.expression c.args.searchers.now.matchers.now in
     let reader = c.args.lines.now.lines.reader in
-    let now = c.pass-in-lines.new.self in
     let p = held_searched g (goal.at.returns-in-Ok-Some-clause-given g c).After-pass-in-lines in
-    let ws = writes g.R.CountedRead.remaining g.R.CountedRead.failures es w.options w.many c.args.surroundings.now.progress.shown w.name.now reader c.args.surroundings.now.progress.context c.requires.is_asked now now _ _ _ _ c.lines.selected c.wait.new.surroundings.progress c.wait.new.surroundings.recent.lines p in
-    ends_as g.R.CountedRead.remaining g.R.CountedRead.failures g.W.CountedWrite.contents g.W.CountedWrite.failures es w.options w.many c.args.surroundings.now.progress.shown w.name.now reader c.take_next.new.lines _ c.take_next.new.out _ _ c.lines.out p.lines c.lines.selected ws (λ early. never_early g.R.CountedRead.remaining g.R.CountedRead.failures es w.options w.many c.args.surroundings.now.progress.shown w.name.now reader c.args.surroundings.now.progress.context c.requires.is_asked early) p.steps c.in-Ok-Some.end ((rw c.in-Ok-Some.field-0-is at c.in-Ok-Some.ensures) reader p.lines p.handed)
+    ends_as g.R.CountedRead.remaining g.R.CountedRead.failures g.W.CountedWrite.contents g.W.CountedWrite.failures (map g.M.LineMatch.expression c.args.searchers.now.matchers.now) w.options w.many c.args.surroundings.now.progress.shown w.name.now reader c.take_next.new.lines _ c.take_next.new.out _ _ c.lines.out p.lines c.lines.selected (writes p) (λ early. never_early p early) p.steps c.in-Ok-Some.end ((rw c.in-Ok-Some.field-0-is at c.in-Ok-Some.ensures) reader p.lines p.handed)
 
 pub returns-in-Err-clause-given : goal.returns-in-Err-clause-given
 returns-in-Err-clause-given g c =
     let w = c.args.request.now in
-    let es = map g.M.LineMatch.expression c.args.searchers.now.matchers.now in
     let reader = c.args.lines.now.lines.reader in
-    let now = c.pass-in-lines.new.self in
     let p = held_searched g (goal.at.returns-in-Err-clause-given g c).After-pass-in-lines in
-    let ws = writes g.R.CountedRead.remaining g.R.CountedRead.failures es w.options w.many c.args.surroundings.now.progress.shown w.name.now reader c.args.surroundings.now.progress.context c.requires.is_asked now now _ _ _ _ c.lines.selected c.wait.new.surroundings.progress c.wait.new.surroundings.recent.lines p in
-    stops_as g.R.CountedRead.remaining g.R.CountedRead.failures g.W.CountedWrite.contents g.W.CountedWrite.failures es w.options w.many c.args.surroundings.now.progress.shown w.name.now reader c.take_next.new.lines _ c.take_next.new.out _ _ c.lines.out p.lines c.lines.selected ws (λ early. never_early g.R.CountedRead.remaining g.R.CountedRead.failures es w.options w.many c.args.surroundings.now.progress.shown w.name.now reader c.args.surroundings.now.progress.context c.requires.is_asked early) p.steps c.in-Err.fault (c.in-Err.ensures reader p.lines p.handed)
+    stops_as g.R.CountedRead.remaining g.R.CountedRead.failures g.W.CountedWrite.contents g.W.CountedWrite.failures (map g.M.LineMatch.expression c.args.searchers.now.matchers.now) w.options w.many c.args.surroundings.now.progress.shown w.name.now reader c.take_next.new.lines _ c.take_next.new.out _ _ c.lines.out p.lines c.lines.selected (writes p) (λ early. never_early p early) p.steps c.in-Err.fault (c.in-Err.ensures reader p.lines p.handed)

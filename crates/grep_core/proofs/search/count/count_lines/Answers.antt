@@ -3,75 +3,61 @@ use Rattle.re_search.proofs.lemmas.KeptMatchers.{unasked, asked_over}
 use Rattle.grep_core.proofs.lemmas.WrittenLemmas.{TakesAll-written}
 use Rattle.grep_core.proofs.lemmas.FileOutput.{rows_none}
 use Rattle.grep_core.proofs.lemmas.CountedLines.{many_within}
-use Rattle.grep_core.proofs.lemmas.LinesLemmas.{SearchedSoFar, counts_plain, counts_late, written_plain, searched_none, searched_counted, counted_further, searched_sent, may_count, fewer_left, searched_line, breaks_at}
+use Rattle.grep_core.proofs.lemmas.LinesLemmas.{SearchedOn, counts_plain, counts_late, written_plain, searched_none, searched_counted, counted_further, searched_sent, may_count, fewer_left, searched_line, breaks_at}
 use Rattle.grep_core.proofs.lemmas.EndLemmas.{breaks_with, ends_as, stops_as}
 use Rattle.grep_core.proofs.search.count.count_lines.Given as given
 use Rattle.grep_core.proofs.search.count.count_lines.Goals as goal
 use Rattle.grep_core.proofs.search.count.count_lines.Goals.{After-saturating_add-selected, In-Ok-None}
 
 -- the lines that are held and those before them were searched
-counted : (g : given.Over) (c : After-saturating_add-selected g) → SearchedSoFar g.R.CountedRead.remaining g.R.CountedRead.failures (map g.M.LineMatch.expression c.args.searchers.now.matchers.now) c.args.request.now.options c.args.request.now.many false c.args.request.now.name.now c.args.lines.now.lines.reader c.pass.new.self
-    (writer g.W.CountedWrite.contents g.W.CountedWrite.failures c.args.out.now) (writer g.W.CountedWrite.contents g.W.CountedWrite.failures c.lines.out) c.args.meter.now c.count_matched-matched.new.meter c.saturating_add-selected.result
+counted : (g : given.Over) (c : After-saturating_add-selected g) → SearchedOn c.lines.invariant.so_far c.pass.new.self (writer g.W.CountedWrite.contents g.W.CountedWrite.failures c.lines.out) c.count_matched-matched.new.meter c.saturating_add-selected.result
 counted g c =
-    let w = c.args.request.now in
-    let es = map g.M.LineMatch.expression c.args.searchers.now.matchers.now in
     let i = c.lines.invariant in
     let found_in = rw (i.same.same_whole ∙ c.requires.whole, i.same.same_matchers.same_expressions) at c.count_matched-matched.ensures.reported in
     let spent_on = rw i.same.same_matchers.same_expressions at c.count_matched-matched.ensures.steps in
-    searched_counted g.R.CountedRead.remaining g.R.CountedRead.failures es w.options w.many false w.name.now c.args.lines.now.lines.reader c.lines.lines c.pass.new.self _ _ c.ready_lines-block.ensures c.pass.ensures.passed _ _ _ _ _ c.lines.selected i.so_far c.requires.is_asked _ _ _ found_in spent_on c.count_selected.ensures c.saturating_add-selected.ensures
+    searched_counted c.ready_lines-block.ensures c.pass.ensures.passed i.so_far c.requires.is_asked _ found_in spent_on c.count_selected.ensures c.saturating_add-selected.ensures
 
 -- and buffered output was sent
-sent : (g : given.Over) (c : In-Ok-None g) → SearchedSoFar g.R.CountedRead.remaining g.R.CountedRead.failures (map g.M.LineMatch.expression c.args.searchers.now.matchers.now) c.args.request.now.options c.args.request.now.many false c.args.request.now.name.now c.args.lines.now.lines.reader c.pass.new.self
-    (writer g.W.CountedWrite.contents g.W.CountedWrite.failures c.args.out.now) (writer g.W.CountedWrite.contents g.W.CountedWrite.failures c.lines.out) c.args.meter.now c.count_matched-matched.new.meter c.saturating_add-selected.result
-    → SearchedSoFar g.R.CountedRead.remaining g.R.CountedRead.failures (map g.M.LineMatch.expression c.args.searchers.now.matchers.now) c.args.request.now.options c.args.request.now.many false c.args.request.now.name.now c.args.lines.now.lines.reader c.pass.new.self
-    (writer g.W.CountedWrite.contents g.W.CountedWrite.failures c.args.out.now) (writer g.W.CountedWrite.contents g.W.CountedWrite.failures c.take_next.new.out) c.args.meter.now c.count_matched-matched.new.meter c.saturating_add-selected.result
+sent : (g : given.Over) (c : In-Ok-None g) → SearchedOn c.lines.invariant.so_far c.pass.new.self (writer g.W.CountedWrite.contents g.W.CountedWrite.failures c.lines.out) c.count_matched-matched.new.meter c.saturating_add-selected.result
+    → SearchedOn c.lines.invariant.so_far c.pass.new.self (writer g.W.CountedWrite.contents g.W.CountedWrite.failures c.take_next.new.out) c.count_matched-matched.new.meter c.saturating_add-selected.result
 sent g c p =
-    let w = c.args.request.now in
-    let es = map g.M.LineMatch.expression c.args.searchers.now.matchers.now in
     let taken = rw c.in-Ok-None.field-0-is at c.in-Ok-None.ensures in
-    searched_sent g.R.CountedRead.remaining g.R.CountedRead.failures es w.options w.many false w.name.now c.args.lines.now.lines.reader c.pass.new.self _ _ _ _ _ c.saturating_add-selected.result p (TakesAll-written g.W.CountedWrite.contents g.W.CountedWrite.failures c.lines.out c.take_next.new.out [] (taken c.args.lines.now.lines.reader p.lines p.handed).2)
+    searched_sent p (TakesAll-written g.W.CountedWrite.contents g.W.CountedWrite.failures c.lines.out c.take_next.new.out [] (taken c.args.lines.now.lines.reader p.lines p.handed).2)
 
 pub lines-init : goal.lines-init
 lines-init g c = record {
-  so_far = searched_none _ _ _ _ _ _ _ _ (written_plain _ _ _ _ _ _ (counts_plain c.args.request.now.options c.requires.is_asked) [] [] (rows_none _ _ _ _ _)) c.args.lines.now _ _ refl c.requires.none_ahead c.requires.still_open c.requires.none_numbered;
+  so_far = searched_none (written_plain _ _ _ _ _ _ (counts_plain c.args.request.now.options c.requires.is_asked) [] [] (rows_none _ _ _ _ _)) refl c.requires.none_ahead c.requires.still_open c.requires.none_numbered;
   same = unasked;
 }
 
 pub lines-preserved : goal.lines-preserved
 lines-preserved g c =
     let w = c.args.request.now in
-    let es = map g.M.LineMatch.expression c.args.searchers.now.matchers.now in
     let i = c.lines.invariant in
     let taken = rw c.in-Ok-None.field-0-is at c.in-Ok-None.ensures in
     let s = sent g (goal.at.lines-preserved g c).In-Ok-None (counted g (goal.at.lines-preserved g c).After-saturating_add-selected) in
-    let found = c.in_ok-found.found in
     let kept = asked_over c.count_matched-matched.ensures.same i.same in
     let took = rw kept.same_matchers.same_expressions at c.in_ok-found.ensures.ok in
     let spent = rw kept.same_matchers.same_expressions at c.in_ok-found.ensures.steps in
     record {
       so_far =
-          searched_line g.R.CountedRead.remaining g.R.CountedRead.failures es w.options w.many false w.name.now c.args.lines.now.lines.reader c.pass.new.self c.take_next.new.lines _ _ _ _ c.saturating_add-selected.result s (taken c.args.lines.now.lines.reader s.lines s.handed).0 _ _
-          c.line.result.now c.line.ensures c.number-count.result c.number-count.ensures (counts_plain w.options c.requires.is_asked) found c.count_found-selected.result took spent c.count_found-selected.ensures (λ early. absurd (counts_late w.options c.requires.is_asked early));
+          searched_line s (taken c.args.lines.now.lines.reader s.lines s.handed).0 c.line.ensures c.number-count.ensures (counts_plain w.options c.requires.is_asked) took spent c.count_found-selected.ensures (λ early. absurd (counts_late w.options c.requires.is_asked early));
       same = asked_over c.in_ok-found.ensures.same kept;
     }
 
 pub count_found-selected-requires : goal.count_found-selected-requires
 count_found-selected-requires g c =
-    let w = c.args.request.now in
-    let es = map g.M.LineMatch.expression c.args.searchers.now.matchers.now in
     let taken = rw c.in-Ok-None.field-0-is at c.in-Ok-None.ensures in
     let s = sent g (goal.at.count_found-selected-requires g c).In-Ok-None (counted g (goal.at.count_found-selected-requires g c).After-saturating_add-selected) in
-    may_count g.R.CountedRead.remaining g.R.CountedRead.failures es w.options w.many false w.name.now c.args.lines.now.lines.reader c.pass.new.self c.take_next.new.lines _ _ _ _ c.saturating_add-selected.result s (taken c.args.lines.now.lines.reader s.lines s.handed).0
+    may_count s (taken c.args.lines.now.lines.reader s.lines s.handed).0
 
 pub lines-smaller : goal.lines-smaller
 lines-smaller g c =
-    let w = c.args.request.now in
-    let es = map g.M.LineMatch.expression c.args.searchers.now.matchers.now in
     let i = c.lines.invariant in
     let taken = rw c.in-Ok-None.field-0-is at c.in-Ok-None.ensures in
     let s = sent g (goal.at.lines-smaller g c).In-Ok-None (counted g (goal.at.lines-smaller g c).After-saturating_add-selected) in
-    let further = counted_further g.R.CountedRead.remaining g.R.CountedRead.failures es w.options w.many false w.name.now c.args.lines.now.lines.reader c.lines.lines c.pass.new.self _ _ c.ready_lines-block.ensures c.pass.ensures.passed _ _ _ _ c.count_matched-matched.new.meter c.lines.selected i.so_far in
-    omega (arith, further, fewer_left g.R.CountedRead.remaining g.R.CountedRead.failures es w.options w.many false w.name.now c.args.lines.now.lines.reader c.pass.new.self c.take_next.new.lines _ _ _ _ c.saturating_add-selected.result s (taken c.args.lines.now.lines.reader s.lines s.handed).0)
+    let further = counted_further c.ready_lines-block.ensures c.pass.ensures.passed i.so_far in
+    omega (arith, further, fewer_left s (taken c.args.lines.now.lines.reader s.lines s.handed).0)
 
 pub returns-in_err-found-clause-given : goal.returns-in_err-found-clause-given
 returns-in_err-found-clause-given g c =
@@ -84,8 +70,7 @@ returns-in_err-found-clause-given g c =
     let broke = rw kept.same_matchers.same_expressions at c.in_err-found.ensures.err in
     let spent = rw kept.same_matchers.same_expressions at c.in_err-found.ensures.steps in
     breaks_with g.R.CountedRead.remaining g.R.CountedRead.failures g.W.CountedWrite.contents g.W.CountedWrite.failures es w.options w.many false w.name.now c.args.lines.now.lines.reader c.take_next.new.lines _ c.search_line.new.out _ _ c.from_residual.result c.from_residual.ensures.1
-    (breaks_at g.R.CountedRead.remaining g.R.CountedRead.failures es w.options w.many false w.name.now c.args.lines.now.lines.reader c.pass.new.self c.take_next.new.lines _ _ _ _ c.saturating_add-selected.result s (taken c.args.lines.now.lines.reader s.lines s.handed).0 _ _
-    c.line.result.now c.line.ensures c.number-count.result c.number-count.ensures (counts_plain w.options c.requires.is_asked) broke spent)
+    (breaks_at s (taken c.args.lines.now.lines.reader s.lines s.handed).0 c.line.ensures c.number-count.ensures (counts_plain w.options c.requires.is_asked) broke spent)
 
 pub returns-in-Ok-Some-clause-given : goal.returns-in-Ok-Some-clause-given
 returns-in-Ok-Some-clause-given g c =

@@ -2,21 +2,18 @@ use Rattle.grep_core.proofs.Prelude.{◌∙◌, [], false, map, refl, sym, arith
 use Rattle.re_search.proofs.lemmas.KeptMatchers.{unasked, asked_over, same_sought}
 use Rattle.grep_core.proofs.lemmas.WrittenLemmas.{TakesAll-written}
 use Rattle.grep_core.proofs.lemmas.FileOutput.{rows_none}
-use Rattle.grep_core.proofs.lemmas.PassedLines.{are_ahead, passed_state, handed_with, handed_passed}
+use Rattle.grep_core.proofs.lemmas.PassedLines.{are_ahead, handed_with, handed_passed}
 use Rattle.grep_core.proofs.lemmas.SearchedBlockLemmas.{bare_if, divided_kept, stretch_spent, line_within}
-use Rattle.grep_core.proofs.lemmas.LinesLemmas.{SearchedSoFar, written_plain, searched_none, searched_among, leaves_among, breaks_in_lines, numbers_further, numbers_on, searched_sent, may_count, fewer_left, searched_line, goes_on, goes_on_with, leaves_with, leaves_at, breaks_at}
+use Rattle.grep_core.proofs.lemmas.LinesLemmas.{SearchedOn, written_plain, searched_none, searched_among, leaves_among, breaks_in_lines, numbers_further, numbers_on, searched_sent, may_count, fewer_left, searched_line, goes_on, goes_on_with, leaves_with, leaves_at, breaks_at}
 use Rattle.grep_core.proofs.lemmas.EndLemmas.{breaks_with, ends_as, stops_as}
 use Rattle.grep_core.proofs.search.file.search_lines.Given as given
 use Rattle.grep_core.proofs.search.file.search_lines.Goals as goal
 use Rattle.grep_core.proofs.search.file.search_lines.Goals.{Else-found-early, In-Ok-None}
 
 -- the lines that are held and those before them were searched, and the search goes on
-among : (g : given.Over) (c : Else-found-early g) → SearchedSoFar g.R.CountedRead.remaining g.R.CountedRead.failures (map g.M.LineMatch.expression c.args.searchers.now.matchers.now) c.args.request.now.options c.args.request.now.many false c.args.request.now.name.now c.args.lines.now.lines.reader c.pass.new.self
-    (writer g.W.CountedWrite.contents g.W.CountedWrite.failures c.args.out.now) (writer g.W.CountedWrite.contents g.W.CountedWrite.failures c.write_searched.new.out) c.args.meter.now c.write_searched.new.meter c.saturating_add-selected.result
+among : (g : given.Over) (c : Else-found-early g) → SearchedOn c.lines.invariant.so_far c.pass.new.self (writer g.W.CountedWrite.contents g.W.CountedWrite.failures c.write_searched.new.out) c.write_searched.new.meter c.saturating_add-selected.result
 among g c =
     let w = c.args.request.now in
-    let es = map g.M.LineMatch.expression c.args.searchers.now.matchers.now in
-    let reader = c.args.lines.now.lines.reader in
     let i = c.lines.invariant in
     let held = c.next_held-stretch.ensures in
     let (before, all, d, n) = held.divided in
@@ -25,25 +22,21 @@ among g c =
     let few = stretch_spent (map g.M.LineMatch.expression c.next_held-stretch.new.searchers.matchers.now) _ c.lines.meter c.next_held-stretch.new.meter (sym held.same.same_matchers.same_expressions) d held.steps in
     let spent = rw kept.same_matchers.same_expressions at (c.write_searched.ensures.steps before all later c.lines.meter few) in
     let took = rw (kept.same_matchers.same_expressions, c.number.ensures) at (c.in_ok-found.ensures.ok before all later) in
-    let next = handed_passed c.lines.lines all n d.free g.R.CountedRead.remaining g.R.CountedRead.failures reader i.so_far.lines i.so_far.handed c.pass.new.self c.next_held-stretch.result.bytes d.width c.pass.ensures.passed in
+    let next = handed_passed n d.free i.so_far.handed d.width c.pass.ensures.passed in
     let none = goes_on_with c.in_ok-found.found c.leaves_early-early.result (leaves_early w.options) i.is_early c.if-found-early.false in
-    searched_among g.R.CountedRead.remaining g.R.CountedRead.failures es w.options w.many false w.name.now reader c.lines.lines c.pass.new.self _ _ _ _ c.lines.selected i.so_far all next _ _ c.requires.plain spent c.in_ok-found.found c.saturating_add-selected.result took c.saturating_add-selected.ensures none
+    searched_among i.so_far all next c.requires.plain spent took c.saturating_add-selected.ensures none
 
 -- and buffered output was sent
-sent : (g : given.Over) (c : In-Ok-None g) → SearchedSoFar g.R.CountedRead.remaining g.R.CountedRead.failures (map g.M.LineMatch.expression c.args.searchers.now.matchers.now) c.args.request.now.options c.args.request.now.many false c.args.request.now.name.now c.args.lines.now.lines.reader c.pass.new.self
-    (writer g.W.CountedWrite.contents g.W.CountedWrite.failures c.args.out.now) (writer g.W.CountedWrite.contents g.W.CountedWrite.failures c.write_searched.new.out) c.args.meter.now c.write_searched.new.meter c.saturating_add-selected.result
-    → SearchedSoFar g.R.CountedRead.remaining g.R.CountedRead.failures (map g.M.LineMatch.expression c.args.searchers.now.matchers.now) c.args.request.now.options c.args.request.now.many false c.args.request.now.name.now c.args.lines.now.lines.reader c.pass.new.self
-    (writer g.W.CountedWrite.contents g.W.CountedWrite.failures c.args.out.now) (writer g.W.CountedWrite.contents g.W.CountedWrite.failures c.take_next.new.out) c.args.meter.now c.write_searched.new.meter c.saturating_add-selected.result
+sent : (g : given.Over) (c : In-Ok-None g) → SearchedOn c.lines.invariant.so_far c.pass.new.self (writer g.W.CountedWrite.contents g.W.CountedWrite.failures c.write_searched.new.out) c.write_searched.new.meter c.saturating_add-selected.result
+    → SearchedOn c.lines.invariant.so_far c.pass.new.self (writer g.W.CountedWrite.contents g.W.CountedWrite.failures c.take_next.new.out) c.write_searched.new.meter c.saturating_add-selected.result
 sent g c p =
-    let w = c.args.request.now in
-    let es = map g.M.LineMatch.expression c.args.searchers.now.matchers.now in
     let reader = c.args.lines.now.lines.reader in
     let taken = rw c.in-Ok-None.field-0-is at c.in-Ok-None.ensures in
-    searched_sent g.R.CountedRead.remaining g.R.CountedRead.failures es w.options w.many false w.name.now reader c.pass.new.self _ _ _ _ _ c.saturating_add-selected.result p (TakesAll-written g.W.CountedWrite.contents g.W.CountedWrite.failures _ c.take_next.new.out [] (taken reader p.lines p.handed).2)
+    searched_sent p (TakesAll-written g.W.CountedWrite.contents g.W.CountedWrite.failures _ c.take_next.new.out [] (taken reader p.lines p.handed).2)
 
 pub lines-init : goal.lines-init
 lines-init g c = record {
-  so_far = searched_none _ _ _ _ _ _ _ _ (written_plain _ _ _ _ _ _ c.requires.plain [] [] (rows_none _ _ _ _ _)) c.args.lines.now _ _ refl c.requires.none_ahead c.requires.still_open c.requires.none_numbered;
+  so_far = searched_none (written_plain _ _ _ _ _ _ c.requires.plain [] [] (rows_none _ _ _ _ _)) refl c.requires.none_ahead c.requires.still_open c.requires.none_numbered;
   same = unasked;
   is_early = c.leaves_early-early.ensures;
 }
@@ -61,7 +54,7 @@ write_searched-requires g c =
 pub pass-requires : goal.pass-requires
 pass-requires g c =
     let (before, all, d, n) = c.next_held-stretch.ensures.divided in
-    are_ahead c.lines.lines all n d.free c.next_held-stretch.result.bytes c.next_held-stretch.result.count d.width d.counted
+    are_ahead n d.free d.width d.counted
 
 pub returns-in_err-found-clause-given : goal.returns-in_err-found-clause-given
 returns-in_err-found-clause-given g c =
@@ -76,15 +69,12 @@ returns-in_err-found-clause-given g c =
     let few = stretch_spent (map g.M.LineMatch.expression c.next_held-stretch.new.searchers.matchers.now) _ c.lines.meter c.next_held-stretch.new.meter (sym held.same.same_matchers.same_expressions) d held.steps in
     let spent = rw kept.same_matchers.same_expressions at (c.write_searched.ensures.steps before all later c.lines.meter few) in
     let broke = rw (kept.same_matchers.same_expressions, c.number.ensures) at (c.in_err-found.ensures.err before all later) in
-    let next = handed_with c.lines.lines all n d.free g.R.CountedRead.remaining g.R.CountedRead.failures reader i.so_far.lines i.so_far.handed in
+    let next = handed_with n d.free i.so_far.handed in
     breaks_with g.R.CountedRead.remaining g.R.CountedRead.failures g.W.CountedWrite.contents g.W.CountedWrite.failures es w.options w.many false w.name.now reader c.lines.lines _ c.write_searched.new.out _ _ c.from_residual.result c.from_residual.ensures.1
-    (breaks_in_lines g.R.CountedRead.remaining g.R.CountedRead.failures es w.options w.many false w.name.now reader c.lines.lines (passed_state c.lines.lines all n d.free) _ _ _ _ c.lines.selected i.so_far all next _ _ c.requires.plain spent broke)
+    (breaks_in_lines i.so_far all next c.requires.plain spent broke)
 
 pub returns-then-found-early-clause-given : goal.returns-then-found-early-clause-given
 returns-then-found-early-clause-given g c =
-    let w = c.args.request.now in
-    let es = map g.M.LineMatch.expression c.args.searchers.now.matchers.now in
-    let reader = c.args.lines.now.lines.reader in
     let i = c.lines.invariant in
     let held = c.next_held-stretch.ensures in
     let (before, all, d, n) = held.divided in
@@ -93,9 +83,9 @@ returns-then-found-early-clause-given g c =
     let few = stretch_spent (map g.M.LineMatch.expression c.next_held-stretch.new.searchers.matchers.now) _ c.lines.meter c.next_held-stretch.new.meter (sym held.same.same_matchers.same_expressions) d held.steps in
     let spent = rw kept.same_matchers.same_expressions at (c.write_searched.ensures.steps before all later c.lines.meter few) in
     let took = rw (kept.same_matchers.same_expressions, c.number.ensures) at (c.in_ok-found.ensures.ok before all later) in
-    let next = handed_passed c.lines.lines all n d.free g.R.CountedRead.remaining g.R.CountedRead.failures reader i.so_far.lines i.so_far.handed c.pass.new.self c.next_held-stretch.result.bytes d.width c.pass.ensures.passed in
+    let next = handed_passed n d.free i.so_far.handed d.width c.pass.ensures.passed in
     let (some, early) = leaves_with c.in_ok-found.found c.leaves_early-early.result c.if-found-early.true in
-    leaves_among g.R.CountedRead.remaining g.R.CountedRead.failures es w.options w.many false w.name.now reader c.lines.lines c.pass.new.self _ _ _ _ c.lines.selected i.so_far all next _ _ c.requires.plain spent c.in_ok-found.found c.saturating_add-selected.result took c.saturating_add-selected.ensures some (sym i.is_early ∙ early)
+    leaves_among i.so_far all next c.requires.plain spent took c.saturating_add-selected.ensures some (sym i.is_early ∙ early)
 
 pub lines-preserved-then-goes_on : goal.lines-preserved-then-goes_on
 lines-preserved-then-goes_on g c =
@@ -107,15 +97,12 @@ lines-preserved-then-goes_on g c =
 
 pub lines-smaller-then-goes_on : goal.lines-smaller-then-goes_on
 lines-smaller-then-goes_on g c =
-    let w = c.args.request.now in
-    let es = map g.M.LineMatch.expression c.args.searchers.now.matchers.now in
-    let reader = c.args.lines.now.lines.reader in
     let i = c.lines.invariant in
     let held = c.next_held-stretch.ensures in
     let (before, all, d, n) = held.divided in
-    let next = handed_passed c.lines.lines all n d.free g.R.CountedRead.remaining g.R.CountedRead.failures reader i.so_far.lines i.so_far.handed c.pass.new.self c.next_held-stretch.result.bytes d.width c.pass.ensures.passed in
+    let next = handed_passed n d.free i.so_far.handed d.width c.pass.ensures.passed in
     let some = line_within d (sym c.is_some-goes_on.ensures ∙ c.if-goes_on.true) in
-    let on = numbers_on g.R.CountedRead.remaining g.R.CountedRead.failures es w.options w.many false w.name.now reader c.lines.lines c.pass.new.self _ _ _ _ c.lines.selected i.so_far all next in
+    let on = numbers_on i.so_far all next in
     omega (arith, some, on, next.few, next.counted)
 
 pub search_line-requires : goal.search_line-requires
@@ -125,31 +112,25 @@ search_line-requires g c =
 
 pub count_found-selected-requires : goal.count_found-selected-requires
 count_found-selected-requires g c =
-    let w = c.args.request.now in
-    let es = map g.M.LineMatch.expression c.args.searchers.now.matchers.now in
     let reader = c.args.lines.now.lines.reader in
     let taken = rw c.in-Ok-None.field-0-is at c.in-Ok-None.ensures in
     let s = sent g (goal.at.count_found-selected-requires g c).In-Ok-None (among g (goal.at.count_found-selected-requires g c).Else-found-early) in
-    may_count g.R.CountedRead.remaining g.R.CountedRead.failures es w.options w.many false w.name.now reader c.pass.new.self c.take_next.new.lines _ _ _ _ c.saturating_add-selected.result s (taken reader s.lines s.handed).0
+    may_count s (taken reader s.lines s.handed).0
 
 pub lines-smaller : goal.lines-smaller
 lines-smaller g c =
-    let w = c.args.request.now in
-    let es = map g.M.LineMatch.expression c.args.searchers.now.matchers.now in
     let reader = c.args.lines.now.lines.reader in
     let i = c.lines.invariant in
     let held = c.next_held-stretch.ensures in
     let (before, all, d, n) = held.divided in
-    let next = handed_passed c.lines.lines all n d.free g.R.CountedRead.remaining g.R.CountedRead.failures reader i.so_far.lines i.so_far.handed c.pass.new.self c.next_held-stretch.result.bytes d.width c.pass.ensures.passed in
+    let next = handed_passed n d.free i.so_far.handed d.width c.pass.ensures.passed in
     let taken = rw c.in-Ok-None.field-0-is at c.in-Ok-None.ensures in
     let s = sent g (goal.at.lines-smaller g c).In-Ok-None (among g (goal.at.lines-smaller g c).Else-found-early) in
-    let further = numbers_further g.R.CountedRead.remaining g.R.CountedRead.failures es w.options w.many false w.name.now reader c.lines.lines c.pass.new.self _ _ _ _ c.lines.selected i.so_far all next in
-    omega (arith, further, fewer_left g.R.CountedRead.remaining g.R.CountedRead.failures es w.options w.many false w.name.now reader c.pass.new.self c.take_next.new.lines _ _ _ _ c.saturating_add-selected.result s (taken reader s.lines s.handed).0)
+    let further = numbers_further i.so_far all next in
+    omega (arith, further, fewer_left s (taken reader s.lines s.handed).0)
 
 pub lines-preserved : goal.lines-preserved
 lines-preserved g c =
-    let w = c.args.request.now in
-    let es = map g.M.LineMatch.expression c.args.searchers.now.matchers.now in
     let reader = c.args.lines.now.lines.reader in
     let i = c.lines.invariant in
     let held = c.next_held-stretch.ensures in
@@ -162,16 +143,13 @@ lines-preserved g c =
     let found = c.in_ok-found-2.found in
     record {
       so_far =
-          searched_line g.R.CountedRead.remaining g.R.CountedRead.failures es w.options w.many false w.name.now reader c.pass.new.self c.take_next.new.lines _ _ _ _ c.saturating_add-selected.result s (taken reader s.lines s.handed).0 _ _
-          c.line.result.now c.line.ensures c.number-count.result c.number-count.ensures c.requires.plain found c.count_found-selected.result took_line spent_line c.count_found-selected.ensures (goes_on found _ _ i.is_early c.if-found-early-2.false);
+          searched_line s (taken reader s.lines s.handed).0 c.line.ensures c.number-count.ensures c.requires.plain took_line spent_line c.count_found-selected.ensures (goes_on found _ _ i.is_early c.if-found-early-2.false);
       same = asked_over c.in_ok-found-2.ensures.same asked;
       is_early = i.is_early;
     }
 
 pub returns-then-found-early-2-clause-given : goal.returns-then-found-early-2-clause-given
 returns-then-found-early-2-clause-given g c =
-    let w = c.args.request.now in
-    let es = map g.M.LineMatch.expression c.args.searchers.now.matchers.now in
     let reader = c.args.lines.now.lines.reader in
     let i = c.lines.invariant in
     let held = c.next_held-stretch.ensures in
@@ -181,8 +159,7 @@ returns-then-found-early-2-clause-given g c =
     let asked = asked_over c.write_searched.ensures.same kept in
     let took_line = rw asked.same_matchers.same_expressions at c.in_ok-found-2.ensures.ok in
     let spent_line = rw asked.same_matchers.same_expressions at c.in_ok-found-2.ensures.steps in
-    leaves_at g.R.CountedRead.remaining g.R.CountedRead.failures es w.options w.many false w.name.now reader c.pass.new.self c.take_next.new.lines _ _ _ _ c.saturating_add-selected.result s (taken reader s.lines s.handed).0 _ _
-    c.line.result.now c.line.ensures c.number-count.result c.number-count.ensures c.requires.plain c.in_ok-found-2.found _ c.count_found-selected.result took_line spent_line c.count_found-selected.ensures i.is_early c.if-found-early-2.true
+    leaves_at s (taken reader s.lines s.handed).0 c.line.ensures c.number-count.ensures c.requires.plain took_line spent_line c.count_found-selected.ensures i.is_early c.if-found-early-2.true
 
 pub returns-in_err-found-2-clause-given : goal.returns-in_err-found-2-clause-given
 returns-in_err-found-2-clause-given g c =
@@ -198,8 +175,7 @@ returns-in_err-found-2-clause-given g c =
     let broke_line = rw asked.same_matchers.same_expressions at c.in_err-found-2.ensures.err in
     let spent_line = rw asked.same_matchers.same_expressions at c.in_err-found-2.ensures.steps in
     breaks_with g.R.CountedRead.remaining g.R.CountedRead.failures g.W.CountedWrite.contents g.W.CountedWrite.failures es w.options w.many false w.name.now reader c.take_next.new.lines _ c.search_line.new.out _ _ c.from_residual-in_err-found-2.result c.from_residual-in_err-found-2.ensures.1
-    (breaks_at g.R.CountedRead.remaining g.R.CountedRead.failures es w.options w.many false w.name.now reader c.pass.new.self c.take_next.new.lines _ _ _ _ c.saturating_add-selected.result s (taken reader s.lines s.handed).0 _ _
-    c.line.result.now c.line.ensures c.number-count.result c.number-count.ensures c.requires.plain broke_line spent_line)
+    (breaks_at s (taken reader s.lines s.handed).0 c.line.ensures c.number-count.ensures c.requires.plain broke_line spent_line)
 
 pub returns-in-Ok-Some-clause-given : goal.returns-in-Ok-Some-clause-given
 returns-in-Ok-Some-clause-given g c =

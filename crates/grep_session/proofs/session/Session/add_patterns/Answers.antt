@@ -1,22 +1,33 @@
 use Rattle.grep_session.proofs.Prelude.{◌≡◌, ◌+◌, ◌≤◌, ◌<◌, ◌++◌, Ok, Err, length, map, inl, inr, refl, sym, ap, subst, ◌∙◌, arith, All, length-map, map-append, list_of, IsReadable, matched_expression, wants_whole, room_of, AddPatterns, EditGives, with_patterns, most_patterns, IsFileKept, AreMatchers, RefusesFirst, SameMatchers, inputs_of, kept_file}
 use Rattle.grep_core.proofs.lemmas.CostLaws.{same_length}
 use Rattle.grep_session.proofs.lemmas.EditLemmas.{AreMatchers-same, asked_session}
-use Rattle.grep_session.proofs.lemmas.StepLemmas.{takes_none}
-use Rattle.grep_session.proofs.lemmas.NewPatternLemmas.{are_added, bounded_off, not_too_many, refuses_new, takes_new}
+use Rattle.grep_session.proofs.lemmas.NewPatternLemmas.{AreAdded, are_added, bounded_off, not_too_many, refuses_new, takes_new}
 use Rattle.re_search.proofs.lemmas.KeptMatchers.{none_asked}
 use Rattle.grep_session.proofs.lemmas.RoomLemmas.{keep_same, keep_both}
 use Rattle.grep_session.proofs.lemmas.SessionLemmas.{inputs_are}
 use Rattle.grep_session.proofs.lemmas.FitLemmas.{fit_as, fit_lose}
 use Rattle.grep_session.proofs.session.Session.add_patterns.Goals as goal
+use Rattle.grep_session.proofs.session.Session.add_patterns.Goals.{Else-too_many, In-Ok-add_matchers}
+
+-- the patterns are not too many
+not_many : (c : Else-too_many) → most_patterns < length (inputs_of c.self.inside).patterns + length (list_of c.args.list.now) → ⊥
+not_many c =
+    let s = c.self.inside in
+    not_too_many s c.args.list.now c.self.invariant c.len.result (omega (arith, c.len.ensures, s.matchers.ok.0)) c.if-too_many.ensures
+
+-- what is known of all matchers after the new ones were added
+added : (c : In-Ok-add_matchers) → AreAdded c.self.inside c.args.list.now c.len-first.result c.in-Ok-read_matchers.matchers.items c.add_matchers.new.matchers.items
+added c =
+    let s = c.self.inside in
+    are_added s c.args.list.now c.self.invariant c.len-first.result (omega (arith, c.len-first.ensures, s.matchers.ok.0)) (omega (arith, c.if-too_many.ensures, c.len.ensures, c.len-first.ensures)) _ c.in-Ok-read_matchers.matchers.items c.add_matchers.new.matchers.items c.in-Ok.ensures (rw c.deref.ensures.value at c.in-Ok-read_matchers.ensures.ok) c.in-Ok-add_matchers.ensures.ok
 
 pub returns-in-Err-read_matchers-clause-gives : goal.returns-in-Err-read_matchers-clause-gives
 returns-in-Err-read_matchers-clause-gives c =
     let s = c.self.inside in
     let list = c.args.list.now in
-    let at : c.len.result ≡ length s.matchers.items = omega (arith, c.len.ensures, s.matchers.ok.0) in
     let refused = rw c.deref.ensures.value at c.in-Err-read_matchers.ensures.err in
     let reported = subst (λ ts. RefusesFirst s.syntax s.options.ignore_case ts c.in-Err-read_matchers.fault) c.in-Ok.ensures refused in
-    subst (λ old. EditGives {T = Unit {0}} (AddPatterns list) old old (Err c.in-Err-read_matchers.fault)) (inputs_are c.self.view_is) (refuses_new list (inputs_of s) (not_too_many s c.args.list.now c.self.invariant c.len.result at c.if-too_many.ensures) (Unit {0}) c.in-Err-read_matchers.fault reported)
+    subst (λ old. EditGives {T = Unit {0}} (AddPatterns list) old old (Err c.in-Err-read_matchers.fault)) (inputs_are c.self.view_is) (refuses_new list (inputs_of s) (not_many (goal.at.returns-in-Err-read_matchers-clause-gives c).Else-too_many) (Unit {0}) c.in-Err-read_matchers.fault reported)
 
 pub invariant_of-self-in-Err-find_columns : goal.invariant_of-self-in-Err-find_columns
 invariant_of-self-in-Err-find_columns c =
@@ -29,19 +40,15 @@ invariant_of-self-in-Err-find_columns c =
 pub returns-in-Err-find_columns-clause-steps : goal.returns-in-Err-find_columns-clause-steps
 returns-in-Err-find_columns-clause-steps c =
     let s = c.self.inside in
-    let at : c.len-first.result ≡ length s.matchers.items = omega (arith, c.len-first.ensures, s.matchers.ok.0) in
-    let room : c.len-first.result + length (list_of c.args.list.now) ≤ most_patterns = omega (arith, c.if-too_many.ensures, c.len.ensures, c.len-first.ensures) in
-    let new = are_added s c.args.list.now c.self.invariant c.len-first.result at room _ c.in-Ok-read_matchers.matchers.items c.add_matchers.new.matchers.items c.in-Ok.ensures (rw c.deref.ensures.value at c.in-Ok-read_matchers.ensures.ok) c.in-Ok-add_matchers.ensures.ok in
-    rw (← c.self.view_is) (takes_new c.args.list.now (inputs_of s) (not_too_many s c.args.list.now c.self.invariant c.len-first.result at room) c.len-first.result (map matched_expression c.add_matchers.new.matchers.items) (map matched_expression c.in-Ok-read_matchers.matchers.items) _ _ new.are_new.readable new.are_matchers.meant new.are_new.meant new.as_many
+    let new = added (goal.at.returns-in-Err-find_columns-clause-steps c).In-Ok-add_matchers in
+    rw (← c.self.view_is) (takes_new c.args.list.now (inputs_of s) (not_many (goal.at.returns-in-Err-find_columns-clause-steps c).Else-too_many) c.len-first.result (map matched_expression c.add_matchers.new.matchers.items) (map matched_expression c.in-Ok-read_matchers.matchers.items) _ _ new.are_new.readable new.are_matchers.meant new.are_new.meant new.as_many
     (c.find_columns.ensures.steps _ _ new.changed c.self.invariant.kept))
 
 pub returns-clause-steps : goal.returns-clause-steps
 returns-clause-steps c =
     let s = c.self.inside in
-    let at : c.len-first.result ≡ length s.matchers.items = omega (arith, c.len-first.ensures, s.matchers.ok.0) in
-    let room : c.len-first.result + length (list_of c.args.list.now) ≤ most_patterns = omega (arith, c.if-too_many.ensures, c.len.ensures, c.len-first.ensures) in
-    let new = are_added s c.args.list.now c.self.invariant c.len-first.result at room _ c.in-Ok-read_matchers.matchers.items c.add_matchers.new.matchers.items c.in-Ok.ensures (rw c.deref.ensures.value at c.in-Ok-read_matchers.ensures.ok) c.in-Ok-add_matchers.ensures.ok in
-    rw (← c.self.view_is) (takes_new c.args.list.now (inputs_of s) (not_too_many s c.args.list.now c.self.invariant c.len-first.result at room) c.len-first.result (map matched_expression c.add_matchers.new.matchers.items) (map matched_expression c.in-Ok-read_matchers.matchers.items) _ _ new.are_new.readable new.are_matchers.meant new.are_new.meant new.as_many
+    let new = added (goal.at.returns-clause-steps c).In-Ok-add_matchers in
+    rw (← c.self.view_is) (takes_new c.args.list.now (inputs_of s) (not_many (goal.at.returns-clause-steps c).Else-too_many) c.len-first.result (map matched_expression c.add_matchers.new.matchers.items) (map matched_expression c.in-Ok-read_matchers.matchers.items) _ _ new.are_new.readable new.are_matchers.meant new.are_new.meant new.as_many
     (c.find_columns.ensures.steps _ _ new.changed c.self.invariant.kept))
 
 pub invariant_of-self-2 : goal.invariant_of-self-2
@@ -49,9 +56,7 @@ invariant_of-self-2 c =
     let s = c.self.inside in
     let all = c.add_matchers.new.matchers.items in
     let now = c.find_columns.new.matchers.items in
-    let at : c.len-first.result ≡ length s.matchers.items = omega (arith, c.len-first.ensures, s.matchers.ok.0) in
-    let room : c.len-first.result + length (list_of c.args.list.now) ≤ most_patterns = omega (arith, c.if-too_many.ensures, c.len.ensures, c.len-first.ensures) in
-    let new = are_added s c.args.list.now c.self.invariant c.len-first.result at room _ c.in-Ok-read_matchers.matchers.items c.add_matchers.new.matchers.items c.in-Ok.ensures (rw c.deref.ensures.value at c.in-Ok-read_matchers.ensures.ok) c.in-Ok-add_matchers.ensures.ok in
+    let new = added (goal.at.invariant_of-self-2 c).In-Ok-add_matchers in
     let all_texts : map (λ text. text.items) c.add_texts.new.texts.items ≡ map (λ text. text.items) s.texts.items ++ list_of c.args.list.now =
     ap (map (λ text. text.items)) (c.add_texts.ensures ∙ ap (λ l. l ++ c.in-Ok.texts.items) c.reserve_texts.ensures.items) ∙ map-append (λ text. text.items) s.texts.items c.in-Ok.texts.items ∙ ap (λ l. map (λ text. text.items) s.texts.items ++ l) c.in-Ok.ensures in
     let same = c.find_columns.ensures.same_matchers.same_expressions in
@@ -68,66 +73,46 @@ invariant_of-self-2 c =
 pub returns-clause-gives : goal.returns-clause-gives
 returns-clause-gives c =
     let s = c.self.inside in
-    let at : c.len.result ≡ length s.matchers.items = omega (arith, c.len.ensures, s.matchers.ok.0) in
     let made = rw c.deref.ensures.value at c.in-Ok-read_matchers.ensures.ok in
     let readable = subst (All (IsReadable s.syntax s.options.ignore_case)) c.in-Ok.ensures made.readable in
     let all_texts : map (λ text. text.items) c.add_texts.new.texts.items ≡ map (λ text. text.items) s.texts.items ++ list_of c.args.list.now =
     ap (map (λ text. text.items)) (c.add_texts.ensures ∙ ap (λ l. l ++ c.in-Ok.texts.items) c.reserve_texts.ensures.items) ∙ map-append (λ text. text.items) s.texts.items c.in-Ok.texts.items ∙ ap (λ l. map (λ text. text.items) s.texts.items ++ l) c.in-Ok.ensures in
-    rw (← c.self.view_is) (inr ((not_too_many s c.args.list.now c.self.invariant c.len.result at c.if-too_many.ensures), inl (readable, (λ i. Ok (record { syntax = s.syntax; options = s.options; patterns = all_texts i; files = c.find_columns.ensures.same i })))))
+    rw (← c.self.view_is) (inr ((not_many (goal.at.returns-clause-gives c).Else-too_many), inl (readable, (λ i. Ok (record { syntax = s.syntax; options = s.options; patterns = all_texts i; files = c.find_columns.ensures.same i })))))
 
 pub find_columns-requires-clause-whole : goal.find_columns-requires-clause-whole
 find_columns-requires-clause-whole c =
-    let s = c.self.inside in
-    let at : c.len-first.result ≡ length s.matchers.items = omega (arith, c.len-first.ensures, s.matchers.ok.0) in
-    let room : c.len-first.result + length (list_of c.args.list.now) ≤ most_patterns = omega (arith, c.if-too_many.ensures, c.len.ensures, c.len-first.ensures) in
-    let new = are_added s c.args.list.now c.self.invariant c.len-first.result at room _ c.in-Ok-read_matchers.matchers.items c.add_matchers.new.matchers.items c.in-Ok.ensures (rw c.deref.ensures.value at c.in-Ok-read_matchers.ensures.ok) c.in-Ok-add_matchers.ensures.ok in
+    let new = added (goal.at.find_columns-requires-clause-whole c).In-Ok-add_matchers in
     new.are_matchers.wholes
 
 pub find_columns-requires-clause-few : goal.find_columns-requires-clause-few
 find_columns-requires-clause-few c =
-    let s = c.self.inside in
-    let at : c.len-first.result ≡ length s.matchers.items = omega (arith, c.len-first.ensures, s.matchers.ok.0) in
-    let room : c.len-first.result + length (list_of c.args.list.now) ≤ most_patterns = omega (arith, c.if-too_many.ensures, c.len.ensures, c.len-first.ensures) in
-    let new = are_added s c.args.list.now c.self.invariant c.len-first.result at room _ c.in-Ok-read_matchers.matchers.items c.add_matchers.new.matchers.items c.in-Ok.ensures (rw c.deref.ensures.value at c.in-Ok-read_matchers.ensures.ok) c.in-Ok-add_matchers.ensures.ok in
+    let new = added (goal.at.find_columns-requires-clause-few c).In-Ok-add_matchers in
     new.few
 
 pub find_columns-requires-clause-within : goal.find_columns-requires-clause-within
 find_columns-requires-clause-within c =
-    let s = c.self.inside in
-    let at : c.len-first.result ≡ length s.matchers.items = omega (arith, c.len-first.ensures, s.matchers.ok.0) in
-    let room : c.len-first.result + length (list_of c.args.list.now) ≤ most_patterns = omega (arith, c.if-too_many.ensures, c.len.ensures, c.len-first.ensures) in
-    let new = are_added s c.args.list.now c.self.invariant c.len-first.result at room _ c.in-Ok-read_matchers.matchers.items c.add_matchers.new.matchers.items c.in-Ok.ensures (rw c.deref.ensures.value at c.in-Ok-read_matchers.ensures.ok) c.in-Ok-add_matchers.ensures.ok in
+    let new = added (goal.at.find_columns-requires-clause-within c).In-Ok-add_matchers in
     new.within
 
 pub returns-in-Err-clause-memory : goal.returns-in-Err-clause-memory
 returns-in-Err-clause-memory c =
-    let s = c.self.inside in
-    let at : c.len.result ≡ length s.matchers.items = omega (arith, c.len.ensures, s.matchers.ok.0) in
-    rw (← c.self.view_is) (λ many. absurd (not_too_many s c.args.list.now c.self.invariant c.len.result at c.if-too_many.ensures many))
+    rw (← c.self.view_is) (λ many. absurd (not_many (goal.at.returns-in-Err-clause-memory c).Else-too_many many))
 
 pub returns-in-Err-read_matchers-clause-memory : goal.returns-in-Err-read_matchers-clause-memory
 returns-in-Err-read_matchers-clause-memory c =
-    let s = c.self.inside in
-    let at : c.len.result ≡ length s.matchers.items = omega (arith, c.len.ensures, s.matchers.ok.0) in
-    rw (← c.self.view_is) (λ many. absurd (not_too_many s c.args.list.now c.self.invariant c.len.result at c.if-too_many.ensures many))
+    rw (← c.self.view_is) (λ many. absurd (not_many (goal.at.returns-in-Err-read_matchers-clause-memory c).Else-too_many many))
 
 pub returns-in-Err-reserve_texts-clause-memory : goal.returns-in-Err-reserve_texts-clause-memory
 returns-in-Err-reserve_texts-clause-memory c =
-    let s = c.self.inside in
-    let at : c.len.result ≡ length s.matchers.items = omega (arith, c.len.ensures, s.matchers.ok.0) in
-    rw (← c.self.view_is) (λ many. absurd (not_too_many s c.args.list.now c.self.invariant c.len.result at c.if-too_many.ensures many))
+    rw (← c.self.view_is) (λ many. absurd (not_many (goal.at.returns-in-Err-reserve_texts-clause-memory c).Else-too_many many))
 
 pub returns-in-Err-add_matchers-clause-memory : goal.returns-in-Err-add_matchers-clause-memory
 returns-in-Err-add_matchers-clause-memory c =
-    let s = c.self.inside in
-    let at : c.len.result ≡ length s.matchers.items = omega (arith, c.len.ensures, s.matchers.ok.0) in
-    rw (← c.self.view_is) (λ many. absurd (not_too_many s c.args.list.now c.self.invariant c.len.result at c.if-too_many.ensures many))
+    rw (← c.self.view_is) (λ many. absurd (not_many (goal.at.returns-in-Err-add_matchers-clause-memory c).Else-too_many many))
 
 pub returns-in-Err-find_columns-clause-memory : goal.returns-in-Err-find_columns-clause-memory
 returns-in-Err-find_columns-clause-memory c =
-    let s = c.self.inside in
-    let at : c.len.result ≡ length s.matchers.items = omega (arith, c.len.ensures, s.matchers.ok.0) in
-    rw (← c.self.view_is) (λ many. absurd (not_too_many s c.args.list.now c.self.invariant c.len.result at c.if-too_many.ensures many))
+    rw (← c.self.view_is) (λ many. absurd (not_many (goal.at.returns-in-Err-find_columns-clause-memory c).Else-too_many many))
 
 pub invariant_of-self : goal.invariant_of-self
 invariant_of-self c = asked_session c.self.inside _ refl c.reserve_texts.ensures.items c.self.invariant none_asked c.self.invariant.kept c.self.invariant.fit
@@ -143,21 +128,6 @@ returns-then-too_many-clause-gives c =
     let counted : length s.matchers.items ≡ length s.texts.items = c.self.invariant.matchers.counted ∙ length-map s.texts.items (λ text. text.items) in
     let many : most_patterns < length (inputs_of s).patterns + length (list_of c.args.list.now) = omega (arith, c.if-too_many.ensures, c.len.ensures, s.matchers.ok.0, counted, length-map s.texts.items (λ text. text.items)) in
     rw (← c.self.view_is) (inl (many, refl), refl)
-
-pub returns-in-Err-clause-steps : goal.returns-in-Err-clause-steps
-returns-in-Err-clause-steps c = takes_none (AddPatterns c.args.list.now) _ _
-
-pub returns-in-Err-read_matchers-clause-steps : goal.returns-in-Err-read_matchers-clause-steps
-returns-in-Err-read_matchers-clause-steps c = takes_none (AddPatterns c.args.list.now) _ _
-
-pub returns-in-Err-reserve_texts-clause-steps : goal.returns-in-Err-reserve_texts-clause-steps
-returns-in-Err-reserve_texts-clause-steps c = takes_none (AddPatterns c.args.list.now) _ _
-
-pub returns-in-Err-add_matchers-clause-steps : goal.returns-in-Err-add_matchers-clause-steps
-returns-in-Err-add_matchers-clause-steps c = takes_none (AddPatterns c.args.list.now) _ _
-
-pub returns-then-too_many-clause-steps : goal.returns-then-too_many-clause-steps
-returns-then-too_many-clause-steps c = takes_none (AddPatterns c.args.list.now) _ _
 
 pub returns-in-Err-reserve_texts-clause-gives : goal.returns-in-Err-reserve_texts-clause-gives
 returns-in-Err-reserve_texts-clause-gives c = ap (λ texts. with_patterns (map (λ text. text.items) texts) (inputs_of c.self.inside)) c.reserve_texts.ensures.items ∙ (inputs_are c.self.view_is)
