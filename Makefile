@@ -1,8 +1,9 @@
 # make            proves what the programs need, builds them into build/ and tries each of them, on all cores
 #                 (four at most, or RT_JOBS)
 # make gate       proofs from nothing, edits that must fail, tests, the programs' stored runs
-# make audit      the wrong bodies that the gate leaves out, each of which has to be refused; before a release. What
-#                 the programs need is proved first, if it isn't
+# make audit      the wrong bodies that the gate leaves out, each of which has to be refused: before a release those of
+#                 all crates, else of those that changed (CHANGED=COMMIT). What the programs need is proved first, if it
+#                 isn't
 # make test       the gate, and then the programs built anew, run on the cases of tests/, and test-growth
 # make test-program  runs the built programs on the cases of tests/ (needs Python 3.11)
 # make test-random  compares the built occur with the built grep on 100,000 random edits
@@ -64,9 +65,10 @@ LANES = RT_JOBS=$${RT_JOBS:-$$(nproc | awk '{ print $$1 < 4 ? $$1 : 4 }')}
 gate:
 	$(LANES) tools/evidence.sh gate rt ci
 
-# Names of crates in CRATES audit these alone.
+# Names of crates in CRATES audit these alone, a commit in CHANGED those with a file that differs from the commit's. A
+# crate above one that changed isn't among them: its own text is the same.
 audit: programs
-	$(LANES) tools/evidence.sh audit tools/audit.sh $(CRATES)
+	$(LANES) tools/evidence.sh audit tools/audit.sh $(if $(CHANGED),--changed $(CHANGED),$(CRATES))
 
 test: gate
 	$(MAKE) programs

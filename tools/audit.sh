@@ -1,10 +1,11 @@
 #!/usr/bin/env bash
 # Tries the wrong bodies that the gate leaves out, crates/*/audit/*.edit: the prover has to refuse each. With names of
-# crates it tries those of these crates alone. rt reads such edits in must-fail alone, and one run of it tries one edit
-# after the other. So each crate has a copy of the files as they stand, in which its audit takes the place of the gate's
-# own edits, and RT_JOBS crates are tried at once. Libraries that are proved in this checkout are not proved again.
-# Ends with status 0 only where each edit was refused. A check that stopped at a limit of the prover shows nothing of its
-# edit, so rt's word "refused" counts for nothing there.
+# crates it tries those of these crates alone, with `--changed COMMIT` those of crates with a file that differs from
+# the commit's. rt reads such edits in must-fail alone, and one run of it tries one edit after the other. So each crate
+# has a copy of the files as they stand, in which its audit takes the place of the gate's own edits, and RT_JOBS crates
+# are tried at once. Libraries that are proved in this checkout are not proved again. Ends with status 0 only where
+# each edit was refused. A check that stopped at a limit of the prover shows nothing of its edit, so rt's word
+# "refused" counts for nothing there.
 set -euo pipefail
 shopt -s nullglob
 cd "$(dirname "${BASH_SOURCE[0]}")/.."
@@ -61,8 +62,22 @@ count() {
     done < "$1"
 }
 
+# The crates with an audit that have a file which differs from the commit's, or is new.
+changed_since() {
+    local crate
+    { git diff --name-only "$1" -- crates; git ls-files --others --exclude-standard crates; } | cut -d / -f 2 | sort -u |
+        while read -r crate; do if [ -d "crates/$crate/audit" ]; then echo "$crate"; fi; done
+}
+
 crates=("$@")
-if [ $# -eq 0 ]; then
+if [ "${1-}" = --changed ]; then
+    git rev-parse --verify "$2^{commit}" > /dev/null
+    mapfile -t crates < <(changed_since "$2")
+    if [ ${#crates[@]} -eq 0 ]; then
+        echo "audit: no crate with an audit has changed since $2"
+        exit 0
+    fi
+elif [ $# -eq 0 ]; then
     for folder in crates/*/audit; do crates+=("$(basename "${folder%/audit}")"); done
 fi
 edits=0 refused=0 by_name=0 proved=0 bad=0 stopped=0
