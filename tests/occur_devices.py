@@ -208,6 +208,17 @@ def slow_script(bench: Bench) -> Verdict:
     return Verdict(Answer(REPLIES), finish(process))
 
 
+@case("A file has at most 64 changes: before another comes, the two that are nearest become one.")
+def changes_without_room(bench: Bench) -> Verdict:
+    places = [*range(0, 640, 10), 635, 700]
+    splices = "".join(f"splice 0 {place} 1 1\ny\n" for place in places)
+    script = "file f 1000\n" + "x\n" * 1000 + "changes\n" + splices + "changes\n"
+    ones = "".join(f"h 0 {place} 1 1 0\n" for place in range(20, 630, 10))
+    changes = "h 0 0 11 11 0\n" + ones + "h 0 630 6 6 0\nh 0 700 1 1 0\nstatus 1\n"
+    wanted = "ok\nh 0 0 0 1000 0\nstatus 1\n" + "ok\n" * len(places) + changes
+    return Verdict(Answer(wanted.encode()), bench.ask(stdin=script.encode()))
+
+
 @case("A script may be a named pipe that is written at once.")
 def named_pipe(bench: Bench) -> Verdict:
     feed_named_pipe(bench.folder / "p", SCRIPT)

@@ -6,8 +6,6 @@ mod mark;
 mod room;
 mod splices;
 mod stretch;
-#[cfg(test)]
-mod tests;
 mod touched;
 
 pub use mark::Mark;
