@@ -1,16 +1,14 @@
-//! What is found in lines: pattern `p` matches the lines that have its letter, and the kept part of a
-//! line is its first `a`.
-ghost use Rattle.std.specs.Prelude.{◌≡◌, ℕ, ◌+◌, ◌<◌, ◌≤◌, length, get_or, IfOk, IsTrue};
+//! What is found in lines: pattern `p` matches the lines that have its letter.
+ghost use Rattle.std.specs.Prelude.{◌≡◌, ◌+◌, length, IfOk, IsTrue};
 ghost use Rattle.re_syntax.specs.Lines.{HasNoNewline};
 ghost use Rattle.line_chunks.specs.Working.Finds.{AreBelow};
 ghost use Rattle.line_chunks.specs.Working.Chunks.{FitColumns};
 
 use line_chunks::{Chunk, Found, KeptLines, Matches, SpanLists};
-use re_syntax::Span;
 use std::alloc::{AllocError, Global};
 
 /// Whether the line has the letter.
-pub fn has(line: &[u8], letter: u8) -> bool {
+fn has(line: &[u8], letter: u8) -> bool {
     for byte in line {
         if *byte == letter {
             return true;
@@ -27,18 +25,6 @@ pub fn is_matched(line: &[u8], letters: &[u8]) -> bool {
         }
     }
     false
-}
-
-/// The place of the first `a`, or the length of the line.
-pub fn first_a(line: &[u8]) -> usize
-    ensures { result ≤ length line.now }
-{
-    for k in 0..line.len() {
-        if line[k] == b'a' {
-            return k;
-        }
-    }
-    line.len()
 }
 
 /// Notes the patterns that match line `k`.
@@ -65,42 +51,12 @@ fn matches_of(alloc: Global, chunk: &Chunk, letters: &[u8]) -> Result<Matches, A
     Ok(matches)
 }
 
-/// Notes the first `a` of line `k` where it has one.
-fn put_part(parts: &mut SpanLists, k: usize, line: &[u8]) -> Result<(), AllocError>
-    requires { length parts.old ≤ k }
-    ensures { IfOk result (λ _. length parts.new ≤ k + 1) }
-{
-    let start = first_a(line);
-    if start == line.len() {
-        return Ok(());
-    }
-    parts.put(
-        k,
-        &[Span {
-            start,
-            end: start + 1,
-        }],
-    )
-}
-
-/// The parts of the lines of a chunk.
-fn parts_of(alloc: Global, chunk: &Chunk) -> Result<SpanLists, AllocError>
-    ensures { IfOk result (λ parts. length parts ≤ length chunk.now) }
-{
-    let mut parts = SpanLists::new(alloc);
-    for k in 0..chunk.len() {
-        put_part(&mut parts, k, chunk.line(k))?;
-    }
-    Ok(parts)
-}
-
 /// What is found in the lines of a chunk.
 fn found_in(alloc: Global, chunk: &Chunk, letters: &[u8]) -> Result<Found, AllocError>
     ensures { IfOk result (λ found. found.size ≡ length chunk.now) }
 {
     let matches = matches_of(alloc, chunk, letters)?;
-    let parts = parts_of(alloc, chunk)?;
-    Found::of(alloc, chunk.len(), matches, parts)
+    Found::of(alloc, chunk.len(), matches, SpanLists::new(alloc))
 }
 
 /// What is found in the lines of each chunk.
@@ -120,7 +76,7 @@ fn columns_of<const LIMIT: u32>(
 }
 
 /// Puts in place what is found in all lines.
-pub fn find<const LIMIT: u32>(
+fn find<const LIMIT: u32>(
     alloc: Global,
     lines: &mut KeptLines<LIMIT>,
     letters: &[u8],

@@ -2,18 +2,12 @@
 #![tactic(auto)]
 
 #[cfg(test)]
-mod borders;
-#[cfg(test)]
 mod comparison;
 #[cfg(test)]
 mod findings;
 #[cfg(test)]
-mod harness;
-#[cfg(test)]
 mod marks;
 #[cfg(test)]
 mod memory;
-#[cfg(test)]
-mod numbers;
 #[cfg(test)]
 mod splices;

@@ -4,27 +4,17 @@
 //! splice is made once.
 use super::comparison::assert_same;
 use super::findings::kept_of;
-use super::harness::{splice_kept, splice_plain};
 use super::marks::{refuse, was_refused};
-use std::alloc::{AllocError, Global};
+use super::splices::{splice_kept, splice_plain, texts_of};
+use std::alloc::Global;
 use std::process::Abort;
 use std::test::Fail;
 
 /// How many requests a splice makes at most.
 const MOST: usize = 1_000;
 
-/// The most bytes of a chunk to which lines are added.
+/// The most bytes of a chunk to which lines are added: three lines fill it.
 const LIMIT: u32 = 9;
-
-/// Lines of which each three fill a chunk.
-fn texts_of(alloc: Global, count: usize) -> Result<Vec<Vec<u8>>, AllocError> {
-    let mut texts = Vec::new(alloc);
-    for k in 0..count {
-        let line = Vec::from_slice(alloc, if k % 2 == 0 { &b"ab"[..] } else { b"ca" })?;
-        texts.push(line)?;
-    }
-    Ok(texts)
-}
 
 /// Puts `new` lines in the place of five over three chunks, while the N-th allocation fails;
 /// whether one did. Where the splice was refused for that, all is as it was.
@@ -43,7 +33,7 @@ fn assert_refusal(rt: &impl Abort, alloc: Global, new: usize, n: usize) -> Resul
         }
         Err(_) => assert!(rt; refused, "request {n}"),
     }
-    assert_same(rt, alloc, &lines, &texts, b"ab")?;
+    assert_same(rt, &lines, &texts, b"ab");
     Ok(refused)
 }
 

@@ -1,132 +1,86 @@
-//! Splices at places that look random, also with patterns that go and come.
+//! Splices of lines in chunks and of a plain list, and many splices after which chunks have their size.
 use super::comparison::assert_same;
-use super::findings::find;
-use super::harness::splice_both;
-use super::numbers::{Numbers, some_lines};
+use super::findings::kept_of;
 use line_chunks::KeptLines;
-use std::alloc::Global;
+use std::alloc::{AllocError, Global};
 use std::process::Abort;
 use std::test::Fail;
 
-/// How many splices are made at each limit: at six limits 100,000 in all.
-const SPLICES: usize = 16_700;
+/// How many splices are made.
+const SPLICES: usize = 500;
 
-/// The letters of the patterns, some of which go and come.
-const LETTERS: [u8; 3] = [b'a', b'b', b'd'];
+/// The most bytes of a chunk to which lines are added.
+const LIMIT: u32 = 64;
 
-/// Removes a pattern if there is one.
-fn drop_one<const LIMIT: u32>(
-    numbers: &mut Numbers,
-    lines: &mut KeptLines<LIMIT>,
-    letters: &mut Vec<u8>,
-) {
-    let p = numbers.below(letters.len());
-    if p < letters.len() {
-        letters.remove(p);
-        lines.drop_number(p);
-    }
-}
-
-/// Adds a pattern if one more is wanted.
-fn add_one<const LIMIT: u32>(
-    alloc: Global,
-    numbers: &mut Numbers,
-    lines: &mut KeptLines<LIMIT>,
-    letters: &mut Vec<u8>,
-) -> Result<(), Fail> {
-    if letters.len() < 4 {
-        letters.push(LETTERS[numbers.below(3).min(2)])?;
-        find(alloc, lines, letters)?;
-    }
-    Ok(())
-}
-
-/// Makes a splice at a random place. Where there are many lines, many go.
-fn splice_once<const LIMIT: u32>(
-    rt: &impl Abort,
-    alloc: Global,
-    numbers: &mut Numbers,
-    lines: &mut KeptLines<LIMIT>,
-    texts: &mut Vec<Vec<u8>>,
-    letters: &[u8],
-) -> Result<(), Fail> {
-    let start = numbers.below(texts.len().saturating_add(1));
-    let most = if texts.len() > 200 { 100 } else { 41 };
-    let count = numbers.below(most).min(texts.len().saturating_sub(start));
-    let new = some_lines(alloc, numbers)?;
-    let made = splice_both(alloc, lines, texts, letters, start, count, new)?;
-    assert!(rt; made, "{start} and {count} lines are there");
-    Ok(())
-}
-
-/// Makes an edit: most are splices, and now and then a pattern goes or comes.
-fn edit_once<const LIMIT: u32>(
-    rt: &impl Abort,
-    alloc: Global,
-    numbers: &mut Numbers,
-    lines: &mut KeptLines<LIMIT>,
-    texts: &mut Vec<Vec<u8>>,
-    letters: &mut Vec<u8>,
-) -> Result<(), Fail> {
-    let kind = numbers.below(128);
-    if kind == 0 {
-        drop_one(numbers, lines, letters);
-    }
-    if kind == 1 {
-        add_one(alloc, numbers, lines, letters)?;
-    }
-    splice_once(rt, alloc, numbers, lines, texts, letters)
-}
-
-/// Makes many edits of lines in chunks of this size, and compares after some of them.
-fn assert_edits<const LIMIT: u32>(rt: &impl Abort, alloc: Global) -> Result<(), Fail> {
-    let mut numbers = Numbers::from(LIMIT as u64);
-    let mut lines = KeptLines::<LIMIT>::new(alloc);
+/// This number of lines of two letters.
+pub fn texts_of(alloc: Global, count: usize) -> Result<Vec<Vec<u8>>, AllocError> {
     let mut texts = Vec::new(alloc);
-    let mut letters = Vec::from_slice(alloc, b"ab")?;
-    for k in 0..SPLICES {
-        edit_once(
-            rt,
-            alloc,
-            &mut numbers,
-            &mut lines,
-            &mut texts,
-            &mut letters,
-        )?;
-        assert_eq!(rt; lines.len(), texts.len());
-        if k % 4 == 0 {
-            assert_same(rt, alloc, &lines, &texts, &letters)?;
-        }
+    for k in 0..count {
+        let line = Vec::from_slice(alloc, if k % 2 == 0 { &b"ab"[..] } else { b"ca" })?;
+        texts.push(line)?;
     }
-    assert_same(rt, alloc, &lines, &texts, &letters)
+    Ok(texts)
+}
+
+/// Puts lines in the place of `count` from `start` on, where these are there; whether they are.
+pub fn splice_kept<const LIMIT: u32>(
+    alloc: Global,
+    lines: &mut KeptLines<LIMIT>,
+    start: usize,
+    count: usize,
+    new: &KeptLines<LIMIT>,
+) -> Result<bool, AllocError> {
+    let all = lines.len();
+    if start > all || count > all - start {
+        return Ok(false);
+    }
+    lines.splice(alloc, start, count, new)?;
+    Ok(true)
+}
+
+/// Puts lines in the place of `count` from `start` on in a plain list, where these are there;
+/// whether they are.
+pub fn splice_plain(
+    texts: &mut Vec<Vec<u8>>,
+    start: usize,
+    count: usize,
+    new: Vec<Vec<u8>>,
+) -> Result<bool, AllocError> {
+    let all = texts.len();
+    if start > all || count > all - start {
+        return Ok(false);
+    }
+    texts.splice(start..start + count, new)?;
+    Ok(true)
+}
+
+/// Makes the splice with this number in both.
+fn splice_both(
+    rt: &impl Abort,
+    alloc: Global,
+    lines: &mut KeptLines<LIMIT>,
+    texts: &mut Vec<Vec<u8>>,
+    k: usize,
+) -> Result<(), Fail> {
+    let start = (k % 50).min(texts.len());
+    let count = (k % 4).min(texts.len().saturating_sub(start));
+    let fresh = texts_of(alloc, k % 5)?;
+    let kept = kept_of(alloc, &fresh, b"ab")?;
+    assert!(rt;
+        splice_kept(alloc, lines, start, count, &kept)?,
+        "splice {k}"
+    );
+    splice_plain(texts, start, count, fresh)?;
+    Ok(())
 }
 
 #[test]
-fn chunks_of_one_line(rt: HostRuntime) -> Result<(), Fail> {
-    assert_edits::<0>(&rt, rt.alloc())
-}
-
-#[test]
-fn chunks_of_a_byte(rt: HostRuntime) -> Result<(), Fail> {
-    assert_edits::<1>(&rt, rt.alloc())
-}
-
-#[test]
-fn chunks_of_4_bytes(rt: HostRuntime) -> Result<(), Fail> {
-    assert_edits::<4>(&rt, rt.alloc())
-}
-
-#[test]
-fn chunks_of_8_bytes(rt: HostRuntime) -> Result<(), Fail> {
-    assert_edits::<8>(&rt, rt.alloc())
-}
-
-#[test]
-fn chunks_of_64_bytes(rt: HostRuntime) -> Result<(), Fail> {
-    assert_edits::<64>(&rt, rt.alloc())
-}
-
-#[test]
-fn chunks_of_1000_bytes(rt: HostRuntime) -> Result<(), Fail> {
-    assert_edits::<1_000>(&rt, rt.alloc())
+fn chunks_have_their_size_after_splices(rt: HostRuntime) -> Result<(), Fail> {
+    let mut texts = Vec::new(rt.alloc());
+    let mut lines = KeptLines::new(rt.alloc());
+    for k in 0..SPLICES {
+        splice_both(&rt, rt.alloc(), &mut lines, &mut texts, k)?;
+        assert_same(&rt, &lines, &texts, b"ab");
+    }
+    Ok(())
 }
