@@ -61,7 +61,7 @@ try() {
     fi
 }
 
-try asks_for_none re_tests automata::memory::stepping_takes_no_memory "folding and stepping"
+try asks_for_none re_tests automata::stepping_takes_no_memory "folding and stepping"
 try goes_on re_tests cache::matchers_without_memory "a matcher that is made"
 try goes_on re_tests cache::searches_without_memory "searches of a matcher"
 try goes_on re_tests courses::parts_without_memory "parts of a line"

@@ -1,7 +1,7 @@
-//! Readers that fail, and what is buffered before it is written.
+//! Readers that fail, and buffers whose device fails.
 use grep_core::{
     Buffered, CountedWrite, Limited, Lines, ReadFault, Tally, WholeLines, WriteFault, push_all,
-    write_cannot_open, write_count, write_line, write_name, write_read_error, write_row,
+    write_line,
 };
 use std::io::{Error, ErrorKind, Read, Write};
 use std::test::Fail;
@@ -23,44 +23,6 @@ fn a_failed_read_is_answered_from_then_on(rt: HostRuntime) -> Result<(), Fail> {
             assert_eq!(rt; lines.line().len(), 0, "{left}");
         }
     }
-    Ok(())
-}
-
-#[test]
-fn rows_go_through_the_buffer(rt: HostRuntime) -> Result<(), Fail> {
-    let mut out = Buffered::new(rt.alloc(), Tally::new(Vec::new(rt.alloc())))?;
-    let row = write_row(
-        &mut out,
-        b"  ",
-        b':',
-        Some(b"a.txt"),
-        Some(u64::MAX),
-        b"text",
-    );
-    assert_eq!(rt; row, Ok(()));
-    assert_eq!(rt;
-        write_row(&mut out, b"", b'-', Some(b"b"), Some(7), b"beside"),
-        Ok(())
-    );
-    assert_eq!(rt; write_line(&mut out, b"--"), Ok(()));
-    assert_eq!(rt; out.send(), Ok(()));
-    let bytes = out.into_inner().into_inner();
-    let want = b"  a.txt:18446744073709551615:text\nb-7-beside\n--\n";
-    assert_eq!(rt; bytes.as_slice(), want.as_slice());
-    Ok(())
-}
-
-#[test]
-fn counts_names_and_messages_are_lines(rt: HostRuntime) -> Result<(), Fail> {
-    let mut out = Tally::new(Vec::new(rt.alloc()));
-    assert_eq!(rt; write_count(&mut out, b"  ", Some(b"a.txt"), 12), Ok(()));
-    assert_eq!(rt; write_count(&mut out, b"", None, 0), Ok(()));
-    assert_eq!(rt; write_name(&mut out, b"> ", b"a.txt"), Ok(()));
-    assert_eq!(rt; write_cannot_open(&mut out, b"b.txt"), Ok(()));
-    assert_eq!(rt; write_read_error(&mut out, b"c"), Ok(()));
-    let bytes = out.into_inner();
-    let want = b"  a.txt:12\n0\n> a.txt\ngrep: b.txt: cannot open\ngrep: c: read error\n";
-    assert_eq!(rt; bytes.as_slice(), want.as_slice());
     Ok(())
 }
 
@@ -111,31 +73,6 @@ impl Write for Barred {
 fn unwritten(rt: &HostRuntime, step: usize, good: usize) -> Tally<Barred> {
     let bytes = Vec::new(rt.alloc());
     Tally::new(Barred { bytes, step, good })
-}
-
-#[test]
-fn a_message_is_one_write(rt: HostRuntime) -> Result<(), Fail> {
-    let mut out = WholeLines::new(rt.alloc(), unwritten(&rt, usize::MAX, usize::MAX))?;
-    assert_eq!(rt; write_cannot_open(&mut out, b"a.txt"), Ok(()));
-    assert_eq!(rt; push_all(&mut out, b"ab\ncd\nef"), Ok(()));
-    assert_eq!(rt; write_line(&mut out, b"gh"), Ok(()));
-    assert_eq!(rt; push_all(&mut out, b"ij"), Ok(()));
-    assert_eq!(rt; out.flush(), Ok(()));
-    let bytes = out.into_inner().into_inner().bytes;
-    let want = b"grep: a.txt: cannot open\n|ab\ncd\n|efgh\n|ij|";
-    assert_eq!(rt; bytes.as_slice(), want.as_slice());
-    Ok(())
-}
-
-#[test]
-fn a_line_that_is_taken_in_part_goes_on(rt: HostRuntime) -> Result<(), Fail> {
-    let mut out = WholeLines::new(rt.alloc(), unwritten(&rt, 1, usize::MAX))?;
-    assert_eq!(rt; write_line(&mut out, b"ab"), Ok(()));
-    assert_eq!(rt; push_all(&mut out, b"cd\ne"), Ok(()));
-    assert_eq!(rt; out.flush(), Ok(()));
-    let bytes = out.into_inner().into_inner().bytes;
-    assert_eq!(rt; bytes.as_slice(), b"a|b|\n|c|d|\n|e|".as_slice());
-    Ok(())
 }
 
 #[test]

@@ -1,9 +1,5 @@
 //! Reads, writes and messages that fail, at each byte.
-use crate::harness::{
-    Limits, UNLIMITED, assert_command, assert_search, assert_written, commanded, file, folder,
-    read_by, searched, status_of,
-};
-use grep_core::RunFault;
+use crate::harness::{Limits, UNLIMITED, assert_command, assert_written, commanded, file, folder};
 use memory_files::{Content, MemoryFile};
 use std::alloc::Global;
 use std::process::Abort;
@@ -66,7 +62,6 @@ fn failed_reads_are_reported(rt: HostRuntime) -> Result<(), Fail> {
         for left in *from..=*to {
             let folder = [cut_after(left), file("k", b"b\na\n")];
             let files = folder.as_slice();
-            assert_search(&rt, rt.alloc(), row, files, 1)?;
             assert_command(&rt, rt.alloc(), row, files, 1)?;
         }
     }
@@ -107,7 +102,7 @@ fn written_rows() -> &'static [WrittenRow] {
 
 const WRITE_ERROR: &[u8] = b"grep: write error\n";
 
-/// Compares what the row's search and command give where this number of bytes is written.
+/// Compares what the row's command gives where this number of bytes is written.
 fn assert_cut_output(
     rt: &impl Abort,
     alloc: Global,
@@ -125,9 +120,6 @@ fn assert_cut_output(
     };
     let front = &output[..output.len().min(room)];
     let reported = if room < before { b"" } else { message };
-    let search = searched(alloc, line, files, input, limits)?;
-    assert_eq!(rt; search.answer, Err(RunFault::Write), "{line}, {room}");
-    assert_written(rt, &search, front, reported, line, room);
     let command = commanded(alloc, line, files, input, limits)?;
     assert_eq!(rt; command.answer, 2, "{line}, {room}");
     let mut messages = reported.to_vec(alloc)?;
@@ -143,42 +135,6 @@ fn failed_writes_end_the_run(rt: HostRuntime) -> Result<(), Fail> {
             assert_cut_output(&rt, rt.alloc(), *row, room)?;
         }
     }
-    Ok(())
-}
-
-/// Compares what the row's search and command write where no device moves more than `step` bytes a
-/// call.
-fn assert_moved(rt: &impl Abort, alloc: Global, row: WrittenRow, step: usize) -> Result<(), Fail> {
-    let (line, output, _, message) = row;
-    let folder = folder().map(|file| read_by(file, step));
-    let files = folder.as_slice();
-    let input = Content {
-        step,
-        ..Content::new(b"b\nab\nB\n")
-    };
-    let limits = Limits { step, ..UNLIMITED };
-    let search = searched(alloc, line, files, input, limits)?;
-    assert_written(rt, &search, output, message, line, step);
-    let command = commanded(alloc, line, files, input, limits)?;
-    assert_written(rt, &command, output, message, line, step);
-    Ok(())
-}
-
-#[test]
-fn few_bytes_at_a_time_are_as_many_at_once(rt: HostRuntime) -> Result<(), Fail> {
-    for row in written_rows() {
-        for step in [1, 2, 3, usize::MAX] {
-            assert_moved(&rt, rt.alloc(), *row, step)?;
-        }
-    }
-    let stuck = Limits {
-        step: 0,
-        ..UNLIMITED
-    };
-    let input = Content::new(b"ab\nb");
-    let command = commanded(rt.alloc(), "b", &[], input, stuck)?;
-    assert_eq!(rt; command.answer, 2);
-    assert_written(&rt, &command, b"", b"", "b", 0);
     Ok(())
 }
 
@@ -216,7 +172,7 @@ fn message_rows() -> &'static [MessageRow] {
     &TOLD
 }
 
-/// Compares what the row's search and command give where this number of bytes of messages is
+/// Compares what the row's command gives where this number of bytes of messages is
 /// written.
 fn assert_cut_message(
     rt: &impl Abort,
@@ -237,10 +193,6 @@ fn assert_cut_message(
     let front = &message[..message.len().min(room)];
     let output = if is_cut { before } else { output };
     let status = if is_cut { 2 } else { status };
-    let search = searched(alloc, line, files, input, limits)?;
-    let is_fault = search.answer == Err(RunFault::MessageWrite);
-    assert_eq!(rt; is_fault, is_cut, "{line}, {room}");
-    assert_written(rt, &search, output, front, line, room);
     let command = commanded(alloc, line, files, input, limits)?;
     assert_eq!(rt; command.answer, status, "{line}, {room}");
     assert_written(rt, &command, output, front, line, room);
@@ -307,9 +259,6 @@ fn failed_standard_input_is_reported(rt: HostRuntime) -> Result<(), Fail> {
         let content = Content::new(b"ab\ncd");
         let input = Content { left, ..content };
         let count = if left < 3 { b"0\n" } else { b"1\n" };
-        let search = searched(rt.alloc(), "-c .", &[], input, UNLIMITED)?;
-        assert_eq!(rt; status_of(search.answer), 2);
-        assert_written(&rt, &search, count, reported, "-c .", left);
         let command = commanded(rt.alloc(), "-c .", &[], input, UNLIMITED)?;
         assert_eq!(rt; command.answer, 2);
         assert_written(&rt, &command, count, reported, "-c .", left);

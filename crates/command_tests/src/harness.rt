@@ -93,15 +93,6 @@ pub fn broken_file<'a>(name: &'a str, bytes: &'a [u8]) -> MemoryFile<'a> {
     }
 }
 
-/// The same file; one read of it returns at most `step` bytes.
-pub fn read_by<'a>(file: MemoryFile<'a>, step: usize) -> MemoryFile<'a> {
-    let content = match file.content {
-        Some(content) => Some(Content { step, ..content }),
-        None => None,
-    };
-    MemoryFile { content, ..file }
-}
-
 /// The files that the rows name.
 pub fn folder() -> [MemoryFile<'static>; 4] {
     [
@@ -179,19 +170,6 @@ fn named<'a>(
     Ok(sources)
 }
 
-/// Searches for the lists of a command in the files that it names, without the command.
-pub fn searched<'a>(
-    alloc: Global,
-    line: &str,
-    files: &'a [MemoryFile<'a>],
-    input: Content<'a>,
-    limits: Limits,
-) -> Result<Outcome<Result<Status, RunFault>>, Fail> {
-    let devices = Devices::new(alloc, limits);
-    let (outcome, _) = searched_without(alloc, line, files, input, devices, 0)?;
-    Ok(outcome)
-}
-
 /// Searches while the N-th request for memory of the search is refused, none where N is 0; whether
 /// one was.
 pub fn searched_without<'a>(
@@ -227,16 +205,6 @@ pub fn searched_without<'a>(
     Ok((devices.outcome(answer), refused))
 }
 
-/// The exit status for the answer of a search.
-pub fn status_of(answer: Result<Status, RunFault>) -> u8 {
-    match answer {
-        Ok(Status::Selected) => 0,
-        Ok(Status::NoneSelected) => 1,
-        Ok(Status::Error) => 2,
-        Err(_) => 3,
-    }
-}
-
 /// Compares what a run of this line wrote; the place is one more number that identifies the run.
 pub fn assert_written<T>(
     rt: &impl Abort,
@@ -248,23 +216,6 @@ pub fn assert_written<T>(
 ) {
     assert_eq!(rt; run.output.as_slice(), output, "{line}, {place}");
     assert_eq!(rt; run.messages.as_slice(), messages, "{line}, {place}");
-}
-
-/// Searches the files of a row without its command, and compares what it gives.
-pub fn assert_search(
-    rt: &impl Abort,
-    alloc: Global,
-    row: Row,
-    files: &[MemoryFile<'static>],
-    step: usize,
-) -> Result<(), Fail> {
-    let (line, bytes, output, messages, status) = row;
-    let content = Content::new(bytes);
-    let input = Content { step, ..content };
-    let search = searched(alloc, line, files, input, UNLIMITED)?;
-    assert_eq!(rt; status_of(search.answer), status, "{line}");
-    assert_written(rt, &search, output, messages.as_bytes(), line, step);
-    Ok(())
 }
 
 /// Runs the command of a row, and compares what it gives.

@@ -15,8 +15,6 @@ mod marks;
 #[cfg(test)]
 mod memory;
 #[cfg(test)]
-mod rows;
-#[cfg(test)]
 mod scripts;
 #[cfg(test)]
 mod sessions;

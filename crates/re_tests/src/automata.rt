@@ -1,91 +1,77 @@
-//! Automata, and sets of positions that are stepped over lines.
-mod memory;
+//! Calls that ask for no memory.
+//!
+//! The library that tools/refuse_growths.sh loads before the C library takes requests of two sizes
+//! as commands, and refuses the first request of these calls. Without it each request is granted.
+use re_auto::{Automaton, Mode, Starts, StateSet, fresh_meter};
+use re_syntax::{fold, read_extended};
+use std::alloc::{AllocError, Global};
 
-use re_auto::{Automaton, BuildFault, Mode, StateSet, fresh_meter};
-use re_syntax::read_extended;
-use std::mem;
-use std::test::Fail;
+/// A request for this number of bytes has the next request after it refused.
+const REFUSE: usize = 9_000_001;
 
-fn built(rt: &HostRuntime, text: &[u8]) -> Option<Result<Automaton, BuildFault>> {
+/// A request for this number of bytes is refused where one was since the last command, and ends
+/// that command.
+const WAS_REFUSED: usize = 8_000_000;
+
+/// Makes a request for this number of bytes.
+fn ask(alloc: Global, bytes: usize) -> Result<usize, AllocError> {
+    let mut mark = Vec::with_capacity(alloc, bytes)?;
+    mark.push(b'.')?;
+    Ok(mark.len())
+}
+
+/// The automaton of an expression whose letters match both cases.
+fn folded(rt: &HostRuntime, text: &[u8]) -> Option<Automaton> {
     let tree = read_extended(rt.alloc(), text).ok()?;
-    Some(Automaton::build(rt.alloc(), tree))
+    ask(rt.alloc(), REFUSE).ok()?;
+    let tree = fold(tree);
+    ask(rt.alloc(), WAS_REFUSED).ok()?;
+    Automaton::build(rt.alloc(), tree).ok()
 }
 
-fn automaton_of(rt: &HostRuntime, text: &[u8]) -> Option<Automaton> {
-    built(rt, text)?.ok()
-}
-
-/// Whether some stretch of the mode that ends at the line's end is matched, found in one step for
-/// each byte.
-fn accepts(rt: &HostRuntime, text: &[u8], mode: Mode, line: &[u8]) -> Option<bool> {
-    let automaton = automaton_of(rt, text)?;
-    let mut here = StateSet::blank(rt.alloc(), &automaton).ok()?;
-    let mut there = StateSet::blank(rt.alloc(), &automaton).ok()?;
+/// Whether a line of two bytes has a matched stretch that ends at its end.
+fn accepts(rt: &HostRuntime, automaton: &Automaton, first: u8, second: u8) -> Option<bool> {
+    let mut here = StateSet::blank(rt.alloc(), automaton).ok()?;
+    let mut there = StateSet::blank(rt.alloc(), automaton).ok()?;
     let mut meter = fresh_meter();
+    ask(rt.alloc(), REFUSE).ok()?;
     automaton.start(&mut here);
-    'bytes: for byte in line {
-        automaton.advance(mode, &here, *byte, &mut there, &mut meter);
-        mem::swap(&mut here, &mut there);
-    }
-    if meter.built() != line.len() as u64 || meter.reused() != 0 {
-        return None;
-    }
-    Some(automaton.accepts(mode, &here, true))
+    automaton.advance(Mode::Search, &here, first, &mut there, &mut meter);
+    here.copy_from(&there);
+    automaton.advance(Mode::Search, &here, second, &mut there, &mut meter);
+    let accepted = automaton.accepts(Mode::Search, &there, true);
+    ask(rt.alloc(), WAS_REFUSED).ok()?;
+    Some(accepted)
 }
 
-static SIZES: [(&[u8], bool); 6] = [
-    (b"(a{255}){16}", true),
-    (b"(a{255}){17}", false),
-    (b"(a{255}){16}a{16}", true),
-    (b"(a{255}){16}a{17}", false),
-    (b"((a{255}){255}){0}", true),
-    (b"((((){255}){255}){255}){255}", true),
-];
-
-fn sizes() -> &'static [(&'static [u8], bool)] {
-    &SIZES
-}
-
-#[test]
-fn an_automaton_has_at_most_4096_positions(rt: HostRuntime) {
-    for row in sizes() {
-        let (text, fits) = *row;
-        let right = match built(&rt, text) {
-            Some(Ok(_)) => fits,
-            Some(Err(fault)) => !fits && fault == BuildFault::TooLarge,
-            None => false,
-        };
-        assert!(rt; right, "{text:?}");
-    }
-}
-
-static WHOLE_LINES: [(&[u8], &[u8], bool); 13] = [
-    (b"((a{255}){255}){0}", b"", true),
-    (b"((a{255}){255}){0}", b"a", false),
-    (b"((((){255}){255}){255}){255}", b"", true),
-    (b"((((){255}){255}){255}){255}", b"x", false),
-    (b"ba{0}c", b"bc", true),
-    (b"(^a|b)*$", b"abb", true),
-    (b"(^a|b)*$", b"bb", true),
-    (b"(^a|b)*$", b"", true),
-    (b"(^a|b)*$", b"ba", false),
-    (b"(^)*", b"", true),
-    (b"(^)*", b"x", false),
-    (b"^$", b"", true),
-    (b"^$", b"x", false),
-];
-
-fn whole_lines() -> &'static [(&'static [u8], &'static [u8], bool)] {
-    &WHOLE_LINES
+/// The least start of a matched stretch that ends at the end of a line of two bytes.
+fn reported(
+    rt: &HostRuntime,
+    automaton: &Automaton,
+    first: u8,
+    second: u8,
+) -> Option<Option<usize>> {
+    let mut here = Starts::blank(rt.alloc(), automaton).ok()?;
+    let mut there = Starts::blank(rt.alloc(), automaton).ok()?;
+    let mut meter = fresh_meter();
+    ask(rt.alloc(), REFUSE).ok()?;
+    here.start(0);
+    here.advance(automaton, Mode::Search, first, &mut there, &mut meter);
+    here.copy_from(&there);
+    here.advance(automaton, Mode::Search, second, &mut there, &mut meter);
+    let start = there.accepts(automaton, true);
+    ask(rt.alloc(), WAS_REFUSED).ok()?;
+    Some(start)
 }
 
 #[test]
-fn whole_lines_are_accepted(rt: HostRuntime) {
-    for row in whole_lines() {
-        let (text, line, expected) = *row;
-        assert!(rt;
-            accepts(&rt, text, Mode::Whole, line) == Some(expected),
-            "{text:?} {line:?}"
-        );
+fn stepping_takes_no_memory(rt: HostRuntime) {
+    let automaton = folded(&rt, b"(^|a)y*[x-z]{1,3}$|([b-d]z)+");
+    assert!(rt; automaton.is_some(), "folding takes no memory");
+    if let Some(automaton) = automaton {
+        assert_eq!(rt; accepts(&rt, &automaton, b'A', b'Z'), Some(true));
+        assert_eq!(rt; accepts(&rt, &automaton, b'q', b'z'), Some(false));
+        assert_eq!(rt; reported(&rt, &automaton, b'A', b'z'), Some(Some(0)));
+        assert_eq!(rt; reported(&rt, &automaton, b'q', b'z'), Some(None));
     }
 }

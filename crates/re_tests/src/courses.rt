@@ -1,11 +1,12 @@
-//! All parts of a line, in at most four searches of it, by steps and by passed bytes.
+//! All parts of a line, in at most four searches of it, by steps and by passed bytes, also while each
+//! allocation fails in turn. Where none is refused, each line is searched once.
 ghost use Rattle.std.specs.Prelude.{false, map};
 ghost use Rattle.re_search.specs.Searches.{AllAnswer};
 ghost use Rattle.re_search.specs.Working.Matchers.{wants_whole};
 
-use crate::blocks::all_made;
 use crate::cache::{MOST, REFUSE, WAS_REFUSED, ask};
-use crate::several::ends_of;
+use crate::filters::all_made;
+use crate::matchers::ends_of;
 use re_auto::{Meter, fresh_meter};
 use re_search::{Filter, Matcher, Searchers, parts};
 use std::alloc::{AllocError, Global};
@@ -79,19 +80,6 @@ fn count_parts(
     count
 }
 
-fn assert_parts(rt: &impl Abort, alloc: Global, row: &Row) -> Result<(), Fail> {
-    let (texts, letters, times, expected) = *row;
-    let mut matchers = all_made(alloc, texts)?;
-    let mut others = all_made(alloc, texts)?;
-    let line = again(alloc, letters, times)?;
-    let mut meter = fresh_meter();
-    let count = count_parts(rt, alloc, &mut matchers, &mut others, &line, &mut meter);
-    assert_eq!(rt; count, expected, "{texts:?}");
-    assert_eq!(rt; meter.refused(), 0, "{texts:?}");
-    assert_counted(rt, row, matchers.len(), line.len(), &meter);
-    Ok(())
-}
-
 // No more was counted than by four searches of a line of this number of bytes.
 fn assert_counted(rt: &impl Abort, row: &Row, matchers: usize, bytes: usize, meter: &Meter) {
     let steps = meter.built().saturating_add(meter.reused());
@@ -99,14 +87,6 @@ fn assert_counted(rt: &impl Abort, row: &Row, matchers: usize, bytes: usize, met
     let most = search.saturating_mul(4);
     assert!(rt; steps <= most, "{:?}", row.0);
     assert!(rt; meter.passed() <= most, "{:?}", row.0);
-}
-
-#[test]
-fn all_parts_of_a_line_take_four_searches(rt: HostRuntime) -> Result<(), Fail> {
-    for row in rows() {
-        assert_parts(&rt, rt.alloc(), row)?;
-    }
-    Ok(())
 }
 
 // Searches for the parts of a line while the N-th allocation fails; whether one did. A refusal is

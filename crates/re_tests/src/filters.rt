@@ -1,7 +1,11 @@
 //! Strings that the matches of several matchers need.
-use crate::blocks::all_made;
+ghost use Rattle.std.specs.Prelude.{false, IfOk, map};
+ghost use Rattle.re_search.specs.Searches.{AllAnswer};
+ghost use Rattle.re_search.specs.Working.Matchers.{wants_whole};
+
 use re_auto::fresh_meter;
-use re_search::{Searchers, needed_strings};
+use re_search::{Matcher, Searchers, Syntax, needed_strings};
+use re_syntax::split_file;
 use std::alloc::Global;
 use std::process::Abort;
 use std::test::Fail;
@@ -28,6 +32,18 @@ static ROWS: [Row; 9] = [
 
 fn rows() -> &'static [Row] {
     &ROWS
+}
+
+/// The matchers of extended expressions, one a line.
+pub(crate) fn all_made(alloc: Global, texts: &[u8]) -> Result<Vec<Matcher>, Fail>
+    ensures { IfOk result (λ v. AllAnswer false (map wants_whole v.items)) }
+{
+    let mut matchers = Vec::new(alloc);
+    for text in split_file(texts) {
+        let matcher = Matcher::new(alloc, text, Syntax::Extended, false, false, 64)?;
+        matchers.push(matcher)?;
+    }
+    Ok(matchers)
 }
 
 fn assert_filtered(rt: &impl Abort, alloc: Global, row: &Row) -> Result<(), Fail> {

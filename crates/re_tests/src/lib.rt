@@ -4,20 +4,12 @@
 #[cfg(test)]
 mod automata;
 #[cfg(test)]
-mod blocks;
-#[cfg(test)]
 mod cache;
 #[cfg(test)]
 mod courses;
 #[cfg(test)]
 mod filters;
 #[cfg(test)]
-mod half_bytes;
-#[cfg(test)]
-mod many_strings;
-#[cfg(test)]
 mod matchers;
 #[cfg(test)]
 mod plain;
-#[cfg(test)]
-mod several;

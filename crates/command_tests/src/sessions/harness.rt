@@ -107,13 +107,3 @@ pub fn assert_row(
     }
     Ok(())
 }
-
-/// Makes the edits of the rows, one after the other, in a new session.
-pub fn assert_session(rt: &impl Abort, alloc: Global, rows: &'static [Row]) -> Result<(), Fail> {
-    let mut session = Session::new(alloc, STATES);
-    let mut meter = fresh_meter();
-    for row in rows {
-        assert_row(rt, alloc, &mut session, &mut meter, *row)?;
-    }
-    Ok(())
-}
