@@ -320,12 +320,16 @@ Point moves to their end, or to where to look for it later."
     (= count (cl-incf live-occur--lines-here (- wanted short begun)))))
 
 (defun live-occur--hand-out (process reply)
-  "Give REPLY of PROCESS, with the blocks before it, to what waits for it."
+  "Give REPLY of PROCESS, with the blocks before it, to what waits for it.
+After a fault replies are out of step with what waits for them."
   (let ((blocks (nreverse (cl-shiftf live-occur--blocks nil))))
     (dolist (block blocks)
       (setcdr block (nreverse (cdr block))))
     (live-occur--in (process-get process 'list)
-      (funcall (cdr (pop (process-get process 'waiting))) reply blocks))))
+      (unless live-occur--fault
+        (funcall (or (cdr (pop (process-get process 'waiting)))
+                     #'live-occur--accepted)
+                 reply blocks)))))
 
 (defun live-occur--ended (process _event)
   "Report in the list of PROCESS that it has ended, if it has."
@@ -363,10 +367,12 @@ Point moves to their end, or to where to look for it later."
 
 (defun live-occur--order (command)
   "Send COMMAND, which the program has to accept."
-  (live-occur--send
-   command (lambda (reply _)
-             (unless (equal reply "ok")
-               (live-occur--tell-fault (concat "occur answered: " reply))))))
+  (live-occur--send command #'live-occur--accepted))
+
+(defun live-occur--accepted (reply _)
+  "Report in this list that the program didn't accept a command, by its REPLY."
+  (unless (equal reply "ok")
+    (live-occur--tell-fault (concat "occur answered: " reply))))
 
 (defun live-occur--begin ()
   "Start the program of this list, and send it all that it has to hold."
@@ -617,7 +623,7 @@ Where it begins in that text is in front of it."
   pieces                                ; the hits, in `live-occur--piece's
   tick            ; the buffer's tick when its edits were known, or nil if lost
   (trace (make-live-occur--trace))      ; what is known of changes
-  stop)                          ; a tick, and where a line was then, and which
+  stop)                ; a tick and a size, and where a line was then, and which
 
 (defvar-local live-occur--sources-here nil
   "The sources that have this buffer's text.")
@@ -629,18 +635,29 @@ Where it begins in that text is in front of it."
 
 (defmacro live-occur--in-text (source &rest body)
   "Run BODY in the whole buffer of SOURCE, if it is alive, and stay there.
-A cache of newlines would make it slower to walk over many lines."
+A cache of newlines would make it slower to walk over many lines.  A line goes
+on where a field ends."
   (declare (indent 1) (debug t))
   `(live-occur--in (live-occur--buffer ,source)
      (save-excursion
        (save-restriction
          (widen)
-         (let ((cache-long-scans nil))
+         (let ((cache-long-scans nil) (inhibit-field-text-motion t))
            ,@body)))))
 
 (defun live-occur--base (buffer)
   "The buffer that has the text of BUFFER, which may be an indirect one."
   (or (buffer-base-buffer buffer) buffer))
+
+(defun live-occur--track (source)
+  "Gather the edits of SOURCE, in all buffers that have its text."
+  (dolist (buffer (buffer-list))
+    (when (eq (live-occur--base buffer)
+              (live-occur--base (live-occur--buffer source)))
+      (with-current-buffer buffer
+        (cl-pushnew source live-occur--sources-here)
+        (add-hook 'before-change-functions #'live-occur--before nil t)
+        (add-hook 'after-change-functions #'live-occur--after nil t)))))
 
 (defun live-occur--untrack (source)
   "Gather no more edits of SOURCE."
@@ -663,23 +680,24 @@ A cache of newlines would make it slower to walk over many lines."
 
 (defun live-occur--go-to-line (source line)
   "Move to the beginning of LINE of SOURCE, from a line that is known."
-  (pcase-let* ((tick (buffer-chars-modified-tick))
+  (pcase-let* ((now (cons (buffer-chars-modified-tick) (buffer-size)))
                (stop (live-occur--stop source))
-               (`(,place . ,at) (cond ((eql tick (car stop)) (cdr stop))
+               (`(,place . ,at) (cond ((equal now (car stop)) (cdr stop))
                                       ((live-occur--known-p source)
                                        (live-occur--anchor source))
                                       (t '(1 . 0)))))
     (goto-char place)
     (when (and (= 0 (forward-line (- line at))) (bolp))
-      (setf (live-occur--stop source) `(,tick ,(point) . ,line)))))
+      (setf (live-occur--stop source) `(,now ,(point) . ,line)))))
 
 ;;;; Changes
 
 ;; A change is reported before and after it is made, but not always in pairs,
 ;; and not always with the same bounds.  What is reported before is kept with
 ;; the number of lines in it; what is reported after has to lie inside, and the
-;; size of the buffer has to be what both say.  Where it is not, or the tick
-;; tells of a change that was not reported, the whole text is sent again.
+;; size of the buffer has to be what both say.  Where it is not, or the tick or
+;; the size tells of a change that was not reported, the whole text is sent
+;; again.  A text that comes from a file or a program leaves the tick alone.
 ;;
 ;; A command may make many changes.  Those that are near one another and have
 ;; no newline cost little: the text that they touched is kept, from `touched'
@@ -689,8 +707,15 @@ A cache of newlines would make it slower to walk over many lines."
 
 (defun live-occur--known-p (source)
   "Whether all edits of SOURCE are known, and none is lost."
-  (eql (live-occur--tick source)
-       (buffer-chars-modified-tick (live-occur--buffer source))))
+  (let ((buffer (live-occur--buffer source)))
+    (and (eql (live-occur--tick source) (buffer-chars-modified-tick buffer))
+         (eql (live-occur--trace-size (live-occur--trace source))
+              (buffer-size buffer)))))
+
+(defun live-occur--know (source)
+  "Note that all edits of SOURCE are known now."
+  (setf (live-occur--tick source) (buffer-chars-modified-tick)
+        (live-occur--trace-size (live-occur--trace source)) (buffer-size)))
 
 (defun live-occur--lose (source)
   "Forget the edits of SOURCE: all of its text is to be sent."
@@ -699,6 +724,20 @@ A cache of newlines would make it slower to walk over many lines."
         (live-occur--moves source) (live-occur--hunks 0)
         (live-occur--trace source) (make-live-occur--trace))
   (live-occur--in (live-occur--list source) (live-occur--lose-lines source)))
+
+(defmacro live-occur--in-hook (&rest body)
+  "Run BODY where a change is reported, and tell of an error in it.
+Emacs takes all functions out of a hook where one is broken off.  After an error
+no edit of this buffer is known."
+  (declare (indent 0) (debug t))
+  `(let ((inhibit-quit t))
+     (condition-case problem
+         (progn ,@body)
+       ((error quit)
+        (dolist (source live-occur--sources-here)
+          (setf (live-occur--tick source) nil))
+        (message "live-occur: %s; all is looked at again later"
+                 (error-message-string problem))))))
 
 (defmacro live-occur--gather (source &rest body)
   "Run BODY in this buffer, all of it accessible, if it has the text of SOURCE.
@@ -752,20 +791,20 @@ A copy of a buffer has its local variables, and another text."
            (setf (live-occur--trace-touched trace)
                  (min start (live-occur--trace-touched trace))
                  (live-occur--trace-rest trace)
-                 (min (- size end) (live-occur--trace-rest trace))
-                 (live-occur--trace-size trace) size
-                 (live-occur--tick source) (buffer-chars-modified-tick)))
+                 (min (- size end) (live-occur--trace-rest trace)))
+           (live-occur--know source))
           (t (live-occur--lose source)))))
 
 (defun live-occur--before (start end)
   "Take note of the text from START to END, which is about to change."
-  (when live-occur--burst (live-occur--end-burst))
-  (dolist (source live-occur--sources-here)
-    (unless (live-occur--near-p source start end)
-      (live-occur--gather source
-        (if (live-occur--known-p source)
-            (live-occur--expect source start end)
-          (live-occur--lose source))))))
+  (live-occur--in-hook
+    (when live-occur--burst (live-occur--end-burst))
+    (dolist (source live-occur--sources-here)
+      (unless (live-occur--near-p source start end)
+        (live-occur--gather source
+          (if (live-occur--known-p source)
+              (live-occur--expect source start end)
+            (live-occur--lose source)))))))
 
 (defun live-occur--near-p (source start end)
   "Whether START to END is in a line, and near the change of SOURCE before it.
@@ -775,12 +814,11 @@ Take note of it then."
     (when (and (<= (live-occur--trace-place trace)
                    start
                    (+ 200 (- size (live-occur--trace-rest trace))))
-               (eql (live-occur--tick source) (buffer-chars-modified-tick))
                (eq (live-occur--buffer source) (current-buffer))
+               (live-occur--known-p source)
                (live-occur--no-newline-p start end))
       (setf (live-occur--trace-from trace) start
             (live-occur--trace-tail trace) (- size end)
-            (live-occur--trace-size trace) size
             (live-occur--trace-span trace) nil)
       t)))
 
@@ -806,7 +844,6 @@ A search would lose the match data of the command that makes a change."
           (live-occur--trace-from trace) start
           (live-occur--trace-tail trace) tail
           (live-occur--trace-rest trace) tail
-          (live-occur--trace-size trace) (buffer-size)
           (live-occur--trace-span trace)
           (1+ (live-occur--count-newlines start end))
           (live-occur--trace-whole trace)
@@ -819,17 +856,17 @@ A search would lose the match data of the command that makes a change."
 
 (defun live-occur--after (start end removed)
   "Gather the change that put START to END in the place of REMOVED characters."
-  (dolist (source live-occur--sources-here)
-    (when (current-idle-time)
-      (live-occur--look-later (live-occur--list source) live-occur-delay))
-    (cond (live-occur--burst (live-occur--go-on source start end removed))
-          ((live-occur--stayed-p source start end removed)
-           (when (> (cl-incf (live-occur--trace-number
-                              (live-occur--trace source)))
-                    live-occur--many)
-             (live-occur--begin-burst)))
-          (t (live-occur--gather source
-               (unless (live-occur--known-p source)
+  (live-occur--in-hook
+    (dolist (source live-occur--sources-here)
+      (when (current-idle-time)
+        (live-occur--look-later (live-occur--list source) live-occur-delay))
+      (cond (live-occur--burst (live-occur--go-on source start end removed))
+            ((live-occur--stayed-p source start end removed)
+             (when (> (cl-incf (live-occur--trace-number
+                                (live-occur--trace source)))
+                      live-occur--many)
+               (live-occur--begin-burst)))
+            (t (live-occur--gather source
                  (if (live-occur--expected-p (live-occur--trace source)
                                              start end removed)
                      (live-occur--took source)
@@ -860,9 +897,8 @@ later in which such changes are, from `touched' to `rest' before the end."
                      most-positive-fixnum))
             (live-occur--trace-rest trace)
             (min (live-occur--trace-tail trace)
-                 (live-occur--trace-rest trace))
-            (live-occur--trace-size trace) (buffer-size)
-            (live-occur--tick source) (buffer-chars-modified-tick))
+                 (live-occur--trace-rest trace)))
+      (live-occur--know source)
       t)))
 
 (defun live-occur--settle (source)
@@ -927,12 +963,11 @@ later in which such changes are, from `touched' to `rest' before the end."
                         (1- old) (1- new))
       ;; The numbers of rows in view are corrected when they are redrawn.
       (live-occur--in (live-occur--list source) (force-mode-line-update)))
-    (setf (live-occur--tick source) (buffer-chars-modified-tick)
-          (live-occur--trace source)
+    (setf (live-occur--trace source)
           (make-live-occur--trace
            :place from :line line :from from :tail (- (buffer-size) to)
-           :size (buffer-size) :span new :whole whole
-           :rest (- (buffer-size) to)))))
+           :span new :whole whole :rest (- (buffer-size) to)))
+    (live-occur--know source)))
 
 (defun live-occur--anchor (source)
   "A position and the line there, before which nothing of SOURCE changed."
@@ -965,15 +1000,17 @@ leave the program out of step."
                   (live-occur--send-next))))))
 
 (defun live-occur--take-stock (source)
-  "Note all that changed in SOURCE."
+  "Note all that changed in SOURCE.
+Where it isn't known, hooks may have been taken away."
   (unless (live-occur--known-p source)
     (live-occur--lose source)
+    (live-occur--track source)
     (live-occur--in-text source
       (let ((lines (live-occur--lines source))
             (now (line-number-at-pos (point-max))))
         (live-occur--note (live-occur--edits source) 0 lines now)
         (live-occur--note (live-occur--moves source) 0 lines now)
-        (setf (live-occur--tick source) (buffer-chars-modified-tick)))))
+        (live-occur--know source))))
   (live-occur--settle source))
 
 (defun live-occur--edited-p ()
@@ -1558,7 +1595,8 @@ where all is as it was at the last time."
         (cl-loop for source in live-occur--sources
                  for buffer = (live-occur--buffer source)
                  collect (buffer-name buffer)
-                 collect (buffer-chars-modified-tick buffer))))
+                 collect (buffer-chars-modified-tick buffer)
+                 collect (buffer-size buffer))))
 
 ;;;; Lines around
 
@@ -1628,6 +1666,7 @@ The list keeps its window."
          (position (live-occur--at-line-of hit
                      (min (line-end-position) (+ (point) column)))))
     (unless position (user-error "The buffer of this row is gone"))
+    (live-occur--check-line hit)
     (setq next-error-last-buffer (current-buffer))
     (pop-to-buffer (live-occur--buffer (live-occur--hit-source hit))
                    (unless (eq (window-buffer) (current-buffer))
@@ -1639,6 +1678,16 @@ The list keeps its window."
                     (buffer-name)))
       (widen))
     (goto-char position)))
+
+(defun live-occur--check-line (hit)
+  "Signal an error where the line of HIT isn't found, and look at its buffer.
+That was changed without a report then."
+  (unless (or (live-occur--known-p (live-occur--hit-source hit))
+              (live-occur--at-line-of hit
+                (live-occur--line-is-p
+                 (live-occur--text (live-occur--hit-bytes hit)))))
+    (live-occur--update)
+    (user-error "The list was not up to date")))
 
 (defun live-occur--first-column (hit)
   "How many characters are before the first matched part of HIT, or 0."
@@ -2521,12 +2570,7 @@ rows are edited, \\[live-occur-edit-mode] ends it, \
                                          :list (current-buffer))))
     (cl-callf append live-occur--sources (list source))
     (when (length= live-occur--sources 2) (live-occur--name-rows))
-    (dolist (other (buffer-list))
-      (when (eq (live-occur--base other) (live-occur--base buffer))
-        (with-current-buffer other
-          (push source live-occur--sources-here)
-          (add-hook 'before-change-functions #'live-occur--before nil t)
-          (add-hook 'after-change-functions #'live-occur--after nil t))))
+    (live-occur--track source)
     (live-occur--open source)))
 
 (defun live-occur--open (source)
@@ -2643,7 +2687,7 @@ rows are edited, \\[live-occur-edit-mode] ends it, \
               next-error-find-buffer-function (lambda (&rest _)
                                                 (current-buffer))
               header-line-format '((:eval (live-occur--header)))
-              truncate-lines t buffer-undo-list t
+              truncate-lines t buffer-undo-list t inhibit-field-text-motion t
               live-occur--idle-timer
               (run-with-idle-timer live-occur-delay t #'live-occur--look
                                    (current-buffer)))
@@ -2665,7 +2709,12 @@ rows are edited, \\[live-occur-edit-mode] ends it, \
 ;; While rows are edited, each change of one is made in its line as well, and
 ;; the list gets no other rows.  Heads and newlines are read-only.  A head
 ;; keeps the text that the row and its line had last, so that a line that
-;; has changed otherwise is not overwritten.
+;; has changed otherwise is not overwritten.  At the end all rows are looked at:
+;; one may have been changed without a report, or not been written then.
+
+(defvar live-occur--giving-up nil "Whether an edit of rows is given up.")
+(defvar-local live-occur--alone 0
+  "How many rows were edited and not their lines, at the end of an edit of rows.")
 
 (define-minor-mode live-occur-edit-mode
   "Edit the rows of this list, and with each its line.
@@ -2677,14 +2726,16 @@ Undo works in the list, and in the buffers."
             (,(kbd "C-c C-o") . live-occur-display)
             ([remap save-buffer] . live-occur-save))
   (let ((on live-occur-edit-mode))
-    (setq live-occur-edit-mode nil)
-    (when on
-      (live-occur--check)
-      (live-occur--update)
-      (live-occur--wait-for (lambda ()
-                              (live-occur--check)
-                              (not (live-occur--busy-p))))
-      (live-occur--make-all-rows))
+    (setq live-occur-edit-mode (not on)
+          live-occur--alone 0)
+    (cond (on
+           (live-occur--check)
+           (live-occur--update)
+           (live-occur--wait-for (lambda ()
+                                   (live-occur--check)
+                                   (not (live-occur--busy-p))))
+           (live-occur--make-all-rows))
+          ((not live-occur--giving-up) (live-occur--write-all-rows)))
     (setq live-occur-edit-mode on
           live-occur--edited nil
           buffer-read-only (not on)
@@ -2695,7 +2746,9 @@ Undo works in the list, and in the buffers."
       (remove-hook 'after-change-functions #'live-occur--row-changed t)
       (set-buffer-modified-p nil)
       (live-occur--show-hits)
-      (live-occur--update))))
+      (live-occur--update)
+      (when (> live-occur--alone 0)
+        (message "%s" (live-occur--rows-alone))))))
 
 (easy-menu-define live-occur-edit-menu live-occur-edit-mode-map
   "Menu of lists whose rows are edited."
@@ -2759,25 +2812,66 @@ All of it is where its buffer is read-only, or its text is shortened."
     (when why
       (put-text-property head end 'read-only why))))
 
-(defun live-occur--row-changed (start end _removed)
-  "Make the change of a row, from START to END, in its line as well.
-Newlines in it become spaces."
-  (save-match-data
-    (subst-char-in-region start end ?\n ?\s)
-    (live-occur--at-row-start start
-      (when-let* ((hit (get-text-property (point) 'live-occur-hit))
-                  (text (live-occur--row-text)))
-        (condition-case problem
-            (progn
-              (live-occur--touch hit)
-              (live-occur--change-line
-               hit (get-text-property (point) 'live-occur-text) text
-               (max 0 (- start (live-occur--after-head)))
-               (max 0 (- (line-end-position) end))))
-          (:success (live-occur--note-change hit text)
-                    (live-occur--note-text text))
-          (error (message "%s; the row alone is edited"
-                          (error-message-string problem))))))))
+(defun live-occur--row-changed (start end removed)
+  "Make the change of rows from START to END in their lines as well.
+What came in the place of REMOVED characters becomes plain text of one line."
+  (live-occur--in-hook
+    (save-match-data
+      ;; Heads and ends of rows are read-only; what is new may be a copy of one.
+      (when (or (= removed 0)
+                (not (text-property-not-all start end 'read-only nil)))
+        (with-silent-modifications
+          (subst-char-in-region start end ?\n ?\s t)
+          (set-text-properties start end nil)))
+      (live-occur--write-rows start end))))
+
+(defun live-occur--write-rows (start end)
+  "Make what changed of the rows from START to END in their lines as well."
+  (live-occur--at-row-start start
+    (while (progn
+             (unless (live-occur--write-row start end)
+               (cl-incf live-occur--alone))
+             (forward-line 1)
+             (< (point) end)))))
+
+(defun live-occur--write-all-rows ()
+  "Make what changed of all rows in their lines as well."
+  (live-occur--in-steps
+   "Looking at all rows..." (live-occur--newlines)
+   (lambda (first count)
+     (live-occur--at-row first
+       (live-occur--write-rows (point)
+                               (line-beginning-position (1+ count)))))))
+
+(defun live-occur--rows-alone ()
+  "What to tell of rows that were edited, and not their lines."
+  (format "%d row%s not written: the line is gone, can't be edited, \
+or was edited in its buffer"
+          live-occur--alone (if (= live-occur--alone 1) " is" "s are")))
+
+(defun live-occur--write-row (start end)
+  "Make what changed of the row at point in its line as well, or tell why not.
+If that was done at once, the change is from START to END.  Answer whether the
+row and its line are the same."
+  (let* ((hit (get-text-property (point) 'live-occur-hit))
+         (old (get-text-property (point) 'live-occur-text))
+         (text (and old (live-occur--row-text))))
+    (cond ((not hit) (or (eolp) (get-text-property (point) 'live-occur-number)))
+          ((equal old text))
+          (t (condition-case problem
+                 (or (with-local-quit
+                       (live-occur--touch hit)
+                       (live-occur--change-line
+                        hit old text
+                        (max 0 (- start (live-occur--after-head)))
+                        (max 0 (- (line-end-position) end)))
+                       (live-occur--note-text text)
+                       (live-occur--note-change hit old text)
+                       t)
+                     (user-error "Quit"))
+               (error (message "%s; the row alone is edited"
+                               (error-message-string problem))
+                      nil))))))
 
 (defun live-occur--note-text (text)
   "Keep that the row at point and its line have TEXT."
@@ -2811,8 +2905,13 @@ or was edited there" (buffer-name)))
 
 (defun live-occur--replace (old new front back)
   "Put the text NEW in the place of OLD, which is after point.
-They have the first FRONT characters in common, and the last BACK ones.  What
-else they have in common at both ends stays, so that point and markers do."
+They have the first FRONT characters in common, and the last BACK ones, unless
+a change before this one was not made.  What else they have in common at both
+ends stays, so that point and markers do."
+  (unless (and (<= (+ front back) (length old))
+               (string-prefix-p (substring new 0 front) old)
+               (string-suffix-p (substring new (- (length new) back)) old))
+    (setq front 0 back 0))
   (cl-incf front (live-occur--same old new front back nil))
   (cl-incf back (live-occur--same old new front back t))
   (save-excursion
@@ -2841,16 +2940,19 @@ differ, and are halved then."
 (defun live-occur--follow-lines ()
   "Bring rows in view up to date with their lines.
 Rows that were edited alone, or are shortened, stay as they are."
+  (add-hook 'after-change-functions #'live-occur--row-changed nil t)
   (dolist (window (get-buffer-window-list nil nil t))
-    (live-occur--map-rows #'live-occur--follow-line
-                          (live-occur--row-at (window-start window))
-                          (window-body-height window))))
+    (live-occur--at-row-start (window-start window)
+      (dotimes (_ (window-body-height window))
+        (live-occur--follow-line)
+        (forward-line 1)))))
 
-(defun live-occur--follow-line (hit)
-  "Bring the row of HIT, at point, up to date with its line.
+(defun live-occur--follow-line ()
+  "Bring the row at point up to date with its line.
 Where the line has become too long it is shortened.  A row that is far too long
 itself, as it was edited so, stays as it is."
-  (when-let* ((old (get-text-property (point) 'live-occur-text))
+  (when-let* ((hit (get-text-property (point) 'live-occur-hit))
+              (old (get-text-property (point) 'live-occur-text))
               (most (max live-occur-max-columns (length old)))
               ((<= most (* 10 live-occur-max-columns)))
               (new (live-occur--at-line-of hit
@@ -2975,10 +3077,9 @@ It is nil where others may have replaced the line, or `gone'."
            ((= is 0) 'gone)))
     (_ place)))
 
-(defun live-occur--note-change (hit text)
-  "Note that the row at point, that of HIT, and its line have become TEXT."
+(defun live-occur--note-change (hit old text)
+  "Note that OLD became TEXT in the row at point, that of HIT, and in its line."
   (let* ((touched (live-occur--touched-in (live-occur--hit-source hit)))
-         (old (get-text-property (point) 'live-occur-text))
          (lines (live-occur--touched-lines touched))
          (line (or (get-text-property (point) 'live-occur-line)
                    (live-occur--begin-line hit lines))))
@@ -3069,7 +3170,8 @@ What was edited in the buffers themselves stays."
                                     (cl-incf stay)))))
       (undo-amalgamate-change-group steps))
     (mapc #'live-occur--unmodify live-occur--touched)
-    (live-occur-edit-mode -1)
+    (let ((live-occur--giving-up t))
+      (live-occur-edit-mode -1))
     (message (pcase stay
                (0 "The rows and their lines are as they were")
                (1 "1 line stays changed: it was edited in its buffer, too")
@@ -3112,6 +3214,7 @@ too"))
   "Save the buffers of which lines were changed in rows.
 An edit of rows is ended before that."
   (interactive nil live-occur-mode)
+  (setq live-occur--alone 0)
   (when live-occur-edit-mode (live-occur-edit-mode -1))
   (live-occur--forget-saved)
   (let ((saved 0) others)
@@ -3123,13 +3226,16 @@ An edit of rows is ended before that."
             (save-buffer)
             (cl-incf saved)))))
     (live-occur--forget-saved)
-    (message "%s%s"
+    (message "%s%s%s"
              (pcase saved
                (0 "No buffer is saved")
                (1 "1 buffer is saved")
                (_ (format "%d buffers are saved" saved)))
              (if others
                  (concat "; no file is visited by " (string-join others ", "))
+               "")
+             (if (> live-occur--alone 0)
+                 (concat "; " (live-occur--rows-alone))
                ""))))
 
 ;;;; Commands to begin a list

@@ -11,6 +11,7 @@
 
 (require 'ert)
 (require 'live-occur)
+(require 'autorevert)
 (require 'checkdoc)
 (require 'dired)
 (require 'lisp-mnt)
@@ -650,6 +651,290 @@ All buffers and processes that it makes are taken away after it."
       (goto-char (point-max))
       (insert "no\n")
       (should (equal (live-occur-test--rows list) "1:one\n2:two\n3:no\n")))))
+
+(defun live-occur-test--check (list)
+  "Check that LIST shows what grep writes, and that each row leads to its line."
+  (live-occur-test--numbers-right list)
+  (let ((folder (make-temp-file "live-occur" t)))
+    (unwind-protect
+        (should (equal (live-occur-test--rows list) (live-occur-test--searched list folder)))
+      (delete-directory folder t)))
+  (with-current-buffer list
+    (dotimes (row (min 50 (live-occur--total)))
+      (live-occur-test--go-to-row row)
+      (let ((text (live-occur--row-text)))
+        (save-current-buffer
+          (live-occur-visit)
+          (beginning-of-line)
+          (should (equal (live-occur--bytes text)
+                         (live-occur--bytes (live-occur--text-after-point)))))))))
+
+(defun live-occur-test--follows (&rest changes)
+  "Check that a list is right after each of CHANGES, which are called at a line.
+It is called alone, after an edit nearby, and in a burst, and an edit follows."
+  (dolist (change changes)
+    (dolist (edits '(0 1 10))
+      (let ((live-occur--many 3))
+        (live-occur-test--with '("one a\né b\nthree\nab\nYWIK\nsix\na\n\nbabab\na")
+          (live-occur-test--in-windows
+            (let ((list (live-occur "a")))
+              (live-occur-test--rows list)
+              (dotimes (turn 2)
+                (goto-char (point-min))
+                (forward-line (+ 3 turn))
+                (dotimes (_ edits) (insert "b"))
+                (forward-line 0)
+                (save-excursion (funcall change))
+                (live-occur-test--check list))
+              (goto-char (point-min))
+              (insert "a\n")
+              (live-occur-test--check list))))))))
+
+(defmacro live-occur-test--in-line (&rest body)
+  "A function that runs BODY with START and END, the ends of two lines from point."
+  `(lambda ()
+     (let ((start (point)) (end (line-beginning-position 3)))
+       (ignore start end)
+       ,@body)))
+
+(ert-deftest live-occur-follows-files-that-are-inserted ()
+  "Emacs counts no change of characters where it puts a file into a text."
+  (let ((file (make-temp-file "live-occur" nil nil "fa\nfb\né a\nb\na")))
+    (unwind-protect
+        (live-occur-test--follows
+         (lambda () (insert-file-contents file))
+         (lambda () (insert-file-contents file nil 3 6))
+         (lambda () (insert-file-contents-literally file))
+         (lambda () (forward-char 1) (insert-file file))
+         (lambda () (let ((coding-system-for-read 'latin-1)) (insert-file-contents file)))
+         (lambda () (insert-file-contents file nil nil nil t))
+         (lambda () (insert-file-contents file t nil nil t) (set-visited-file-name nil t))
+         (lambda () (goto-char (point-max)) (insert-file-contents file))
+         ;; This is told by no hook.
+         (lambda ()
+           (erase-buffer)
+           (set-buffer-modified-p nil)
+           (insert-file-contents file t)
+           (set-visited-file-name nil t)
+           (rename-buffer "a")))
+      (delete-file file))))
+
+(ert-deftest live-occur-follows-the-output-of-programs ()
+  (live-occur-test--follows
+   (lambda () (call-process "printf" nil t nil "a\\nb\\na b\\na"))
+   (lambda () (forward-char 1) (call-process "printf" nil t nil "b\\n"))
+   (lambda () (call-process "printf" nil t t "a b"))
+   (lambda () (call-process "seq" nil t nil "9000"))
+   (lambda () (shell-command "echo a; echo b" t))
+   (lambda ()
+     (let ((process (start-process "live-occur-test" (current-buffer) "printf" "a\\nb\\n")))
+       (set-process-sentinel process #'ignore)
+       (set-marker (process-mark process) (point))
+       (while (accept-process-output process 1))))))
+
+(ert-deftest live-occur-follows-regions-that-programs-replace ()
+  (live-occur-test--follows
+   (live-occur-test--in-line (call-process-region start end "tr" t t nil "ab" "ba"))
+   (live-occur-test--in-line (call-process-region start end "tr" t t nil "b" "\n"))
+   (live-occur-test--in-line (call-process-region start end "cat" t nil nil))
+   (live-occur-test--in-line (call-process-region start end "cat" nil t nil))
+   (lambda () (call-process-region nil nil "tac" t t nil))
+   (lambda () (call-process-region (point-min) (point-max) "tac" t t nil))
+   (live-occur-test--in-line (shell-command-on-region start end "sort; echo a" nil t))))
+
+(ert-deftest live-occur-follows-the-tail-of-a-file ()
+  (live-occur-test--with '("")
+    (live-occur-test--with-file file "a\nb\n"
+      (live-occur-test--in-windows
+        (let ((auto-revert-use-notify nil)
+              (inhibit-message t)
+              (list (live-occur "a")))
+          (live-occur-test--rows list)
+          (auto-revert-tail-mode)
+          (dolist (text '("a2\n" "b\na3\nb" "a\n" "é a\na"))
+            (write-region text nil file t 'quiet)
+            (let ((size (buffer-size)))
+              (auto-revert-buffers)
+              (should (= (buffer-size) (+ size (length text)))))
+            (should-not (buffer-modified-p))
+            (live-occur-test--check list))
+          (let ((inhibit-read-only t))
+            (goto-char (point-min))
+            (insert "a\nb\n"))
+          (set-buffer-modified-p nil)
+          (live-occur-test--check list))))))
+
+(ert-deftest live-occur-follows-a-file-that-others-write ()
+  (live-occur-test--with '("")
+    (live-occur-test--with-file file "a\nb\nab\n"
+      (live-occur-test--in-windows
+        (let ((auto-revert-use-notify nil)
+              (inhibit-message t)
+              (list (live-occur "a")))
+          (live-occur-test--rows list)
+          (auto-revert-mode)
+          (dolist (text '("a\nb\na\nab\n" "b\nb\n" "" "é\na\na\n" "é\na\na\nb\na"))
+            (sleep-for 0.02)
+            (write-region text nil file nil 'quiet)
+            (auto-revert-buffers)
+            (should (equal (buffer-string) text))
+            (live-occur-test--check list)
+            (goto-char (point-min))
+            (insert "a")
+            (revert-buffer t t t)
+            (live-occur-test--check list)
+            (goto-char (point-min))
+            (insert "b\n")
+            (set-buffer-modified-p nil)
+            (live-occur-test--check list)
+            (revert-buffer-with-fine-grain t t)
+            (live-occur-test--check list)))))))
+
+(ert-deftest live-occur-follows-all-that-changes-texts ()
+  (live-occur-test--follows
+   (lambda ()
+     (let ((buffer (current-buffer)) (text (buffer-string)))
+       (with-temp-buffer
+         (insert (replace-regexp-in-string "b" "a\nc" text))
+         (let ((other (current-buffer)))
+           (with-current-buffer buffer
+             (replace-buffer-contents other)
+             (insert-buffer-substring other))))))
+   (live-occur-test--in-line (base64-encode-region start (1- end)))
+   (lambda ()
+     (insert "YQphCg==")
+     (base64-decode-region (- (point) 8) (point)))
+   (lambda ()
+     (insert (string-to-multibyte "\303\251\r\na\r\n"))
+     (decode-coding-region (- (point) 7) (point) 'utf-8-dos))
+   (lambda ()
+     (insert "é\na\nü")
+     (encode-coding-region (- (point) 5) (point) 'utf-8-dos)
+     (recode-region (- (point) 2) (point) 'latin-1 'utf-8))
+   (live-occur-test--in-line (subst-char-in-region start end ?b ?a))
+   (live-occur-test--in-line (subst-char-in-region start end ?\n ?a t))
+   (live-occur-test--in-line (subst-char-in-region start end ?b ?\n))
+   (live-occur-test--in-line
+    (let ((table (make-string 256 0)))
+      (dotimes (byte 256) (aset table byte byte))
+      (aset table ?b ?\n)
+      (translate-region start (min (point-max) (+ 9 end)) table)
+      (aset table ?\n ?a)
+      (translate-region (point-min) start table)))
+   (live-occur-test--in-line (transpose-regions (point-min) 3 start end))
+   (live-occur-test--in-line (transpose-regions start (1+ start) (- end 2) (1- end)))
+   (live-occur-test--in-line
+    (combine-after-change-calls (insert "a\n") (goto-char (point-max)) (insert "a\na")))
+   (live-occur-test--in-line
+    (combine-change-calls start end
+      (insert "a\n") (goto-char (- end 1)) (insert "\nba") (delete-char 1)))
+   (live-occur-test--in-line
+    (with-silent-modifications (insert "a\nb\n"))
+    (with-silent-modifications (delete-region start (+ 2 start))))
+   (live-occur-test--in-line (with-silent-modifications (upcase-region start end)))
+   (live-occur-test--in-line (put-text-property start end 'face 'bold) (insert "a\n"))
+   (live-occur-test--in-line (reverse-region start end) (sort-lines t start end))
+   (lambda () (when (fboundp 'json-insert) (json-insert ["a" "b"])))
+   (lambda ()
+     (set-buffer-multibyte nil)
+     (insert "a\n")
+     (set-buffer-multibyte t))
+   (live-occur-test--in-line
+    (let ((inhibit-modification-hooks t)) (insert "a\n"))
+    (forward-line 1)
+    (insert "a\n"))))
+
+(ert-deftest live-occur-goes-to-no-wrong-line ()
+  "Where a change was not told, a row leads to its line, or it is said to be old."
+  (live-occur-test--with '("one\ntwo\no\n")
+    (live-occur-test--in-windows
+      (let ((list (live-occur "o")))
+        (live-occur-test--rows list)
+        (with-silent-modifications
+          (goto-char (point-max))
+          (insert "o\n"))
+        (live-occur-test--at list 2)
+        (with-current-buffer list
+          (live-occur-visit)
+          (should (looking-at "o$")))
+        (live-occur-test--rows list)
+        (with-silent-modifications
+          (goto-char (point-min))
+          (insert "o\n"))
+        (live-occur-test--at list 2)
+        (with-current-buffer list
+          (should-error (live-occur-visit) :type 'user-error)
+          (live-occur-test--wait)
+          (should (equal (buffer-substring-no-properties (point-min) (+ 4 (point-min)))
+                         "1:o\n")))
+        (live-occur-test--check list)))))
+
+(defmacro live-occur-test--with-fault (function fault &rest body)
+  "Run BODY where FUNCTION signals FAULT at its first call, and where it is called."
+  (declare (indent 2) (debug t))
+  `(let ((turns 0))
+     (advice-add ,function :before
+                 (lambda (&rest _)
+                   (when (= (cl-incf turns) 1) (signal ,fault nil)))
+                 '((name . live-occur-test-fault)))
+     (unwind-protect (progn ,@body)
+       (advice-remove ,function 'live-occur-test-fault))
+     (when (= turns 0) (ert-fail (list ,function "is not called")))))
+
+(ert-deftest live-occur-gathers-edits-after-an-error ()
+  "No error takes the hooks of a buffer away, or an edit from the list."
+  (dolist (function '(live-occur--near-p live-occur--known-p live-occur--expect live-occur--settle
+                      live-occur--expected-p live-occur--took live-occur--stayed-p
+                      live-occur--begin-burst live-occur--go-on))
+    (dolist (fault '(error quit))
+      (live-occur-test--with '("ab\nb\nab\n")
+        (live-occur-test--in-windows
+          (let ((list (live-occur "a")) (live-occur--many 3))
+            (live-occur-test--rows list)
+            (live-occur-test--with-fault function fault
+              (goto-char 4)
+              (insert "a\n")
+              (dotimes (_ 9) (insert "a"))
+              (with-current-buffer (make-indirect-buffer a "indirect")
+                (delete-region 1 2)
+                (kill-buffer))
+              (insert "a\n")
+              (delete-region 1 2))
+            (should (memq #'live-occur--after after-change-functions))
+            (live-occur-test--check list)
+            (should (memq #'live-occur--before before-change-functions))
+            (goto-char (point-min))
+            (insert "a\n")
+            (should (live-occur--known-p (car (buffer-local-value 'live-occur--sources list))))
+            (live-occur-test--check list)))))))
+
+(ert-deftest live-occur-gathers-edits-after-an-error-of-others ()
+  "Emacs takes all functions out of a hook where one of them signals an error."
+  (live-occur-test--with '("ab\nb\nab\n")
+    (live-occur-test--in-windows
+      (let ((list (live-occur "a")))
+        (live-occur-test--rows list)
+        (dolist (hook '(before-change-functions after-change-functions))
+          (add-hook hook (lambda (&rest _) (error "Other")) nil t)
+          (ignore-errors (insert "a\n"))
+          (should-not (memq #'live-occur--after (symbol-value hook)))
+          (insert "a\n")
+          (live-occur-test--check list)
+          (insert "ab\n")
+          (should (live-occur--known-p (car (buffer-local-value 'live-occur--sources list))))
+          (live-occur-test--check list))))))
+
+(ert-deftest live-occur-tells-of-a-reply-that-was-not-asked-for ()
+  (live-occur-test--with '("a\n")
+    (let ((list (live-occur "a")) (inhibit-message t))
+      (live-occur-test--rows list)
+      (with-current-buffer list
+        (dolist (reply '("refused BadCommand\n" "status 0\n"))
+          (live-occur--read live-occur--process reply)
+          (should (string-prefix-p "occur answered: refused BadCommand" live-occur--fault)))
+        (live-occur-restart))
+      (insert "a\n")
+      (should (equal (live-occur-test--rows list) "1:a\n2:a\n")))))
 
 (ert-deftest live-occur-leaves-buffers-as-they-are ()
   (live-occur-test--with '("one\ntwo\nthree\n")
@@ -1713,6 +1998,30 @@ Its rows are there, and can be edited."
           (live-occur-visit))
         (should (= (current-column) 3))))))
 
+(ert-deftest live-occur-takes-lines-with-fields ()
+  "A line goes on where a field ends, as after the prompt of a shell."
+  (live-occur-test--with '("")
+    (live-occur-test--in-windows
+      (insert (propertize "$ " 'field 'output) "ls a\n"
+              (propertize "b a\n" 'field 'output) (propertize "$ " 'field 'output))
+      (let ((list (live-occur "a")))
+        (should (equal (live-occur-test--rows list) "1:$ ls a\n2:b a\n"))
+        (live-occur-test--at list 1)
+        (with-current-buffer list
+          (live-occur-visit)
+          (should (looking-at "a$"))
+          (should (= (current-column) 5)))
+        (with-current-buffer list
+          (live-occur-edit-mode)
+          (live-occur--look list)
+          (live-occur-test--edit-row list 1 "x")
+          (live-occur-test--rows-and-lines list)
+          (let ((inhibit-modification-hooks t))
+            (live-occur-test--edit-row list 2 (propertize "y" 'field 'output)))
+          (live-occur-edit-mode -1))
+        (should (equal (buffer-substring-no-properties (point-min) (point-max))
+                       "x$ ls a\nyb a\n$ "))))))
+
 (ert-deftest live-occur-corrects-numbers-at-once ()
   (live-occur-test--with '("a1\nb\na2\na3\n" "a4\n")
     (live-occur-test--in-windows
@@ -2421,8 +2730,11 @@ Its rows are there, and can be edited."
           (let* ((start (next-single-property-change (point) 'live-occur-number))
                  (place (+ start (random (1+ (- (line-end-position) start)))))
                  (end (min (line-end-position) (+ place (random 3)))))
-            (pcase (random 6)
+            (pcase (random 7)
               ((or 0 1) (goto-char place) (insert (live-occur-test--text 2)))
+              (6 (kill-ring-save (max 1 (- place (random 9))) (min (point-max) (+ place (random 12))))
+                 (goto-char place)
+                 (if (= 0 (random 2)) (yank) (insert (car kill-ring))))
               (2 (delete-region place end))
               (3 (upcase-region place end))
               (4 (goto-char place) (delete-region place end) (insert "é"))
@@ -2443,6 +2755,159 @@ Its rows are there, and can be edited."
         (unwind-protect
             (should (equal (live-occur-test--rows list) (live-occur-test--searched list folder)))
           (delete-directory folder t))))))
+
+(defun live-occur-test--rows-and-lines (list)
+  "Check that LIST, whose rows are edited, has the rows that it had, and their lines."
+  (with-current-buffer list
+    (should live-occur-edit-mode)
+    (should (memq #'live-occur--row-changed after-change-functions))
+    (should (= (live-occur--total) (count-lines (point-min) (point-max))))
+    (live-occur--map-rows
+     (lambda (hit)
+       (should (equal (live-occur-test--line-of hit) (live-occur--row-text)))
+       (should-not (text-property-not-all (live-occur--after-head) (line-end-position)
+                                          'read-only nil))
+       (should (get-text-property (line-end-position) 'read-only)))
+     0 (live-occur--total))))
+
+(ert-deftest live-occur-yanks-rows-into-a-row ()
+  "A copy of heads and ends of rows becomes text as any other."
+  (dolist (keys '("M-> C-p C-f C-f C-f C-SPC M-< C-e M-w M-< C-n C-f C-f C-y"
+                  "M-< C-SPC M-> M-w M-< C-f C-f C-f C-y"
+                  "M-< C-SPC C-e M-w M-< C-f C-f C-y"
+                  "M-< C-SPC C-f C-f M-w M-< C-f C-f C-y C-y"
+                  "M-< C-n C-SPC C-f C-f M-w M-< C-f C-f C-y"
+                  "M-< C-e C-SPC C-n M-w M-< C-n C-e C-y x C-y"))
+    (live-occur-test--with '("one\ntwo\nthree\nfour\n")
+      (live-occur-test--in-windows
+        (let ((list (live-occur-test--edited-list "o")) after)
+          (with-selected-window (get-buffer-window list)
+            (undo-boundary)
+            (live-occur-test--press keys)
+            (live-occur-test--rows-and-lines list)
+            (setq after (buffer-substring-no-properties (point-min) (point-max)))
+            (undo-boundary)
+            (undo)
+            (live-occur-test--rows-and-lines list)
+            (should-not (equal after (buffer-substring-no-properties (point-min) (point-max))))
+            (undo-boundary)
+            (setq last-command 'ignore)
+            (undo)
+            (live-occur-test--rows-and-lines list)
+            (should (equal after (buffer-substring-no-properties (point-min) (point-max))))
+            (live-occur-test--press "M-> C-b Z")
+            (live-occur-test--rows-and-lines list)
+            (setq after (buffer-substring-no-properties (point-min) (point-max)))
+            (live-occur-test--press "C-c C-c"))
+          (should (string-suffix-p "\nthree\nfourZ\n" (live-occur-test--text-of a)))
+          (should (= 4 (count-lines (point-min) (point-max))))
+          (should (equal after (live-occur-test--rows list))))))))
+
+(ert-deftest live-occur-leaves-out-properties-of-what-is-inserted ()
+  "Text with a field, that can't be read or is shown as another is as any other."
+  (live-occur-test--with '("one\ntwo\n")
+    (let ((list (live-occur-test--edited-list "o")))
+      (with-current-buffer list
+        (dolist (property '(field invisible display line-prefix keymap read-only intangible
+                            live-occur-number live-occur-hit live-occur-text live-occur-short))
+          (dolist (place '(3 5 6))
+            (goto-char place)
+            (insert (propertize "x" property 2))
+            (live-occur-test--rows-and-lines list)
+            (should (equal (text-properties-at place) nil))))
+        (upcase-region 3 4)
+        (live-occur-test--rows-and-lines list)
+        (let ((inhibit-read-only t))
+          (put-text-property (point-min) (point-max) 'live-occur-test t))
+        (live-occur-test--rows-and-lines list)
+        (live-occur-edit-mode -1))
+      (should (= 33 (how-many "x" (point-min)))))))
+
+(ert-deftest live-occur-writes-rows-after-an-error ()
+  "No error ends that rows are written, and what it has kept from its line is written later."
+  (dolist (function '(live-occur--row-text live-occur--touch live-occur--change-line
+                      live-occur--replace live-occur--note-change live-occur--row-changed
+                      live-occur--write-rows live-occur--write-row))
+    (dolist (fault '(error quit))
+      (live-occur-test--with '("one\ntwo\nfour\n")
+        (live-occur-test--in-windows
+          (let ((list (live-occur-test--edited-list "o")))
+            (live-occur-test--with-fault function fault
+              (ignore-errors
+                (ignore-error quit (live-occur-test--edit-row list 2 "a"))))
+            (live-occur--look list)
+            (live-occur-test--edit-row list 2 "b")
+            (live-occur-test--edit-row list 3 "c")
+            (live-occur-test--rows-and-lines list)
+            (should (equal (buffer-string) "one\nbatwo\ncfour\n"))
+            (live-occur-test--with-fault function fault
+              (ignore-errors
+                (ignore-error quit (live-occur-test--edit-row list 1 "d"))))
+            (with-current-buffer list
+              (live-occur-edit-mode -1))
+            (should (equal (buffer-string) "done\nbatwo\ncfour\n"))
+            (should (equal (live-occur-test--rows list) "1:done\n2:batwo\n3:cfour\n"))))))))
+
+(ert-deftest live-occur-writes-rows-after-a-quit ()
+  "A quit while Emacs asks about a line ends the command, and not that rows are written."
+  (live-occur-test--with '("one\ntwo\n")
+    (let ((list (live-occur-test--edited-list "o")) (asked 0))
+      (push (lambda (&rest _)
+              (when (= (cl-incf asked) 1)
+                (setq quit-flag t)
+                (ignore)))
+            before-change-functions)
+      (should (eq 'quit (condition-case nil
+                            (ignore (live-occur-test--edit-row list 1 "a"))
+                          (quit 'quit))))
+      (should (equal (buffer-string) "one\ntwo\n"))
+      (live-occur-test--edit-row list 1 "b")
+      (live-occur-test--rows-and-lines list)
+      (should (equal (buffer-string) "baone\ntwo\n")))))
+
+(ert-deftest live-occur-writes-rows-that-were-changed-without-a-report ()
+  (dolist (keeps `(live-occur-edit-mode ,(lambda (_) (live-occur-save)) nil))
+    (live-occur-test--with '("one\ntwo\nthree\no\n" "o\n")
+      (let ((list (live-occur-test--edited-list "o" buffers)) told)
+        (live-occur-test--edit-row list 3 "x")
+        (let ((inhibit-modification-hooks t))
+          (live-occur-test--edit-row list 1 "a"))
+        (with-current-buffer list
+          (add-hook 'after-change-functions (lambda (&rest _) (error "Other")) nil t)
+          (ignore-errors (live-occur-test--edit-row list 2 "b"))
+          (should-not after-change-functions))
+        (with-current-buffer (nth 1 buffers)
+          (goto-char 2)
+          (insert "y"))
+        (live-occur-test--edit-row list 4 "c")
+        (should (equal (buffer-string) "one\ntwo\nthree\nxo\n"))
+        (with-current-buffer list
+          (if (not keeps)
+              (live-occur-abort-changes)
+            (cl-letf (((symbol-function 'message)
+                       (lambda (&rest words) (push (apply #'format words) told))))
+              (funcall keeps -1)
+              (should (string-match-p "\\(\\`\\|; \\)1 row is not written: " (car told)))
+              (live-occur-save)
+              (should-not (string-match-p "not written" (car told))))))
+        (should (equal (buffer-string)
+                       (if keeps "aone\nbtwo\nthree\nxo\n" "one\ntwo\nthree\no\n")))
+        (should (equal (live-occur-test--rows list)
+                       (if keeps "a:1:aone\na:2:btwo\na:4:xo\nb:1:oy\n"
+                         "a:1:one\na:2:two\na:4:o\nb:1:oy\n")))))))
+
+(ert-deftest live-occur-writes-a-row-that-was-edited-alone-before ()
+  "Where its line may be changed again all of it is written, and no other line."
+  (live-occur-test--with '("one\nx\no3\nfour\n")
+    (let ((list (live-occur-test--edited-list "o")))
+      (setq buffer-read-only t)
+      (live-occur-test--edit-row list 2 "ab")
+      (setq buffer-read-only nil)
+      (with-current-buffer list
+        (goto-char (line-end-position))
+        (insert "c"))
+      (live-occur-test--rows-and-lines list)
+      (should (equal (buffer-string) "one\nx\nabo3c\nfour\n")))))
 
 (defmacro live-occur-test--with-file (file text &rest body)
   "Run BODY in a buffer called A that visits FILE, which holds TEXT at first."
@@ -2715,7 +3180,7 @@ up what the rows changed alone."
     (live-occur-test--with-file file "one\ntwo\nso\nfoo\n"
       (let ((list (live-occur "o")) (unmodified 0) (given-up 0))
         (live-occur-test--rows list)
-        (dotimes (_ 80)
+        (dotimes (_ 160)
           (let ((began (buffer-string)) (alone t) (flag (buffer-modified-p)) saved)
             (with-current-buffer list
               (live-occur-edit-mode))
@@ -3010,7 +3475,7 @@ up what the rows changed alone."
 (defun live-occur-test--edit ()
   "Make a random edit of this buffer."
   (pcase-let ((`(,start ,end) (live-occur-test--region)))
-    (pcase (random 16)
+    (pcase (random 20)
       ((or 0 1 2) (goto-char start) (insert (live-occur-test--text 6)))
       ((or 3 4) (delete-region start end))
       ((or 5 6 7) (goto-char start) (delete-region start end) (insert (live-occur-test--text 6)))
@@ -3026,7 +3491,19 @@ up what the rows changed alone."
                 (erase-buffer)
                 (insert text))
             (goto-char start)
-            (insert (make-string (random 60) ?\n))))))
+            (insert (make-string (random 60) ?\n))))
+      (16 (goto-char start)
+          (call-process "printf" nil t nil (replace-regexp-in-string
+                                            "\n" "\\\\n" (live-occur-test--text 6))))
+      (17 (call-process-region start end "tr" t t nil "ab\n" "b\na"))
+      (18 (let ((table (make-string 256 0)))
+            (dotimes (byte 256) (aset table byte byte))
+            (aset table ?a ?\n)
+            (translate-region start end table)))
+      (19 (put-text-property start end 'live-occur-test t)
+          (setq end (copy-marker end))
+          (encode-coding-region start end 'utf-8-dos)
+          (decode-coding-region start end 'utf-8-dos))))
   (undo-boundary))
 
 (defun live-occur-test--add (text)
