@@ -1687,7 +1687,7 @@ That was changed without a report then."
                 (live-occur--line-is-p
                  (live-occur--text (live-occur--hit-bytes hit)))))
     (live-occur--update)
-    (user-error "The list was not up to date")))
+    (user-error "The list was not up to date: try again")))
 
 (defun live-occur--first-column (hit)
   "How many characters are before the first matched part of HIT, or 0."
@@ -2856,6 +2856,7 @@ row and its line are the same."
   (let* ((hit (get-text-property (point) 'live-occur-hit))
          (old (get-text-property (point) 'live-occur-text))
          (text (and old (live-occur--row-text))))
+    ;; A line of the list with text, and without a head, is no row.
     (cond ((not hit) (or (eolp) (get-text-property (point) 'live-occur-number)))
           ((equal old text))
           (t (condition-case problem

@@ -790,6 +790,22 @@ It is called alone, after an edit nearby, and in a burst, and an edit follows."
             (revert-buffer-with-fine-grain t t)
             (live-occur-test--check list)))))))
 
+(ert-deftest live-occur-follows-a-file-while-emacs-is-idle ()
+  "Text that comes into an empty buffer as its file is read again is told after it has come alone."
+  (live-occur-test--with '("")
+    (live-occur-test--with-file file ""
+      (let ((auto-revert-use-notify nil)
+            (inhibit-message t)
+            (list (live-occur "a")))
+        (should (equal (live-occur-test--rows list) ""))
+        (auto-revert-mode)
+        (sleep-for 0.02)
+        (write-region "a\nb\na\n" nil file nil 'quiet)
+        (cl-letf (((symbol-function 'current-idle-time) (lambda () (seconds-to-time 1))))
+          (auto-revert-buffers)
+          (live-occur-test--until (lambda () (= 2 (with-current-buffer list (live-occur--total))))))
+        (should (equal (live-occur-test--rows list) "1:a\n3:a\n"))))))
+
 (ert-deftest live-occur-follows-all-that-changes-texts ()
   (live-occur-test--follows
    (lambda ()
@@ -2831,10 +2847,13 @@ Its rows are there, and can be edited."
     (dolist (fault '(error quit))
       (live-occur-test--with '("one\ntwo\nfour\n")
         (live-occur-test--in-windows
-          (let ((list (live-occur-test--edited-list "o")))
-            (live-occur-test--with-fault function fault
-              (ignore-errors
-                (ignore-error quit (live-occur-test--edit-row list 2 "a"))))
+          (let ((list (live-occur-test--edited-list "o")) told)
+            (cl-letf (((symbol-function 'message)
+                       (lambda (&rest words) (push (apply #'format words) told))))
+              (live-occur-test--with-fault function fault
+                (ignore-errors
+                  (ignore-error quit (live-occur-test--edit-row list 2 "a")))))
+            (should (or told (eq function 'live-occur--row-changed)))
             (live-occur--look list)
             (live-occur-test--edit-row list 2 "b")
             (live-occur-test--edit-row list 3 "c")
