@@ -178,11 +178,14 @@ Each look has another one.")
      (point) (if most (min end (+ (point) most)) end))))
 
 (defun live-occur--look-later (list seconds)
-  "Look at LIST in SECONDS, if Emacs is idle and no other timer does."
-  (live-occur--in list
-    (when (and (current-idle-time) (not live-occur--timer))
-      (setq live-occur--timer
-            (run-with-timer seconds nil #'live-occur--look list)))))
+  "Look at LIST in SECONDS, if Emacs is idle and no other timer does.
+It stays idle where the system tells that a file was written."
+  (when (or (current-idle-time)
+            (eq (car-safe last-input-event) 'file-notify))
+    (live-occur--in list
+      (unless live-occur--timer
+        (setq live-occur--timer
+              (run-with-timer seconds nil #'live-occur--look list))))))
 
 ;;;; A program and its replies
 
@@ -858,8 +861,7 @@ A search would lose the match data of the command that makes a change."
   "Gather the change that put START to END in the place of REMOVED characters."
   (live-occur--in-hook
     (dolist (source live-occur--sources-here)
-      (when (current-idle-time)
-        (live-occur--look-later (live-occur--list source) live-occur-delay))
+      (live-occur--look-later (live-occur--list source) live-occur-delay)
       (cond (live-occur--burst (live-occur--go-on source start end removed))
             ((live-occur--stayed-p source start end removed)
              (when (> (cl-incf (live-occur--trace-number
@@ -2867,6 +2869,9 @@ row and its line are the same."
                         (max 0 (- start (live-occur--after-head)))
                         (max 0 (- (line-end-position) end)))
                        (live-occur--note-text text)
+                       ;; Emacs may have asked whether to change the line, and
+                       ;; a source that isn't modified is forgotten meanwhile.
+                       (live-occur--touch hit)
                        (live-occur--note-change hit old text)
                        t)
                      (user-error "Quit"))

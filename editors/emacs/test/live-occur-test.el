@@ -791,20 +791,27 @@ It is called alone, after an edit nearby, and in a burst, and an edit follows."
             (live-occur-test--check list)))))))
 
 (ert-deftest live-occur-follows-a-file-while-emacs-is-idle ()
-  "Text that comes into an empty buffer as its file is read again is told after it has come alone."
-  (live-occur-test--with '("")
-    (live-occur-test--with-file file ""
-      (let ((auto-revert-use-notify nil)
-            (inhibit-message t)
-            (list (live-occur "a")))
-        (should (equal (live-occur-test--rows list) ""))
-        (auto-revert-mode)
-        (sleep-for 0.02)
-        (write-region "a\nb\na\n" nil file nil 'quiet)
-        (cl-letf (((symbol-function 'current-idle-time) (lambda () (seconds-to-time 1))))
-          (auto-revert-buffers)
-          (live-occur-test--until (lambda () (= 2 (with-current-buffer list (live-occur--total))))))
-        (should (equal (live-occur-test--rows list) "1:a\n3:a\n"))))))
+  "A list follows a file that is read again by a timer, or as the system tells of it.
+Text that comes into an empty buffer so is reported after it has come alone."
+  (dolist (mode '(auto-revert-mode auto-revert-tail-mode))
+    (dolist (event '(nil (file-notify (nil changed "file") ignore)))
+      (live-occur-test--with '("")
+        (live-occur-test--with-file file ""
+          (let ((auto-revert-use-notify nil)
+                (inhibit-message t)
+                (list (live-occur "a")))
+            (should (equal (live-occur-test--rows list) ""))
+            (funcall mode)
+            (dolist (hits '(2 4))
+              (sleep-for 0.02)
+              (write-region "a\nb\na\n" nil file t 'quiet)
+              (cl-letf (((symbol-function 'current-idle-time)
+                         (lambda () (unless event (seconds-to-time 1))))
+                        (last-input-event event))
+                (auto-revert-buffers)
+                (live-occur-test--until
+                 (lambda () (= hits (with-current-buffer list (live-occur--total)))))))
+            (should (equal (live-occur-test--rows list) "1:a\n3:a\n4:a\n6:a\n"))))))))
 
 (ert-deftest live-occur-follows-all-that-changes-texts ()
   (live-occur-test--follows
@@ -2883,6 +2890,21 @@ Its rows are there, and can be edited."
       (live-occur-test--edit-row list 1 "b")
       (live-occur-test--rows-and-lines list)
       (should (equal (buffer-string) "baone\ntwo\n")))))
+
+(ert-deftest live-occur-notes-changes-that-emacs-asks-about ()
+  "While Emacs asks whether to change a text the list looks at what was saved."
+  (live-occur-test--with '("one\ntwo\n")
+    (let ((list (live-occur-test--edited-list "o")) told)
+      (push (lambda (&rest _) (live-occur--look list)) before-change-functions)
+      (cl-letf (((symbol-function 'message)
+                 (lambda (&rest words) (push (apply #'format words) told))))
+        (live-occur-test--edit-row list 1 "a"))
+      (should-not told)
+      (live-occur-test--rows-and-lines list)
+      (should (equal (live-occur-test--marked list) '("1:aone")))
+      (with-current-buffer list
+        (live-occur-abort-changes))
+      (should (equal (buffer-string) "one\ntwo\n")))))
 
 (ert-deftest live-occur-writes-rows-that-were-changed-without-a-report ()
   (dolist (keeps `(live-occur-edit-mode ,(lambda (_) (live-occur-save)) nil))
