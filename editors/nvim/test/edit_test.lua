@@ -147,30 +147,211 @@ test("a deleted row leaves its line alone", function()
   equal(rows(list), { "1:1 1", "2:one 2", "3:", "4:1 3" })
 end)
 
+-- The rows below the header, each with the number that it shows, or with none.
+local function numbered(list)
+  local shown_rows = {}
+  for row, text in ipairs(shown(list)) do
+    shown_rows[row] = vim.trim(require("live_occur.draw").marks(list, row, text)[1][4]) .. ":" .. text
+  end
+  return table.concat(shown_rows, "|")
+end
+
+-- Goes back to the beginning of a change of the rows, and to its end again.
+local function undo_and_redo(list, change, before, after)
+  local first = fn.changenr()
+  change()
+  local last = fn.changenr()
+  equal(numbered(list), after)
+  for _ = 1, 2 do
+    vim.cmd("silent undo " .. first)
+    equal(numbered(list), before)
+    vim.cmd("silent undo " .. last)
+    equal(numbered(list), after)
+  end
+end
+
 test("added rows are ignored", function()
   local buffer = bench.buffer({ "one 1", "one 2", "one 3" })
   local list = bench.list("one")
   begin(list)
-  keys("ggjyypGonew<Esc>ggOabove<Esc>Gkkrx")
+  keys("ggjyypGonew<Esc>ggOabove<Esc>Gkk0rx")
   vim.cmd("write")
-  equal(lines(buffer)[1], "one 1")
-  equal(#lines(buffer), 3)
-  assert(bench.said:find("added, and ignored", 1, true) or bench.said:find("left alone", 1, true), bench.said)
+  equal(lines(buffer), { "one 1", "xne 2", "one 3" })
+  assert(bench.said:find("1 row is written; left modified: ", 1, true), bench.said)
+  assert(bench.said:find("; 3 rows are added, and ignored", 1, true), bench.said)
+  equal(rows(list), { "1:one 1", "3:one 3" })
 end)
 
-test("rows that are joined, split, sorted or moved are left alone", function()
+test("rows that are added, copied, moved or put back leave each row its number and its edit", function()
+  local buffer = bench.buffer({ "one a", "x", "one b", "one c", "one d" })
+  local list = bench.list("one")
+  local before = "1:1 a|3:1 b|4:1 c|5:1 d"
+  local changes = {
+    ["3Gonew<Esc>"] = "1:1 a|3:1 b|:new|4:1 c|5:1 d",
+    ["3GOnew<Esc>"] = "1:1 a|:new|3:1 b|4:1 c|5:1 d",
+    ["3GAx<CR>new<Esc>"] = "1:1 a|3:1 bx|:new|4:1 c|5:1 d",
+    ["3GS1 b<Esc>Onew<Esc>"] = "1:1 a|:new|3:1 b|4:1 c|5:1 d",
+    ["Gonew<CR>more<Esc>"] = "1:1 a|3:1 b|4:1 c|5:1 d|:new|:more",
+    ["3Gyyp"] = "1:1 a|3:1 b|:1 b|4:1 c|5:1 d",
+    ["3GyyP"] = "1:1 a|:1 b|3:1 b|4:1 c|5:1 d",
+    [":3move $"] = "1:1 a|4:1 c|5:1 d|3:1 b",
+    [":4,5move 1"] = "4:1 c|5:1 d|1:1 a|3:1 b",
+    [":3copy $"] = "1:1 a|3:1 b|4:1 c|5:1 d|:1 b",
+    ["3GddP"] = before,
+    ["3Gddp"] = "1:1 a|4:1 c|3:1 b|5:1 d",
+    ["3GddpA!<Esc>"] = "1:1 a|4:1 c|3:1 b!|5:1 d",
+    ["3Gdj1Gp"] = "3:1 b|4:1 c|1:1 a|5:1 d",
+    ["3GddOnew<Esc>"] = "1:1 a|:new|4:1 c|5:1 d",
+    ["3GddkyyP"] = ":1 a|1:1 a|4:1 c|5:1 d",
+    [":2,$sort!"] = "5:1 d|4:1 c|3:1 b|1:1 a",
+    [":2,$!sort -r"] = "5:1 d|4:1 c|3:1 b|1:1 a",
+    [":2,$!cat"] = before,
+    ["3GddjddPu"] = "1:1 a|4:1 c",
+  }
+  for typed, after in pairs(changes) do
+    begin(list)
+    vim.cmd("silent 2,$s/one/1/")
+    undo_and_redo(list, function()
+      if typed:find("^:") then
+        vim.cmd("let &l:undolevels = &l:undolevels | silent " .. typed:sub(2))
+      else
+        keys(typed)
+      end
+    end, before, after)
+    vim.cmd("silent write")
+    local wanted = { "one a", "x", "one b", "one c", "one d" }
+    for number, text in after:gmatch("(%d+):([^|]*)") do
+      wanted[tonumber(number)] = text
+    end
+    equal(lines(buffer), wanted, typed)
+    equal(list.edit, nil, typed)
+    api.nvim_buf_set_lines(buffer, 0, -1, false, { "one a", "x", "one b", "one c", "one d" })
+  end
+end)
+
+test("a blank row that is added isn't one that was deleted", function()
+  local buffer = bench.buffer({ "one", "", "one more", "" })
+  local list = bench.list("one\\|^$")
+  begin(list)
+  keys("3Gddonew<Esc>")
+  equal(numbered(list), "1:one|3:one more|:new|4:")
+  vim.cmd("silent write")
+  equal(lines(buffer), { "one", "", "one more", "" })
+end)
+
+test("rows that are sorted or moved keep their numbers", function()
   local text = { "one d", "one c", "x", "one b", "one a" }
   local buffer = bench.buffer(text)
   local list = bench.list("one")
-  local commands = { "normal! ggjJ", "normal! ggjwi\r", "2,$sort", "2move $", "2,$!sort", "2,3join!", "$move 1" }
-  for _, each in ipairs(commands) do
+  for _, each in ipairs({ "2,$sort", "2move $", "2,$!sort", "$move 1" }) do
     begin(list)
     vim.cmd("silent " .. each)
     vim.cmd("write")
     equal(lines(buffer), text, each)
     assert(bench.said:find("0 rows are written", 1, true), each .. ": " .. bench.said)
     equal(#rows(list), 4)
+    begin(list)
+    vim.cmd("silent " .. each)
+    vim.cmd("silent 2,$s/one \\(.\\)/one \\1\\1/ | silent write")
+    equal(lines(buffer), { "one dd", "one cc", "x", "one bb", "one aa" }, each)
+    api.nvim_buf_set_lines(buffer, 0, -1, false, text)
   end
+end)
+
+test("rows that are joined, split or filtered aren't written, and the edit goes on", function()
+  local text = { "one d", "one c", "x", "one b", "one a" }
+  local buffer = bench.buffer(text)
+  api.nvim_buf_set_name(buffer, "notes")
+  local list = bench.list("one")
+  local changes = {
+    ["normal! ggjJ"] = "notes:1 is joined, split or filtered, notes:2 is",
+    ["normal! ggjgJ"] = "notes:1 is joined, split or filtered, notes:2 is",
+    ["normal! ggjwi\r"] = "notes:1 is joined, split or filtered",
+    ["2,3join!"] = "notes:1 is joined, split or filtered, notes:2 is",
+    ["2,3!sed s/one/1/"] = "notes:1 is joined, split or filtered, notes:2 is",
+    ["2,3s/ /\\r/"] = "notes:1 is joined, split or filtered, notes:2 is",
+    ["2,3s/\\n/ /"] = "notes:1 is joined, split or filtered, notes:2 is",
+    ["normal! ggjlvjd"] = "notes:1 is joined, split or filtered, notes:2 is",
+  }
+  for each, reason in pairs(changes) do
+    begin(list)
+    vim.cmd("silent $s/one/1/")
+    local before = numbered(list)
+    local first = fn.changenr()
+    vim.cmd("let &l:undolevels = &l:undolevels | silent " .. each)
+    local after = shown(list)
+    vim.cmd("write")
+    equal(lines(buffer), { "one d", "one c", "x", "one b", "1 a" }, each)
+    assert(bench.said:find("1 row is written", 1, true), each .. ": " .. bench.said)
+    assert(bench.said:find(reason, 1, true) and bench.said:find("; the edit goes on$"), each .. ": " .. bench.said)
+    equal({ shown(list), vim.bo.modified, vim.bo.modifiable }, { after, true, true }, each)
+    vim.cmd("silent undo " .. first)
+    equal(numbered(list), before, each)
+    vim.cmd("silent 2,$s/^one/2/ | silent write")
+    equal(lines(buffer), { "2 d", "2 c", "x", "2 b", "1 a" }, each)
+    equal(list.edit, nil)
+    api.nvim_buf_set_lines(buffer, 0, -1, false, text)
+  end
+end)
+
+test("rows that can't be written stay until they can, or are given up", function()
+  local a, b = bench.buffer({ "one", "one" }), bench.buffer({ "one" })
+  api.nvim_buf_set_name(b, "locked")
+  vim.bo[b].readonly = true
+  local list = bench.list("one", { a, b })
+  begin(list)
+  vim.cmd("silent %s/^one/1/ | write")
+  equal({ lines(a), lines(b), vim.bo.modified }, { { "1", "1" }, { "one" }, true })
+  assert(bench.said:find("1 left alone: locked:1 is read-only: 1; the edit goes on", 1, true), bench.said)
+  vim.bo[b].readonly = false
+  vim.cmd("silent 3s/1/2/ | write")
+  equal({ lines(a), lines(b), list.edit }, { { "2", "1" }, { "1" }, nil })
+  assert(bench.said:find("2 rows are written", 1, true), bench.said)
+  api.nvim_buf_set_lines(a, 0, -1, false, { "one", "one" })
+  begin(list)
+  vim.cmd("silent %s/^one/1/")
+  api.nvim_buf_set_lines(a, 0, 1, false, { "one x" })
+  vim.cmd("silent write | silent edit!")
+  equal({ lines(a), list.edit }, { { "one x", "1" }, nil })
+  equal(rows(list), { "1:1:one x" })
+end)
+
+test(":q with rows that aren't written asks for !, and :q! gives them up", function()
+  local buffer = bench.buffer({ "one", "two", "one more" })
+  local list = bench.list("one")
+  local hidden = vim.o.hidden
+  for _, each in ipairs({ true, false }) do
+    vim.o.hidden = each
+    begin(list)
+    vim.cmd("silent 2s/one/1/")
+    local ran, fault = pcall(vim.cmd, "quit")
+    assert(not ran and fault:find("E37", 1, true), tostring(fault))
+    equal({ shown(list), #list:windows() }, { { "1", "one more" }, 1 })
+    vim.cmd("quit!")
+    vim.wait(20)
+    equal({ closed = list.closed, edit = list.edit, windows = #list:windows() }, { windows = 0 })
+    equal(lines(buffer), { "one", "two", "one more" })
+    vim.cmd("sbuffer " .. list.buffer)
+    equal(rows(list), { "1:one", "3:one more" })
+    vim.cmd("wincmd p")
+  end
+  vim.o.hidden = hidden
+end)
+
+test("a list that is hidden while its rows are edited keeps what was typed", function()
+  local buffer = bench.buffer({ "one", "two" })
+  local list = bench.list("one")
+  begin(list)
+  vim.cmd("silent 2s/one/1/")
+  pcall(vim.cmd, "quit")
+  vim.wait(20)
+  vim.cmd("hide")
+  vim.wait(20)
+  equal({ #list:windows(), shown(list) }, { 0, { "1" } })
+  vim.cmd("sbuffer " .. list.buffer)
+  vim.cmd("silent wq")
+  equal({ lines(buffer), #list:windows() }, { { "1", "two" }, 0 })
+  equal({ list.edit, list.closed }, {})
 end)
 
 test("a row of which the line changed meanwhile is left alone", function()
@@ -187,6 +368,8 @@ test("a row of which the line changed meanwhile is left alone", function()
   assert(bench.said:find("2 rows are written", 1, true), bench.said)
   assert(bench.said:find("3 left alone: ", 1, true), bench.said)
   assert(bench.said:find("5 changed meanwhile: one!", 1, true), bench.said)
+  equal({ shown(list), vim.bo.modified }, { { "one!", "one!", "one!", "one!", "one!" }, true })
+  vim.cmd("silent edit!")
   equal(rows(list), { "2:one", "3:one!", "6:one!" })
 end)
 
@@ -211,6 +394,8 @@ test("rows of a buffer that was loaded anew, unloaded or wiped are left alone", 
   vim.cmd("write")
   equal(lines(a), { "x", "one" })
   assert(bench.said:find("4 left alone: ", 1, true) and bench.said:find(" was loaded anew: 1", 1, true), bench.said)
+  equal({ shown(list)[2], vim.bo.modified }, { "1", true })
+  vim.cmd("silent edit!")
   equal(rows(list), { "1:2:one" })
 end)
 
@@ -382,7 +567,7 @@ local function numbered_rows(list, buffer)
   for row, text in ipairs(lines(list.buffer)) do -- The header may have been deleted.
     local mark = require("live_occur.draw").marks(list, row - 1, text)[1]
     local number = tonumber(mark[4])
-    local known = number and require("live_occur.marks").at(list.buffer, list.edit.space, row - 1, text)
+    local known = number and list.edit.identity:number(row - 1)
     if known and wanted[number] == list.edit.shown[known] then
       wanted[number] = text
     end
@@ -449,7 +634,7 @@ test("a row is known after edits of all kinds: none is written into another line
     local buffer = bench.buffer(text)
     local list = bench.list("")
     begin(list)
-    local log = {}
+    local log, before, first = {}, numbered(list), fn.changenr()
     for _ = 1, math.random(1, 6) do
       local command = kinds[math.random(#kinds)]()
       log[#log + 1] = command
@@ -457,6 +642,14 @@ test("a row is known after edits of all kinds: none is written into another line
       if round % 2 == 0 and math.random(3) == 1 then
         edit_lines(buffer)
       end
+    end
+    vim.cmd("let &l:undolevels = &l:undolevels | normal! GA.")
+    if round % 2 == 1 then
+      local after, last = numbered(list), fn.changenr()
+      vim.cmd("silent undo " .. first)
+      equal(numbered(list), before, table.concat(log, " | "))
+      vim.cmd("silent undo " .. last)
+      equal(numbered(list), after, table.concat(log, " | "))
     end
     text = lines(buffer)
     local wanted = numbered_rows(list, buffer)

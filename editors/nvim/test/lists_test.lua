@@ -338,3 +338,61 @@ test("a program that isn't there is reported", function()
   equal(list, nil)
   assert(fault:find("^/no/such/occur can't be started"), fault)
 end)
+
+-- All values that buffers and windows begin with.
+local function global_options()
+  local values = {}
+  for name in pairs(api.nvim_get_all_options_info()) do
+    local known, value = pcall(api.nvim_get_option_value, name, { scope = "global" })
+    values[name] = known and value or nil
+  end
+  return values
+end
+
+test("a list has options of its own, and global ones stay as they are", function()
+  local changed = {
+    textwidth = 20, wrapmargin = 5, formatoptions = "tcroqaj", autoindent = true, smartindent = true, cindent = true,
+    list = true, spell = true, wrap = true, number = true, relativenumber = true, cursorline = false,
+    foldmethod = "indent", foldenable = true, foldlevel = 0, signcolumn = "yes", foldcolumn = "2", conceallevel = 2,
+    scrollbind = true, cursorbind = true,
+  }
+  for name, value in pairs(changed) do
+    vim.o[name] = value
+  end
+  local buffer = bench.buffer({ "  one two three four five", "  // one", "x" })
+  local before = global_options()
+  local list = bench.list("one")
+  list:wait()
+  equal(fn.foldclosed(2), -1)
+  local window = fn.win_findbuf(list.buffer)[1]
+  list:redraw()
+  vim.wait(20)
+  bench.begin_edit(list)
+  local shown = {}
+  for name, value in pairs(changed) do
+    if name ~= "formatoptions" and name ~= "foldmethod" then
+      shown[name] = api.nvim_win_call(window, function()
+        return api.nvim_get_option_value(name, { scope = "local" }) == value
+      end)
+    end
+  end
+  equal(fn.foldclosed(2), -1)
+  local function keys(text)
+    api.nvim_feedkeys(api.nvim_replace_termcodes(text, true, true, true), "xt", false)
+  end
+  keys("2GA six seven eight nine ten eleven<Esc>onew<Esc>")
+  equal(api.nvim_buf_get_lines(list.buffer, 1, -1, false),
+    { "  one two three four five six seven eight nine ten eleven", "new", "  // one" })
+  vim.cmd("write")
+  equal(api.nvim_buf_get_lines(buffer, 0, 1, false), { "  one two three four five six seven eight nine ten eleven" })
+  equal(global_options(), before)
+  vim.cmd("wincmd p")
+  for name, value in pairs(changed) do
+    equal(vim.o[name], value, name)
+    vim.cmd("set " .. name .. "&")
+  end
+  shown.foldlevel, shown.cindent = nil, nil
+  for name, same in pairs(shown) do
+    equal(same, false, name)
+  end
+end)

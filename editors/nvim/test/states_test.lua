@@ -112,6 +112,46 @@ test("17,000 edited rows are written without a long stall", function()
   equal(rows(list), {})
 end)
 
+test("16,667 edited rows are narrowed, added to and moved at once, without a lost edit", function()
+  local text = {}
+  for number = 1, 50001 do
+    text[number] = number % 3 == 0 and ("id=%d hit"):format(number) or "x"
+  end
+  local buffer = bench.buffer(text)
+  local list = bench.list("hit")
+  bench.begin_edit(list)
+  vim.cmd("silent 2,$s/hit/edited/")
+  local first = fn.changenr()
+  local function at_once(command)
+    local passed = require("watch").time(function()
+      vim.cmd("silent " .. command)
+    end)
+    assert(passed < 1000, ("%s takes %.0f ms"):format(command, passed))
+  end
+  local commands = { "v/id=120/delete", "g/id=12/delete", "normal! 9000Gonew", "normal! 9000GOnew", "normal! 9000Gyyp",
+    "9000move 4", "normal! 9000GddP", "9000,$move 4", "g/id=12/move 0", "g/id=12/normal! yyp", "%!cat", "2,$sort!" }
+  for _, command in ipairs(commands) do
+    at_once("let &l:undolevels = &l:undolevels | silent " .. command)
+    local last = fn.changenr()
+    at_once("undo " .. first)
+    at_once("undo " .. last)
+    at_once("undo " .. first)
+    local texts = api.nvim_buf_get_lines(list.buffer, 1, -1, false)
+    for row, each in ipairs(texts) do
+      local mark = require("live_occur.draw").marks(list, row, each)[1]
+      local id = ("id=%d edited"):format(row * 3)
+      equal({ tonumber(mark[4]), each }, { row * 3, id }, command)
+    end
+  end
+  vim.cmd("let &l:undolevels = &l:undolevels | silent v/id=120/delete")
+  vim.cmd("silent write")
+  text = api.nvim_buf_get_lines(buffer, 0, -1, false)
+  for number = 1, 50001 do
+    local kind = tostring(number):find("^120") and "edited" or "hit"
+    equal(text[number], number % 3 == 0 and ("id=%d %s"):format(number, kind) or "x")
+  end
+end)
+
 test("rows of 1,000,000 lines can be edited where they are few", function()
   local buffer = bench.buffer(numbered(1000000))
   api.nvim_buf_set_lines(buffer, 999999, -1, false, { "the last one" })

@@ -22,7 +22,7 @@ local LINKS = {
 -- The marks of a row while rows are edited. What is in the column for folds has `column`.
 local function edited_marks(list, row, text)
   local edit = list.edit
-  local number = marks.at(list.buffer, edit.space, row, text)
+  local number = edit.identity:number(row)
   local file = number and edit.files[number]
   if file == false then
     local group = number == 1 and "LiveOccurHeader" or "LiveOccurBuffer"

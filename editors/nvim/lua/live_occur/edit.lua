@@ -1,10 +1,12 @@
 -- Rows that are edited.
 --
--- While it lasts each row is its line alone, without the margin, so that all keys of Vim work. A mark
--- covers each row, and another one its line in the searched buffer (`marks.lua`): whatever is edited,
--- a row is written into its own line or into none. Meanwhile the list waits: no edit is sent, and no
--- reply is on its way.
+-- While it lasts each row is its line alone, without the margin, so that all keys of Vim work. Each row
+-- has a number (`identity.lua`), and a mark of this number is on its line in the searched buffer
+-- (`marks.lua`): whatever is edited, a row is written into its own line or into none. Meanwhile the list
+-- waits: no edit is sent, and no reply is on its way.
 
+local Identity = require("live_occur.identity")
+local List = require("live_occur.list")
 local marks = require("live_occur.marks")
 local row_texts = require("live_occur.row")
 local settings = require("live_occur.settings")
@@ -25,29 +27,17 @@ end
 
 -- Windows
 
--- Sets local options of a window, and returns the values that they had.
-local function set_options(window, options)
-  local before = {}
-  api.nvim_win_call(window, function()
-    for name, value in pairs(options) do
-      before[name] = api.nvim_get_option_value(name, { scope = "local" })
-      api.nvim_set_option_value(name, value, { scope = "local" })
-    end
-  end)
-  return before
-end
-
 -- Shows the numbers of rows in a window: in the place of a column for folds.
 function M.set_window(list, window)
   local kept = list.edit.windows
   local options = { foldcolumn = tostring(row_texts.margin), winhighlight = "FoldColumn:LiveOccurNumber" }
-  kept[window] = kept[window] or set_options(window, options)
+  kept[window] = kept[window] or List.set_options(window, options)
 end
 
 local function restore_windows(kept)
   for window, options in pairs(kept) do
     if api.nvim_win_is_valid(window) then
-      set_options(window, options)
+      List.set_options(window, options)
     end
   end
 end
@@ -62,7 +52,7 @@ end
 
 -- The beginning
 
--- Makes rows ready from `first` on: their text is the line alone, and marks are put.
+-- Makes rows ready from `first` on: their text is the line alone, and marks are put on lines.
 local function make_ready(list, edit, first, last)
   local shown = {}
   for row = first, last do
@@ -76,13 +66,9 @@ local function make_ready(list, edit, first, last)
       marks.pin(at.file.buffer, edit.space, row + 1, line)
     end
     shown[#shown + 1] = row == 0 and M.head .. "  " .. text or text
+    edit.shown[row + 1] = shown[#shown]
   end
   list:put(first, last + 1, shown)
-  for row = first, last do
-    local text = shown[row - first + 1]
-    edit.shown[row + 1] = text
-    marks.set(list.buffer, edit.space, row + 1, row, #text)
-  end
   edit.done = last + 1
 end
 
@@ -103,6 +89,9 @@ local function open(list, edit)
     vim.bo[buffer][option] = value
   end
   vim.bo[buffer].modified = false
+  edit.identity = Identity.new(buffer, edit.shown, function()
+    return list.edit == edit
+  end)
   for _, window in ipairs(list:windows()) do
     M.set_window(list, window)
   end
@@ -142,7 +131,7 @@ function M.start(list)
   if list:total() == 0 then
     return say("there is no row")
   end
-  local edit = { files = {}, cut = {}, shown = {}, lost = {}, clean = {}, windows = {}, done = 0 }
+  local edit = { files = {}, cut = {}, shown = {}, lost = {}, windows = {}, done = 0 }
   edit.texts = api.nvim_buf_get_lines(list.buffer, 0, -1, false)
   edit.space = api.nvim_create_namespace("live_occur_rows_" .. list.buffer)
   list.edit = edit
@@ -170,11 +159,10 @@ function M.finish(list, texts)
   local edit = list.edit
   local windows = list:keep_windows()
   list.edit = nil
-  for option, value in pairs({ buftype = "nofile", undolevels = -1 }) do
+  for option, value in pairs({ buftype = "nofile", undolevels = -1, bufhidden = "hide" }) do
     vim.bo[list.buffer][option] = value
   end
   list:put(0, -1, texts)
-  marks.clear(list.buffer, edit.space)
   for _, file in ipairs(list.files) do
     marks.clear(file.buffer, edit.space)
   end
@@ -205,32 +193,31 @@ function M.refusal(file)
   end
 end
 
--- What was edited: `changes` are the numbers of the rows that differ, with their texts; the others are
--- counts of rows that are left alone.
+-- What was edited: `changes` are the numbers of rows that differ, with their texts, and `mixed` those of
+-- rows that can't be told from one another; the others are counts of rows.
 local function compare(list, edit)
-  local texts = api.nvim_buf_get_lines(list.buffer, 0, -1, false)
-  local found = marks.survey(list.buffer, edit.space, texts)
-  local result = { changes = {}, heads = 0, gone = 0, mixed = 0, added = 0 }
-  local known = 0
-  for number, shown in ipairs(edit.shown) do
-    local row, span = found.lines[number], found.span[number]
-    local same = row and texts[row + 1] == shown
-    if span then
-      same = texts[span[1] + 1] == shown or texts[span[2] + 1] == shown
-    elseif shown == "" and found.gone[number] then
-      same = texts[found.gone[number] + 1] == ""
+  local result, met = { changes = {}, mixed = {}, heads = 0, gone = 0, added = 0 }, {}
+  for row, text in ipairs(api.nvim_buf_get_lines(list.buffer, 0, -1, false)) do
+    local number, mixed = edit.identity:number(row - 1)
+    if number and text ~= edit.shown[number] then
+      if edit.files[number] then
+        table.insert(result.changes, { number = number, text = text })
+      else
+        result.heads = result.heads + 1
+      end
+    elseif not number and not mixed then
+      result.added = result.added + 1
     end
-    known = known + ((row or same) and 1 or 0)
-    local kind = found.gone[number] and "gone" or "mixed"
-    if row and not same and edit.files[number] then
-      table.insert(result.changes, { number = number, text = texts[row + 1] })
-    elseif not same and not edit.files[number] then
-      result.heads = result.heads + 1
-    elseif not same then
-      result[kind] = result[kind] + 1
+    for _, each in ipairs(mixed or { number }) do
+      if mixed and edit.files[each] and not met[each] then
+        table.insert(result.mixed, { number = each, text = "" })
+      end
+      met[each] = true
     end
   end
-  result.added = result.mixed == 0 and math.max(0, #texts - known - result.heads) or 0
+  for number, file in ipairs(edit.files) do
+    result.gone = result.gone + (file and not met[number] and 1 or 0)
+  end
   return result
 end
 
@@ -263,7 +250,7 @@ local function write_lines(list, edit, file, changes, left)
     if line and old == edit.shown[change.number] then
       local start, old_end, new_end = difference(old, change.text)
       api.nvim_buf_set_text(file.buffer, line, start, line, old_end, { change.text:sub(start + 1, new_end) })
-      edit.texts[change.number] = row_texts.text(change.text)
+      edit.shown[change.number], edit.texts[change.number] = change.text, row_texts.text(change.text)
       written = written + 1
     else
       table.insert(left, M.named(list, edit, change, "changed meanwhile"))
@@ -311,6 +298,7 @@ end
 
 -- Notes which files can be saved: those of buffers without other changes.
 local function note_clean(edit, changes)
+  edit.clean = {}
   for _, change in ipairs(changes) do
     local file = edit.files[change.number]
     local buffer = file.buffer
@@ -357,55 +345,66 @@ local function write_file(list, edit, file, changes, result)
   end
   table.insert(saved and result.saved or result.modified, list.name_of(buffer))
   if fault then
-    table.insert(result.left, (tostring(fault):gsub("^.-(E%d+:)", "%1")))
+    table.insert(result.faults, (tostring(fault):gsub("^.-(E%d+:)", "%1")))
+  end
+end
+
+-- Adds names to a message, and how many more there are.
+local function add_names(parts, kind, names)
+  local shown = vim.list_slice(names, 1, NAMED)
+  if #names > NAMED then
+    shown[#shown + 1] = ("%d more"):format(#names - NAMED)
+  end
+  if #names > 0 then
+    parts[#parts + 1] = kind .. ": " .. table.concat(shown, ", ")
   end
 end
 
 -- The message after a write.
 local function report(result, compared)
   local parts = { count_of(result.written, "row") .. " written" }
-  local function add(kind, names)
-    if #names > 0 then
-      parts[#parts + 1] = kind .. ": " .. table.concat(names, ", ")
-    end
-  end
   local function add_count(number, what, rest)
     if number > 0 then
       parts[#parts + 1] = count_of(number, what) .. " " .. rest
     end
   end
-  add("saved", result.saved)
-  add("left modified", result.modified)
+  add_names(parts, "saved", result.saved)
+  add_names(parts, "left modified", result.modified)
+  add_names(parts, "not saved", result.faults)
   add_count(compared.gone, "row", "deleted, and left in the buffer")
-  add_count(compared.mixed, "row", "joined, split or moved, and left alone")
   add_count(compared.added, "row", "added, and ignored")
   if result.written == 0 then -- Else a command for all rows met them, too.
     add_count(compared.heads, "head", "edited, and left alone")
   end
-  local shown = vim.list_slice(result.left, 1, NAMED)
-  if #result.left > NAMED then
-    shown[#shown + 1] = ("%d more"):format(#result.left - NAMED)
+  add_names(parts, #result.left .. " left alone", result.left)
+  if #result.left > 0 then
+    parts[#parts + 1] = "the edit goes on"
   end
-  add(#result.left .. " left alone", shown)
   say(table.concat(parts, "; "), #parts > 1 + (#result.saved > 0 and 1 or 0) and "WarningMsg" or nil)
 end
 
--- :w, which has no other name.
+-- :w, which has no other name. The edit ends, unless there are rows that can't be written.
 function M.write(list, name)
   local edit = list.edit
   if not edit or name ~= api.nvim_buf_get_name(list.buffer) then
     return say(":w takes no name here", "ErrorMsg")
   end
+  vim.bo[list.buffer].bufhidden = "hide" -- For :wq, after which there may be such rows.
   local compared = compare(list, edit)
   note_clean(edit, compared.changes)
-  local result = { written = 0, saved = {}, modified = {}, left = {} }
+  local result = { written = 0, saved = {}, modified = {}, faults = {}, left = {} }
   local of_files = by_file(list, edit, compared.changes, result.left)
   for _, file in ipairs(list.files) do
     if of_files[file] then
       write_file(list, edit, file, of_files[file], result)
     end
   end
-  M.finish(list, edit.texts)
+  for _, change in ipairs(compared.mixed) do
+    table.insert(result.left, M.named(list, edit, change, "is joined, split or filtered"))
+  end
+  if #result.left == 0 then
+    M.finish(list, edit.texts)
+  end
   report(result, compared)
 end
 

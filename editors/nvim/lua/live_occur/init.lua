@@ -71,11 +71,22 @@ local function watch(list)
   end
   on("BufWipeout", list.buffer, close)
   on("BufUnload", list.buffer, function()
+    local quit = vim.bo[list.buffer].bufhidden == "unload"
     vim.schedule(function() -- `:e` unloads it, too, and has loaded it again by then.
       if not list.closed and not api.nvim_buf_is_loaded(list.buffer) then
-        close()
+        (quit and fn.bufload or close)(list.buffer)
       end
     end)
+  end)
+  on("QuitPre", list.buffer, function()
+    if list.edit then -- A buffer that is only hidden isn't asked about.
+      vim.bo[list.buffer].bufhidden = "unload"
+      vim.schedule(function()
+        if api.nvim_buf_is_valid(list.buffer) then
+          vim.bo[list.buffer].bufhidden = "hide"
+        end
+      end)
+    end
   end)
   on("VimLeavePre", nil, close)
   on("BufReadCmd", list.buffer, function()
@@ -98,12 +109,15 @@ local function watch(list)
   end)
 end
 
+-- What a window of a list has, whatever the global values are.
+local WINDOW = {
+  wrap = false, number = false, relativenumber = false, cursorline = true, spell = false, list = false,
+  foldenable = false, foldmethod = "manual", foldcolumn = "0", signcolumn = "no", conceallevel = 0,
+  scrollbind = false, cursorbind = false, diff = false, winfixheight = true,
+}
+
 function M.set_window(list)
-  local values = { wrap = false, number = false, relativenumber = false, cursorline = true, spell = false }
-  values.winfixheight = true
-  for name, value in pairs(values) do
-    api.nvim_set_option_value(name, value, { scope = "local" })
-  end
+  require("live_occur.list").set_options(api.nvim_get_current_win(), WINDOW)
   if list.edit and list.edit.ready then
     require("live_occur.edit").set_window(list, api.nvim_get_current_win())
   end

@@ -85,15 +85,25 @@ function List.new(pattern, buffers, options)
   self.buffer = api.nvim_create_buf(false, true)
   List.all[self.buffer] = self
   api.nvim_buf_set_name(self.buffer, "live-occur://" .. self.buffer)
-  for option, value in pairs({ undolevels = -1, modifiable = false, filetype = "live_occur", bufhidden = "hide" }) do
-    vim.bo[self.buffer][option] = value
-  end
+  self:set_buffer_options(buffers[1])
   for _, buffer in ipairs(buffers) do
     self:add_buffer(buffer, options.range)
   end
   self:show_header()
   self:step()
   return self
+end
+
+-- The list's own options, whatever the global ones are. A tab is that of a searched buffer.
+function List:set_buffer_options(searched)
+  local options = vim.bo[self.buffer]
+  options.filetype = "live_occur"
+  options.bufhidden, options.undolevels, options.modifiable = "hide", -1, false
+  options.textwidth, options.wrapmargin, options.formatoptions = 0, 0, ""
+  options.autoindent, options.smartindent, options.cindent, options.indentexpr = false, false, false, ""
+  for _, name in ipairs({ "expandtab", "tabstop", "softtabstop", "shiftwidth" }) do
+    options[name] = searched and vim.bo[searched][name]
+  end
 end
 
 -- Starts the program and sends the syntax, the flags and these patterns. Returns a fault, if there
@@ -908,6 +918,18 @@ function List:windows()
   return self.buffer and fn.win_findbuf(self.buffer) or {}
 end
 
+-- Sets local options of a window, and returns the values that they had. Global ones stay as they are.
+function List.set_options(window, options)
+  local before = {}
+  api.nvim_win_call(window, function()
+    for name, value in pairs(options) do
+      before[name] = api.nvim_get_option_value(name, { scope = "local" })
+      api.nvim_set_option_value(name, value, { scope = "local" })
+    end
+  end)
+  return before
+end
+
 function List:keep_windows()
   local kept = {}
   for _, window in ipairs(self:windows()) do
@@ -960,10 +982,9 @@ function List:redraw()
   vim.schedule(function()
     self.redrawing = false
     for _, window in ipairs(self:windows()) do
-      local options = vim.wo[window]
-      local list = options.list
-      options.list = not list -- A window is drawn where such an option changes.
-      options.list = list
+      local before = List.set_options(window, { list = true })
+      List.set_options(window, { list = not before.list }) -- A window is drawn where such an option changes.
+      List.set_options(window, before)
     end
   end)
 end
