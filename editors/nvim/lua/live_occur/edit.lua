@@ -31,7 +31,8 @@ end
 function M.set_window(list, window)
   local kept = list.edit.windows
   local options = { foldcolumn = tostring(row_texts.margin), winhighlight = "FoldColumn:LiveOccurNumber" }
-  kept[window] = kept[window] or List.set_options(window, options)
+  local before = List.set_options(window, options)
+  kept[window] = kept[window] or before
 end
 
 local function restore_windows(kept)

@@ -195,12 +195,13 @@ function Identity:settle()
     return
   end
   self.came = nil
+  local emptied = self.texts:size() == 1 and self.texts:get(0) == ""
   local replaced, others, rest = {}, {}, {}
   for _, number in ipairs(came.replaced) do
     replaced[number] = true
   end
   for row = came.row, came.row + came.count - 1 do
-    local number = self:returned(self.texts:get(row), replaced)
+    local number = not emptied and self:returned(self.texts:get(row), replaced)
     if not number and came.alone then
       number = came.replaced[1]
     end
@@ -214,7 +215,6 @@ function Identity:settle()
   for _, number in ipairs(came.replaced) do
     rest[#rest + 1] = replaced[number] and number or nil
   end
-  local emptied = self.texts:size() == 1 and self.texts:get(0) == ""
   for _, row in ipairs(others) do
     self:put(row, 1, { #rest > 0 and not emptied and rest or 0 })
   end

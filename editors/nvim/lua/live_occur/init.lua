@@ -73,13 +73,13 @@ local function watch(list)
   on("BufUnload", list.buffer, function()
     local quit = vim.bo[list.buffer].bufhidden == "unload"
     vim.schedule(function() -- `:e` unloads it, too, and has loaded it again by then.
-      if not list.closed and not api.nvim_buf_is_loaded(list.buffer) then
+      if not list.closed and not api.nvim_buf_is_loaded(list.buffer) then -- After `:q!` it goes on.
         (quit and fn.bufload or close)(list.buffer)
       end
     end)
   end)
   on("QuitPre", list.buffer, function()
-    if list.edit then -- A buffer that is only hidden isn't asked about.
+    if list.edit then -- Vim asks about a buffer that isn't just hidden.
       vim.bo[list.buffer].bufhidden = "unload"
       vim.schedule(function()
         if api.nvim_buf_is_valid(list.buffer) then

@@ -3,7 +3,6 @@
 -- A process of its own gets the lines of the buffers while the pattern is typed, some thousands at
 -- once, and the first hits are asked for after each. Window and process end with the command line.
 
-local List = require("live_occur.list")
 local Session = require("live_occur.session")
 local row_texts = require("live_occur.row")
 local settings = require("live_occur.settings")
@@ -266,7 +265,8 @@ function Preview:open(height)
   end
   place.noautocmd = true
   self.window = api.nvim_open_win(self.buffer, false, place)
-  List.set_options(self.window, { winhighlight = "NormalFloat:Normal", wrap = false })
+  api.nvim_win_set_option(self.window, "winhighlight", "NormalFloat:Normal")
+  api.nvim_win_set_option(self.window, "wrap", false)
 end
 
 -- Shows a page, where it isn't that of before.
