@@ -1,4 +1,5 @@
-//! The tests of `re_auto` and `re_search`, and of the tables of `re_runs`: nothing but tests, by what these show.
+//! The tests of `re_auto`, `re_search` and the tables of `re_runs`: nothing but tests, by what these
+//! show.
 #![tactic(auto)]
 
 #[cfg(test)]
@@ -9,6 +10,8 @@ mod cache;
 mod courses;
 #[cfg(test)]
 mod filters;
+#[cfg(test)]
+mod half_bytes;
 #[cfg(test)]
 mod matchers;
 #[cfg(test)]
