@@ -1,6 +1,6 @@
 #!/usr/bin/env bash
 # Installs the library into a folder, and there compiles and runs a program by what pkg-config says, in C and in C++, and
-# with the archive alone. Then it removes all again, and looks whether anything is left.
+# with the archive alone. The archive calls what docs/LIBRARY.md names. Then all is removed again.
 set -euo pipefail
 cd "$(dirname "${BASH_SOURCE[0]}")/.."
 folder=$(mktemp -d)
@@ -30,6 +30,9 @@ read -ra link <<< "$(pkg-config --libs gaxtrel)"
 "${CXX:-c++}" "${compile[@]}" -x c++ "$folder/user.c" "${link[@]}" -o "$folder/in_cxx"
 "${CC:-cc}" "${compile[@]}" "$folder/user.c" "$stage/opt/there/lib/libgaxtrel.a" -o "$folder/alone"
 for program in in_c in_cxx alone; do LD_LIBRARY_PATH=$stage/opt/there/lib "$folder/$program"; done
+called=$(nm --undefined-only "$stage/opt/there/lib/libgaxtrel.a" | awk 'NF == 2 { print "`" $2 "`" }' | sort -u | xargs)
+named=$(grep -o 'calls .* alone' ../docs/LIBRARY.md | grep -o '`[a-z]*`' | sort -u | xargs)
+[[ $called == "$named" ]] || { echo "it calls $called, and docs/LIBRARY.md names $named" >&2; exit 1; }
 "${make[@]}" uninstall
 left=$(find "$stage" ! -type d)
 [[ ! $left ]] || { echo "uninstall leaves $left" >&2; exit 1; }
