@@ -69,5 +69,6 @@ try goes_on line_tests memory::splices_without_memory "splices of lines in chunk
 try goes_on command_tests long_lines::lines_without_memory "lines"
 try goes_on command_tests memory::words_without_memory "words"
 try goes_on command_tests memory::searches_without_memory "searches of sources"
+try goes_on command_tests memory::lines_done_without_memory "lines done before memory is refused"
 try goes_on command_tests sessions::memory::edits_without_memory "edits of sessions"
 try goes_on command_tests sessions::watched::files_without_memory "files of watched sessions"
