@@ -29,7 +29,7 @@ DEFINITIONS = {("grep_io", "re_runs"), ("line_chunks", "re_runs"), ("grep_sessio
 """Crates that list one of these for its definitions, and name none of its functions in code."""
 
 FROM_TOOLCHAIN = {
-    "memchr": {"re_syntax", "re_auto", "re_runs", "re_needle", "re_strings", "re_match", "re_search", "grep_io",
+    "memchr": {"re_trees", "re_auto", "re_runs", "re_needle", "re_strings", "re_match", "re_search", "grep_io",
                "grep_session"},
     "arrayvec": {"line_marks", "re_syntax"},
     "lru": {"re_steps"},
@@ -41,7 +41,7 @@ FROM_TOOLCHAIN = {
     "std_alloc": {"gaxtrel"},
 }
 """The crates of the toolchain, and those that may list each. `memchr` goes over bytes: that is for the crates that
-count what it looks at, for `re_syntax` and `grep_io`, which split lines, and for `grep_session`, which looks for one
+count what it looks at, for `re_trees` and `grep_io`, which split lines, and for `grep_session`, which looks for one
 pattern's text in another. The crates above ask these for searches: of what they looked at in lines themselves no meter
 would know. No crate may list another one of the toolchain: `bstr` and `regex` search, too. The proofs of `gaxtrel` on
 raw pointers cite two.
@@ -74,7 +74,7 @@ MAY_BE_QUICK = {
     "makes what looks for a needle": {"re_needle/needle.rt", "re_runs/survey.rt", "re_match/strings.rt"},
     "bytes without a stretch on its way, each a step": {"re_auto/beginnings.rt"},
     "the children of a node, each byte a step or passed": {"re_strings/trie.rt"},
-    "splits lines": {"re_syntax/split.rt", "re_runs/newline.rt", "re_runs/block.rt", "grep_io/input/newlines.rt",
+    "splits lines": {"re_trees/split.rt", "re_runs/newline.rt", "re_runs/block.rt", "grep_io/input/newlines.rt",
                      "grep_io/input/window.rt", "grep_io/devices/byte_buffer.rt"},
     "looks at patterns, not at lines": {"re_search/filter.rt", "re_search/plain.rt", "grep_session/patterns.rt"},
 }

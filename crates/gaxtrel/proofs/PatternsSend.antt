@@ -7,8 +7,8 @@ use Rattle.re_match.below.re_steps.proofs.sets.SetPair.TheSendSync as sets
 use Rattle.re_match.below.re_steps.proofs.table.StepTable.TheSendSync as table
 use Rattle.re_match.proofs.prefilter.Prefilter.TheSendSync as prefilter
 use Rattle.re_match.proofs.strings.Strings.TheSendSync as strings
-use Rattle.re_syntax.proofs.bytes.ByteSet.TheSendSync as byte_set
-use Rattle.re_syntax.proofs.tree.Tree.TheLaws.TheKnot
+use Rattle.re_trees.proofs.bytes.ByteSet.TheSendSync as byte_set
+use Rattle.re_trees.proofs.tree.Tree.TheLaws.TheKnot
 use Rattle.re_search.proofs.filter.Filter.TheSendSync as filter
 use Rattle.std_alloc.proofs.boxed.Box.TheSendSync as box
 use Rattle.std.below.std_heap.proofs.GlobalAllocator.TheSendSync as heap

@@ -6,7 +6,7 @@ use Rattle.std.proofs.lemmas.List.{drop_all}
 use Rattle.std.proofs.lemmas.List.Elements.{All-append, All-cons, All-nil}
 use Rattle.re_syntax.specs.Bytes.{Text}
 use Rattle.re_syntax.specs.Lines.{HasNoNewline, newline, terminated, lines_of}
-use Rattle.re_syntax.specs.declared.span.Span.{Span}
+use Rattle.re_trees.specs.declared.span.Span.{Span}
 use Rattle.re_syntax.proofs.lemmas.LinesLaws.{lines_of-last, lines_of-terminated}
 use Rattle.re_syntax.proofs.lemmas.SplittingLaws.{lines_of-empty}
 use Rattle.re_meter.specs.Meters.{Steps, AddsAtMost}

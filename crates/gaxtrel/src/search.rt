@@ -2,7 +2,7 @@
 ghost use Rattle.std.specs.Prelude.{◌≡◌, ◌≤◌, ◌<◌, ◌↔◌, List, ℕ, None, Option, length};
 ghost use Rattle.re_syntax.specs.Lines.{lines_of};
 ghost use Rattle.re_syntax.specs.Parts.{ArePartsFrom};
-ghost use Rattle.re_syntax.specs.declared.span.Span.{Span};
+ghost use Rattle.re_trees.specs.declared.span.Span.{Span};
 ghost use Rattle.re_meter.specs.Meters.{AddsAtMost, fresh};
 ghost use Rattle.re_auto.specs.Searches.{FindsPart};
 ghost use Rattle.re_search.specs.Working.Sought.{CountsSought, IsSought, Sought};

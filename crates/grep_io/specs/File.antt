@@ -1,6 +1,6 @@
 -- A file as its lines.
 use Rattle.std.specs.Prelude.{List}
-use Rattle.re_syntax.specs.Bytes.{Text}
+use Rattle.re_trees.specs.Bytes.{Text}
 
 -- how a file ended: read to its end, not opened, or left where a read failed
 pub data Ending : Type 0 where

@@ -1,6 +1,6 @@
 -- what these cite of the crates below
-pub use Rattle.re_syntax.specs.Bytes
-pub use Rattle.re_syntax.specs.Lines
+pub use Rattle.re_trees.specs.Bytes
+pub use Rattle.re_trees.specs.Lines
 -- what the contract of the whole command, or of the session, rests on
 pub mod Counted
 pub mod Written

@@ -35,7 +35,7 @@ pub use Rattle.re_syntax.specs.Expression.{Expression}
 pub use Rattle.re_syntax.specs.Lines.{newline}
 unfoldable pub use Rattle.re_syntax.specs.Lines.{list_of}
 pub use Rattle.re_syntax.specs.Parts.{AreParts}
-pub use Rattle.re_syntax.specs.declared.span.Span.{Span}
+pub use Rattle.re_trees.specs.declared.span.Span.{Span}
 pub use Rattle.re_syntax.specs.declared.syntax.Syntax.{Syntax}
 pub use Rattle.std.proofs.Common.{Bool, Decides, Err, IfOk, List, MatchBool, MatchOption, MatchResult, Ok, Option, Result, Some, [], ap, append-nil, append_assoc, arith, codes, cond, decimal, drop, drop-cons, drop-drop, false, filter, flat_map, get_or, get_or-append-add, get_or-drop, get_or-set_other, get_or-set_same, get_or-take, if◌then◌else◌, inl, inr, le-leb, le-ltb, length, length-append, length-drop, length-set, length-take, length-take-le, lt-ltb, map, min, nat_eq, nat_le, refl, remove, set, slice_range, slice_set, subst, suc, sym, take, take-add, take-append-drop, take_all, true, zero, ℕ, ◌&&◌, ◌++◌, ◌+◌, ◌-◌, ◌<◌, ◌^◌, ◌∙◌, ◌∷◌, ◌≡◌, ◌≤◌, ◌⊎◌}
 pub use Rattle.std.proofs.lemmas.Bool.{cases_eq, cases_lt}

@@ -71,7 +71,7 @@ pub use Rattle.re_syntax.specs.Spelled.{IsMeant, IsSpelled}
 pub use Rattle.re_syntax.specs.declared.fault.FaultKind.{FaultKind}
 pub use Rattle.re_syntax.specs.declared.fault.FaultKind.TheVariants.{BackReference, BadClass, BadCollatingSymbol, BadInterval, BadRange, IntervalTooLarge, NothingToRepeat, TooDeep, TooLarge, TrailingBackslash, UnclosedBracket, UnclosedGroup, UndefinedEscape, UnopenedGroup}
 pub use Rattle.re_syntax.specs.declared.fault.PatternFault.{PatternFault}
-pub use Rattle.re_syntax.specs.declared.span.Span.{Span}
+pub use Rattle.re_trees.specs.declared.span.Span.{Span}
 pub use Rattle.re_syntax.specs.declared.syntax.Syntax.{Syntax}
 pub use Rattle.re_syntax.specs.declared.syntax.Syntax.TheVariants.{Fixed}
 pub use Rattle.std.proofs.Common.{All, Any, Bool, Decides, Err, IfOk, IfSome, IsErr, IsTrue, List, MatchBool, MatchOption, None, Ok, Option, Result, Some, [], add-one, ap, append-nil, append_assoc, arith, cond, drop, drop-cons, drop-set-lt, false, filter, get_or, get_or-drop, get_or-set_other, get_or-take, if◌then◌else◌, inl, inr, insert, is_some, length, length-append, length-drop, length-take, length-take-le, lt-ltb, ltb-true, map, mul-le-mul_right, nat_eq, nat_le, nat_lt, not, option_map, refl, remove, set, slice_range, slice_set, subst, suc, sym, take, take-append-drop, take-suc, take-take, take_all, true, unwrap_or, zero, ℕ, ◌&&◌, ◌*◌, ◌++◌, ◌+◌, ◌-◌, ◌<◌, ◌==◌, ◌^◌, ◌||◌, ◌↔◌, ◌∙◌, ◌∷◌, ◌≡◌, ◌≢◌, ◌≤◌, ◌⊎◌}

@@ -66,7 +66,7 @@ unfoldable pub use Rattle.re_syntax.specs.Lines.{ended_lines_of, list_of}
 pub use Rattle.re_syntax.specs.Profile.{most_patterns, most_positions}
 pub use Rattle.re_syntax.specs.Spelled.{IsMeant, as_basic, has_limit}
 pub use Rattle.re_syntax.specs.contracts.fault.FaultKind.{the_type}
-pub use Rattle.re_syntax.specs.declared.class.Class.TheVariants.{Digit}
+pub use Rattle.re_trees.specs.declared.class.Class.TheVariants.{Digit}
 pub use Rattle.re_syntax.specs.declared.fault.FaultKind.{FaultKind}
 pub use Rattle.re_syntax.specs.declared.fault.PatternFault.{PatternFault}
 pub use Rattle.re_syntax.specs.declared.syntax.Syntax.{Syntax}

@@ -8,7 +8,7 @@ use Rattle.std.specs.Prelude.{Result, Ok, Err, String}
 use Rattle.std.specs.List.{list_all}
 use Rattle.std.specs.Str.{byte, chars, encode_utf8_all}
 use Rattle.std.specs.String.{string_bytes}
-use Rattle.re_syntax.specs.declared.class.Class.TheVariants.{Digit}
+use Rattle.re_trees.specs.declared.class.Class.TheVariants.{Digit}
 use Rattle.re_syntax.specs.Bytes.{Text, in_class}
 use Rattle.re_syntax.specs.Intervals.{value}
 use Rattle.re_syntax.specs.declared.syntax.Syntax.{Syntax}

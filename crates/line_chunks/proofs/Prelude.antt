@@ -7,9 +7,9 @@ pub use Rattle.line_chunks.specs.Working.Sums.{AreSummed, IsSummedTo, chunks_of}
 pub use Rattle.line_chunks.specs.declared.entries.Entry.{Entry}
 pub use Rattle.line_finds.specs.Working.Finds.{AreBelow, Finds, FoundIn, finds_at, no_finds, numbers_at, paired_before, without}
 pub use Rattle.re_runs.specs.Working.Blocks.{IsBlock}
-pub use Rattle.re_syntax.specs.Bytes.{Text}
-pub use Rattle.re_syntax.specs.Lines.{HasNoNewline, newline, terminated}
-unfoldable pub use Rattle.re_syntax.specs.Lines.{lines_of}
+pub use Rattle.re_trees.specs.Bytes.{Text}
+pub use Rattle.re_trees.specs.Lines.{HasNoNewline, newline, terminated}
+unfoldable pub use Rattle.re_trees.specs.Lines.{lines_of}
 pub use Rattle.std.proofs.Common.{All, Bool, Err, IfOk, List, None, Ok, OnErr, Option, Result, Some, [], add-one, add-zero, ap, append-nil, append_assoc, arith, drop, drop-drop, drop-set-lt, drop_at, eqb-true, false, get_or, get_or-append-add, get_or-drop, get_or-set_other, if◌then◌else◌, inl, inr, is_err, length, length-append, length-drop, length-set, length-take, map, map-id, not, refl, rules, set, slice_range, subst, suc, sym, take, take-add, take-append-drop, take-take, take_all, take_at, true, zero, ℕ, ◌++◌, ◌+◌, ◌-◌, ◌<◌, ◌==◌, ◌^◌, ◌∙◌, ◌∷◌, ◌≡◌, ◌≢◌, ◌≤◌}
 pub use Rattle.std.proofs.Math.Bool.{beq}
 pub use Rattle.std.proofs.Math.Seq.{drop-append-add, map-set_same, take-append-add}

@@ -2,7 +2,7 @@
 ghost use Rattle.std.specs.Prelude.{◌≡◌, ℕ, ◌+◌, ◌-◌, ◌^◌, ◌<◌, ◌≤◌, [], ◌∷◌, ◌++◌, length, take, drop, get_or};
 ghost use Rattle.std.specs.Prelude.{IfOk, OnErr, map, slice_range};
 ghost use Rattle.std.specs.List.{remove_range};
-ghost use Rattle.re_syntax.specs.Lines.{HasNoNewline, lines_of, terminated};
+ghost use Rattle.re_trees.specs.Lines.{HasNoNewline, lines_of, terminated};
 ghost use Rattle.re_runs.specs.Working.Blocks.{IsBlock};
 
 use std::alloc::{AllocError, Global};
@@ -18,8 +18,8 @@ pub struct Block {
 
 impl Model for Block {
     ghost use Rattle.std.specs.Prelude.{List};
-    ghost use Rattle.re_syntax.specs.Bytes.{Text};
-    ghost use Rattle.re_syntax.specs.Lines.{lines_of};
+    ghost use Rattle.re_trees.specs.Bytes.{Text};
+    ghost use Rattle.re_trees.specs.Lines.{lines_of};
     ghost use Rattle.line_chunks.specs.Working.Blocks.{IsCut};
 
     ghost Value = { List Text };

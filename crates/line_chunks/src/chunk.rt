@@ -1,14 +1,14 @@
 //! Some lines with what is found in each.
 ghost use Rattle.std.specs.Prelude.{◌≡◌, ℕ, ◌^◌, ◌<◌, ◌≤◌, [], ◌∷◌, ◌++◌, length, map, take, drop, get_or, IfOk, OnErr, IsTrue, not, slice_range};
 ghost use Rattle.std.specs.List.{remove_range};
-ghost use Rattle.re_syntax.specs.Lines.{HasNoNewline, lines_of, terminated};
+ghost use Rattle.re_trees.specs.Lines.{HasNoNewline, lines_of, terminated};
 ghost use Rattle.re_runs.specs.Working.Blocks.{IsBlock};
 ghost use Rattle.line_finds.specs.Working.Finds.{numbers_at, AreBelow};
 ghost use Rattle.line_chunks.specs.Working.Chunks.{no_line, new_line, line_text, is_matched, matched_count, seen, line_without};
 
 use crate::block::Block;
 use line_finds::{Found, Matches};
-use re_syntax::Span;
+use re_trees::Span;
 use std::alloc::{AllocError, Global};
 use std::marker::Model;
 

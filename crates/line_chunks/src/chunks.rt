@@ -1,7 +1,7 @@
 //! What is done with the chunks of a file.
 ghost use Rattle.std.specs.Prelude.{◌≡◌, ℕ, ◌+◌, ◌-◌, ◌<◌, ◌≤◌, ◌^◌, [], ◌∷◌, ◌++◌, length, map, take, drop, get_or, IfOk, OnErr, slice_set};
 ghost use Rattle.std.specs.List.{splice, remove_range};
-ghost use Rattle.re_syntax.specs.Lines.{HasNoNewline};
+ghost use Rattle.re_trees.specs.Lines.{HasNoNewline};
 ghost use Rattle.line_chunks.specs.Working.Chunks.{new_line, has_room, with_line, matched_count, all_of};
 ghost use Rattle.line_chunks.specs.Working.Sums.{chunks_of, AreSummed, IsSummedTo};
 

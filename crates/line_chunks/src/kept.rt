@@ -2,7 +2,7 @@
 ghost use Rattle.std.specs.Prelude.{◌≡◌, ℕ, ◌+◌, ◌<◌, ◌≤◌, [], ◌∷◌, ◌++◌, length, map, take, drop, get_or, not, IfOk, OnErr, IfErr};
 ghost use Rattle.std.specs.List.{splice};
 ghost use Rattle.std.specs.Vec.Iter.{into_iter_items};
-ghost use Rattle.re_syntax.specs.Lines.{HasNoNewline};
+ghost use Rattle.re_trees.specs.Lines.{HasNoNewline};
 ghost use Rattle.line_chunks.specs.Working.Chunks.{no_line, new_line, with_line, line_text, is_matched, matched_count, all_of, line_without, with_columns, FitColumns};
 
 use crate::chunk::Chunk;
@@ -13,7 +13,7 @@ use crate::entries::{
 };
 use crate::new_chunks::Filling;
 use line_finds::Found;
-use re_syntax::Span;
+use re_trees::Span;
 use std::alloc::{AllocError, Global};
 use std::marker::Model;
 use std::vec::IntoIter;

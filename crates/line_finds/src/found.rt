@@ -5,7 +5,7 @@ ghost use Rattle.line_finds.specs.Working.Marked.{AreMarks, set_before, AreAdded
 
 use crate::matches::Matches;
 use crate::spans::SpanLists;
-use re_syntax::Span;
+use re_trees::Span;
 use std::alloc::{AllocError, Global};
 use std::marker::Model;
 

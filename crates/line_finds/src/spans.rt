@@ -4,7 +4,7 @@ ghost use Rattle.std.specs.Prelude.{IfOk, OnErr, slice_range, nat_eq, ifâ—Œthenâ
 ghost use Rattle.std.specs.List.{remove_range};
 ghost use Rattle.line_finds.specs.Working.Spans.{all_spans};
 
-use re_syntax::Span;
+use re_trees::Span;
 use std::alloc::{AllocError, Global};
 use std::marker::Model;
 
@@ -19,7 +19,7 @@ pub struct SpanLists {
 
 impl Model for SpanLists {
     ghost use Rattle.std.specs.Prelude.{List};
-    ghost use Rattle.re_syntax.specs.declared.span.Span.{Span};
+    ghost use Rattle.re_trees.specs.declared.span.Span.{Span};
     ghost use Rattle.line_finds.specs.Working.Spans.{cut_lists, AreLists};
 
     ghost Value = { List (List Span) };

@@ -1,15 +1,15 @@
 -- What the positions of an expression say, and what stepping over a line keeps.
 use Rattle.std.specs.Prelude.{◌≡◌, ℕ, suc, ◌<◌, ◌≤◌, ◌↔◌, ◌++◌, Bool, IsTrue, length, slice_index}
 use Rattle.std.specs.Prelude.{Option, None}
-use Rattle.re_syntax.specs.Bytes.{Text}
-use Rattle.re_syntax.specs.Expression.{Expression}
-use Rattle.re_syntax.specs.Holds.{Holds}
+use Rattle.re_trees.specs.Bytes.{Text}
+use Rattle.re_trees.specs.Expression.{Expression}
+use Rattle.re_trees.specs.Holds.{Holds}
 use Rattle.re_auto.specs.declared.mode.Mode.{Mode}
 use Rattle.re_auto.specs.Working.Positions.{is_end, PartHolds, part_of}
 use Rattle.re_auto.specs.Working.SteppedSets.{IsAfter}
-use Rattle.re_syntax.specs.Working.BestStretches.{Least, IsBest}
+use Rattle.re_trees.specs.Working.BestStretches.{Least, IsBest}
 use Rattle.re_auto.specs.Working.Starts.{StartsAfter, IsNextStarts, Reported, IsMatched}
-use Rattle.re_syntax.specs.Working.BestStretches.{better}
+use Rattle.re_trees.specs.Working.BestStretches.{better}
 use Rattle.re_auto.specs.Working.Starts.{IsSpent}
 
 -- An expression holds on a stretch exactly where a chain of its positions reads the stretch's

@@ -1,11 +1,11 @@
 -- What a search of a line finds, and how much work it takes.
 use Rattle.std.specs.Prelude.{◌≡◌, ℕ, zero, suc, ◌↔◌, Bool, List, min, Option, MatchOption, All, Any, IsTrue, map}
-use Rattle.re_syntax.specs.Bytes.{Text}
-use Rattle.re_syntax.specs.Expression.{Expression}
-use Rattle.re_syntax.specs.Holds.{Matches}
-use Rattle.re_syntax.specs.Parts.{IsFound, IsPart}
+use Rattle.re_trees.specs.Bytes.{Text}
+use Rattle.re_trees.specs.Expression.{Expression}
+use Rattle.re_trees.specs.Holds.{Matches}
+use Rattle.re_trees.specs.Parts.{IsFound, IsPart}
 pub use Rattle.re_meter.specs.Meters.{AddsAtMost}
-use Rattle.re_syntax.specs.declared.span.Span.{Span}
+use Rattle.re_trees.specs.declared.span.Span.{Span}
 
 -- the span is the next part of the line for these expressions (XBD 9.1); None says that there is
 -- none

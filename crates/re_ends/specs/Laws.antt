@@ -1,7 +1,7 @@
 -- What the greatest ends of positions say, and that a step back keeps them right.
 use Rattle.std.specs.Prelude.{◌≡◌, ℕ, suc, ◌<◌, ◌↔◌, Bool, List, length, slice_index}
-use Rattle.re_syntax.specs.Bytes.{Text}
-use Rattle.re_syntax.specs.Expression.{Expression}
+use Rattle.re_trees.specs.Bytes.{Text}
+use Rattle.re_trees.specs.Expression.{Expression}
 use Rattle.re_auto.specs.Working.Positions.{is_begin, is_end, part_of}
 use Rattle.re_ends.specs.Working.GreatestEnds.{LeadsPast, AreEndsAt, IsStepBack, MatchesPast}
 

@@ -2,8 +2,8 @@
 ghost use Rattle.std.specs.Prelude.{◌≡◌, ℕ, ◌+◌, ◌*◌, ◌<◌, ◌≤◌, ◌↔◌, ◌⊎◌, suc, Bool, IfOk, length};
 ghost use Rattle.std.specs.Prelude.{slice_index, IsTrue};
 ghost use Rattle.std.specs.Int.{bit_at};
-ghost use Rattle.re_syntax.specs.Working.Trees.{expression_of};
-ghost use Rattle.re_syntax.specs.Holds.{positions};
+ghost use Rattle.re_trees.specs.Working.Trees.{expression_of};
+ghost use Rattle.re_trees.specs.Holds.{positions};
 ghost use Rattle.re_auto.specs.Meters.{many_built};
 ghost use Rattle.re_auto.specs.Working.Bits.{Has};
 ghost use Rattle.re_auto.specs.Working.Positions.{part_of, is_end};

@@ -29,14 +29,14 @@ unfoldable pub use Rattle.re_strings.specs.Working.FixedSets.{IsBestOccurrence}
 pub use Rattle.re_strings.specs.Working.Keys.{keys}
 unfoldable pub use Rattle.re_strings.specs.Working.Keys.{key}
 pub use Rattle.re_strings.specs.Working.Reached.{EndsFirst}
-pub use Rattle.re_syntax.specs.Bytes.{Bytes, Text, only}
-pub use Rattle.re_syntax.specs.Expression.{Expression, alt, byte, cat, sequence}
-pub use Rattle.re_syntax.specs.Holds.{Holds, Matches, folded, positions}
-pub use Rattle.re_syntax.specs.Lines.{HasNoNewline, newline, terminated}
-unfoldable pub use Rattle.re_syntax.specs.Lines.{lines_of}
-pub use Rattle.re_syntax.specs.Parts.{IsFound, IsPart}
-pub use Rattle.re_syntax.specs.Working.Trees.{expression_of}
-pub use Rattle.re_syntax.specs.declared.span.Span.{Span}
+pub use Rattle.re_trees.specs.Bytes.{Bytes, Text, only}
+pub use Rattle.re_trees.specs.Expression.{Expression, alt, byte, cat, sequence}
+pub use Rattle.re_trees.specs.Holds.{Holds, Matches, folded, positions}
+pub use Rattle.re_trees.specs.Lines.{HasNoNewline, newline, terminated}
+unfoldable pub use Rattle.re_trees.specs.Lines.{lines_of}
+pub use Rattle.re_trees.specs.Parts.{IsFound, IsPart}
+pub use Rattle.re_trees.specs.Working.Trees.{expression_of}
+pub use Rattle.re_trees.specs.declared.span.Span.{Span}
 pub use Rattle.std.proofs.Common.{All, Bool, Decides, IfSome, IsTrue, List, None, Option, Some, [], ap, append-nil, arith, bytes_eq, drop, drop-drop, drop_of_length-le, eq-eqb, eqb-true, false, get_or, get_or-append-add, get_or-drop, get_or-take, inl, inr, is_some, length, length-append, length-drop, length-take, length-take-le, map, min, option_map, refl, rules, slice_get, slice_index, slice_range, subst, suc, sym, take, take-append-drop, true, zero, zero-add, ℕ, ◌++◌, ◌+◌, ◌-◌, ◌<◌, ◌↔◌, ◌∙◌, ◌∷◌, ◌≡◌, ◌≢◌, ◌≤◌}
 pub use Rattle.std.proofs.Math.Decide.{dec_le}
 pub use Rattle.std.proofs.Math.Seq.{drop-length}

@@ -3,9 +3,9 @@
 ghost use Rattle.std.specs.Prelude.{◌≡◌, ℕ, ◌+◌, ◌-◌, ◌<◌, ◌≤◌, ◌↔◌, [], ◌∷◌, true, false, IsTrue, IfOk};
 ghost use Rattle.std.specs.Prelude.{IfErr, IfSome, length, map};
 ghost use Rattle.std.specs.NonZero.{non_zero_usize_get};
-ghost use Rattle.re_syntax.specs.Working.Trees.{expression_of};
-ghost use Rattle.re_syntax.specs.Holds.{Matches, positions};
-ghost use Rattle.re_syntax.specs.Profile.{most_positions};
+ghost use Rattle.re_trees.specs.Working.Trees.{expression_of};
+ghost use Rattle.re_trees.specs.Holds.{Matches, positions};
+ghost use Rattle.re_trees.specs.Limits.{most_positions};
 ghost use Rattle.re_auto.specs.declared.build.BuildFault.TheVariants.{Memory};
 ghost use Rattle.re_auto.specs.Working.Tables.{IsRefused};
 ghost use Rattle.re_auto.specs.Working.StateSets.{IsMadeFor};
@@ -27,7 +27,7 @@ use crate::tries::NextPart;
 use re_auto::{Automaton, BuildFault, Meter, Mode, StateSet};
 use re_ends::EndPair;
 use re_steps::{LineSearch, Outcome, SetPair, StartPair, StepTable};
-use re_syntax::{Span, Tree};
+use re_trees::{Span, Tree};
 use std::alloc::Global;
 use std::marker::Model;
 use std::num::NonZeroUsize;
@@ -53,8 +53,8 @@ impl Model for Cached {
     ghost use Rattle.std.specs.Prelude.{IfSome};
     ghost use Rattle.std.specs.NonZero.{non_zero_usize_get};
     ghost use Rattle.std.specs.Coded.{codes};
-    ghost use Rattle.re_syntax.specs.Working.Trees.{expression_of};
-    ghost use Rattle.re_syntax.specs.contracts.tree.Tree as e;
+    ghost use Rattle.re_trees.specs.Working.Trees.{expression_of};
+    ghost use Rattle.re_trees.specs.contracts.tree.Tree as e;
     ghost use Rattle.re_auto.specs.contracts.step.state_set.StateSet as s;
     ghost use Rattle.re_match.specs.Working.Prefilters.{IsPrefilterFor};
     ghost use Rattle.re_steps.specs.Working.Simulations.{AreSetsFor, AreStartsFor};
@@ -324,7 +324,7 @@ fn finish(
 }
 
 impl LineMatch for Cached {
-    ghost use Rattle.re_syntax.specs.Working.Trees.{expression_of};
+    ghost use Rattle.re_trees.specs.Working.Trees.{expression_of};
 
     ghost expression = { λ c. expression_of c.tree };
 
@@ -394,7 +394,7 @@ impl LineMatch for Cached {
 }
 
 impl Sweeps for Cached {
-    ghost use Rattle.re_syntax.specs.Working.Trees.{expression_of};
+    ghost use Rattle.re_trees.specs.Working.Trees.{expression_of};
 
     ghost expression = { λ c. expression_of c.tree };
 

@@ -3,7 +3,7 @@ ghost use Rattle.std.specs.Prelude.{◌≡◌, ℕ, ◌+◌, ◌-◌, ◌≤◌,
 ghost use Rattle.re_ends.specs.Working.GreatestEnds.{AddsEnds};
 ghost use Rattle.re_match.specs.Working.Strings.{part_cost};
 
-use re_syntax::Span;
+use re_trees::Span;
 
 /// How many bytes a search for a part from a place on answers for: those up to the part's end; if
 /// there is none, those up to the line's end, and one more.

@@ -1,8 +1,8 @@
 ghost use Rattle.std.specs.Prelude.{◌≡◌, Bool, ℕ, ◌+◌, ◌-◌, ◌<◌, ◌≤◌, ◌↔◌, [], ◌∷◌, IsTrue, IfSome};
 ghost use Rattle.std.specs.Prelude.{length};
-ghost use Rattle.re_syntax.specs.Expression.{Expression};
-ghost use Rattle.re_syntax.specs.Holds.{Matches};
-ghost use Rattle.re_syntax.specs.Lines.{lines_of};
+ghost use Rattle.re_trees.specs.Expression.{Expression};
+ghost use Rattle.re_trees.specs.Holds.{Matches};
+ghost use Rattle.re_trees.specs.Lines.{lines_of};
 ghost use Rattle.re_auto.specs.Searches.{FindsPart, AddsAtMost};
 ghost use Rattle.re_meter.specs.Meters.{AddsUpTo};
 ghost use Rattle.re_runs.specs.Working.Blocks.{IsBlock, CountsMatched};
@@ -11,7 +11,7 @@ ghost use Rattle.re_ends.specs.Working.GreatestEnds.{AddsEnds, FoundPast};
 ghost use Rattle.re_match.specs.Working.Same.{SameMatcher};
 
 use re_auto::Meter;
-use re_syntax::Span;
+use re_trees::Span;
 
 /// Decides whether a line is matched, and finds its matched parts. It is made for one expression,
 /// which no search changes.

@@ -1,9 +1,9 @@
 //! What is known of lines, parts and blocks by what each match contains.
 ghost use Rattle.std.specs.Prelude.{◌≡◌, ℕ, ◌+◌, ◌≤◌, ◌⊎◌, false, IfOk, IfSome, IsTrue, Some, length, map};
 ghost use Rattle.std.specs.Prelude.{slice_range};
-ghost use Rattle.re_syntax.specs.Expression.{Expression};
-ghost use Rattle.re_syntax.specs.Working.Trees.{expression_of};
-ghost use Rattle.re_syntax.specs.Lines.{HasNoNewline};
+ghost use Rattle.re_trees.specs.Expression.{Expression};
+ghost use Rattle.re_trees.specs.Working.Trees.{expression_of};
+ghost use Rattle.re_trees.specs.Lines.{HasNoNewline};
 ghost use Rattle.re_meter.specs.Meters.{AddsUpTo};
 ghost use Rattle.re_needle.specs.Working.Needles.{IsNeeded, IsNeedleFor};
 ghost use Rattle.re_runs.specs.Working.Finders.{runs_of};
@@ -20,7 +20,7 @@ use crate::tries::{NextPart, next_tried};
 use re_auto::{Automaton, Meter};
 use re_needle::{LookCost, Needle, bytes_of, has_begin};
 use re_runs::{RunFinder, Swept, first_line_beginning_with, first_line_with_run, has_no_newline};
-use re_syntax::{ByteSet, Span, Tree};
+use re_trees::{ByteSet, Span, Tree};
 use std::alloc::{AllocError, Global};
 
 // A search that begins so many bytes after its line does counts as a byte that a look passed.

@@ -3,8 +3,8 @@ ghost use Rattle.std.specs.Prelude.{◌≡◌, ℕ, ◌+◌, ◌≤◌, ◌↔�
 ghost use Rattle.std.specs.Prelude.{IfSome, length, map, slice_range};
 ghost use Rattle.re_strings.specs.Working.Branches.{AreAscending, HaveSame};
 ghost use Rattle.re_strings.specs.Working.FixedSets.{IsString};
-ghost use Rattle.re_syntax.specs.Holds.{Matches};
-ghost use Rattle.re_syntax.specs.Lines.{lines_of};
+ghost use Rattle.re_trees.specs.Holds.{Matches};
+ghost use Rattle.re_trees.specs.Lines.{lines_of};
 ghost use Rattle.re_meter.specs.Meters.{AddsUpTo};
 ghost use Rattle.re_match.specs.Working.Literals.{any_literal, LooksForAny, ReachesPart};
 ghost use Rattle.re_match.specs.Working.Sweeps.{StopsAt};
@@ -18,7 +18,7 @@ use crate::sweeps::Sweep;
 use re_auto::Meter;
 use re_runs::line_start;
 use re_strings::{AhoCorasick, table_of};
-use re_syntax::{Span, split_file};
+use re_trees::{Span, split_file};
 use std::alloc::{AllocError, Global};
 use std::marker::Model;
 
@@ -33,8 +33,8 @@ pub struct StringSet {
 
 impl Model for StringSet {
     ghost use Rattle.std.specs.Prelude.{◌↔◌, IsTrue, [], ℕ, map};
-    ghost use Rattle.re_syntax.specs.Bytes.{Text};
-    ghost use Rattle.re_syntax.specs.Lines.{lines_of};
+    ghost use Rattle.re_trees.specs.Bytes.{Text};
+    ghost use Rattle.re_trees.specs.Lines.{lines_of};
     ghost use Rattle.re_match.specs.Working.Literals.{Literals};
     ghost use Rattle.re_strings.specs.Working.Keys.{keys};
     ghost use Rattle.re_strings.specs.Working.FixedSets.{IsTable, IsTableOf, IsString};

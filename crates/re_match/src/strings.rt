@@ -1,9 +1,9 @@
 //! Search for fixed strings (XCU grep, option `-F`).
 ghost use Rattle.std.specs.Prelude.{◌≡◌, ℕ, ◌+◌, ◌-◌, ◌<◌, ◌≤◌, ◌↔◌, [], ◌∷◌, false, true, IsTrue, IfOk};
 ghost use Rattle.std.specs.Prelude.{IfSome, Bool, ◌⊎◌, length};
-ghost use Rattle.re_syntax.specs.Bytes.{Text};
-ghost use Rattle.re_syntax.specs.Holds.{Matches};
-ghost use Rattle.re_syntax.specs.Lines.{lines_of};
+ghost use Rattle.re_trees.specs.Bytes.{Text};
+ghost use Rattle.re_trees.specs.Holds.{Matches};
+ghost use Rattle.re_trees.specs.Lines.{lines_of};
 ghost use Rattle.re_meter.specs.Meters.{AddsAtMost, AddsUpTo, many_built, many_passed};
 ghost use Rattle.re_needle.specs.Working.Needles.{IsNeeded};
 ghost use Rattle.re_runs.specs.Working.Blocks.{IsBlock, PassesUnmatched, CountsMatched};
@@ -31,7 +31,7 @@ use re_runs::{
     step_to_text,
 };
 use re_strings::add_occurrences;
-use re_syntax::Span;
+use re_trees::Span;
 use std::alloc::{AllocError, Global};
 use std::marker::Model;
 

@@ -1,9 +1,9 @@
 //! Matchers that pass lines of a block in one sweep, as far as it is known without a search that
 //! they are not matched.
 ghost use Rattle.std.specs.Prelude.{Bool, ℕ, ◌≡◌, ◌+◌, ◌<◌, ◌≤◌, ◌↔◌, IsTrue, IfSome, length};
-ghost use Rattle.re_syntax.specs.Expression.{Expression};
-ghost use Rattle.re_syntax.specs.Holds.{Matches};
-ghost use Rattle.re_syntax.specs.Lines.{lines_of};
+ghost use Rattle.re_trees.specs.Expression.{Expression};
+ghost use Rattle.re_trees.specs.Holds.{Matches};
+ghost use Rattle.re_trees.specs.Lines.{lines_of};
 ghost use Rattle.re_meter.specs.Meters.{AddsAtMost, AddsUpTo};
 ghost use Rattle.re_match.specs.declared.sweeps.Stop.TheVariants.{Unseen, Seen, Matched};
 ghost use Rattle.re_runs.specs.Working.Runs.{look_cost};
@@ -14,7 +14,7 @@ ghost use Rattle.re_runs.specs.Working.Blocks.{FindsMatched, next_cost};
 
 use re_auto::Meter;
 use re_runs::{Swept, bytes_over, line_end};
-use re_syntax::Span;
+use re_trees::Span;
 
 /// What a sweep says of the line at which it stopped.
 #[derive(Clone, Copy, Drop)]

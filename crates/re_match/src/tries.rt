@@ -1,13 +1,13 @@
 //! Search for a part by tries of places where it may begin.
 ghost use Rattle.std.specs.Prelude.{◌≡◌, ◌+◌, ◌-◌, ◌<◌, ◌≤◌, false, IfSome, length, slice_index};
-ghost use Rattle.re_syntax.specs.Working.Trees.{expression_of, members};
+ghost use Rattle.re_trees.specs.Working.Trees.{expression_of, members};
 ghost use Rattle.re_needle.specs.Working.Needles.{IsNeedleOf, HasBytesOf};
 ghost use Rattle.re_match.specs.Working.NextParts.{IsAhead, IsSaid, IsTriedOn};
 
 use re_auto::{Automaton, Meter};
 use re_needle::Needle;
 use re_steps::{Trial, try_place};
-use re_syntax::{ByteSet, Span};
+use re_trees::{ByteSet, Span};
 
 /// What is known of the next part.
 #[derive(Clone, Copy, Drop)]

@@ -8,14 +8,14 @@ pub use Rattle.re_needle.specs.Working.Branches.{AreRunsOf, IsRunOf}
 pub use Rattle.re_needle.specs.declared.needle.Needle.{Needle}
 pub use Rattle.re_needle.specs.declared.outline_item.OutlineItem.{OutlineItem}
 pub use Rattle.re_runs.specs.declared.run_finder.RunFinder.{RunFinder}
-pub use Rattle.re_syntax.specs.Bytes.{Bytes, Text, nothing, only}
-pub use Rattle.re_syntax.specs.Expression.{Expression, alt, byte, cat, one_of, repeat, sequence}
-pub use Rattle.re_syntax.specs.Holds.{Holds, Matches, Turns}
-pub use Rattle.re_syntax.specs.Parts.{IsFound, IsPart}
-pub use Rattle.re_syntax.specs.Working.Trees.{expression_of, members}
-pub use Rattle.re_syntax.specs.declared.bytes.ByteSet.{ByteSet}
-pub use Rattle.re_syntax.specs.declared.span.Span.{Span}
-pub use Rattle.re_syntax.specs.declared.tree.Tree.{Tree}
+pub use Rattle.re_trees.specs.Bytes.{Bytes, Text, nothing, only}
+pub use Rattle.re_trees.specs.Expression.{Expression, alt, byte, cat, one_of, repeat, sequence}
+pub use Rattle.re_trees.specs.Holds.{Holds, Matches, Turns}
+pub use Rattle.re_trees.specs.Parts.{IsFound, IsPart}
+pub use Rattle.re_trees.specs.Working.Trees.{expression_of, members}
+pub use Rattle.re_trees.specs.declared.bytes.ByteSet.{ByteSet}
+pub use Rattle.re_trees.specs.declared.span.Span.{Span}
+pub use Rattle.re_trees.specs.declared.tree.Tree.{Tree}
 pub use Rattle.std.proofs.Common.{All, Any, Bool, Err, IfOk, IsTrue, List, None, Ok, Option, Result, Some, [], ap, append-nil, append_assoc, arith, drop, eq-eqb, eqb-true, false, get_or, get_or-set_other, get_or-take, inl, inr, is_some, length, length-append, length-drop, length-set, length-take, map, min, nat_eq, not, refl, replicate, rules, set, slice_get, slice_index, subst, suc, sym, take, take-append-drop, take_all, true, zero, ℕ, ◌&&◌, ◌++◌, ◌+◌, ◌-◌, ◌<◌, ◌↔◌, ◌∙◌, ◌∷◌, ◌≡◌, ◌≢◌, ◌≤◌, ◌⊎◌}
 pub use Rattle.std.proofs.Math.Decide.{dec_le}
 pub use Rattle.std.proofs.lemmas.Bool.{cases_lt, false≢true, or_left, or_right}

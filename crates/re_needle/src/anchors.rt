@@ -1,10 +1,10 @@
 //! Whether a match may depend on where its line begins.
 ghost use Rattle.std.specs.Prelude.{◌≡◌, false, map};
-ghost use Rattle.re_syntax.specs.Expression.{alt, cat};
-ghost use Rattle.re_syntax.specs.Working.Trees.{expression_of};
+ghost use Rattle.re_trees.specs.Expression.{alt, cat};
+ghost use Rattle.re_trees.specs.Working.Trees.{expression_of};
 ghost use Rattle.re_needle.specs.Working.Needles.{HasNoBegin};
 
-use re_syntax::Tree;
+use re_trees::Tree;
 
 /// Whether the tree has a `^` in it.
 #[cycle(begin)]

@@ -1,10 +1,10 @@
 //! Which bytes matches have.
 ghost use Rattle.std.specs.Prelude.{◌≡◌, ◌<◌, ℕ, IsTrue, map};
-ghost use Rattle.re_syntax.specs.Expression.{alt, cat};
-ghost use Rattle.re_syntax.specs.Working.Trees.{expression_of, members};
+ghost use Rattle.re_trees.specs.Expression.{alt, cat};
+ghost use Rattle.re_trees.specs.Working.Trees.{expression_of, members};
 ghost use Rattle.re_needle.specs.Working.Needles.{HasBytesOf};
 
-use re_syntax::{ByteSet, Tree};
+use re_trees::{ByteSet, Tree};
 
 // How many trees, one in another, are looked into: each of them takes stack.
 const MOST_DEPTH: u16 = 64;

@@ -1,14 +1,14 @@
 //! What every match of a choice contains: a run of one of its branches.
 ghost use Rattle.std.specs.Prelude.{◌≡◌, ℕ, IfOk, IfSome, IsTrue, All, length, map};
-ghost use Rattle.re_syntax.specs.Expression.{alt};
-ghost use Rattle.re_syntax.specs.Working.Trees.{expression_of};
+ghost use Rattle.re_trees.specs.Expression.{alt};
+ghost use Rattle.re_trees.specs.Working.Trees.{expression_of};
 ghost use Rattle.re_needle.specs.Working.Needles.{IsNeedleFor, IsRunNeedleFor};
 ghost use Rattle.re_needle.specs.Working.Branches.{AreRunsOf};
 ghost use Rattle.re_runs.specs.Working.Runs.{sets_of_each};
 
 use crate::needle::{Needle, head_needle, run_needle};
 use re_runs::{RunFinder, SetFinder};
-use re_syntax::{ByteSet, Tree};
+use re_trees::{ByteSet, Tree};
 use std::alloc::{AllocError, Global};
 
 // How many runs are looked for at once.

@@ -1,12 +1,12 @@
 //! The sets that an outline begins with.
 ghost use Rattle.std.specs.Prelude.{◌≡◌, ◌++◌, List, Option, Some, IfOk, IfSome, map};
-ghost use Rattle.re_syntax.specs.Bytes.{Bytes};
-ghost use Rattle.re_syntax.specs.Working.Trees.{members};
+ghost use Rattle.re_trees.specs.Bytes.{Bytes};
+ghost use Rattle.re_trees.specs.Working.Trees.{members};
 ghost use Rattle.re_needle.specs.Working.Outlines.{shown};
 
 use crate::choice::{RunKind, mark_rank};
 use crate::outline_item::OutlineItem;
-use re_syntax::ByteSet;
+use re_trees::ByteSet;
 use std::alloc::{AllocError, Global};
 
 // How many small sets are looked for at most. All of them may be compared at a place.

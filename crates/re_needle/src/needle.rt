@@ -1,8 +1,8 @@
 //! What every match of an expression contains.
 ghost use Rattle.std.specs.Prelude.{◌≡◌, ◌≤◌, ◌++◌, List, Option, Some, IfOk, IfSome, IsTrue, false, length, map};
-ghost use Rattle.re_syntax.specs.Bytes.{Bytes, only};
-ghost use Rattle.re_syntax.specs.Expression.{Expression, byte};
-ghost use Rattle.re_syntax.specs.Working.Trees.{expression_of, members};
+ghost use Rattle.re_trees.specs.Bytes.{Bytes, only};
+ghost use Rattle.re_trees.specs.Expression.{Expression, byte};
+ghost use Rattle.re_trees.specs.Working.Trees.{expression_of, members};
 ghost use Rattle.re_needle.specs.Working.Needles.{IsNeedleFor, IsRunNeedleFor};
 ghost use Rattle.re_needle.specs.Working.Outlines.{IsOutline, shown};
 
@@ -14,7 +14,7 @@ use crate::outline::add_outline;
 use crate::outline_item::OutlineItem;
 use memchr::memmem::Finder;
 use re_runs::{RunFinder, SetFinder, rank_of};
-use re_syntax::{ByteSet, Tree};
+use re_trees::{ByteSet, Tree};
 use std::alloc::{AllocError, Global};
 
 // A run of sets of any size is looked for if it has at least this number of sets.

@@ -1,13 +1,13 @@
 //! Outlines of expressions: the sets of bytes that every match has one after another.
 ghost use Rattle.std.specs.Prelude.{◌≡◌, ◌++◌, ◌∷◌, [], IfOk, IfSome, IsTrue, Some, map};
-ghost use Rattle.re_syntax.specs.Expression.{alt, cat, one_of, repeat};
-ghost use Rattle.re_syntax.specs.Working.Trees.{expression_of, members};
+ghost use Rattle.re_trees.specs.Expression.{alt, cat, one_of, repeat};
+ghost use Rattle.re_trees.specs.Working.Trees.{expression_of, members};
 ghost use Rattle.re_needle.specs.Working.Outlines.{AddsOutline, AddsSets, AddsTurns, AreJoined};
 
 use crate::choice::RunKind;
 use crate::leading_sets::leading_sets;
 use crate::outline_item::OutlineItem;
-use re_syntax::{ByteSet, Tree};
+use re_trees::{ByteSet, Tree};
 use std::alloc::{AllocError, Global};
 
 // How many times a repeated set is in an outline at most.

@@ -1,6 +1,6 @@
 //! Marks of outlines.
 
-use re_syntax::ByteSet;
+use re_trees::ByteSet;
 
 /// A mark of an outline.
 #[derive(Clone, Copy)]

@@ -8,12 +8,12 @@ pub use Rattle.re_runs.specs.Working.Runs.{AllPass, AreProbesOf, BeginsWithout, 
 pub use Rattle.re_runs.specs.declared.alike.Alike.{Alike}
 pub use Rattle.re_runs.specs.declared.probes.Probe.{Probe}
 pub use Rattle.re_runs.specs.declared.probes.Probes.{Probes}
-pub use Rattle.re_syntax.specs.Bytes.{Bytes, Text, nothing, only}
-pub use Rattle.re_syntax.specs.Lines.{HasNoNewline, newline, terminated}
-unfoldable pub use Rattle.re_syntax.specs.Lines.{ended_lines_of, lines_of}
-pub use Rattle.re_syntax.specs.Working.Trees.{members}
-pub use Rattle.re_syntax.specs.declared.bytes.ByteSet.{ByteSet}
-pub use Rattle.re_syntax.specs.declared.span.Span.{Span}
+pub use Rattle.re_trees.specs.Bytes.{Bytes, Text, nothing, only}
+pub use Rattle.re_trees.specs.Lines.{HasNoNewline, newline, terminated}
+unfoldable pub use Rattle.re_trees.specs.Lines.{ended_lines_of, lines_of}
+pub use Rattle.re_trees.specs.Working.Trees.{members}
+pub use Rattle.re_trees.specs.declared.bytes.ByteSet.{ByteSet}
+pub use Rattle.re_trees.specs.declared.span.Span.{Span}
 pub use Rattle.std.proofs.Common.{All, Any, Bool, IsTrue, List, None, Option, Some, [], add-one, ap, append-nil, append_assoc, arith, bit_and, cond, drop, drop-cons, drop-drop, eq-eqb, eqb, eqb-true, false, get_or, get_or-append-add, get_or-drop, get_or-take, inl, inr, length, length-append, length-drop, length-take, length-take-le, ltb, ltb-false, ltb-true, map, min, nat_eq, not, pow_mono, pow_pos, refl, replicate, rules, slice_index, slice_range, subst, suc, sym, take, take-append-drop, true, true≢false, w64, w8, ℕ, ◌%◌, ◌*◌, ◌++◌, ◌+◌, ◌-◌, ◌/◌, ◌<◌, ◌==◌, ◌^◌, ◌↔◌, ◌∙◌, ◌∷◌, ◌≡◌, ◌≢◌, ◌≤◌, ◌⊎◌}
 pub use Rattle.std.proofs.Math.Decide.{dec_le}
 pub use Rattle.std.proofs.Math.Nat.{two-pow-succ}
@@ -26,6 +26,7 @@ pub use Rattle.std.proofs.lemmas.List.FromFn.{get_or-map-range_with_len}
 pub use Rattle.std.proofs.lemmas.List.Sums.{prefix_len-le-length, prefix_len_passes, prefix_len_stops}
 pub use Rattle.std.proofs.lemmas.Nat.{and-not, and_comm, and_mask}
 pub use Rattle.std.proofs.lemmas.Nat.Bits.{and_pow, bit_at-trailing_zeros, bit_at-zero, bit_at_and, bit_at_clear_other}
+pub use Rattle.std.proofs.lemmas.Result.{IfOk-weaker}
 pub use Rattle.std.proofs.lemmas.Simd.{Each1-from_get_or, Each1-get_or, SwzOk, SwzOk-from_below, bit_mask_l, bitmask_splat, get_or-chunk, get_or-replicate, get_or-sel_l, get_or-swz_l_below, get_or-zip2, leading_from_mask_l, length-chunk, length-sel_l, length-swz_l, length-zip2, swz_l, tops_compared, trailing_mask_l}
 pub use Rattle.std.proofs.lemmas.Slice.Eq.{starts_is}
 pub use Rattle.std.specs.Int.{bit_at, bit_not}

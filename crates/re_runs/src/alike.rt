@@ -1,11 +1,11 @@
 //! Tests for sets of bytes by the bits that all their bytes share, as the two cases of a letter do.
 ghost use Rattle.std.specs.Prelude.{◌≡◌, ◌==◌, ◌↔◌, ◌+◌, ◌≤◌, ℕ, IfSome, IsTrue, length, slice_index};
-ghost use Rattle.re_syntax.specs.Working.Trees.{members};
+ghost use Rattle.re_trees.specs.Working.Trees.{members};
 ghost use Rattle.re_runs.specs.Working.Runs.{AreAlike, HasBits, mark_of};
 ghost use Rattle.memchr.specs.Lanes.{HasLanes};
 
 use crate::lanes::{load, with_bits};
-use re_syntax::ByteSet;
+use re_trees::ByteSet;
 use std::simd::prelude::*;
 
 /// Bits that all bytes of a set share. Other bytes may have them too.

@@ -1,7 +1,7 @@
 //! Blocks of whole lines: finding one, passing over the first ones, and counting them, at once.
 ghost use Rattle.std.specs.Prelude.{◌≡◌, ◌+◌, ◌<◌, ◌≤◌, ◌↔◌, ◌++◌, ◌∷◌, IsTrue, IfSome};
 ghost use Rattle.std.specs.Prelude.{MatchOption, length, map, take, drop, ⊤, None};
-ghost use Rattle.re_syntax.specs.Lines.{newline, lines_of, HasNoNewline};
+ghost use Rattle.re_trees.specs.Lines.{newline, lines_of, HasNoNewline};
 ghost use Rattle.re_runs.specs.Working.Blocks.{IsBlock, LineBegins, Lacks, PassesAll};
 ghost use Rattle.re_runs.specs.Working.Blocks.{StandsIn, HoldsOfMany, IsLineFrom, FindsNext};
 ghost use Rattle.re_runs.specs.Working.Blocks.{next_cost, StopsInLine, LooksOnce};
@@ -15,7 +15,7 @@ use crate::text_finder::find_text;
 use memchr::memmem::Finder;
 use memchr::memrchr;
 use re_meter::Meter;
-use re_syntax::Span;
+use re_trees::Span;
 
 /// Where a look over a block of whole lines stopped.
 #[derive(Clone, Copy, Drop)]

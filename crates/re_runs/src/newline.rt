@@ -2,7 +2,7 @@
 ghost use Rattle.std.specs.Prelude.{◌≡◌, ◌+◌, ◌<◌, ◌≤◌, ◌==◌, ◌∷◌, ◌++◌, not, IfSome, MatchOption};
 ghost use Rattle.std.specs.Prelude.{length, take, drop};
 ghost use Rattle.std.specs.List.{prefix_len};
-ghost use Rattle.re_syntax.specs.Lines.{newline, HasNoNewline};
+ghost use Rattle.re_trees.specs.Lines.{newline, HasNoNewline};
 
 use memchr::memchr;
 use std::simd::prelude::*;

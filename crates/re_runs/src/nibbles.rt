@@ -1,12 +1,12 @@
 //! Tests for sets of bytes by look-ups of a byte's halves. They are the same for all sets, so that
 //! many bytes are tested at once.
 ghost use Rattle.std.specs.Prelude.{◌≡◌, ◌<◌, ◌+◌, ◌≤◌, IfSome, IsTrue, length, slice_index};
-ghost use Rattle.re_syntax.specs.Working.Trees.{members};
+ghost use Rattle.re_trees.specs.Working.Trees.{members};
 ghost use Rattle.re_runs.specs.Working.Runs.{Covers, HasBitFor, HasBitsOfEach, bits_of, sets_of_each};
 ghost use Rattle.memchr.specs.Lanes.{HasLanes};
 
 use crate::lanes::{both, by_high, by_low, load};
-use re_syntax::ByteSet;
+use re_trees::ByteSet;
 use std::simd::prelude::*;
 
 /// A table for the low four bits of a byte and one for the high four. A byte passes if both have a

@@ -9,7 +9,7 @@ ghost use Rattle.re_runs.specs.Working.Runs.{bits_of, mark_of, meet, sets_of_eac
 use crate::alike::Alike;
 use crate::lanes::{both, lesser, nonzero};
 use crate::nibbles::Nibbles;
-use re_syntax::ByteSet;
+use re_trees::ByteSet;
 use std::simd::prelude::*;
 
 /// Two tests for the byte at this distance after a place.

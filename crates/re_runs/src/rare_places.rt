@@ -1,7 +1,7 @@
 //! Which sets of runs are tested for first. No contract depends on it.
 
 use crate::survey::Survey;
-use re_syntax::ByteSet;
+use re_trees::ByteSet;
 use std::alloc::{AllocError, Global};
 
 // How many places are tested at most.

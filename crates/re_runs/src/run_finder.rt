@@ -1,8 +1,8 @@
 //! Search for runs, one of which every match contains.
 ghost use Rattle.std.specs.Prelude.{◌≡◌, ◌↔◌, IsTrue, IfOk, IfSome, MatchOption, ◌≤◌, List, length, map, min};
 ghost use Rattle.re_meter.specs.Meters.{many_passed};
-ghost use Rattle.re_syntax.specs.Bytes.{Bytes, only};
-ghost use Rattle.re_syntax.specs.Working.Trees.{members};
+ghost use Rattle.re_trees.specs.Bytes.{Bytes, only};
+ghost use Rattle.re_trees.specs.Working.Trees.{members};
 ghost use Rattle.re_runs.specs.Working.Finders.{runs_of};
 ghost use Rattle.re_runs.specs.Working.Runs.{FindsRun, IsLongestRun, RunStandsAt, front_of, longest_of, look_cost, one_run};
 
@@ -10,7 +10,7 @@ use crate::set_finder::SetFinder;
 use crate::text_finder::find_text;
 use memchr::memmem::Finder;
 use re_meter::Meter;
-use re_syntax::ByteSet;
+use re_trees::ByteSet;
 use std::alloc::{AllocError, Global};
 
 // How many sets of a run are looked for at most where those of several runs are looked for at once.

@@ -1,9 +1,9 @@
 //! Runs of sets of bytes, one of which is looked for.
 ghost use Rattle.std.specs.Prelude.{◌≡◌, ◌↔◌, ◌⊎◌, ◌+◌, ◌<◌, ◌≤◌, Some, IfSome, IsTrue, MatchOption, length, map};
-ghost use Rattle.re_syntax.specs.Working.Trees.{members};
+ghost use Rattle.re_trees.specs.Working.Trees.{members};
 ghost use Rattle.re_runs.specs.Working.Runs.{IsLongestRun, IsNoWider, RunIsAt, RunStandsAt, longest_of, sets_of_each, set_at};
 
-use re_syntax::ByteSet;
+use re_trees::ByteSet;
 
 /// How many sets the shortest run has; 0 if there is no run.
 pub fn shortest(runs: &[Vec<ByteSet>]) -> usize

@@ -3,8 +3,8 @@ ghost use Rattle.std.specs.Prelude.{◌≡◌, ℕ, ◌+◌, ◌<◌, ◌≤◌,
 ghost use Rattle.std.specs.Int.{bit_at};
 ghost use Rattle.memchr.specs.Find.{IsFirst};
 ghost use Rattle.memchr.specs.Lanes.{Marks};
-ghost use Rattle.re_syntax.specs.Working.Trees.{members};
-ghost use Rattle.re_syntax.specs.declared.bytes.ByteSet.{ByteSet};
+ghost use Rattle.re_trees.specs.Working.Trees.{members};
+ghost use Rattle.re_trees.specs.declared.bytes.ByteSet.{ByteSet};
 ghost use Rattle.re_runs.specs.Working.Runs.{AllPass, AreProbesOf, FindsRun, HaveRoom, IsLongestRun, IsNoWider, RunStandsAt};
 ghost use Rattle.re_runs.specs.Working.Runs.{longest_of, look_cost, members_of, sets_of_each};
 ghost use Rattle.re_meter.specs.Meters.{many_passed};
@@ -16,7 +16,7 @@ use crate::runs::{longest, longest_end, shortest, take_some};
 use crate::survey::share_with;
 use crate::text_finder::bytes_over;
 use re_meter::Meter;
-use re_syntax::ByteSet;
+use re_trees::ByteSet;
 use std::alloc::{AllocError, Global};
 use std::marker::Model;
 
@@ -61,7 +61,7 @@ pub struct SetFinder {
 
 impl Model for SetFinder {
     ghost use Rattle.std.specs.Prelude.{◌≡◌, List, IfSome, map};
-    ghost use Rattle.re_syntax.specs.declared.bytes.ByteSet.{ByteSet};
+    ghost use Rattle.re_trees.specs.declared.bytes.ByteSet.{ByteSet};
     ghost use Rattle.re_runs.specs.Working.Runs.{AreProbesOf, IsNoWider, longest_of, sets_of_each};
 
     ghost Value = { List (List ByteSet) };

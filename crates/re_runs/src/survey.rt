@@ -2,7 +2,7 @@
 
 use crate::alike::Alike;
 use memchr::arch::all::packedpair::{DefaultFrequencyRank, HeuristicFrequencyRank};
-use re_syntax::ByteSet;
+use re_trees::ByteSet;
 
 // About how many of 65,536 bytes of most texts are the commonest byte.
 const COMMONEST: u32 = 8_192;

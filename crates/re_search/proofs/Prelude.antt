@@ -36,10 +36,10 @@ pub use Rattle.re_syntax.specs.Working.Counted.{HasPositions}
 pub use Rattle.re_syntax.specs.Working.Trees.{expression_of}
 pub use Rattle.re_syntax.specs.declared.fault.FaultKind.TheVariants.{TooLarge}
 pub use Rattle.re_syntax.specs.declared.fault.PatternFault.{PatternFault}
-pub use Rattle.re_syntax.specs.declared.span.Span.{Span}
+pub use Rattle.re_trees.specs.declared.span.Span.{Span}
 pub use Rattle.re_syntax.specs.declared.syntax.Syntax.{Syntax}
 pub use Rattle.re_syntax.specs.declared.syntax.Syntax.TheVariants.{Basic, Extended, Fixed}
-pub use Rattle.re_syntax.specs.declared.tree.Tree.{the_lemmas}
+pub use Rattle.re_trees.specs.declared.tree.Tree.{the_lemmas}
 pub use Rattle.std.proofs.Common.{All, Any, Bool, IfSome, IsTrue, List, None, Option, Some, [], add-one, ap, append-nil, append_assoc, arith, drop, drop-drop, eq-eqb, false, get_or, if◌then◌else◌, inl, inr, is_some, length, length-append, length-drop, lt-ltb, map, min, mul-le-mul_left, mul-le-mul_right, nat_lt, refl, replicate, rules, set, slice_index, slice_range, slice_set, subst, sym, take, take-suc, take_all, true, true≢false, ℕ, ◌*◌, ◌++◌, ◌+◌, ◌-◌, ◌<◌, ◌^◌, ◌↔◌, ◌∙◌, ◌∷◌, ◌≡◌, ◌≢◌, ◌≤◌, ◌⊎◌}
 pub use Rattle.std.proofs.Math.Seq.{map-set_same}
 pub use Rattle.std.proofs.lemmas.Bool.{cases_lt, false≢true}

@@ -31,8 +31,8 @@ impl Model for Choice {
     ghost use Rattle.re_syntax.specs.Holds.{positions};
     ghost use Rattle.re_syntax.specs.Profile.{most_positions};
     ghost use Rattle.re_syntax.specs.Working.Trees.{expression_of};
-    ghost use Rattle.re_syntax.specs.declared.tree.Tree.{Tree};
-    ghost use Rattle.re_syntax.specs.contracts.tree.Tree as e;
+    ghost use Rattle.re_trees.specs.declared.tree.Tree.{Tree};
+    ghost use Rattle.re_trees.specs.contracts.tree.Tree as e;
 
     ghost Value = { List Tree };
 

@@ -31,13 +31,13 @@ pub use Rattle.re_steps.specs.declared.table.LineSearch.{LineSearch}
 pub use Rattle.re_steps.specs.declared.table.StepTable.{StepTable}
 pub use Rattle.re_steps.specs.declared.walk.Spot.{Spot}
 pub use Rattle.re_steps.specs.declared.walk.Went.{Went}
-pub use Rattle.re_syntax.specs.Bytes.{Text}
-pub use Rattle.re_syntax.specs.Expression.{Expression}
-pub use Rattle.re_syntax.specs.Holds.{Holds, Matches, positions}
-pub use Rattle.re_syntax.specs.Parts.{IsFound}
-pub use Rattle.re_syntax.specs.Working.BestStretches.{IsBest, Least, better, places}
-pub use Rattle.re_syntax.specs.Working.Trees.{expression_of}
-pub use Rattle.re_syntax.specs.declared.span.Span.{Span}
+pub use Rattle.re_trees.specs.Bytes.{Text}
+pub use Rattle.re_trees.specs.Expression.{Expression}
+pub use Rattle.re_trees.specs.Holds.{Holds, Matches, positions}
+pub use Rattle.re_trees.specs.Parts.{IsFound}
+pub use Rattle.re_trees.specs.Working.BestStretches.{IsBest, Least, better, places}
+pub use Rattle.re_trees.specs.Working.Trees.{expression_of}
+pub use Rattle.re_trees.specs.declared.span.Span.{Span}
 pub use Rattle.std.proofs.Common.{Bool, IfNone, IfSome, IsSome, IsTrue, List, None, Option, Some, [], add-one, ap, arith, bit_and, cond, eq-eqb, eqb-true, false, get_or, get_or-set_other, get_or-set_same, if◌then◌else◌, inl, inr, is_some, length, length-append, length-set, lt-ltb, ltb-true, nat_eq, nat_lt, ne_eqb, position, refl, replicate, set, slice_get, slice_index, subst, suc, sym, take, take_all, true, true≢false, zero, ℕ, ◌&&◌, ◌*◌, ◌++◌, ◌+◌, ◌-◌, ◌/◌, ◌<◌, ◌^◌, ◌↔◌, ◌∙◌, ◌∷◌, ◌≡◌, ◌≤◌, ◌⊎◌}
 pub use Rattle.std.proofs.Math.Bool.{beq}
 pub use Rattle.std.proofs.Math.Seq.{get_or-append_right}

@@ -1,9 +1,9 @@
 //! Least starts on their way over a line.
 ghost use Rattle.std.specs.Prelude.{◌≡◌, ℕ, suc, ◌-◌, ◌<◌, ◌≤◌, [], ◌∷◌, false, Some, IsTrue, IfOk};
 ghost use Rattle.std.specs.Prelude.{IfErr, length};
-ghost use Rattle.re_syntax.specs.Bytes.{Text};
-ghost use Rattle.re_syntax.specs.Expression.{Expression};
-ghost use Rattle.re_syntax.specs.Working.Trees.{expression_of};
+ghost use Rattle.re_trees.specs.Bytes.{Text};
+ghost use Rattle.re_trees.specs.Expression.{Expression};
+ghost use Rattle.re_trees.specs.Working.Trees.{expression_of};
 ghost use Rattle.re_auto.specs.declared.build.BuildFault.TheVariants.{Memory};
 ghost use Rattle.re_auto.specs.declared.mode.Mode.TheVariants.{Search};
 ghost use Rattle.re_meter.specs.Meters.{many_built};
@@ -11,10 +11,10 @@ ghost use Rattle.re_auto.specs.Working.StartSets.{place_of};
 ghost use Rattle.re_auto.specs.Searches.{FindsPart};
 ghost use Rattle.re_meter.specs.Meters.{AddsUpTo};
 ghost use Rattle.re_steps.specs.Working.Simulations.{AreStartsFor, IsBestSpan, Carries};
-ghost use Rattle.re_syntax.specs.Working.BestStretches.{better_span};
+ghost use Rattle.re_trees.specs.Working.BestStretches.{better_span};
 
 use re_auto::{Automaton, BuildFault, Meter, Mode, Starts};
-use re_syntax::Span;
+use re_trees::Span;
 use std::alloc::Global;
 use std::mem;
 

@@ -1,8 +1,8 @@
 //! The longest matched stretch that begins at one place, where a set of positions is one word.
 ghost use Rattle.std.specs.Prelude.{◌≡◌, ℕ, ◌+◌, ◌<◌, ◌≤◌, ◌↔◌, ◌⊎◌, false, IsTrue};
 ghost use Rattle.std.specs.Prelude.{length, slice_index};
-ghost use Rattle.re_syntax.specs.Working.Trees.{expression_of};
-ghost use Rattle.re_syntax.specs.Holds.{positions};
+ghost use Rattle.re_trees.specs.Working.Trees.{expression_of};
+ghost use Rattle.re_trees.specs.Holds.{positions};
 ghost use Rattle.re_auto.specs.Working.Bits.{InWord};
 ghost use Rattle.re_auto.specs.Working.Positions.{part_of, is_begin, is_end};
 ghost use Rattle.re_auto.specs.Working.Tables.{HasOneWord};

@@ -1,6 +1,6 @@
 //! Sets of positions on their way over a line.
 ghost use Rattle.std.specs.Prelude.{◌≡◌, ◌<◌, ◌≤◌, [], IfOk, IfErr, length};
-ghost use Rattle.re_syntax.specs.Working.Trees.{expression_of};
+ghost use Rattle.re_trees.specs.Working.Trees.{expression_of};
 ghost use Rattle.re_auto.specs.declared.build.BuildFault.TheVariants.{Memory};
 ghost use Rattle.re_auto.specs.declared.mode.Mode.TheVariants.{Search, Whole};
 ghost use Rattle.re_meter.specs.Meters.{many_built};

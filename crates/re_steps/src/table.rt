@@ -3,7 +3,7 @@ ghost use Rattle.std.specs.Prelude.{◌≡◌, ℕ, ◌+◌, ◌-◌, ◌*◌, �
 ghost use Rattle.std.specs.Prelude.{Some, IsTrue, IfOk, OnOk, IfSome, length, slice_get};
 ghost use Rattle.std.specs.Prelude.{slice_index};
 ghost use Rattle.std.specs.NonZero.{non_zero_usize_get};
-ghost use Rattle.re_syntax.specs.Working.Trees.{expression_of};
+ghost use Rattle.re_trees.specs.Working.Trees.{expression_of};
 ghost use Rattle.re_auto.specs.declared.step.state_set.StateSet.{StateSet as Set};
 ghost use Rattle.re_auto.specs.Working.StateSets.{IsMadeFor, IsSame, IsNowhere, IsNextSet};
 ghost use Rattle.re_steps.specs.Working.Rows.{IsKnownFor};

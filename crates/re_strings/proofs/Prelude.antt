@@ -9,12 +9,12 @@ unfoldable pub use Rattle.re_strings.specs.Working.Keys.{key}
 pub use Rattle.re_strings.specs.Working.Overlaps.{AgreesUpTo, CommonLength}
 pub use Rattle.re_strings.specs.declared.growth.Branch.{Branch}
 pub use Rattle.re_strings.specs.declared.leaps.Leaps.{Leaps}
-pub use Rattle.re_syntax.specs.Bytes.{Begins, Text, closed, only, other_case, range}
-pub use Rattle.re_syntax.specs.Lines.{newline, put_before}
-unfoldable pub use Rattle.re_syntax.specs.Lines.{lines_of}
-pub use Rattle.re_syntax.specs.Working.BestStretches.{IsBest, Least, better, better_span, places}
-pub use Rattle.re_syntax.specs.Working.PutEnds.{AddsEnds}
-pub use Rattle.re_syntax.specs.declared.span.Span.{Span}
+pub use Rattle.re_trees.specs.Bytes.{Begins, Text, closed, only, other_case, range}
+pub use Rattle.re_trees.specs.Lines.{newline, put_before}
+unfoldable pub use Rattle.re_trees.specs.Lines.{lines_of}
+pub use Rattle.re_trees.specs.Working.BestStretches.{IsBest, Least, better, better_span, places}
+pub use Rattle.re_trees.specs.Working.PutEnds.{AddsEnds}
+pub use Rattle.re_trees.specs.declared.span.Span.{Span}
 pub use Rattle.std.proofs.Common.{All, Any, Bool, Contains, Equal, Greater, IsPermutation, IsTrue, Less, List, None, Option, Some, [], add-one, ap, append-nil, append_assoc, arith, drop, drop-drop, drop_of_length-le, eq-eqb, eq-or-lt_of_le, eqb-true, false, get_or, get_or-drop, get_or-take, if◌then◌else◌, inl, inr, is_lt, le-leb, le-ltb, length, length-append, length-drop, length-take, length-take-le, lt-ltb, ltb-false, ltb-true, map, nat_cmp, nat_eq, nat_lt, ne_eqb, refl, rules, slice_get, slice_index, subst, suc, sym, take, take-append-drop, take-suc, true, zero, ℕ, ◌++◌, ◌+◌, ◌-◌, ◌<◌, ◌^◌, ◌||◌, ◌↔◌, ◌∙◌, ◌∷◌, ◌≡◌, ◌≤◌, ◌⊎◌}
 pub use Rattle.std.proofs.Math.Decide.{dec_le}
 pub use Rattle.std.proofs.Math.ListN.{get_or-eq_default}

@@ -1,7 +1,7 @@
 //! The steps over a line for many fixed strings.
 ghost use Rattle.std.specs.Prelude.{◌≡◌, ℕ, ◌+◌, ◌<◌, ◌≤◌, ◌↔◌, [], ◌∷◌, ◌++◌, IsTrue, Some};
 ghost use Rattle.std.specs.Prelude.{IfSome, length, slice_index};
-ghost use Rattle.re_syntax.specs.Bytes.{Text};
+ghost use Rattle.re_trees.specs.Bytes.{Text};
 ghost use Rattle.re_strings.specs.Working.FixedSets.{IsTrie, IsTrieOf, IsTable, IsTableOf, IsString};
 ghost use Rattle.re_strings.specs.Working.FixedSets.{AreFallbacks, AreFallbacksOf, AreStarts};
 ghost use Rattle.re_strings.specs.Working.FixedSets.{Labels, Steps, StepsOn, Occurs, NoneBetween, EndsIn};
@@ -10,13 +10,13 @@ ghost use Rattle.re_strings.specs.Working.FixedSets.{better_ending};
 ghost use Rattle.re_strings.specs.Working.Reached.{Reaches, IsSettled, EndsFirst, end_cost};
 ghost use Rattle.re_meter.specs.Meters.{many_built, many_passed};
 ghost use Rattle.re_strings.specs.Working.Keys.{keys};
-ghost use Rattle.re_syntax.specs.declared.span.Span.{Span};
+ghost use Rattle.re_trees.specs.declared.span.Span.{Span};
 
 use crate::keys::key_of;
 use crate::leaps::Leaps;
 use crate::trie::Trie;
 use re_meter::Meter;
-use re_syntax::Span;
+use re_trees::Span;
 
 /// The Aho-Corasick automaton: what is known of each node of a trie.
 #[derive(Drop)]

@@ -1,6 +1,6 @@
 //! The table of the steps for many fixed strings.
 ghost use Rattle.std.specs.Prelude.{◌≡◌, ℕ, ◌^◌, ◌<◌, ◌≤◌, List, IfOk, length, map, slice_index};
-ghost use Rattle.re_syntax.specs.Bytes.{Text};
+ghost use Rattle.re_trees.specs.Bytes.{Text};
 ghost use Rattle.re_strings.specs.Working.Branches.{AreAscending, branch_at, own_length, HaveSame};
 ghost use Rattle.re_strings.specs.Working.FixedSets.{IsTable, IsTableOf, IsTrie, IsTrieOf, AreOwn};
 ghost use Rattle.re_strings.specs.Working.FixedSets.{Labels};

@@ -1,6 +1,6 @@
 //! The ends of all strings at the places of a line.
 ghost use Rattle.std.specs.Prelude.{◌≡◌, ℕ, ◌+◌, ◌<◌, ◌≤◌, length};
-ghost use Rattle.re_syntax.specs.Working.PutEnds.{AddsEnds};
+ghost use Rattle.re_trees.specs.Working.PutEnds.{AddsEnds};
 ghost use Rattle.re_strings.specs.Working.FixedSets.{IsTable, IsTableOf, Labels, Occurs, EndsWith};
 ghost use Rattle.re_strings.specs.Working.Keys.{keys};
 

@@ -1,6 +1,6 @@
 //! How far a search for many strings may leap while none of them has begun.
 ghost use Rattle.std.specs.Prelude.{◌≡◌, ℕ, ◌+◌, ◌^◌, ◌<◌, ◌≤◌, List, IfOk, length, map, slice_index};
-ghost use Rattle.re_syntax.specs.Bytes.{Text};
+ghost use Rattle.re_trees.specs.Bytes.{Text};
 ghost use Rattle.re_strings.specs.Working.Branches.{text_at};
 ghost use Rattle.re_strings.specs.Working.FixedSets.{IsLeaps, AreLeapsOf, NoneBegins, pair_row};
 ghost use Rattle.re_strings.specs.Working.Keys.{keys};

@@ -2,25 +2,18 @@
 pub use Rattle.re_syntax.specs.Basic.{AfterAnchor, IsAtEnd, ItemPlace, Later, leading, of_branch, of_group, of_text}
 pub use Rattle.re_syntax.specs.BasicFaults.{IsNoBasic, NeedsItem, ShowsBasicFault, needs_interval, needs_plus, needs_question}
 pub use Rattle.re_syntax.specs.Brackets.{Element, IsBracket, IsBracketUpTo, IsOnlyBracket, MayBeAlone, OpensNamed, Point, Rest, alone, bare, class, closing, equivalence, matching, non_matching, span, symbol}
-pub use Rattle.re_syntax.specs.Bytes.{Begins, Bytes, Text, any_but_nul, class_name, closed, in_class, nothing, only, other_case, range, union}
 pub use Rattle.re_syntax.specs.EscapeFaults.{BeginsRefusedEscape, IsRefusedEscape, one_to_nine, reference, undefined}
 pub use Rattle.re_syntax.specs.Escapes.{is_in, is_undefined}
-pub use Rattle.re_syntax.specs.Expression.{Expression, alt, alt_more, alt_none, begin, byte, cat, cat_more, cat_none, choice, empty, end, none_of, one_of, repeat, sequence}
 pub use Rattle.re_syntax.specs.Extended.{anchor, dollar}
 pub use Rattle.re_syntax.specs.ExtendedFaults.{IsNoExtended, OpensDuplication, ShowsExtendedFault, opens_interval, opens_plus, opens_question, opens_star}
 pub use Rattle.re_syntax.specs.Faults.{IsNoBracket, ShowsBracketFault}
-pub use Rattle.re_syntax.specs.Holds.{Holds, IsWithin, Matches, Turns, folded, positions}
 pub use Rattle.re_syntax.specs.IntervalFaults.{IsDisallowed, OpensDisallowed, descending, least_too_large, most_too_large}
 pub use Rattle.re_syntax.specs.Intervals.{ClosedInterval, HasNoInterval, Interval, IsAllowed, IsNoPart, IsNumber, at_least, between, capped, exactly, up_to, value, value_after}
 pub use Rattle.re_syntax.specs.Laws.{BeginsWithOneBracket, HasNoOpenComma, HasOnePartList, HasOneSplit, KeepsStandard, SpellsOne}
-pub use Rattle.re_syntax.specs.Lines.{AreEndedLines, AreLines, AreListed, HasNoNewline, joined, newline, put_before, put_before_first, terminated}
-unfoldable pub use Rattle.re_syntax.specs.Lines.{ended_lines_of, lines_of, list_of}
-pub use Rattle.re_syntax.specs.Parts.{AreParts, ArePartsFrom, IsFound, IsPart}
 pub use Rattle.re_syntax.specs.Profile.{basic_refused, extended_refused, most_levels}
 pub use Rattle.re_syntax.specs.Spelled.{IsSpelled, SpellsNoOther, as_basic, as_extended, as_fixed}
 pub use Rattle.re_syntax.specs.Working.Ahead.{IsAfter}
 pub use Rattle.re_syntax.specs.Working.BasicSteps.{ComesAfterTail, HasItem, HasNoItem, HasNoSign, HasNoTail, IsAtLast, IsEnded, OpensNoDuplication, SoFar, at_end, at_tail, group_ends, text_ends}
-pub use Rattle.re_syntax.specs.Working.BestStretches.{IsBest, Least, better, better_span, places}
 pub use Rattle.re_syntax.specs.Working.BracketSteps.{HasNoElement, IsShown, MayGoOn, OpensNoClass, Stands}
 pub use Rattle.re_syntax.specs.Working.Counted.{up_to_word}
 pub use Rattle.re_syntax.specs.Working.Cursors.{IsAt, Passes, left}
@@ -29,15 +22,10 @@ pub use Rattle.re_syntax.specs.Working.EscapeSteps.{EscapeStands, HasNoEscape, r
 pub use Rattle.re_syntax.specs.Working.ExtendedSteps.{IsNext, IsNoSign, ends, is_stop, stops}
 pub use Rattle.re_syntax.specs.Working.IntervalSteps.{AreDigits, GreatestStands, HasNoDigit, HasNoGreatest, IntervalStands, IsDigitCount, NumberStands}
 pub use Rattle.re_syntax.specs.Working.PieceSteps.{AreReported, IsBracketPiece, IsJoined, IsRefused, IsRepeated, IsReported, RunsOut, meant_bytes, memory, reported}
-pub use Rattle.re_syntax.specs.Working.Splits.{texts_of_rest}
 pub use Rattle.re_syntax.specs.Working.StandardBasic.{IsStandardBasic}
 pub use Rattle.re_syntax.specs.Working.StandardExtended.{IsStandardExtended}
-pub use Rattle.re_syntax.specs.Working.Trees.{expression_of, lowest_bits, members, node_expression}
 pub use Rattle.re_syntax.specs.declared.bracket.ListPlace.{ListPlace}
 pub use Rattle.re_syntax.specs.declared.bracket.ListPlace.TheVariants.{AfterPoint, AfterRange}
-pub use Rattle.re_syntax.specs.declared.bytes.ByteSet.{ByteSet}
-pub use Rattle.re_syntax.specs.declared.class.Class.{Class}
-pub use Rattle.re_syntax.specs.declared.class.Class.TheVariants.{Alnum, Alpha, Blank, Cntrl, Digit, Graph, Lower, Print, Punct, Space, Upper, Xdigit}
 pub use Rattle.re_syntax.specs.declared.cursor.Cursor.{Cursor}
 pub use Rattle.re_syntax.specs.declared.fault.FaultKind.{FaultKind}
 pub use Rattle.re_syntax.specs.declared.fault.FaultKind.TheVariants.{BackReference, BadClass, BadCollatingSymbol, BadInterval, BadRange, IntervalTooLarge, Memory, NothingToRepeat, TooDeep, TooLarge, TrailingBackslash, UnclosedBracket, UnclosedGroup, UndefinedEscape, UnopenedGroup}
@@ -45,23 +33,23 @@ pub use Rattle.re_syntax.specs.declared.fault.PatternFault.{PatternFault}
 pub use Rattle.re_syntax.specs.declared.interval.Counts.{Counts}
 pub use Rattle.re_syntax.specs.declared.pieces.Piece.{Piece}
 pub use Rattle.re_syntax.specs.declared.pieces.Pieces.{Pieces}
-pub use Rattle.re_syntax.specs.declared.span.Span.{Span}
 pub use Rattle.re_syntax.specs.declared.syntax.Syntax.{Syntax}
 pub use Rattle.re_syntax.specs.declared.syntax.Syntax.TheVariants.{Basic, Extended, Fixed}
-pub use Rattle.re_syntax.specs.declared.tree.Tree.{Tree, Tree-F, fold-roll-Tree, the_lemmas}
-pub use Rattle.re_syntax.specs.declared.tree.Tree.TheVariants.{Alt, Begin, Cat, Empty, End, Not, Repeat, Set, rolls-Alt, rolls-Begin, rolls-Cat, rolls-Empty, rolls-End, rolls-Not, rolls-Repeat, rolls-Set}
-pub use Rattle.std.proofs.Common.{All, Any, Bool, Box, Err, Global, IfErr, IfOk, IfSome, IsTrue, List, MatchBool, MatchOption, None, Ok, OnOk, Option, Result, Some, Vec, [], add-one, ap, append-nil, append_assoc, arith, below_more, bit_and, bit_or, codes, drop, drop-drop, eq-eqb, eq-or-lt_of_le, eqb-true, false, get_or, if◌then◌else◌, inl, inr, is_some, le-leb, le-ltb, leb-false, leb-true, length, length-append, length-drop, length-take, lt-ltb, ltb-false, ltb-true, map, max, min, nat_eq, nat_le, nat_lt, ne_eqb, not, option_map, refl, rules, slice_get, slice_index_or, subst, suc, sym, take, take-add, take-append-drop, take_all, true, true≢false, zero, ℕ, ◌&&◌, ◌*◌, ◌++◌, ◌+◌, ◌-◌, ◌<◌, ◌^◌, ◌||◌, ◌∙◌, ◌∷◌, ◌≡◌, ◌≢◌, ◌≤◌, ◌⊎◌}
+pub use Rattle.re_trees.specs.Bytes.{Begins, Bytes, Text, any_but_nul, class_name, in_class, nothing, only, range, union}
+pub use Rattle.re_trees.specs.Expression.{Expression, alt, begin, byte, cat, choice, empty, end, none_of, one_of, repeat, sequence}
+pub use Rattle.re_trees.specs.Holds.{Holds, positions}
+pub use Rattle.re_trees.specs.Parts.{AreParts, ArePartsFrom, IsFound, IsPart}
+pub use Rattle.re_trees.specs.Working.Trees.{expression_of, members}
+pub use Rattle.re_trees.specs.declared.class.Class.{Class}
+pub use Rattle.re_trees.specs.declared.class.Class.TheVariants.{Alnum, Alpha, Blank, Cntrl, Digit, Graph, Lower, Print, Punct, Space, Upper, Xdigit}
+pub use Rattle.re_trees.specs.declared.tree.Tree.{Tree}
+pub use Rattle.std.proofs.Common.{Bool, Err, Global, IfErr, IfOk, IsTrue, List, MatchBool, MatchOption, None, Ok, OnOk, Option, Result, Some, Vec, [], ap, append-nil, append_assoc, arith, below_more, codes, drop, drop-drop, eq-eqb, eqb-true, false, get_or, if◌then◌else◌, inl, inr, is_some, le-leb, leb-true, length, length-append, length-drop, length-take, lt-ltb, ltb-false, ltb-true, map, max, min, nat_eq, nat_le, nat_lt, ne_eqb, not, option_map, refl, rules, slice_get, subst, suc, sym, take, take-add, take-append-drop, take_all, true, zero, ℕ, ◌&&◌, ◌*◌, ◌++◌, ◌+◌, ◌-◌, ◌<◌, ◌||◌, ◌∙◌, ◌∷◌, ◌≡◌, ◌≢◌, ◌≤◌, ◌⊎◌}
 pub use Rattle.std.proofs.Math.Decide.{dec_le, map_dec, ℕ_discrete}
-pub use Rattle.std.proofs.Math.Path.{fun_ext}
 pub use Rattle.std.proofs.Math.Seq.{drop-length, take-append_seam}
-pub use Rattle.std.proofs.lemmas.Bool.{and_from, and_parts, and_right, both_ways, cases_eq, cases_lt, cond-false, cond-true, false_from_ne_true, false≢true, lt-leb, not_from_false, or_cases, or_from, or_left, or_parts, or_right}
+pub use Rattle.std.proofs.lemmas.Bool.{and_from, and_parts, and_right, both_ways, cases_eq, cases_lt, cond-false, not_from_false, or_cases, or_from, or_left, or_parts, or_right}
 pub use Rattle.std.proofs.lemmas.Bool.Decides.{Decides-eqb}
 pub use Rattle.std.proofs.lemmas.List.{drop_more, nil_from_length, take_more, take_rest}
-pub use Rattle.std.proofs.lemmas.List.Elements.{All-cons, All-head, All-nil, All-tail}
-pub use Rattle.std.proofs.lemmas.Nat.{pow_below}
-pub use Rattle.std.proofs.lemmas.Nat.Bits.{bit_at-lt, bit_at-pow_other, bit_at-pow_same, bit_at-trailing_zeros, bit_at-zero, bit_at_and, bit_at_not, bit_at_ones, bit_at_ones_above, bit_at_or, same_from_bits_below}
-pub use Rattle.std.proofs.lemmas.Option.{get_or_from_slice_get, none-some, same_Some, slice_get-get_or, slice_get_within}
+pub use Rattle.std.proofs.lemmas.Option.{get_or_from_slice_get, slice_get-get_or, slice_get_within}
 pub use Rattle.std.proofs.lemmas.Result.{err_from_is_err_and}
 pub use Rattle.std.proofs.lemmas.Slice.Eq.{starts_is}
-pub use Rattle.std.specs.Int.{bit_at, bit_not, trailing_zeros, w128}
 pub use Rattle.std.specs.List.{list_all, starts_with}

@@ -1,17 +1,16 @@
-pub mod FixedStrings
-pub mod LinesLaws
-pub mod EndedLinesLaws
+-- what the crates above use of the crate below
+pub use Rattle.re_trees.proofs.lemmas.Decisions
+pub use Rattle.re_trees.proofs.lemmas.EndedLinesLaws
+pub use Rattle.re_trees.proofs.lemmas.FixedStrings
+pub use Rattle.re_trees.proofs.lemmas.FoldedLaws
+pub use Rattle.re_trees.proofs.lemmas.HoldsDecided
+pub use Rattle.re_trees.proofs.lemmas.LinesLaws
+pub use Rattle.re_trees.proofs.lemmas.SomeOfJoined
+pub use Rattle.re_trees.proofs.lemmas.SplittingLaws
+-- lemmas of this crate
 pub mod PartsLaws
-pub mod SetsLaws
-pub mod UnionsLaws
-pub mod RangeWords
-pub mod SplittingLaws
 pub mod SpelledUnique
 pub mod PiecesLaws
-pub mod Decisions
-pub mod SomeOfJoined
-pub mod BestStretches
-pub mod HoldsDecided
 pub mod PartsExist
 pub mod ClassNames
 pub mod BracketsUnique
@@ -24,7 +23,6 @@ pub mod ExtendedDuplications
 pub mod ExtendedFronts
 pub mod ExtendedUnique
 pub mod BasicIntervals
-pub mod OneByte
 pub mod Places
 pub mod BracketKinds
 pub mod EscapeLaws
@@ -60,7 +58,3 @@ pub mod StandardIntervals
 pub mod StandardBasic
 pub mod StandardExtended
 pub mod StandardKept
-pub mod ExpressionLaws
-pub mod ClosedLaws
-pub mod FoldedLaws
-pub mod NodesLaws

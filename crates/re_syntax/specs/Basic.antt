@@ -4,9 +4,9 @@
 -- duplications are nested in it.
 use Rattle.std.specs.Prelude.{◌≡◌, ℕ, suc, max, Bool, not, List, [], ◌∷◌, ◌++◌, Option, Some, None}
 use Rattle.std.specs.Prelude.{IsTrue, codes}
-use Rattle.re_syntax.specs.Bytes.{Text, any_but_nul}
-use Rattle.re_syntax.specs.Expression.{Expression, one_of, begin, end, repeat, byte, sequence}
-use Rattle.re_syntax.specs.Expression.{choice}
+use Rattle.re_trees.specs.Bytes.{Text, any_but_nul}
+use Rattle.re_trees.specs.Expression.{Expression, one_of, begin, end, repeat, byte, sequence}
+use Rattle.re_trees.specs.Expression.{choice}
 use Rattle.re_syntax.specs.Brackets.{IsBracket}
 use Rattle.re_syntax.specs.Intervals.{Interval, IsAllowed}
 use Rattle.re_syntax.specs.Profile.{basic_escaped}

@@ -3,10 +3,10 @@
 use Rattle.std.specs.Prelude.{◌≡◌, ◌≢◌, ℕ, ◌≤◌, ◌⊎◌, ◌∷◌, ◌++◌, length, drop, codes}
 use Rattle.re_syntax.specs.declared.bracket.ListPlace.{ListPlace}
 use Rattle.re_syntax.specs.declared.bracket.ListPlace.TheVariants.{First, AfterPoint, AfterRange}
-use Rattle.re_syntax.specs.declared.class.Class.{Class}
-use Rattle.re_syntax.specs.Bytes.{Text, Begins, Bytes, nothing, only, range, union, class_name}
-use Rattle.re_syntax.specs.Bytes.{in_class}
-use Rattle.re_syntax.specs.Expression.{Expression, one_of, none_of}
+use Rattle.re_trees.specs.declared.class.Class.{Class}
+use Rattle.re_trees.specs.Bytes.{Text, Begins, Bytes, nothing, only, range, union, class_name}
+use Rattle.re_trees.specs.Bytes.{in_class}
+use Rattle.re_trees.specs.Expression.{Expression, one_of, none_of}
 
 -- a `[` before one of these bytes opens an element that has a name
 abbrev pub OpensNamed : Text → Type 0

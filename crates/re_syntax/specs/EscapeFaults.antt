@@ -3,7 +3,7 @@
 use Rattle.std.specs.Prelude.{ℕ, ◌∷◌, ◌++◌, [], IsTrue, codes}
 use Rattle.re_syntax.specs.declared.fault.FaultKind.{FaultKind}
 use Rattle.re_syntax.specs.declared.fault.FaultKind.TheVariants.{UndefinedEscape, BackReference}
-use Rattle.re_syntax.specs.Bytes.{Text, Begins, Bytes, range}
+use Rattle.re_trees.specs.Bytes.{Text, Begins, Bytes, range}
 use Rattle.re_syntax.specs.Escapes.{is_undefined}
 
 -- the digits 1 to 9, which would refer back to a group

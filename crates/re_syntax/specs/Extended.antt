@@ -3,9 +3,9 @@
 -- group. A number is the part's height: how deep groups and duplications are nested in it.
 use Rattle.std.specs.Prelude.{◌≡◌, ℕ, suc, max, Bool, true, not, ◌&&◌, List, [], ◌∷◌, ◌++◌, Option}
 use Rattle.std.specs.Prelude.{Some, None, IsTrue, codes}
-use Rattle.re_syntax.specs.Bytes.{Text, any_but_nul}
-use Rattle.re_syntax.specs.Expression.{Expression, one_of, begin, end, repeat, byte, sequence}
-use Rattle.re_syntax.specs.Expression.{choice}
+use Rattle.re_trees.specs.Bytes.{Text, any_but_nul}
+use Rattle.re_trees.specs.Expression.{Expression, one_of, begin, end, repeat, byte, sequence}
+use Rattle.re_trees.specs.Expression.{choice}
 use Rattle.re_syntax.specs.Brackets.{IsBracket}
 use Rattle.re_syntax.specs.Intervals.{Interval, IsAllowed, HasNoInterval}
 use Rattle.re_syntax.specs.Profile.{extended_refused}

@@ -11,9 +11,9 @@ use Rattle.re_syntax.specs.declared.fault.FaultKind.TheVariants.{UndefinedEscape
 use Rattle.re_syntax.specs.declared.fault.FaultKind.TheVariants.{TooDeep, TooLarge, Memory}
 use Rattle.re_syntax.specs.declared.fault.PatternFault.{PatternFault}
 use Rattle.re_syntax.specs.declared.syntax.Syntax.TheVariants.{Extended}
-use Rattle.re_syntax.specs.Bytes.{Text, Begins}
+use Rattle.re_trees.specs.Bytes.{Text, Begins}
 use Rattle.re_syntax.specs.EscapeFaults.{BeginsRefusedEscape}
-use Rattle.re_syntax.specs.Expression.{Expression}
+use Rattle.re_trees.specs.Expression.{Expression}
 use Rattle.re_syntax.specs.Extended.{Duplication, Branches}
 use Rattle.re_syntax.specs.Faults.{Ends, ShowsBracketFault, BeginsDuplication, OpensNoBracket}
 use Rattle.re_syntax.specs.IntervalFaults.{OpensDisallowed}

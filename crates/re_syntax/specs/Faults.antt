@@ -1,12 +1,12 @@
 -- Why a pattern's text is refused, as the bytes at the reported place show it.
 use Rattle.std.specs.Prelude.{◌≡◌, ℕ, ◌⊎◌, ◌∷◌, ◌++◌, Option, drop, codes}
-use Rattle.re_syntax.specs.declared.class.Class.{Class}
+use Rattle.re_trees.specs.declared.class.Class.{Class}
 use Rattle.re_syntax.specs.declared.fault.FaultKind.{FaultKind}
 use Rattle.re_syntax.specs.declared.fault.FaultKind.TheVariants.{UnclosedBracket, BadClass}
 use Rattle.re_syntax.specs.declared.fault.FaultKind.TheVariants.{BadCollatingSymbol, BadRange}
 use Rattle.re_syntax.specs.declared.fault.PatternFault.{PatternFault}
-use Rattle.re_syntax.specs.Bytes.{Text, Begins, class_name}
-use Rattle.re_syntax.specs.Expression.{Expression}
+use Rattle.re_trees.specs.Bytes.{Text, Begins, class_name}
+use Rattle.re_trees.specs.Expression.{Expression}
 use Rattle.re_syntax.specs.Brackets.{IsBracket}
 
 -- the text ends with these bytes

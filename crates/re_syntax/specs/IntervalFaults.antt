@@ -2,7 +2,7 @@
 use Rattle.std.specs.Prelude.{◌≡◌, ℕ, ◌<◌, ◌≤◌, ◌++◌, Option, Some}
 use Rattle.re_syntax.specs.declared.fault.FaultKind.{FaultKind}
 use Rattle.re_syntax.specs.declared.fault.FaultKind.TheVariants.{BadInterval, IntervalTooLarge}
-use Rattle.re_syntax.specs.Bytes.{Text}
+use Rattle.re_trees.specs.Bytes.{Text}
 use Rattle.re_syntax.specs.Intervals.{ClosedInterval}
 use Rattle.re_syntax.specs.Profile.{most_repeats}
 

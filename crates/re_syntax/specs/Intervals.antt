@@ -3,9 +3,9 @@
 use Rattle.std.specs.Prelude.{◌≡◌, ◌≢◌, ℕ, ◌+◌, ◌-◌, ◌*◌, ◌≤◌, min, [], ◌∷◌, ◌++◌, Option, Some}
 use Rattle.std.specs.Prelude.{None, IsTrue, IfSome, codes}
 use Rattle.std.specs.List.{list_all}
-use Rattle.re_syntax.specs.declared.class.Class.TheVariants.{Digit}
+use Rattle.re_trees.specs.declared.class.Class.TheVariants.{Digit}
 use Rattle.re_syntax.specs.Profile.{most_repeats}
-use Rattle.re_syntax.specs.Bytes.{Text, Begins, in_class}
+use Rattle.re_trees.specs.Bytes.{Text, Begins, in_class}
 
 abbrev pub value_after : ℕ → Text → ℕ
 value_after n [] = n

@@ -2,12 +2,12 @@
 use Rattle.std.specs.Prelude.{◌≡◌, ◌≢◌, ℕ, Bool, List, ◌++◌, codes}
 use Rattle.re_syntax.specs.declared.syntax.Syntax.{Syntax}
 use Rattle.re_syntax.specs.declared.syntax.Syntax.TheVariants.{Basic, Extended}
-use Rattle.re_syntax.specs.Bytes.{Text}
-use Rattle.re_syntax.specs.Expression.{Expression}
+use Rattle.re_trees.specs.Bytes.{Text}
+use Rattle.re_trees.specs.Expression.{Expression}
 use Rattle.re_syntax.specs.Brackets.{IsBracket}
-use Rattle.re_syntax.specs.Lines.{lines_of, ended_lines_of, list_of, AreLines, AreEndedLines}
-use Rattle.re_syntax.specs.Lines.{AreListed}
-use Rattle.re_syntax.specs.Parts.{AreParts}
+use Rattle.re_trees.specs.Lines.{lines_of, ended_lines_of, list_of, AreLines, AreEndedLines}
+use Rattle.re_trees.specs.Lines.{AreListed}
+use Rattle.re_trees.specs.Parts.{AreParts}
 use Rattle.re_syntax.specs.Spelled.{IsSpelled}
 use Rattle.re_syntax.specs.Working.StandardBasic.{IsStandardBasic}
 use Rattle.re_syntax.specs.Working.StandardExtended.{IsStandardExtended}

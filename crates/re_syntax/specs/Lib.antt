@@ -1,16 +1,16 @@
 -- the definitions that the contract of the whole command, or of the session, rests on
-pub mod Bytes
+pub use Rattle.re_trees.specs.Bytes
+pub use Rattle.re_trees.specs.Expression
+pub use Rattle.re_trees.specs.Holds
+pub use Rattle.re_trees.specs.Parts
+pub use Rattle.re_trees.specs.Lines
 pub mod Profile
-pub mod Expression
-pub mod Holds
-pub mod Parts
 pub mod Brackets
 pub mod Faults
 pub mod Intervals
 pub mod Escapes
 pub mod Basic
 pub mod Extended
-pub mod Lines
 pub mod Spelled
 pub mod IntervalFaults
 pub mod EscapeFaults

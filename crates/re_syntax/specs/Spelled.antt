@@ -3,9 +3,9 @@
 use Rattle.std.specs.Prelude.{◌≡◌, ℕ, ◌≤◌, Bool, true, false, List, [], map, if◌then◌else◌}
 use Rattle.re_syntax.specs.declared.syntax.Syntax.{Syntax}
 use Rattle.re_syntax.specs.declared.syntax.Syntax.TheVariants.{Basic, Extended, Fixed}
-use Rattle.re_syntax.specs.Bytes.{Text}
-use Rattle.re_syntax.specs.Expression.{Expression, byte, sequence, choice}
-use Rattle.re_syntax.specs.Holds.{folded}
+use Rattle.re_trees.specs.Bytes.{Text}
+use Rattle.re_trees.specs.Expression.{Expression, byte, sequence, choice}
+use Rattle.re_trees.specs.Holds.{folded}
 use Rattle.re_syntax.specs.Profile.{most_levels}
 use Rattle.re_syntax.specs.Basic.{Branches as BasicBranches}
 use Rattle.re_syntax.specs.Extended.{Branches as ExtendedBranches}

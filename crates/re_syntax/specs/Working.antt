@@ -1,13 +1,10 @@
-pub mod Trees
-pub mod Nodes
-pub mod Splits
+pub use Rattle.re_trees.specs.Working.Trees
 pub mod Cursors
 pub mod Ahead
 pub mod IntervalSteps
 pub mod BracketSteps
 pub mod EscapeSteps
 pub mod Counted
-pub mod BestStretches
 pub mod PieceSteps
 pub mod LevelSteps
 pub mod DuplicationSteps
@@ -19,4 +16,3 @@ pub mod ExtendedLevels
 pub mod StandardIntervals
 pub mod StandardBasic
 pub mod StandardExtended
-pub mod PutEnds

@@ -2,9 +2,9 @@
 //! left to right.
 ghost use Rattle.std.specs.Prelude.{◌≡◌, ℕ, ◌≤◌, ◌⊎◌, IfOk, IfErr, MatchOption, MatchBool, codes};
 ghost use Rattle.std.specs.Prelude.{length, take, drop, List};
-ghost use Rattle.re_syntax.specs.Bytes.{Begins};
-ghost use Rattle.re_syntax.specs.Expression.{Expression};
-ghost use Rattle.re_syntax.specs.Working.Trees.{expression_of};
+ghost use Rattle.re_trees.specs.Bytes.{Begins};
+ghost use Rattle.re_trees.specs.Expression.{Expression};
+ghost use Rattle.re_trees.specs.Working.Trees.{expression_of};
 ghost use Rattle.re_syntax.specs.Basic.{ItemPlace, IsAtEnd};
 ghost use Rattle.re_syntax.specs.declared.syntax.Syntax.TheVariants.{Basic};
 ghost use Rattle.re_syntax.specs.Profile.{most_levels};
@@ -23,7 +23,6 @@ ghost use Rattle.re_syntax.specs.Working.BasicLevels.{IsBranchEnded, IsPaused};
 use self::duplications::{needs_item, read_duplication};
 use self::groups::read_groups;
 use crate::ahead::after;
-use crate::bytes::ByteSet;
 use crate::escape::read_escape;
 use crate::fault::{FaultKind, PatternFault};
 use crate::pieces::{
@@ -31,7 +30,7 @@ use crate::pieces::{
     with_branch,
 };
 use crate::profile::{BASIC_REFUSED, MOST_LEVELS};
-use crate::tree::Tree;
+use re_trees::{ByteSet, Tree};
 use std::alloc::Global;
 
 /// Whether a branch ends at a place: the text ends, a group is closed, or another branch begins.

@@ -1,8 +1,8 @@
 //! Bracket expressions (XBD 9.3.5), read in one pass from left to right.
 ghost use Rattle.std.specs.Prelude.{◌≡◌, ◌≢◌, ℕ, ◌≤◌, ◌++◌, ◌∷◌, Some, IfSome, IfNone, IfOk, IfErr};
 ghost use Rattle.std.specs.Prelude.{OnOk, MatchOption, MatchBool, codes, slice_get};
-ghost use Rattle.re_syntax.specs.Bytes.{Begins, class_name};
-ghost use Rattle.re_syntax.specs.Working.Trees.{expression_of, members};
+ghost use Rattle.re_trees.specs.Bytes.{Begins, class_name};
+ghost use Rattle.re_trees.specs.Working.Trees.{expression_of, members};
 ghost use Rattle.re_syntax.specs.Brackets.{Point, Element, Rest, IsBracket, IsBracketUpTo};
 ghost use Rattle.re_syntax.specs.Brackets.{IsOnlyBracket};
 ghost use Rattle.re_syntax.specs.Working.BracketSteps.{Stands, OpensNoClass, MayGoOn, HasNoPoint};
@@ -11,11 +11,9 @@ ghost use Rattle.re_syntax.specs.Working.BracketSteps.{HasNoBracket, IsShown, Pa
 ghost use Rattle.re_syntax.specs.Working.Cursors.{left, Passes};
 ghost use Rattle.re_syntax.specs.Faults.{IsNoBracket};
 
-use crate::bytes::ByteSet;
-use crate::class::Class;
 use crate::cursor::Cursor;
 use crate::fault::{FaultKind, PatternFault};
-use crate::tree::Tree;
+use re_trees::{ByteSet, Class, Tree};
 
 /// Where an element is in the list of a bracket expression.
 #[derive(Clone, Copy, PartialEq, Eq, Debug, Drop)]

@@ -11,7 +11,7 @@ pub struct Cursor<'a> {
 
 impl<'a> Cursor<'a> {
     ghost use Rattle.std.specs.Prelude.{◌≡◌, ◌≤◌, [], ◌∷◌, length, MatchOption, MatchBool};
-    ghost use Rattle.re_syntax.specs.Bytes.{Begins};
+    ghost use Rattle.re_trees.specs.Bytes.{Begins};
     ghost use Rattle.re_syntax.specs.Working.Cursors.{left, Passes, IsAt};
 
     /// The place `at` of the text.

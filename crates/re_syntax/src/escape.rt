@@ -1,13 +1,13 @@
 //! A backslash and the byte after it (XBD 9.3.3, 9.4.3), in basic and in extended expressions.
 ghost use Rattle.std.specs.Prelude.{◌≡◌, IsTrue, IfOk, IfErr, MatchOption, codes, drop};
-ghost use Rattle.re_syntax.specs.Bytes.{Begins, in_class};
+ghost use Rattle.re_trees.specs.Bytes.{Begins, in_class};
 ghost use Rattle.re_syntax.specs.Escapes.{is_undefined};
 ghost use Rattle.re_syntax.specs.EscapeFaults.{IsRefusedEscape};
 ghost use Rattle.re_syntax.specs.Working.EscapeSteps.{EscapeStands, HasNoEscape};
 
 use crate::ahead::byte_at;
-use crate::class::Class;
 use crate::fault::{FaultKind, PatternFault};
+use re_trees::Class;
 
 /// Whether a byte is a letter or a digit.
 fn is_alphanumeric(byte: u8) -> bool

@@ -1,9 +1,9 @@
 //! Extended regular expressions (XBD 9.4), read in one pass from left to right.
 ghost use Rattle.std.specs.Prelude.{◌≡◌, ◌≤◌, ◌<◌, ◌⊎◌, ◌∷◌, ℕ, Bool, [], false, IfOk, IfErr};
 ghost use Rattle.std.specs.Prelude.{MatchOption, MatchBool, codes, length, take, drop};
-ghost use Rattle.re_syntax.specs.Bytes.{Begins};
-ghost use Rattle.re_syntax.specs.Expression.{Expression};
-ghost use Rattle.re_syntax.specs.Working.Trees.{expression_of};
+ghost use Rattle.re_trees.specs.Bytes.{Begins};
+ghost use Rattle.re_trees.specs.Expression.{Expression};
+ghost use Rattle.re_trees.specs.Working.Trees.{expression_of};
 ghost use Rattle.re_syntax.specs.Extended.{Duplication};
 ghost use Rattle.re_syntax.specs.declared.syntax.Syntax.TheVariants.{Extended};
 ghost use Rattle.re_syntax.specs.Profile.{most_levels};
@@ -20,7 +20,6 @@ ghost use Rattle.re_syntax.specs.Working.ExtendedLevels.{IsPaused, WholeStands};
 
 use self::groups::read_groups;
 use crate::ahead::{after, byte_at};
-use crate::bytes::ByteSet;
 use crate::escape::read_escape;
 use crate::fault::{FaultKind, PatternFault};
 use crate::interval::{Counts, counts_fault, read_interval};
@@ -29,7 +28,7 @@ use crate::pieces::{
     with_branch,
 };
 use crate::profile::{EXTENDED_REFUSED, MOST_LEVELS};
-use crate::tree::Tree;
+use re_trees::{ByteSet, Tree};
 use std::alloc::Global;
 
 /// How often a byte repeats the item before it, where it is a duplication alone.

@@ -1,12 +1,11 @@
 ghost use Rattle.std.specs.Prelude.{◌≡◌, IfOk, IfErr, map};
-ghost use Rattle.re_syntax.specs.Expression.{sequence};
-ghost use Rattle.re_syntax.specs.Working.Trees.{expression_of};
+ghost use Rattle.re_trees.specs.Expression.{sequence};
+ghost use Rattle.re_trees.specs.Working.Trees.{expression_of};
 ghost use Rattle.re_syntax.specs.Spelled.{IsSpelled, SpellsNoOther};
 ghost use Rattle.re_syntax.specs.declared.syntax.Syntax.TheVariants.{Fixed};
 
-use crate::bytes::ByteSet;
 use crate::fault::{FaultKind, PatternFault};
-use crate::tree::Tree;
+use re_trees::{ByteSet, Tree};
 use std::alloc::Global;
 
 /// The fault of a reader that runs out of memory.

@@ -3,9 +3,9 @@
 ghost use Rattle.std.specs.Prelude.{◌≡◌, ◌<◌, ◌≤◌, ◌++◌, ◌∷◌, [], List, Option, Some, IfOk, IfErr};
 ghost use Rattle.std.specs.Prelude.{map, slice_get};
 ghost use Rattle.std.specs.Global.{Global};
-ghost use Rattle.re_syntax.specs.Expression.{Expression, choice, sequence, repeat};
-ghost use Rattle.re_syntax.specs.Working.Trees.{expression_of, members};
-ghost use Rattle.re_syntax.specs.Holds.{copies, positions};
+ghost use Rattle.re_trees.specs.Expression.{Expression, choice, sequence, repeat};
+ghost use Rattle.re_trees.specs.Working.Trees.{expression_of, members};
+ghost use Rattle.re_trees.specs.Holds.{copies, positions};
 ghost use Rattle.re_syntax.specs.Faults.{IsNoBracket};
 ghost use Rattle.re_syntax.specs.Profile.{most_levels};
 ghost use Rattle.re_syntax.specs.Working.PieceSteps.{meant_bytes, Keeps, KeepsAll};
@@ -14,11 +14,10 @@ ghost use Rattle.re_syntax.specs.Working.PieceSteps.{IsRepeated, IsJoined, RunsO
 ghost use Rattle.re_syntax.specs.Working.LevelSteps.{IsOpened, HasBranchAdded, IsGroupOf};
 
 use crate::bracket::read_bracket;
-use crate::bytes::ByteSet;
 use crate::fault::PatternFault;
 use crate::fixed::{out_of_memory, sequence_of};
 use crate::interval::Counts;
-use crate::tree::Tree;
+use re_trees::{ByteSet, Tree};
 use std::alloc::Global;
 
 /// An atom, an item or a branch that was read.

@@ -1,16 +1,11 @@
-//! The limits of this grep, and the bytes that it leaves undefined, as in `specs/Profile.antt`.
+//! The limits of what is read, and the bytes that this grep leaves undefined, as in
+//! `specs/Profile.antt`.
 
 /// The greatest number in an interval, `RE_DUP_MAX` (XBD 9.3.6, 9.4.6).
 pub const MOST_REPEATS: u16 = 255;
 
 /// How deep groups and duplications may be nested.
 pub const MOST_LEVELS: usize = 256;
-
-/// The greatest number of positions of an expression, its intervals written out.
-pub const MOST_POSITIONS: usize = 4096;
-
-/// The greatest number of patterns.
-pub const MOST_PATTERNS: usize = 65535;
 
 /// The bytes that may not follow a backslash in a basic expression, beside letters and digits (XBD
 /// 9.3.3).

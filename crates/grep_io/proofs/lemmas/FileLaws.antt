@@ -1,6 +1,6 @@
 -- The file for which a source stands, from the lines that were read of it.
 use Rattle.grep_io.proofs.Prelude.{◌≡◌, ◌+◌, ◌-◌, ◌≤◌, ◌⊎◌, inl, inr, nat_le, List, [], ◌∷◌, ◌++◌, All, refl, sym, ap, ◌∙◌, length, length-append, take, append_assoc, arith, take-append-add, take-append_seam, cases_Bool, cond-true, cond-false, le-leb, lt-leb, Text, newline, lines_of, HasNoNewline, terminated, File, Ending, broken, most_lines, up_to_limit}
-use Rattle.re_syntax.proofs.lemmas.LinesLaws.{lines_of-line, all_head, all_tail}
+use Rattle.re_trees.proofs.lemmas.LinesLaws.{lines_of-line, all_head, all_tail}
 
 -- a file of this name with these lines
 abbrev pub file_with : Text → List Text → Ending → File

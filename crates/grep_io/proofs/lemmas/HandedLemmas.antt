@@ -1,8 +1,8 @@
 -- The lines that a reader of lines has handed out, one more at a time, and the file for which its
 -- source stands.
 use Rattle.grep_io.proofs.Prelude.{◌≡◌, ◌≢◌, ℕ, ◌≤◌, List, [], ◌∷◌, ◌++◌, Option, None, Some, IfSome, length, All, inl, inr, refl, sym, ap, ◌∙◌, subst, append_assoc, append-nil, Consumes-nil, Consumes-trans, Consumes-kept, prepend_known-nil, All-push, prepend_known, Consumes, IsAtEnd, Text, newline, lines_of, ended_lines_of, terminated, HasNoNewline, one_more, LineReader, to_come, IsLineOf, HandsOut, IsUsedUp, IsCutOff, RunsOutOfMemory, Stage, Open, Ended, Failed, File, whole, broken, fails_after, ends_after, most_lines, up_to_limit, file_of, open_source, IsOneLineAndFew, HasRead, AreHanded, HandsLines, StandsFor, BeginsWith}
-use Rattle.re_syntax.proofs.lemmas.LinesLaws.{all_none, lines_of-last, lines_of-terminated, terminated-append}
-use Rattle.re_syntax.proofs.lemmas.EndedLinesLaws.{ended_lines_of-unfinished}
+use Rattle.re_trees.proofs.lemmas.LinesLaws.{all_none, lines_of-last, lines_of-terminated, terminated-append}
+use Rattle.re_trees.proofs.lemmas.EndedLinesLaws.{ended_lines_of-unfinished}
 use Rattle.grep_io.proofs.lemmas.FileLaws.{lines_of-beyond, up_to_limit-few, up_to_limit-over, up_to_limit-beyond}
 
 -- ---- texts

@@ -1,6 +1,6 @@
 -- Whole lines that are passed in one sweep.
 use Rattle.grep_io.proofs.Prelude.{◌≡◌, ℕ, zero, suc, ◌+◌, ◌-◌, ◌≤◌, List, [], ◌∷◌, ◌++◌, All, Option, length, take, drop, get_or, refl, sym, ap, ◌∙◌, subst, arith, length-append, Consumes-trans, Keeps-refl, prepend_known-read, ⊤, prepend_known, Consumes, Keeps, IsAtEnd, Text, newline, terminated, lines_of, HasNoNewline, IsBlock, PassesAll, is_byte, places, Stage, Open, Ended, Failed, most_lines, AreHanded, HandsLines, LineReader, to_come, IsStageOf, Numbered, AreAhead, HasHanded, PassesNext, take-append_seam, cond-true, cond-false, get_or-drop, drop-drop, append-nil, nil_from_length, All-append}
-use Rattle.re_syntax.proofs.lemmas.LinesLaws.{lines_of-terminated, first_differs, rest_has_none, all_head, all_tail, terminated-append}
+use Rattle.re_trees.proofs.lemmas.LinesLaws.{lines_of-terminated, first_differs, rest_has_none, all_head, all_tail, terminated-append}
 use Rattle.memchr.specs.Find.{places_from}
 
 -- ---- newlines are counted

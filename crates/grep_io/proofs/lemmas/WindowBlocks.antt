@@ -1,6 +1,6 @@
 -- The whole lines that lie in a buffer.
 use Rattle.grep_io.proofs.Prelude.{◌≡◌, ◌≢◌, ℕ, suc, ◌+◌, ◌-◌, ◌<◌, ◌≤◌, inl, inr, Bool, true, false, List, [], ◌∷◌, ◌++◌, length, take, drop, get_or, slice_range, refl, sym, ap, ◌∙◌, subst, arith, length-append, length-take, take-append-drop, drop-cons, ⊤, nat_lt, Text, newline, terminated, HasNoNewline, IsBlock, PassesAll, HasWholeLine, cases_lt, ltb-true, ltb-false, get_or-take, get_or-drop, get_or_append_left, get_or-append-add, length-drop, drop-take, drop-drop, take-take, All-append}
-use Rattle.re_syntax.proofs.lemmas.LinesLaws.{all_none}
+use Rattle.re_trees.proofs.lemmas.LinesLaws.{all_none}
 use Rattle.re_runs.proofs.lemmas.BlockLemmas.{ended_text}
 
 -- ---- bytes of a range

@@ -2,8 +2,8 @@
 -- was written for them.
 use Rattle.std.specs.Prelude.{◌≡◌, ℕ, ◌⊎◌, List, [], ◌∷◌, ◌++◌, All, Option}
 use Rattle.std.specs.Io.KnownBytes.{Consumes, IsAtEnd}
-use Rattle.re_syntax.specs.Bytes.{Text}
-use Rattle.re_syntax.specs.Lines.{lines_of, terminated, HasNoNewline}
+use Rattle.re_trees.specs.Bytes.{Text}
+use Rattle.re_trees.specs.Lines.{lines_of, terminated, HasNoNewline}
 use Rattle.grep_io.specs.declared.input.lines.Stage.{Stage}
 use Rattle.grep_io.specs.declared.input.lines.Stage.TheVariants.{Open, Ended, Failed}
 use Rattle.grep_io.specs.Working.LineReader.{LineReader, to_come}

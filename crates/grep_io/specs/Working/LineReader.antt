@@ -1,8 +1,8 @@
 -- What a reader of lines is in contracts, and what a call for the next line does.
 use Rattle.std.specs.Prelude.{◌≡◌, ◌≢◌, ℕ, ◌≤◌, [], ◌∷◌, ◌++◌, length, Option}
 use Rattle.std.specs.Io.KnownBytes.{prepend_known, Keeps, Consumes, IsAtEnd}
-use Rattle.re_syntax.specs.Bytes.{Text}
-use Rattle.re_syntax.specs.Lines.{newline, HasNoNewline}
+use Rattle.re_trees.specs.Bytes.{Text}
+use Rattle.re_trees.specs.Lines.{newline, HasNoNewline}
 use Rattle.grep_io.specs.Counted.{one_more}
 use Rattle.grep_io.specs.Reading.{buffer_size, IsOneLineAndFew}
 use Rattle.grep_io.specs.declared.input.lines.Stage.{Stage}

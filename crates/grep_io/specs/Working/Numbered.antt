@@ -1,8 +1,8 @@
 -- What a reader of numbered lines has handed out, and what a call for the next line does.
 use Rattle.std.specs.Prelude.{◌≡◌, ℕ, ◌+◌, ◌≤◌, Bool, true, false, List, [], ◌∷◌, ◌++◌, length}
 use Rattle.std.specs.Prelude.{Option, Result, Ok, Err}
-use Rattle.re_syntax.specs.Bytes.{Text}
-use Rattle.re_syntax.specs.Lines.{lines_of}
+use Rattle.re_trees.specs.Bytes.{Text}
+use Rattle.re_trees.specs.Lines.{lines_of}
 use Rattle.re_runs.specs.Working.Blocks.{IsBlock}
 use Rattle.grep_io.specs.declared.input.lines.ReadFault.{ReadFault}
 use Rattle.grep_io.specs.declared.input.lines.ReadFault.TheVariants.{Device, Memory}

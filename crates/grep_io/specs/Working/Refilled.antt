@@ -1,7 +1,7 @@
 -- What a refill of the window does.
 use Rattle.std.specs.Prelude.{◌≡◌, ℕ, ◌<◌, [], length, Option}
 use Rattle.std.specs.Io.KnownBytes.{prepend_known, Keeps, IsAtEnd}
-use Rattle.re_syntax.specs.Bytes.{Text}
+use Rattle.re_trees.specs.Bytes.{Text}
 use Rattle.grep_io.specs.Counted.{one_more}
 use Rattle.grep_io.specs.declared.input.window.Refill.{Refill}
 use Rattle.grep_io.specs.declared.input.window.Refill.TheVariants.{More, Ended, Failed}

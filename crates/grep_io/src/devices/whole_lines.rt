@@ -2,7 +2,7 @@
 ghost use Rattle.std.specs.Prelude.{◌≡◌, ◌+◌, ◌<◌, ◌≤◌, [], IfSome, IfOk, OnErr, length, take};
 ghost use Rattle.std.specs.Prelude.{vec_len, vec_capacity};
 ghost use Rattle.std.specs.Io.KnownBytes.{Keeps, Appends};
-ghost use Rattle.re_syntax.specs.Lines.{HasNoNewline};
+ghost use Rattle.re_trees.specs.Lines.{HasNoNewline};
 ghost use Rattle.grep_io.specs.Counted.{PushAppends, Counts, one_more};
 ghost use Rattle.grep_io.specs.Buffer.{Sends, all_contents};
 ghost use Rattle.grep_io.specs.Working.Sent.{SendsLine};
@@ -32,7 +32,7 @@ pub struct WholeLines<W> {
 
 impl<W> Model for WholeLines<W> {
     ghost use Rattle.std.specs.Prelude.{◌≤◌, vec_len, vec_capacity};
-    ghost use Rattle.re_syntax.specs.Lines.{HasNoNewline};
+    ghost use Rattle.re_trees.specs.Lines.{HasNoNewline};
     ghost use Rattle.grep_io.specs.Buffer.{BufferedWriter};
 
     ghost Value = { BufferedWriter W };

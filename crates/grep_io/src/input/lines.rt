@@ -1,8 +1,8 @@
 // The lines that a reader gives, one at a time, and their numbers.
 ghost use Rattle.std.specs.Prelude.{◌≡◌, ◌+◌, ◌≤◌, [], ◌++◌, Ok, Err, IfOk, IfErr, MatchBool};
 ghost use Rattle.std.specs.Prelude.{IsTrue, false, length, take};
-ghost use Rattle.re_syntax.specs.Bytes.{Text};
-ghost use Rattle.re_syntax.specs.Lines.{lines_of};
+ghost use Rattle.re_trees.specs.Bytes.{Text};
+ghost use Rattle.re_trees.specs.Lines.{lines_of};
 ghost use Rattle.re_runs.specs.Working.Blocks.{IsBlock};
 ghost use Rattle.grep_io.specs.Reading.{IsOneLineAndFew, most_lines};
 ghost use Rattle.grep_io.specs.Working.Held.{HasWholeLine};

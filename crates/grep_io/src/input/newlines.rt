@@ -2,7 +2,7 @@
 ghost use Rattle.std.specs.Prelude.{◌≡◌, ◌+◌, ◌*◌, ◌<◌, ◌≤◌, ◌==◌, if◌then◌else◌};
 ghost use Rattle.std.specs.Prelude.{length, map, take, drop};
 ghost use Rattle.memchr.specs.Find.{is_byte, places, places_between};
-ghost use Rattle.re_syntax.specs.Lines.{newline};
+ghost use Rattle.re_trees.specs.Lines.{newline};
 
 use std::simd::prelude::*;
 

@@ -2,8 +2,8 @@
 ghost use Rattle.std.specs.Prelude.{◌≡◌, ◌+◌, ◌-◌, ◌^◌, ◌<◌, ◌≤◌, [], ◌∷◌, ◌++◌, ⊤, get_or, IfOk};
 ghost use Rattle.std.specs.Prelude.{OnErr, IfSome, MatchBool, length, take, drop};
 ghost use Rattle.std.specs.Prelude.{slice_range, vec_len};
-ghost use Rattle.re_syntax.specs.Bytes.{Text};
-ghost use Rattle.re_syntax.specs.Lines.{newline, HasNoNewline};
+ghost use Rattle.re_trees.specs.Bytes.{Text};
+ghost use Rattle.re_trees.specs.Lines.{newline, HasNoNewline};
 ghost use Rattle.re_runs.specs.Working.Blocks.{IsBlock, PassesAll};
 ghost use Rattle.grep_io.specs.Counted.{PullConsumes, Counts, ReadsOn};
 ghost use Rattle.grep_io.specs.Working.Refilled.{Refilled};

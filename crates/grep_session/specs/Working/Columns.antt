@@ -6,7 +6,7 @@ use Rattle.re_syntax.specs.Bytes.{Text}
 use Rattle.re_syntax.specs.Expression.{Expression}
 use Rattle.re_syntax.specs.Holds.{Matches}
 use Rattle.re_syntax.specs.Lines.{terminated}
-use Rattle.re_syntax.specs.declared.span.Span.{Span}
+use Rattle.re_trees.specs.declared.span.Span.{Span}
 use Rattle.grep_core.specs.Meters.{Steps}
 use Rattle.grep_core.specs.declared.options.Options.{Options}
 use Rattle.grep_core.specs.Files.{Matched}

@@ -1,6 +1,6 @@
 -- What is kept of a line for an editor.
 use Rattle.std.specs.Prelude.{List, [], if◌then◌else◌}
-use Rattle.re_syntax.specs.declared.span.Span.{Span}
+use Rattle.re_trees.specs.declared.span.Span.{Span}
 use Rattle.grep_core.specs.declared.options.Options.{Options}
 use Rattle.line_chunks.specs.Working.Chunks.{KeptLine}
 

@@ -1,6 +1,6 @@
 -- Lines as one text, and the places where they begin.
 use Rattle.line_chunks.proofs.Prelude.{map, add-zero, ◌≡◌, ℕ, ◌+◌, ◌-◌, ◌^◌, ◌<◌, ◌≤◌, List, [], ◌∷◌, ◌++◌, All, length, take, drop, refl, ap, sym, subst, ◌∙◌, arith, length-append, length-drop, append_assoc, get_or, suc, zero, inl, inr, cases_lt, length-map, take-take, take_more, drop_more, take_at, drop_at, take-append-drop, take_all, get_or-drop, All-append, All-take, All-drop, IfOk, OnErr, is_err, false, slice_range, Result, Ok, Err, Text, newline, terminated, HasNoNewline, lines_of, IsBlock, starts_from, IsCut}
-use Rattle.re_syntax.proofs.lemmas.LinesLaws.{terminated-append, lines_of-terminated, all_cons, all_none}
+use Rattle.re_trees.proofs.lemmas.LinesLaws.{terminated-append, lines_of-terminated, all_cons, all_none}
 use Rattle.re_runs.proofs.lemmas.NextLines.{block_lines, free_lines}
 
 -- ---- bytes of lines

@@ -1,7 +1,7 @@
 -- Lines as one text, each ended by a newline, and where each begins.
 use Rattle.std.specs.Prelude.{◌≡◌, ℕ, ◌+◌, ◌^◌, ◌≤◌, List, [], ◌∷◌, length}
-use Rattle.re_syntax.specs.Bytes.{Text}
-use Rattle.re_syntax.specs.Lines.{lines_of}
+use Rattle.re_trees.specs.Bytes.{Text}
+use Rattle.re_trees.specs.Lines.{lines_of}
 use Rattle.re_runs.specs.Working.Blocks.{IsBlock}
 
 -- where each of the lines begins, if the first begins at `from`

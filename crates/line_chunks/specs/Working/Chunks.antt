@@ -1,7 +1,7 @@
 -- Lines with what was found in each, in chunks.
 use Rattle.std.specs.Prelude.{◌≡◌, ℕ, suc, ◌+◌, ◌==◌, Bool, not, List, [], ◌∷◌, ◌++◌, length, map, if◌then◌else◌, nat_lt, Option, Some, None, IfSome, ⊤}
-use Rattle.re_syntax.specs.Bytes.{Text}
-use Rattle.re_syntax.specs.Lines.{terminated}
+use Rattle.re_trees.specs.Bytes.{Text}
+use Rattle.re_trees.specs.Lines.{terminated}
 use Rattle.line_finds.specs.Working.Finds.{Finds, no_finds, FoundIn, finds_at, without}
 
 -- a line, and what was found in it

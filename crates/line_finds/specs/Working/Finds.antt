@@ -1,7 +1,7 @@
 -- What is found in the lines of a chunk, and how it is kept.
 use Rattle.std.specs.Prelude.{ℕ, zero, suc, ◌+◌, ◌-◌, ◌<◌, ◌==◌, Bool, not, List, [], ◌∷◌, All, length, map, get_or, nat_eq, nat_lt, if◌then◌else◌}
 use Rattle.std.specs.List.{filter}
-use Rattle.re_syntax.specs.declared.span.Span.{Span}
+use Rattle.re_trees.specs.declared.span.Span.{Span}
 
 -- the numbers of the patterns that match a line, in ascending order, and the parts of it that are
 -- kept

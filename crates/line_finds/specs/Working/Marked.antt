@@ -1,6 +1,6 @@
 -- What is found in lines, with a mark for each line that says whether some pattern matches it.
 use Rattle.std.specs.Prelude.{◌≡◌, ℕ, zero, suc, ◌+◌, ◌<◌, ◌≤◌, Bool, false, List, [], length, get_or, if◌then◌else◌}
-use Rattle.re_syntax.specs.declared.span.Span.{Span}
+use Rattle.re_trees.specs.declared.span.Span.{Span}
 use Rattle.line_finds.specs.declared.found.Found.TheInside.{Inside}
 use Rattle.line_finds.specs.Working.Finds.{FoundIn, is_paired, AreBelow, paired_before}
 

@@ -1,6 +1,6 @@
 -- Lists of spans as one list, with the places where each of them ends.
 use Rattle.std.specs.Prelude.{◌≡◌, ℕ, ◌+◌, ◌-◌, List, [], ◌∷◌, ◌++◌, length, take, drop}
-use Rattle.re_syntax.specs.declared.span.Span.{Span}
+use Rattle.re_trees.specs.declared.span.Span.{Span}
 
 -- the lists one after the other
 abbrev pub all_spans : List (List Span) → List Span

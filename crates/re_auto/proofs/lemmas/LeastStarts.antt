@@ -2,7 +2,7 @@
 use Rattle.re_auto.proofs.Prelude.{◌≡◌, ℕ, zero, suc, ◌<◌, ◌≤◌, inl, inr, ◌++◌, length, slice_index, Option, Some, None, refl, sym, subst, arith, Text, Mode, Part, is_begin, is_end, Reaches, PartHolds, part_of, MayBegin, Least, IsLeast, StartsAfter, Brought, IsNextStarts, Reported, IsMatched, PassBegins, StartsStay, StartsDecide, OnePassIsEnough, SpentIsOver}
 use Rattle.re_auto.proofs.lemmas.Chains.{reaches_bounds, reaches_on, reaches_back}
 use Rattle.re_auto.proofs.lemmas.PositionsDecide.{positions_decide}
-use Rattle.re_syntax.proofs.lemmas.BestStretches.{next_or_before, best_so_far}
+use Rattle.re_trees.proofs.lemmas.BestStretches.{next_or_before, best_so_far}
 
 -- a number of P is no less than the least one
 at_least : (P : ℕ → Type 0) (o : Option ℕ) → Least P o → (k : ℕ) → P k → (m : ℕ) × (o ≡ Some m) × (m ≤ k) × P m

@@ -1,7 +1,7 @@
 -- Sets of bytes by marks, and their members where there are few.
 use Rattle.std.specs.Prelude.{◌≡◌, ℕ, ⊤, ◌<◌, ◌≤◌, Bool, false, IsTrue, ◌↔◌, ◌⊎◌, List, slice_index}
 use Rattle.std.specs.Prelude.{slice_index_or}
-use Rattle.re_syntax.specs.Bytes.{Text}
+use Rattle.re_trees.specs.Bytes.{Text}
 use Rattle.re_auto.specs.declared.beginnings.Few.{Few}
 use Rattle.re_auto.specs.declared.beginnings.Few.TheVariants.{Never, One, Two, Three, Many}
 

@@ -2,10 +2,10 @@
 use Rattle.std.specs.Prelude.{◌≡◌, ℕ, ◌+◌, ◌*◌, ◌<◌, ◌≤◌, ◌⊎◌, Bool, true, false, IsTrue, ◌↔◌}
 use Rattle.std.specs.Prelude.{length, Option, Some, None, IfSome, Vec}
 use Rattle.std.specs.Global.{Global}
-use Rattle.re_syntax.specs.Expression.{Expression, repeat}
-use Rattle.re_syntax.specs.Holds.{positions}
-use Rattle.re_syntax.specs.Working.Trees.{members}
-use Rattle.re_syntax.specs.declared.bytes.ByteSet.{ByteSet}
+use Rattle.re_trees.specs.Expression.{Expression, repeat}
+use Rattle.re_trees.specs.Holds.{positions}
+use Rattle.re_trees.specs.Working.Trees.{members}
+use Rattle.re_trees.specs.declared.bytes.ByteSet.{ByteSet}
 use Rattle.re_auto.specs.declared.build.ends.Ends.{Ends}
 use Rattle.re_auto.specs.declared.build.rows.Rows.{Rows}
 use Rattle.re_auto.specs.declared.tables.Empty.{Empty}

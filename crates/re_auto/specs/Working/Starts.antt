@@ -1,13 +1,13 @@
 -- Least starts: for each position, the least place at which a stretch begins that can have come to
 -- it.
 use Rattle.std.specs.Prelude.{◌≡◌, ℕ, ◌<◌, ◌≤◌, Bool, ◌⊎◌, Option, Some}
-use Rattle.re_syntax.specs.Bytes.{Text}
-use Rattle.re_syntax.specs.Expression.{Expression}
-use Rattle.re_syntax.specs.Holds.{Holds}
+use Rattle.re_trees.specs.Bytes.{Text}
+use Rattle.re_trees.specs.Expression.{Expression}
+use Rattle.re_trees.specs.Holds.{Holds}
 use Rattle.re_auto.specs.declared.mode.Mode.{Mode}
 use Rattle.re_auto.specs.Working.Positions.{Part, is_begin, Reaches}
 use Rattle.re_auto.specs.Working.SteppedSets.{MayBegin}
-use Rattle.re_syntax.specs.Working.BestStretches.{Least}
+use Rattle.re_trees.specs.Working.BestStretches.{Least}
 
 -- each position with the least place, `from` or later, at which a stretch of the mode begins that
 -- can have come to it at place j

@@ -1,6 +1,6 @@
 -- Sets of positions, stepped over a line one byte at a time.
 use Rattle.std.specs.Prelude.{ℕ, ⊤, Bool, IsTrue, ◌⊎◌, ◌↔◌}
-use Rattle.re_syntax.specs.Bytes.{Text}
+use Rattle.re_trees.specs.Bytes.{Text}
 use Rattle.re_auto.specs.declared.mode.Mode.{Mode}
 use Rattle.re_auto.specs.declared.mode.Mode.TheVariants.{Search, Whole}
 use Rattle.re_auto.specs.Working.Positions.{Part, is_begin, Reaches}

@@ -1,9 +1,9 @@
 -- What the tables of an automaton say of the positions of an expression.
 use Rattle.std.specs.Prelude.{◌≡◌, ℕ, ◌+◌, ◌*◌, ◌/◌, ◌<◌, ◌≤◌, Bool, true, false, IsTrue, ◌↔◌, List}
 use Rattle.std.specs.Prelude.{length, slice_index, slice_index_or}
-use Rattle.re_syntax.specs.Expression.{Expression}
-use Rattle.re_syntax.specs.Holds.{positions}
-use Rattle.re_syntax.specs.Profile.{most_positions}
+use Rattle.re_trees.specs.Expression.{Expression}
+use Rattle.re_trees.specs.Holds.{positions}
+use Rattle.re_trees.specs.Limits.{most_positions}
 use Rattle.re_auto.specs.declared.build.BuildFault.{BuildFault}
 use Rattle.re_auto.specs.declared.build.BuildFault.TheVariants.{TooLarge, Memory}
 use Rattle.re_auto.specs.declared.tables.Tables.{Tables}

@@ -1,10 +1,10 @@
 //! The number of an expression's positions, without writing its intervals out.
 ghost use Rattle.std.specs.Prelude.{◌≡◌, ◌<◌, map, min};
-ghost use Rattle.re_syntax.specs.Expression.{cat};
-ghost use Rattle.re_syntax.specs.Working.Trees.{expression_of};
-ghost use Rattle.re_syntax.specs.Holds.{copies, positions};
+ghost use Rattle.re_trees.specs.Expression.{cat};
+ghost use Rattle.re_trees.specs.Working.Trees.{expression_of};
+ghost use Rattle.re_trees.specs.Holds.{copies, positions};
 
-use re_syntax::{MOST_POSITIONS, Tree};
+use re_trees::{MOST_POSITIONS, Tree};
 
 /// Where counting stops: one more than the greatest number of positions of an automaton.
 pub(crate) const TOO_MANY: usize = MOST_POSITIONS + 1;

@@ -1,8 +1,8 @@
 //! From an expression to the tables of its automaton.
 ghost use Rattle.std.specs.Prelude.{◌≡◌, ◌≤◌, IfOk, IfErr};
-ghost use Rattle.re_syntax.specs.Working.Trees.{expression_of};
-ghost use Rattle.re_syntax.specs.Holds.{positions};
-ghost use Rattle.re_syntax.specs.Profile.{most_positions};
+ghost use Rattle.re_trees.specs.Working.Trees.{expression_of};
+ghost use Rattle.re_trees.specs.Holds.{positions};
+ghost use Rattle.re_trees.specs.Limits.{most_positions};
 ghost use Rattle.re_auto.specs.Working.Tables.{IsRefused, AreTablesOf};
 
 use crate::beginnings::Beginnings;
@@ -12,7 +12,7 @@ use crate::build::count::{TOO_MANY, position_count};
 use crate::build::rows::Rows;
 use crate::ranges::ranges_of;
 use crate::tables::Tables;
-use re_syntax::Tree;
+use re_trees::Tree;
 use std::alloc::{AllocError, Global};
 
 /// The tables of an expression. The errors are `Memory`, and `TooLarge` exactly where it has more

@@ -1,8 +1,8 @@
 //! The rows of an automaton's tables, while they are written.
 ghost use Rattle.std.specs.Prelude.{◌≡◌, ℕ, ◌+◌, ◌*◌, ◌<◌, ◌≤◌, ◌↔◌, ◌⊎◌, IfOk, length};
 ghost use Rattle.std.specs.Int.{bit_at};
-ghost use Rattle.re_syntax.specs.Profile.{most_positions};
-ghost use Rattle.re_syntax.specs.Working.Trees.{members};
+ghost use Rattle.re_trees.specs.Limits.{most_positions};
+ghost use Rattle.re_trees.specs.Working.Trees.{members};
 ghost use Rattle.re_auto.specs.Working.Bits.{Has, row_of};
 ghost use Rattle.re_auto.specs.Working.PartTables.{Adds, AreBlankRows, HasRows, HasWidth, Shows};
 ghost use Rattle.re_auto.specs.Working.PartTables.{Wanted, crossing, shown};
@@ -11,7 +11,7 @@ ghost use Rattle.re_auto.specs.Working.Tables.{most_words};
 
 use crate::bits;
 use crate::build::ends::{Ends, blank_set};
-use re_syntax::ByteSet;
+use re_trees::ByteSet;
 use std::alloc::{AllocError, Global};
 
 /// For each position a row of those that can come directly after it, and for each byte a row of the

@@ -1,10 +1,10 @@
 //! The position automaton of an expression, and the steps of sets of its positions.
 ghost use Rattle.std.specs.Prelude.{◌≡◌, ℕ, suc, ◌-◌, Bool, true, false, ◌<◌, ◌≤◌, ◌↔◌, Some};
 ghost use Rattle.std.specs.Prelude.{IsTrue, IfOk, IfErr, vec_len, length, slice_get, slice_index};
-ghost use Rattle.re_syntax.specs.Bytes.{Text};
-ghost use Rattle.re_syntax.specs.Working.Trees.{expression_of};
-ghost use Rattle.re_syntax.specs.Holds.{Holds, positions};
-ghost use Rattle.re_syntax.specs.Profile.{most_positions};
+ghost use Rattle.re_trees.specs.Bytes.{Text};
+ghost use Rattle.re_trees.specs.Working.Trees.{expression_of};
+ghost use Rattle.re_trees.specs.Holds.{Holds, positions};
+ghost use Rattle.re_trees.specs.Limits.{most_positions};
 ghost use Rattle.re_auto.specs.declared.mode.Mode.TheVariants.{Search};
 ghost use Rattle.re_auto.specs.Working.Bits.{Has, Are};
 ghost use Rattle.re_meter.specs.Meters.{many_built};
@@ -23,7 +23,7 @@ use crate::mode::Mode;
 use crate::step::state_set::StateSet;
 use crate::tables::Tables;
 use re_meter::Meter;
-use re_syntax::Tree;
+use re_trees::Tree;
 use std::alloc::{AllocError, Global};
 use std::marker::Model;
 
@@ -35,9 +35,9 @@ pub struct Automaton {
 }
 
 impl Model for Automaton {
-    ghost use Rattle.re_syntax.specs.declared.tree.Tree.{Tree};
-    ghost use Rattle.re_syntax.specs.contracts.tree.Tree as e;
-    ghost use Rattle.re_syntax.specs.Working.Trees.{expression_of};
+    ghost use Rattle.re_trees.specs.declared.tree.Tree.{Tree};
+    ghost use Rattle.re_trees.specs.contracts.tree.Tree as e;
+    ghost use Rattle.re_trees.specs.Working.Trees.{expression_of};
     ghost use Rattle.std.specs.Coded.{codes};
     ghost use Rattle.re_auto.specs.Working.Tables.{AreTablesOf};
 

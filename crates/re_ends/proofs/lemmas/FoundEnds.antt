@@ -1,7 +1,7 @@
 -- The greatest ends of the parts that begin at each place.
 use Rattle.re_ends.proofs.Prelude.{◌≡◌, ℕ, ◌+◌, ◌<◌, inl, inr, ◌⊎◌, Bool, true, false, IsTrue, List, [], ◌∷◌, ◌++◌, length, refl, sym, subst, arith, ◌↔◌, Text, Expression, Holds, Matches, IsFound, MatchesPast, FoundPast, AddsEnds}
-use Rattle.re_syntax.proofs.lemmas.Decisions.{Any-first}
-use Rattle.re_syntax.proofs.lemmas.SomeOfJoined.{Any-single, Any-left, Any-right, Any-append-cases}
+use Rattle.re_trees.proofs.lemmas.Decisions.{Any-first}
+use Rattle.re_trees.proofs.lemmas.SomeOfJoined.{Any-single, Any-left, Any-right, Any-append-cases}
 
 -- what reaches past the same numbers adds the same ends
 pub adds_alike : (P Q : ℕ → ℕ → Type 0) (line : Text) (old new : List ℕ) → ((i m : ℕ) → i < length line → P i m ↔ Q i m) → AddsEnds P line old new → AddsEnds Q line old new

@@ -1,7 +1,7 @@
 -- Greatest ends on their way back over a line.
 use Rattle.std.specs.Prelude.{◌≡◌, length}
-use Rattle.re_syntax.specs.Expression.{Expression}
-use Rattle.re_syntax.specs.Holds.{positions}
+use Rattle.re_trees.specs.Expression.{Expression}
+use Rattle.re_trees.specs.Holds.{positions}
 use Rattle.re_ends.specs.declared.back.EndPair.{EndPair}
 
 -- both have a number for each position of the expression

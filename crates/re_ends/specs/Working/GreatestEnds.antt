@@ -1,11 +1,11 @@
 -- Greatest ends: for each position, the greatest place at which a stretch can end that takes the
 -- byte at a place with it.
 use Rattle.std.specs.Prelude.{◌≡◌, ℕ, zero, suc, ◌+◌, ◌<◌, ◌≤◌, ◌↔◌, ◌⊎◌, Bool, List, length, slice_index}
-use Rattle.re_syntax.specs.Bytes.{Text}
-use Rattle.re_syntax.specs.Expression.{Expression}
-use Rattle.re_syntax.specs.Holds.{Holds}
-use Rattle.re_syntax.specs.Parts.{IsFound}
-pub use Rattle.re_syntax.specs.Working.PutEnds.{AddsEnds}
+use Rattle.re_trees.specs.Bytes.{Text}
+use Rattle.re_trees.specs.Expression.{Expression}
+use Rattle.re_trees.specs.Holds.{Holds}
+use Rattle.re_trees.specs.Parts.{IsFound}
+pub use Rattle.re_trees.specs.Working.PutEnds.{AddsEnds}
 use Rattle.re_auto.specs.Working.Positions.{Part, is_end, ByteAt}
 
 -- A stretch that takes the byte at place p with position q can take n bytes more and end there.

@@ -1,7 +1,7 @@
 -- Parts that begin at a known place or later.
 use Rattle.re_match.proofs.Prelude.{RunStandsAt, ◌≡◌, ◌∙◌, sym, false≢true, slice_index, Bytes, HasBytesOf, ℕ, ◌+◌, ◌-◌, ◌<◌, ◌≤◌, inl, inr, subst, false, IsTrue, [], ◌∷◌, length, drop, Option, Some, None, arith, cases_eq, dec_le, Text, Expression, Holds, IsFound, IsPart, Span, FindsPart, Needle, FindsRun, IsNeedleOf, runs_of, IsLongest, HasNone, BeginsLater}
-use Rattle.re_syntax.proofs.lemmas.Decisions.{Any-first}
-use Rattle.re_syntax.proofs.lemmas.SomeOfJoined.{Any-single}
+use Rattle.re_trees.proofs.lemmas.Decisions.{Any-first}
+use Rattle.re_trees.proofs.lemmas.SomeOfJoined.{Any-single}
 use Rattle.re_runs.proofs.lemmas.RunLaws.{run_rest, run_whole, stands_within}
 
 module _ (e : Expression) (line : Text) (from : ℕ) where

@@ -1,7 +1,7 @@
 -- The line of a block in which the first of many strings ends.
 use Rattle.re_match.proofs.Prelude.{◌≡◌, ◌≢◌, ℕ, suc, ◌+◌, ◌-◌, ◌<◌, ◌≤◌, Bool, true, false, inl, inr, List, [], ◌∷◌, ◌++◌, All, Some, length, map, take, drop, get_or, slice_range, refl, sym, ap, ◌∙◌, subst, arith, length-drop, length-take, length-append, take-append-drop, ⊤, Text, Matches, newline, terminated, HasNoNewline, IsLineFrom, PassesAll, IsString, Occurs, key, keys, EndsFirst, Literals, any_literal, StopsAt, Unseen, Seen, Matched, dec_le, eqb-true, eq-eqb, get_or-append-add, get_or_append_left, get_or-drop, get_or-map, get_or-take, length-map, map-append, All-head}
-use Rattle.re_syntax.proofs.lemmas.Decisions.{Any-cases, Any-none}
-use Rattle.re_syntax.proofs.lemmas.LinesLaws.{all_head, all_tail, none_before, none_in_empty, rest_has_none}
+use Rattle.re_trees.proofs.lemmas.Decisions.{Any-cases, Any-none}
+use Rattle.re_trees.proofs.lemmas.LinesLaws.{all_head, all_tail, none_before, none_in_empty, rest_has_none}
 use Rattle.re_runs.proofs.lemmas.BlockLemmas.{passed_within}
 use Rattle.re_runs.proofs.lemmas.Looks.{place_in_line}
 use Rattle.re_match.proofs.lemmas.SetBlocks.{piece_before, piece_after}

@@ -1,9 +1,9 @@
 -- What a choice of fixed strings matches: the lines that have one of them, as strings are compared.
 use Rattle.re_match.proofs.Prelude.{◌≡◌, ◌↔◌, ℕ, ◌+◌, ◌-◌, ◌<◌, ◌≤◌, inl, inr, Bool, true, false, IsTrue, List, [], ◌∷◌, ◌++◌, length, map, take, drop, Option, Some, None, refl, sym, ap, subst, ◌∙◌, arith, length-append, length-drop, is_some, Text, alt, byte, sequence, Holds, Matches, IsFound, Span, IsString, Occurs, IsBestOccurrence, EndsFirst, FoundPast, Literals, any_literal, key, keys, FindsPart, drop-append-le, take-append-drop, length-take-le, length-map, drop_of_length-le, cases_lt, false≢true}
-use Rattle.re_syntax.proofs.lemmas.Decisions.{Any-first, Any-later, Any-cases, Any-none}
-use Rattle.re_syntax.proofs.lemmas.FixedStrings.{stands-holds, holds-stands}
-use Rattle.re_syntax.proofs.lemmas.HoldsDecided.{Holds-le}
-use Rattle.re_syntax.proofs.lemmas.SomeOfJoined.{Any-single}
+use Rattle.re_trees.proofs.lemmas.Decisions.{Any-first, Any-later, Any-cases, Any-none}
+use Rattle.re_trees.proofs.lemmas.FixedStrings.{stands-holds, holds-stands}
+use Rattle.re_trees.proofs.lemmas.HoldsDecided.{Holds-le}
+use Rattle.re_trees.proofs.lemmas.SomeOfJoined.{Any-single}
 use Rattle.re_strings.proofs.lemmas.SetBranches.{begins_take}
 use Rattle.re_match.proofs.lemmas.SetFolded.{choice_keys}
 use Rattle.re_strings.proofs.lemmas.SetSearch.{all_read}

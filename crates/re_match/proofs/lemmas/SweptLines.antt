@@ -1,6 +1,6 @@
 -- What a look over a block says of the line in which it stopped.
 use Rattle.re_match.proofs.Prelude.{◌≡◌, ◌∙◌, ℕ, ◌+◌, ◌-◌, ◌<◌, ◌≤◌, ◌↔◌, ◌++◌, ◌∷◌, inr, List, Bool, true, false, Some, length, take, drop, get_or, slice_range, slice_index, sym, ap, subst, refl, arith, length-take, length-drop, IsTrue, Text, Expression, Matches, newline, HasNoNewline, AddsUpTo, IsLineFrom, StopsInLine, PassesUnmatched, IsJustRun, Runs, RunStandsAt, FindsRun, look_cost, set_at, Swept, Sweep, Stop, Unseen, Seen, Matched, StopsAt, IsSameFrom, left_for, dec_le, get_or-drop, get_or-take, get_or-append-add, drop-drop}
-use Rattle.re_syntax.specs.Bytes.{Bytes}
+use Rattle.re_trees.specs.Bytes.{Bytes}
 use Rattle.re_runs.specs.Working.Runs.{IsLongestRun, IsNoWider, RunIsAt}
 use Rattle.re_meter.specs.Meters.{Steps, AddsAtMost}
 use Rattle.re_meter.proofs.lemmas.Adding.{adds_within, adds_both}

@@ -1,10 +1,10 @@
 -- Many fixed strings (XCU grep, options -F and -i).
 use Rattle.std.specs.Prelude.{◌≡◌, ℕ, ◌-◌, ◌≤◌, ◌⊎◌, [], Bool, List, Option, Some, length, map, take, drop}
 use Rattle.std.specs.Prelude.{if◌then◌else◌}
-use Rattle.re_syntax.specs.Bytes.{Text}
-use Rattle.re_syntax.specs.Expression.{Expression, byte, sequence, alt}
-use Rattle.re_syntax.specs.declared.span.Span.{Span}
-use Rattle.re_syntax.specs.Holds.{folded}
+use Rattle.re_trees.specs.Bytes.{Text}
+use Rattle.re_trees.specs.Expression.{Expression, byte, sequence, alt}
+use Rattle.re_trees.specs.declared.span.Span.{Span}
+use Rattle.re_trees.specs.Holds.{folded}
 use Rattle.re_meter.specs.Meters.{Steps, many_passed}
 use Rattle.re_strings.specs.Working.FixedSets.{IsFront, IsString}
 use Rattle.re_strings.specs.Working.Keys.{keys}

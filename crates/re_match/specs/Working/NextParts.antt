@@ -1,8 +1,8 @@
 -- What is known of the next part before a search steps.
 use Rattle.std.specs.Prelude.{ℕ, ◌+◌, ◌-◌, ◌<◌, ◌≤◌, false, [], ◌∷◌, None, length}
-use Rattle.re_syntax.specs.Bytes.{Text}
-use Rattle.re_syntax.specs.Expression.{Expression}
-use Rattle.re_syntax.specs.Parts.{IsFound}
+use Rattle.re_trees.specs.Bytes.{Text}
+use Rattle.re_trees.specs.Expression.{Expression}
+use Rattle.re_trees.specs.Parts.{IsFound}
 use Rattle.re_auto.specs.Meters.{Steps}
 use Rattle.re_meter.specs.Meters.{AddsAtMost, AddsUpTo}
 use Rattle.re_auto.specs.Searches.{FindsPart}

@@ -1,7 +1,7 @@
 -- What a prefilter has for an expression.
 use Rattle.std.specs.Prelude.{◌≡◌, false}
-use Rattle.re_syntax.specs.Expression.{Expression}
-use Rattle.re_syntax.specs.Working.Trees.{members}
+use Rattle.re_trees.specs.Expression.{Expression}
+use Rattle.re_trees.specs.Working.Trees.{members}
 use Rattle.re_needle.specs.Working.Needles.{IsNeedleFor, HasBytesOf, HasNoBegin}
 use Rattle.re_match.specs.declared.prefilter.Prefilter.{Prefilter}
 

@@ -1,6 +1,6 @@
 -- What no search changes of a matcher.
 use Rattle.std.specs.Prelude.{◌≡◌, ℕ, Bool}
-use Rattle.re_syntax.specs.Expression.{Expression}
+use Rattle.re_trees.specs.Expression.{Expression}
 
 -- it has its expression as before, asks for whole lines or not as before, and may keep as much as
 -- before

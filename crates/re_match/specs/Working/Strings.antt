@@ -1,9 +1,9 @@
 -- Matchers for fixed strings: one string by itself, or many in one pass.
 use Rattle.std.specs.Prelude.{◌≡◌, ⊤, ℕ, ◌+◌, ◌-◌, ◌⊎◌, [], Bool, true, false, Option, Some, None, length, map, drop}
-use Rattle.re_syntax.specs.Bytes.{Text}
-use Rattle.re_syntax.specs.Expression.{Expression, byte, sequence}
-use Rattle.re_syntax.specs.declared.span.Span.{Span}
-use Rattle.re_syntax.specs.Lines.{HasNoNewline}
+use Rattle.re_trees.specs.Bytes.{Text}
+use Rattle.re_trees.specs.Expression.{Expression, byte, sequence}
+use Rattle.re_trees.specs.declared.span.Span.{Span}
+use Rattle.re_trees.specs.Lines.{HasNoNewline}
 use Rattle.re_meter.specs.Meters.{Steps, many_built}
 use Rattle.re_runs.specs.Working.Blocks.{LooksOnce}
 use Rattle.re_match.specs.declared.strings.Look.{Look}

@@ -1,9 +1,9 @@
 -- Looks over lines and blocks: what they pass, where a sweep stops, and what is known of the line
 -- there.
 use Rattle.std.specs.Prelude.{◌≡◌, ℕ, ◌+◌, ◌≤◌, ◌↔◌, ◌⊎◌, Bool, Option, min, length, slice_range}
-use Rattle.re_syntax.specs.Bytes.{Text}
-use Rattle.re_syntax.specs.Expression.{Expression}
-use Rattle.re_syntax.specs.Holds.{Matches}
+use Rattle.re_trees.specs.Bytes.{Text}
+use Rattle.re_trees.specs.Expression.{Expression}
+use Rattle.re_trees.specs.Holds.{Matches}
 use Rattle.re_meter.specs.Meters.{Steps, many_passed}
 use Rattle.re_runs.specs.Working.Blocks.{IsLineFrom}
 use Rattle.re_needle.specs.Working.Needles.{RunIsNeeded, RunBegins}

@@ -1,9 +1,9 @@
 -- Runs of the branches of a choice, one of which each of its matches contains.
 use Rattle.re_needle.proofs.Prelude.{◌≡◌, ℕ, ◌+◌, inl, inr, Bool, true, false, ◌&&◌, IsTrue, List, [], ◌∷◌, ◌++◌, Any, AllZip, length, drop, refl, sym, ap, subst, ◌∙◌, arith, Bytes, Text, Expression, alt, RunIsAt, get_or, Holds, RunIsNeeded, RunBegins, IsJustRun, IsNeedleOf, IsRunOf, Needle, runs_of, front_of, most_sets, false≢true, take-append-drop, append-nil, length-append, RunStandsAt, one_run}
-use Rattle.re_syntax.proofs.lemmas.Decisions.{Any-first, Any-later, Any-cases, Any-none}
+use Rattle.re_trees.proofs.lemmas.Decisions.{Any-first, Any-later, Any-cases, Any-none}
 use Rattle.re_runs.proofs.lemmas.RunLaws.{one_stands, one_is, front_stands}
 use Rattle.std.proofs.lemmas.List.{get_or_default}
-use Rattle.re_syntax.proofs.lemmas.SomeOfJoined.{Any-single}
+use Rattle.re_trees.proofs.lemmas.SomeOfJoined.{Any-single}
 use Rattle.re_needle.proofs.lemmas.NeedleLaws.{front_needed, one_between}
 
 module _ (first all : Bool) (line : Text) where

@@ -1,6 +1,6 @@
 -- The bytes of stretches on which an expression holds.
 use Rattle.re_needle.proofs.Prelude.{◌≡◌, ℕ, zero, suc, ◌+◌, ◌<◌, ◌≤◌, inl, inr, IsTrue, List, [], ◌∷◌, ◌++◌, length, map, take, get_or, slice_index, Option, sym, ap, ◌∙◌, subst, arith, cases_lt, map-append, take_more, get_or_from_slice_get, false≢true, nothing, Bytes, Tree, Expression, one_of, cat, alt, repeat, expression_of, Holds, Turns, HasBytesOf}
-use Rattle.re_syntax.specs.Expression.{none_of}
+use Rattle.re_trees.specs.Expression.{none_of}
 use Rattle.re_needle.proofs.lemmas.NeededLaws.{cat_cut}
 
 pub bytes_set : (s : Bytes) → HasBytesOf s (one_of s)

@@ -2,8 +2,8 @@
 use Rattle.re_needle.proofs.Prelude.{◌≡◌, ℕ, zero, suc, ◌+◌, ◌-◌, ◌<◌, ◌≤◌, ◌↔◌, inl, inr, false, Some, List, [], ◌∷◌, ◌++◌, length, drop, get_or, slice_get, sym, ap, subst, ◌∙◌, arith, length-drop, get_or_from_slice_get, slice_get-get_or, dec_le, Text, Expression, one_of, alt, cat, repeat, Holds, Matches, Turns, HasNoBegin, RunBegins, RunStandsAt, Runs}
 use Rattle.std.proofs.lemmas.Option.{slice_get_within}
 use Rattle.std.proofs.lemmas.List.{get_or-drop}
-use Rattle.re_syntax.specs.Expression.{empty, none_of, begin, end, cat_none, cat_more, alt_none, alt_more}
-use Rattle.re_syntax.proofs.lemmas.HoldsDecided.{Holds-le}
+use Rattle.re_trees.specs.Expression.{empty, none_of, begin, end, cat_none, cat_more, alt_none, alt_more}
+use Rattle.re_trees.proofs.lemmas.HoldsDecided.{Holds-le}
 
 -- ---- one part more without `^`
 

@@ -1,7 +1,7 @@
 -- Strings that a sequence of bytes needs.
 use Rattle.re_needle.proofs.Prelude.{◌≡◌, ℕ, ◌+◌, ◌≤◌, List, [], ◌∷◌, ◌++◌, length, map, drop, refl, sym, subst, arith, append-nil, Text, Expression, byte, cat, sequence, Holds, StandsBetween, IsNeeded}
-use Rattle.re_syntax.proofs.lemmas.FixedStrings.{cat-sequence, sequence-cat, holds-stands}
-use Rattle.re_syntax.proofs.lemmas.HoldsDecided.{Holds-le}
+use Rattle.re_trees.proofs.lemmas.FixedStrings.{cat-sequence, sequence-cat, holds-stands}
+use Rattle.re_trees.proofs.lemmas.HoldsDecided.{Holds-le}
 use Rattle.re_runs.proofs.lemmas.Occurrences.{stands-occurs}
 
 -- a sequence of two lists of members is cut between them

@@ -1,6 +1,6 @@
 -- Lines, and blocks of lines, that lack what an expression needs, or have all that it is.
 use Rattle.re_needle.proofs.Prelude.{ℕ, ◌+◌, ◌≤◌, Bool, true, false, List, length, map, get_or, arith, Text, Expression, Matches, Lacks, PassesAll, PassesUnmatched, IsNeeded, RunIsNeeded, Runs, LacksRun, RunBegins, BeginsWithout, byte, sequence, StandsIn, HoldsOfMany, CountsMatched, Option, Span, FindsMatched, FindsNext}
-use Rattle.re_syntax.proofs.lemmas.FixedStrings.{stands-matches}
+use Rattle.re_trees.proofs.lemmas.FixedStrings.{stands-matches}
 use Rattle.re_needle.proofs.lemmas.NeededLaws.{sequence_needed}
 use Rattle.re_needle.proofs.lemmas.NeedleLaws.{stands_there}
 use Rattle.re_runs.proofs.lemmas.Occurrences.{occurs-stands}

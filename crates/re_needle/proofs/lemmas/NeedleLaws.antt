@@ -1,8 +1,8 @@
 -- Needles, and what their places say of a line.
 use Rattle.re_needle.proofs.Prelude.{RunStandsBetween, get_or, ◌<◌, cat, expression_of, Tree, IsNoWider, RunIsAt, RunStandsAt, IsLongestRun, ◌≡◌, ℕ, ◌+◌, ◌-◌, ◌≤◌, ap, inl, Bool, false, IsTrue, List, [], ◌∷◌, ◌++◌, length, map, drop, Option, Some, None, refl, sym, subst, arith, true, inr, ◌∙◌, length-append, is_some, Bytes, Text, only, Expression, Holds, Matches, IsFound, IsPart, Needle, RunFinder, most_sets, front_of, FindsRun, IsNeeded, RunIsNeeded, IsNeedleOf, IsRunNeedleFor, RunBegins, IsJustRun, Runs, one_run, runs_of, IsSettled, LacksNeeded, IsOutline, ◌↔◌, false≢true, length-map, take-append-drop, dec_le}
-use Rattle.re_syntax.proofs.lemmas.Decisions.{Any-first}
-use Rattle.re_syntax.proofs.lemmas.SomeOfJoined.{Any-single}
-use Rattle.re_syntax.proofs.lemmas.HoldsDecided.{Holds-le}
+use Rattle.re_trees.proofs.lemmas.Decisions.{Any-first}
+use Rattle.re_trees.proofs.lemmas.SomeOfJoined.{Any-single}
+use Rattle.re_trees.proofs.lemmas.HoldsDecided.{Holds-le}
 use Rattle.re_needle.proofs.lemmas.OutlineLaws.{run_needed, run_begins, just_run}
 use Rattle.std.specs.Prelude.{Any, suc, zero}
 use Rattle.re_runs.proofs.lemmas.RunLaws.{some_run, one_stands, front_stands, run_rest, run_text, nowhere}

@@ -1,8 +1,8 @@
 -- Outlines of expressions, and the runs of sets that they make needed.
 use Rattle.re_needle.proofs.Prelude.{◌≡◌, ℕ, zero, suc, ◌+◌, ◌-◌, ◌<◌, ◌≤◌, IsTrue, List, [], ◌∷◌, ◌++◌, length, map, take, drop, get_or, replicate, slice_index, Option, None, Some, Result, Ok, Err, IfOk, refl, sym, ap, ◌∙◌, subst, arith, append_assoc, length-append, length-drop, take-append-drop, length-map, append-nil, map-append, take_more, replicate_more, get_or_from_slice_get, slice_get-get_or, Bytes, Text, Expression, one_of, cat, repeat, expression_of, members, Holds, Turns, ByteSet, Tree, OutlineItem, one_run, RunIsAt, All, set_at, shown, MarkFits, Fits, AreSetMarks, IsOutline, AddsOutline, AddsTurns, RunIsNeeded, RunBegins, IsJustRun}
-use Rattle.re_syntax.proofs.lemmas.HoldsDecided.{Holds-le, Turns-le}
+use Rattle.re_trees.proofs.lemmas.HoldsDecided.{Holds-le, Turns-le}
 use Rattle.re_needle.specs.declared.outline_item.OutlineItem.TheVariants as m
-use Rattle.re_syntax.proofs.lemmas.Decisions.{Any-first}
+use Rattle.re_trees.proofs.lemmas.Decisions.{Any-first}
 use Rattle.re_needle.proofs.lemmas.NeededLaws.{cat_cut}
 use Rattle.re_runs.proofs.lemmas.RunLaws.{one_stands}
 

@@ -1,8 +1,8 @@
 -- A run of each branch of a choice.
 use Rattle.std.specs.Prelude.{Bool, IsTrue, List}
 use Rattle.std.specs.List.{AllZip}
-use Rattle.re_syntax.specs.Bytes.{Bytes}
-use Rattle.re_syntax.specs.Expression.{Expression}
+use Rattle.re_trees.specs.Bytes.{Bytes}
+use Rattle.re_trees.specs.Expression.{Expression}
 use Rattle.re_needle.specs.declared.choice_needle.BranchRuns.{BranchRuns}
 use Rattle.re_needle.specs.Working.Needles.{RunIsNeeded, RunBegins, IsJustRun}
 use Rattle.re_runs.specs.Working.Runs.{one_run, sets_of_each}

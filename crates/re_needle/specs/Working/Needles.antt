@@ -1,8 +1,8 @@
 -- Strings, and choices of runs of sets, that each stretch on which an expression holds contains.
 use Rattle.std.specs.Prelude.{◌≡◌, ℕ, ◌+◌, ◌<◌, ◌≤◌, slice_index, IsTrue, IfSome, All, Any, List, Option, length, ◌⊎◌, Bool, true, false, ⊤}
-use Rattle.re_syntax.specs.Bytes.{Bytes, Text}
-use Rattle.re_syntax.specs.Expression.{Expression, begin, cat_more, alt_more, repeat}
-use Rattle.re_syntax.specs.Holds.{Holds}
+use Rattle.re_trees.specs.Bytes.{Bytes, Text}
+use Rattle.re_trees.specs.Expression.{Expression, begin, cat_more, alt_more, repeat}
+use Rattle.re_trees.specs.Holds.{Holds}
 use Rattle.memchr.specs.Find.{OccursAt}
 use Rattle.re_needle.specs.declared.needle.Needle.{Needle}
 use Rattle.re_runs.specs.Working.Runs.{Runs, one_run, IsNoWider, RunIsAt, RunStandsAt, LacksRun, BeginsWithout}

@@ -1,7 +1,7 @@
 -- Lines of a block in which something does not begin, as a run of sets or a text.
 use Rattle.re_runs.proofs.Prelude.{◌≡◌, ℕ, ◌+◌, ◌<◌, ◌≤◌, List, [], ◌∷◌, ◌++◌, All, Some, None, length, map, take, drop, get_or, refl, sym, ap, ◌∙◌, subst, arith, append_assoc, append-nil, length-append, length-take, take-append-drop, ⊤, Text, only, newline, terminated, HasNoNewline, ended_lines_of, FindsNeedle, IsBlock, Lacks, PassesAll, Runs, one_run, RunStandsAt, FindsRun, LacksRun, length_push, All-push, All-nil, All-cons}
-use Rattle.re_syntax.proofs.lemmas.LinesLaws.{all_none, terminated-append}
-use Rattle.re_syntax.proofs.lemmas.EndedLinesLaws.{AreEndedLines-ended_lines_of}
+use Rattle.re_trees.proofs.lemmas.LinesLaws.{all_none, terminated-append}
+use Rattle.re_trees.proofs.lemmas.EndedLinesLaws.{AreEndedLines-ended_lines_of}
 use Rattle.re_runs.proofs.lemmas.RunLaws.{stands_within, run_before, run_after, text_run, finds_text}
 
 -- ---- where lines begin

@@ -1,6 +1,6 @@
 -- How many lines of a block have a text.
 use Rattle.re_runs.proofs.Prelude.{◌≡◌, ◌≢◌, ℕ, ◌+◌, ◌-◌, ◌<◌, ◌≤◌, inl, inr, List, [], ◌∷◌, ◌++◌, All, Some, None, length, drop, take, slice_range, get_or, refl, sym, ap, ◌∙◌, subst, arith, length-append, length-drop, length-take, take-append-drop, append_assoc, dec_le, drop-append-add, get_or_append_left, get_or-append-add, get_or-drop, get_or-take, drop-append-le, All-drop, All-head, Text, newline, terminated, lines_of, HasNoNewline, OccursAt, FindsNeedle, IsBlock, IsLineFrom, StandsIn, HoldsOfMany}
-use Rattle.re_syntax.proofs.lemmas.LinesLaws.{lines_of-terminated, all_head, all_tail, rest_has_none}
+use Rattle.re_trees.proofs.lemmas.LinesLaws.{lines_of-terminated, all_head, all_tail, rest_has_none}
 
 -- ---- where a newline is
 

@@ -1,6 +1,6 @@
 -- The next line of a block that has a property, and how many lines have it.
 use Rattle.re_runs.proofs.Prelude.{◌≡◌, List, [], ◌∷◌, ◌++◌, All, refl, ap, ◌∙◌, append_assoc, ℕ, ◌+◌, ◌-◌, ◌<◌, ◌≤◌, inl, inr, Option, Some, None, length, drop, slice_range, sym, subst, arith, append-nil, length-append, length-drop, length-take, Text, newline, terminated, HasNoNewline, lines_of, Span, IsBlock, PassesAll, Lacks, StandsIn, HoldsOfMany, IsLineFrom, IsNext, FindsNext, drop-append_seam, drop-length, All-append, All-cons, All-drop, All-head, All-nil, All-tail}
-use Rattle.re_syntax.proofs.lemmas.LinesLaws.{terminated-append, lines_of-line, all_head, all_tail, lines_of-terminated, all_cons, all_none, none_in_empty}
+use Rattle.re_trees.proofs.lemmas.LinesLaws.{terminated-append, lines_of-line, all_head, all_tail, lines_of-terminated, all_cons, all_none, none_in_empty}
 use Rattle.re_runs.proofs.lemmas.CountedBlocks.{has_one}
 
 -- the lines of a text that begins with some, each ended by a newline, begin with these

@@ -2,8 +2,8 @@
 use Rattle.re_runs.proofs.Prelude.{◌%◌, HasBitAt, ◌≡◌, ℕ, suc, ◌+◌, ◌-◌, ◌<◌, ◌≤◌, ◌↔◌, ◌⊎◌, inl, inr, Bool, IsTrue, List, Vec, [], ◌∷◌, ◌++◌, length, map, drop, get_or, slice_index, Option, None, Some, refl, sym, ap, ◌∙◌, subst, arith, nat_eq, eq-eqb, length-append, length-drop, bit_at, starts_with, Bytes, Text, nothing, only, members, ByteSet, OccursAt, FindsNeedle, Nowhere, NoneBefore, Marks, Probe, Probes, Runs, members_of, one_run, RunIsAt, IsNoWider, RunStandsAt, Any, longest_of, IsLongestRun, take, FindsRun, set_at, sets_of_each, PassesAt, AllPass, IsProbeOf, AreProbesOf, bit_at-zero, cases_lt, eqb-true, Decides-eqb, starts_is, get_or-drop, get_or_append_left, get_or-append-add, length-map}
 use Rattle.std.specs.Prelude.{IfSome, MatchOption, max, zero}
 use Rattle.std.proofs.lemmas.List.{get_or-map, map-append, take_more}
-use Rattle.re_syntax.proofs.lemmas.Decisions.{Any-first}
-use Rattle.re_syntax.proofs.lemmas.SomeOfJoined.{Any-single}
+use Rattle.re_trees.proofs.lemmas.Decisions.{Any-first}
+use Rattle.re_trees.proofs.lemmas.SomeOfJoined.{Any-single}
 use Rattle.re_runs.proofs.lemmas.Occurrences.{occurs-stands, stands-occurs}
 
 -- ---- in a longer line, and in the rest of one

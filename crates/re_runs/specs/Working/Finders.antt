@@ -1,6 +1,6 @@
 -- The runs that a finder looks for.
 use Rattle.std.specs.Prelude.{map}
-use Rattle.re_syntax.specs.Bytes.{only}
+use Rattle.re_trees.specs.Bytes.{only}
 use Rattle.re_runs.specs.declared.run_finder.RunFinder.{RunFinder}
 use Rattle.re_runs.specs.declared.run_finder.RunFinder.TheVariants as r
 use Rattle.re_runs.specs.Working.Runs.{Runs, one_run, members_of}

@@ -2,9 +2,9 @@
 use Rattle.std.specs.Global.{Vec}
 use Rattle.std.specs.Prelude.{◌≡◌, ◌≢◌, ◌==◌, if◌then◌else◌, ℕ, ◌+◌, ◌/◌, ◌%◌, ◌<◌, ◌≤◌, Bool, IsTrue, List, [], ◌∷◌, All, Any, Option, Some, None, min, max, length, map, take, bit_and, get_or, slice_index}
 use Rattle.std.specs.Int.{bit_at}
-use Rattle.re_syntax.specs.Bytes.{Bytes, Text, nothing}
-use Rattle.re_syntax.specs.declared.bytes.ByteSet.{ByteSet}
-use Rattle.re_syntax.specs.Working.Trees.{members}
+use Rattle.re_trees.specs.Bytes.{Bytes, Text, nothing}
+use Rattle.re_trees.specs.declared.bytes.ByteSet.{ByteSet}
+use Rattle.re_trees.specs.Working.Trees.{members}
 use Rattle.memchr.specs.Find.{IsFirst}
 use Rattle.re_runs.specs.declared.alike.Alike.{Alike}
 use Rattle.re_runs.specs.declared.nibbles.Nibbles.{Nibbles}

@@ -2,7 +2,7 @@
 use Rattle.std.specs.Prelude.{ℕ, Bool, List, Option}
 use Rattle.re_syntax.specs.Bytes.{Text}
 use Rattle.re_syntax.specs.Expression.{Expression}
-use Rattle.re_syntax.specs.declared.span.Span.{Span}
+use Rattle.re_trees.specs.declared.span.Span.{Span}
 use Rattle.re_auto.specs.Searches.{SomeMatches}
 use Rattle.re_runs.specs.Working.Blocks.{PassesAll, FindsNext, HoldsOfMany}
 

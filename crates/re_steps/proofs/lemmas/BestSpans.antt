@@ -1,10 +1,10 @@
 -- The best of the matched stretches on the way over a line, and the part that it is in the end.
 use Rattle.re_steps.proofs.Prelude.{◌≡◌, ℕ, zero, suc, ◌+◌, ◌-◌, ap, add-one, nat_eq, slice_get, true≢false, ◌<◌, ◌≤◌, false, inl, inr, [], ◌∷◌, length, slice_index, Option, Some, None, refl, sym, subst, arith, is_some, Text, Expression, Holds, IsFound, Mode, Search, Starts, Part, PartHolds, Reaches, part_of, is_begin, is_end, Least, IsBest, better, places, IsMatched, StartsAt, CanBegin, Span, FindsPart, IsBestSpan, Carries, slice_get-get_or, cases_lt}
-use Rattle.re_syntax.proofs.lemmas.Decisions.{Any-first}
+use Rattle.re_trees.proofs.lemmas.Decisions.{Any-first}
 use Rattle.re_auto.proofs.lemmas.Chains.{not_at_begin, reaches_bounds}
 use Rattle.re_auto.proofs.lemmas.LeastStarts.{one_pass_is_enough}
 use Rattle.re_auto.proofs.lemmas.PositionsDecide.{positions_decide}
-use Rattle.re_syntax.proofs.lemmas.SomeOfJoined.{Any-single}
+use Rattle.re_trees.proofs.lemmas.SomeOfJoined.{Any-single}
 
 -- a chain begins with a first position, which takes its first byte
 reaches_first : (part : Part) (line : Text) (i j q : ℕ) → Reaches part line i j q → (p : ℕ) × part.first (is_begin i) p × part.takes p (slice_index line i)

@@ -1,8 +1,8 @@
 -- Stretches that begin at one place, on their way over a line.
 use Rattle.std.specs.Prelude.{◌≡◌, ℕ, ◌+◌, ◌-◌, ◌<◌, ◌≤◌, ◌↔◌, ◌⊎◌, IsTrue, length}
-use Rattle.re_syntax.specs.Bytes.{Text}
-use Rattle.re_syntax.specs.Expression.{Expression}
-use Rattle.re_syntax.specs.Holds.{Holds}
+use Rattle.re_trees.specs.Bytes.{Text}
+use Rattle.re_trees.specs.Expression.{Expression}
+use Rattle.re_trees.specs.Holds.{Holds}
 use Rattle.re_meter.specs.Meters.{Steps, many_built}
 use Rattle.re_meter.specs.Meters.{AddsUpTo}
 use Rattle.re_auto.specs.Working.Bits.{InWord}

@@ -1,9 +1,9 @@
 -- Numbered sets of positions, and for each a row of cells with the set after each byte, as far as
 -- that is held.
 use Rattle.std.specs.Prelude.{◌≡◌, ℕ, zero, suc, ◌+◌, ◌-◌, ◌*◌, ◌^◌, ◌<◌, ◌≤◌, ◌↔◌, ◌⊎◌, List, Some, [], true, false, IsTrue, length, nat_lt, if◌then◌else◌, slice_get, slice_index}
-use Rattle.re_syntax.specs.Bytes.{Text}
-use Rattle.re_syntax.specs.Expression.{Expression}
-use Rattle.re_syntax.specs.Working.Trees.{expression_of}
+use Rattle.re_trees.specs.Bytes.{Text}
+use Rattle.re_trees.specs.Expression.{Expression}
+use Rattle.re_trees.specs.Working.Trees.{expression_of}
 use Rattle.re_auto.specs.declared.mode.Mode.{Mode}
 use Rattle.re_auto.specs.declared.mode.Mode.TheVariants.{Search}
 use Rattle.re_auto.specs.declared.step.state_set.StateSet.{StateSet}

@@ -1,8 +1,8 @@
 -- Matchers that step sets of positions over a line, and what is known on the way.
 use Rattle.std.specs.Prelude.{ℕ, ◌<◌, ◌≤◌, Option}
-use Rattle.re_syntax.specs.Bytes.{Text}
-use Rattle.re_syntax.specs.Expression.{Expression}
-use Rattle.re_syntax.specs.Holds.{Holds}
+use Rattle.re_trees.specs.Bytes.{Text}
+use Rattle.re_trees.specs.Expression.{Expression}
+use Rattle.re_trees.specs.Holds.{Holds}
 use Rattle.re_auto.specs.declared.mode.Mode.{Mode}
 use Rattle.re_auto.specs.declared.mode.Mode.TheVariants.{Search}
 use Rattle.re_auto.specs.declared.step.starts.Starts.{Starts}
@@ -10,9 +10,9 @@ use Rattle.re_auto.specs.Working.Positions.{is_begin}
 use Rattle.re_auto.specs.Working.StateSets.{IsMadeFor}
 use Rattle.re_auto.specs.Working.StartSets.{IsMadeForStarts, StartsAt}
 use Rattle.re_auto.specs.Working.Starts.{IsMatched}
-use Rattle.re_syntax.specs.Working.BestStretches.{IsBest, places}
+use Rattle.re_trees.specs.Working.BestStretches.{IsBest, places}
 use Rattle.re_auto.specs.Working.SteppedSets.{MayBegin}
-use Rattle.re_syntax.specs.declared.span.Span.{Span}
+use Rattle.re_trees.specs.declared.span.Span.{Span}
 use Rattle.re_steps.specs.declared.sets.SetPair.{SetPair}
 use Rattle.re_steps.specs.declared.least.StartPair.{StartPair}
 

@@ -2,8 +2,8 @@
 -- counts.
 use Rattle.std.specs.Prelude.{◌≡◌, ℕ, zero, suc, ◌+◌, ◌*◌, ◌<◌, ◌≤◌, ◌↔◌, ◌⊎◌, Bool, true, false, IsTrue, if◌then◌else◌, List, [], length, nat_eq, slice_get, slice_index, Some, IsSome}
 use Rattle.std.specs.Map.{lookup}
-use Rattle.re_syntax.specs.Bytes.{Text}
-use Rattle.re_syntax.specs.Expression.{Expression}
+use Rattle.re_trees.specs.Bytes.{Text}
+use Rattle.re_trees.specs.Expression.{Expression}
 use Rattle.re_auto.specs.declared.mode.Mode.{Mode}
 use Rattle.re_auto.specs.declared.mode.Mode.TheVariants.{Search, Whole}
 use Rattle.re_auto.specs.declared.step.state_set.StateSet.{StateSet}

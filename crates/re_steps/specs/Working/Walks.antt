@@ -1,6 +1,6 @@
 -- Where a search gets that goes on over a line by held pairs.
 use Rattle.std.specs.Prelude.{◌≡◌, ℕ, suc, ◌<◌, ◌≤◌, Bool, [], Some, length, slice_get}
-use Rattle.re_syntax.specs.Bytes.{Text}
+use Rattle.re_trees.specs.Bytes.{Text}
 use Rattle.re_auto.specs.declared.step.state_set.StateSet.{StateSet}
 use Rattle.re_meter.specs.Meters.{Steps}
 use Rattle.re_auto.specs.Working.StateSets.{StandsAt}

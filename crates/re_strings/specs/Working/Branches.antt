@@ -1,6 +1,6 @@
 -- The beginnings of strings in order.
 use Rattle.std.specs.Prelude.{◌≡◌, ℕ, ◌+◌, ◌<◌, ◌≤◌, List, [], ◌∷◌, ◌++◌, length, take, get_or, slice_get, slice_index, All, nat_eq, ◌↔◌, if◌then◌else◌, Option, Some, None}
-use Rattle.re_syntax.specs.Bytes.{Text, Begins}
+use Rattle.re_trees.specs.Bytes.{Text, Begins}
 use Rattle.re_strings.specs.declared.growth.Branch.{Branch}
 use Rattle.re_strings.specs.Working.FixedSets.{IsFront, IsString}
 

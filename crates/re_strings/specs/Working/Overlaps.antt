@@ -1,6 +1,6 @@
 -- How far a text and a line from a place on begin with the same bytes.
 use Rattle.std.specs.Prelude.{◌≡◌, ℕ, ◌+◌, ◌<◌, ◌≤◌, length, slice_index}
-use Rattle.re_syntax.specs.Bytes.{Text}
+use Rattle.re_trees.specs.Bytes.{Text}
 
 -- the bytes of the line from this place on and before `end` begin the text
 pub record AgreesUpTo (text line : Text) (place end : ℕ) : Type 0 where

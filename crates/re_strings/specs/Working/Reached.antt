@@ -1,7 +1,7 @@
 -- How far a search of a line went, and what it counted.
 use Rattle.std.specs.Prelude.{◌≡◌, ℕ, ◌-◌, ◌<◌, ◌≤◌, ◌⊎◌, List, length, take, drop, Option, Some, None, MatchOption}
-use Rattle.re_syntax.specs.Bytes.{Text}
-use Rattle.re_syntax.specs.declared.span.Span.{Span}
+use Rattle.re_trees.specs.Bytes.{Text}
+use Rattle.re_trees.specs.declared.span.Span.{Span}
 use Rattle.re_meter.specs.Meters.{Steps, many_passed}
 use Rattle.re_strings.specs.declared.aho_corasick.AhoCorasick.{AhoCorasick}
 use Rattle.re_strings.specs.Working.Keys.{keys}

@@ -4,7 +4,7 @@ use Rattle.re_syntax.proofs.Prelude.{◌≡◌, ◌≢◌, ℕ, ◌<◌, ◌⊎�
 use Rattle.re_syntax.specs.declared.bracket.ListPlace.TheVariants.{First}
 use Rattle.re_syntax.specs.Brackets.{more}
 use Rattle.re_syntax.proofs.lemmas.BracketsUnique.{element-unique}
-use Rattle.re_syntax.proofs.lemmas.UnionsLaws.{union-assoc, union-nothing}
+use Rattle.re_trees.proofs.lemmas.UnionsLaws.{union-assoc, union-nothing}
 
 -- of the list at the front of the first text, elements that add these bytes were read; the second
 -- text is left, at this place of the list

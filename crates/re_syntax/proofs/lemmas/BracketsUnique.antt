@@ -2,7 +2,7 @@
 use Rattle.re_syntax.proofs.Prelude.{◌≡◌, ◌≢◌, ℕ, inl, inr, true, false, nat_eq, ◌∷◌, ◌++◌, codes, refl, sym, ap, ◌∙◌, eq-eqb, ListPlace, Text, Begins, Bytes, only, range, in_class, Expression, one_of, none_of, Point, bare, symbol, MayBeAlone, Element, class, equivalence, alone, span, Rest, closing, IsBracket, matching, non_matching, BeginsWithOneBracket}
 use Rattle.re_syntax.specs.declared.bracket.ListPlace.TheVariants.{First}
 use Rattle.re_syntax.specs.Brackets.{more}
-use Rattle.re_syntax.proofs.lemmas.UnionsLaws.{both_unions}
+use Rattle.re_trees.proofs.lemmas.UnionsLaws.{both_unions}
 use Rattle.re_syntax.proofs.lemmas.ClassNames.{class_name-unique}
 
 -- equal texts have equal first bytes

@@ -2,9 +2,9 @@
 use Rattle.re_syntax.proofs.Prelude.{◌≡◌, map, refl, ap, Text, Expression, byte, sequence, choice, Syntax, Fixed, IsSpelled, SpellsNoOther, as_basic, as_extended, as_fixed, SpellsOne, HasOneSplit, HasOnePartList}
 use Rattle.re_syntax.proofs.lemmas.BasicUnique.{whole-branches as basic-branches}
 use Rattle.re_syntax.proofs.lemmas.ExtendedUnique.{whole-branches}
-use Rattle.re_syntax.proofs.lemmas.LinesLaws.{AreLines-lines_of, lines_of-unique, AreListed-list_of, list_of-unique}
+use Rattle.re_trees.proofs.lemmas.LinesLaws.{AreLines-lines_of, lines_of-unique, AreListed-list_of, list_of-unique}
 use Rattle.re_syntax.proofs.lemmas.PartsExist.{AreParts-exist}
-use Rattle.re_syntax.proofs.lemmas.EndedLinesLaws.{AreEndedLines-ended_lines_of, ended_lines_of-unique}
+use Rattle.re_trees.proofs.lemmas.EndedLinesLaws.{AreEndedLines-ended_lines_of, ended_lines_of-unique}
 use Rattle.re_syntax.proofs.lemmas.PartsLaws.{ArePartsFrom-unique}
 
 -- a fixed string spells the sequence of its bytes

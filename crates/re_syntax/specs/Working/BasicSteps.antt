@@ -7,11 +7,11 @@ use Rattle.re_syntax.specs.declared.pieces.Piece.{Piece}
 use Rattle.re_syntax.specs.declared.pieces.Pieces.{Pieces}
 use Rattle.re_syntax.specs.declared.interval.Counts.{Counts}
 use Rattle.re_syntax.specs.declared.fault.PatternFault.{PatternFault}
-use Rattle.re_syntax.specs.Bytes.{Text, Begins}
+use Rattle.re_trees.specs.Bytes.{Text, Begins}
 use Rattle.re_syntax.specs.Working.Ahead.{IsAfter}
 use Rattle.re_syntax.specs.Working.DuplicationSteps.{HasNone, HasOne}
 use Rattle.re_syntax.specs.Working.PieceSteps.{IsReported, AreReported}
-use Rattle.re_syntax.specs.Expression.{Expression}
+use Rattle.re_trees.specs.Expression.{Expression}
 use Rattle.re_syntax.specs.Basic.{ItemPlace, First, Later, Duplication, IsAtEnd, Branches, Items}
 use Rattle.re_syntax.specs.Basic.{Item, Atom}
 use Rattle.re_syntax.specs.BasicFaults.{NeedsItem, HasNothingToRepeat, IsShownIn}

@@ -6,8 +6,8 @@ use Rattle.re_syntax.specs.declared.bracket.ListPlace.TheVariants.{First, AfterP
 use Rattle.re_syntax.specs.declared.cursor.Cursor.{Cursor}
 use Rattle.re_syntax.specs.declared.fault.FaultKind.TheVariants.{UnclosedBracket}
 use Rattle.re_syntax.specs.declared.fault.PatternFault.{PatternFault}
-use Rattle.re_syntax.specs.Bytes.{Text, Begins, Bytes}
-use Rattle.re_syntax.specs.Expression.{Expression}
+use Rattle.re_trees.specs.Bytes.{Text, Begins, Bytes}
+use Rattle.re_trees.specs.Expression.{Expression}
 use Rattle.re_syntax.specs.Brackets.{Point, Element, Rest, IsBracket}
 use Rattle.re_syntax.specs.Working.Cursors.{left, Passes}
 use Rattle.re_syntax.specs.Faults.{ShowsBracketFault}

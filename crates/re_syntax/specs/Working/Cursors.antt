@@ -1,6 +1,6 @@
 -- The text that a cursor has not read, and how the cursor moves.
 use Rattle.std.specs.Prelude.{◌≡◌, ℕ, ◌+◌, ◌++◌, length, drop}
-use Rattle.re_syntax.specs.Bytes.{Text}
+use Rattle.re_trees.specs.Bytes.{Text}
 use Rattle.re_syntax.specs.declared.cursor.Cursor.{Cursor}
 
 -- what is left of the text

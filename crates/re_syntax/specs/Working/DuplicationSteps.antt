@@ -1,7 +1,7 @@
 -- Duplications at a place of a text. Each syntax says which texts are duplications.
 use Rattle.std.specs.Prelude.{◌≡◌, ℕ, ◌≤◌, ◌++◌, length, drop, Option}
 use Rattle.re_syntax.specs.declared.interval.Counts.{Counts}
-use Rattle.re_syntax.specs.Bytes.{Text}
+use Rattle.re_trees.specs.Bytes.{Text}
 
 -- the text begins with no duplication
 pub record HasNone (IsDuplication : Text → ℕ → Option ℕ → Type 0) (t : Text) : Type 0 where

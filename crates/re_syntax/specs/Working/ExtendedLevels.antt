@@ -5,8 +5,8 @@ use Rattle.std.specs.Global.{Global}
 use Rattle.re_syntax.specs.declared.pieces.Pieces.{Pieces}
 use Rattle.re_syntax.specs.declared.pieces.Level.{Level}
 use Rattle.re_syntax.specs.declared.levels.Levels.{Levels}
-use Rattle.re_syntax.specs.Bytes.{Text, Begins}
-use Rattle.re_syntax.specs.Expression.{Expression}
+use Rattle.re_trees.specs.Bytes.{Text, Begins}
+use Rattle.re_trees.specs.Expression.{Expression}
 use Rattle.re_syntax.specs.Extended.{Branches}
 use Rattle.re_syntax.specs.Profile.{most_levels}
 use Rattle.re_syntax.specs.Working.PieceSteps.{AreReported}

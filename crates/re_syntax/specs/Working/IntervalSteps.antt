@@ -2,9 +2,9 @@
 use Rattle.std.specs.Prelude.{◌≡◌, ℕ, ◌≤◌, ◌∷◌, ◌++◌, length, take, drop, Option, Some, IsTrue}
 use Rattle.std.specs.List.{list_all}
 use Rattle.std.specs.Option.{option_map}
-use Rattle.re_syntax.specs.declared.class.Class.TheVariants.{Digit}
+use Rattle.re_trees.specs.declared.class.Class.TheVariants.{Digit}
 use Rattle.re_syntax.specs.declared.interval.Counts.{Counts}
-use Rattle.re_syntax.specs.Bytes.{Text, in_class}
+use Rattle.re_trees.specs.Bytes.{Text, in_class}
 use Rattle.re_syntax.specs.Intervals.{IsNumber, value, ClosedInterval, capped}
 
 abbrev pub AreDigits : Text → Type 0

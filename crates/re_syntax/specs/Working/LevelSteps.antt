@@ -7,7 +7,7 @@ use Rattle.re_syntax.specs.declared.pieces.Level.{Level}
 use Rattle.re_syntax.specs.declared.levels.PieceNumbers.{PieceNumbers}
 use Rattle.re_syntax.specs.declared.levels.LevelNumbers.{LevelNumbers}
 use Rattle.re_syntax.specs.declared.levels.Levels.{Levels}
-use Rattle.re_syntax.specs.Expression.{Expression, sequence, choice}
+use Rattle.re_trees.specs.Expression.{Expression, sequence, choice}
 use Rattle.re_syntax.specs.Working.PieceSteps.{AreReported, IsReported, IsJoined}
 
 -- the pieces without trees that have these numbers

@@ -4,16 +4,16 @@ use Rattle.std.specs.Prelude.{if◌then◌else◌, Option, None, MatchOption, Ve
 use Rattle.std.specs.Global.{Global}
 use Rattle.re_syntax.specs.declared.pieces.Piece.{Piece}
 use Rattle.re_syntax.specs.declared.pieces.Pieces.{Pieces}
-use Rattle.re_syntax.specs.declared.tree.Tree.{Tree}
+use Rattle.re_trees.specs.declared.tree.Tree.{Tree}
 use Rattle.re_syntax.specs.declared.interval.Counts.{Counts}
 use Rattle.re_syntax.specs.declared.fault.FaultKind.TheVariants.{Memory}
 use Rattle.re_syntax.specs.declared.fault.PatternFault.{PatternFault}
-use Rattle.re_syntax.specs.Bytes.{Text, Bytes, any_but_nul, only}
+use Rattle.re_trees.specs.Bytes.{Text, Bytes, any_but_nul, only}
 use Rattle.re_syntax.specs.Brackets.{IsBracketUpTo}
-use Rattle.re_syntax.specs.Expression.{Expression, cat, repeat}
-use Rattle.re_syntax.specs.Working.Trees.{expression_of}
+use Rattle.re_trees.specs.Expression.{Expression, cat, repeat}
+use Rattle.re_trees.specs.Working.Trees.{expression_of}
 use Rattle.re_syntax.specs.Working.Counted.{up_to_word}
-use Rattle.re_syntax.specs.Holds.{positions}
+use Rattle.re_trees.specs.Holds.{positions}
 
 -- Memory ran out. It is asked for only where this is given: an allocator, or the trees so far.
 abbrev pub RunsOut : {A : Type 0} → Option A → PatternFault → Type 0

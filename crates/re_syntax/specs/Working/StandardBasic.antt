@@ -3,8 +3,8 @@
 -- meaning uses them; no definition rests on this.
 use Rattle.std.specs.Prelude.{◌≡◌, ℕ, suc, max, ◌≤◌, List, [], ◌∷◌, ◌++◌, Option, None, IsTrue}
 use Rattle.std.specs.Prelude.{codes}
-use Rattle.re_syntax.specs.Bytes.{Text, any_but_nul}
-use Rattle.re_syntax.specs.Expression.{Expression, one_of, begin, end, repeat, byte, sequence}
+use Rattle.re_trees.specs.Bytes.{Text, any_but_nul}
+use Rattle.re_trees.specs.Expression.{Expression, one_of, begin, end, repeat, byte, sequence}
 use Rattle.re_syntax.specs.Basic.{ItemPlace, First, AfterAnchor, Later, is_ordinary}
 use Rattle.re_syntax.specs.Brackets.{IsBracket}
 use Rattle.re_syntax.specs.Intervals.{IsAllowed}

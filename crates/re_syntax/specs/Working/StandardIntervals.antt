@@ -2,7 +2,7 @@
 -- without the form that has no least number. The law that what the standard defines keeps its
 -- meaning uses them; no definition rests on this.
 use Rattle.std.specs.Prelude.{◌≡◌, ℕ, ◌++◌, Option, Some, None, codes}
-use Rattle.re_syntax.specs.Bytes.{Text}
+use Rattle.re_trees.specs.Bytes.{Text}
 use Rattle.re_syntax.specs.Intervals.{IsNumber, value}
 
 -- `m`, `m,` or `m,n`

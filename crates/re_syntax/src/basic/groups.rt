@@ -1,6 +1,6 @@
 //! Groups of basic expressions. Those that are open are a list, in place of a recursion.
 ghost use Rattle.std.specs.Prelude.{◌≡◌, ◌+◌, ◌≤◌, ◌<◌, IfOk, IfErr, codes, length, drop};
-ghost use Rattle.re_syntax.specs.Bytes.{Begins};
+ghost use Rattle.re_trees.specs.Bytes.{Begins};
 ghost use Rattle.re_syntax.specs.Profile.{most_levels};
 ghost use Rattle.re_syntax.specs.BasicFaults.{IsShownIn};
 ghost use Rattle.re_syntax.specs.Working.Ahead.{IsAfter};

@@ -1,7 +1,7 @@
 //! Groups of extended expressions. Those that are open are a list, in place of a recursion.
 ghost use Rattle.std.specs.Prelude.{◌≡◌, ◌+◌, ◌≤◌, ◌<◌, true, false, IfOk, IfErr, codes, length};
 ghost use Rattle.std.specs.Prelude.{drop};
-ghost use Rattle.re_syntax.specs.Bytes.{Begins};
+ghost use Rattle.re_trees.specs.Bytes.{Begins};
 ghost use Rattle.re_syntax.specs.Profile.{most_levels};
 ghost use Rattle.re_syntax.specs.ExtendedFaults.{IsShownIn};
 ghost use Rattle.re_syntax.specs.Working.Ahead.{IsAfter};

@@ -1,8 +1,8 @@
 //! Sets of positions that are one word: there are from 1 to 64 positions.
 ghost use Rattle.std.specs.Prelude.{◌≡◌, ℕ, suc, ◌<◌, ◌↔◌, ◌⊎◌, Some, IsTrue, slice_get};
-ghost use Rattle.re_syntax.specs.Bytes.{Text};
-ghost use Rattle.re_syntax.specs.Working.Trees.{expression_of};
-ghost use Rattle.re_syntax.specs.Holds.{positions};
+ghost use Rattle.re_trees.specs.Bytes.{Text};
+ghost use Rattle.re_trees.specs.Working.Trees.{expression_of};
+ghost use Rattle.re_trees.specs.Holds.{positions};
 ghost use Rattle.re_auto.specs.Working.Bits.{InWord};
 ghost use Rattle.re_meter.specs.Meters.{many_built};
 ghost use Rattle.re_auto.specs.Working.Positions.{part_of};

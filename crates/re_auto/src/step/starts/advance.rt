@@ -1,14 +1,14 @@
 //! Steps of least starts over a line, one byte at a time.
 ghost use Rattle.std.specs.Prelude.{◌≡◌, ℕ, suc, ◌-◌, ◌^◌, ◌<◌, ◌≤◌, ◌↔◌, Some, IsTrue, IfOk};
 ghost use Rattle.std.specs.Prelude.{IfErr, slice_get};
-ghost use Rattle.re_syntax.specs.Bytes.{Text};
-ghost use Rattle.re_syntax.specs.Expression.{Expression};
-ghost use Rattle.re_syntax.specs.Working.Trees.{expression_of};
+ghost use Rattle.re_trees.specs.Bytes.{Text};
+ghost use Rattle.re_trees.specs.Expression.{Expression};
+ghost use Rattle.re_trees.specs.Working.Trees.{expression_of};
 ghost use Rattle.re_auto.specs.declared.build.BuildFault.TheVariants.{Memory};
 ghost use Rattle.re_auto.specs.declared.mode.Mode.{Mode};
 ghost use Rattle.re_meter.specs.Meters.{many_built};
 ghost use Rattle.re_auto.specs.Working.Positions.{is_end};
-ghost use Rattle.re_syntax.specs.Working.BestStretches.{Least};
+ghost use Rattle.re_trees.specs.Working.BestStretches.{Least};
 ghost use Rattle.re_auto.specs.Working.Starts.{IsMatched, IsSpent};
 ghost use Rattle.re_auto.specs.Working.StartSets.{place_of, least_of, IsMadeForStarts};
 ghost use Rattle.re_auto.specs.Working.StartSets.{AreOfOneSize, AreSame, StartsAt, AreNext};

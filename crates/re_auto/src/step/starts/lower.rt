@@ -1,8 +1,8 @@
 //! Giving starts to positions: each keeps the least that it is given.
 ghost use Rattle.std.specs.Prelude.{◌≡◌, ℕ, ◌+◌, ◌*◌, ◌<◌, ◌≤◌, ◌↔◌, ◌⊎◌, length, slice_index};
 ghost use Rattle.std.specs.Int.{bit_at};
-ghost use Rattle.re_syntax.specs.Working.Trees.{expression_of};
-ghost use Rattle.re_syntax.specs.Holds.{positions};
+ghost use Rattle.re_trees.specs.Working.Trees.{expression_of};
+ghost use Rattle.re_trees.specs.Holds.{positions};
 ghost use Rattle.re_auto.specs.Working.Bits.{Has};
 ghost use Rattle.re_auto.specs.Working.Positions.{part_of, is_begin};
 ghost use Rattle.re_auto.specs.Working.SteppedSets.{MayBegin};

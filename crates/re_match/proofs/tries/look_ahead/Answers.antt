@@ -1,5 +1,5 @@
 use Rattle.re_match.proofs.Prelude.{rules, ℕ, ◌+◌, ◌-◌, ◌<◌, ◌≤◌, false, length, drop, slice_index, None, Some, arith, length-drop, take_rest, expression_of, look_cost, BeginsLater}
-use Rattle.re_syntax.specs.Working.Trees.{members}
+use Rattle.re_trees.specs.Working.Trees.{members}
 use Rattle.re_needle.proofs.lemmas.NeedleLaws.{lacks_part}
 use Rattle.re_meter.proofs.lemmas.Adding.{only_passed, adds_within}
 use Rattle.re_match.proofs.lemmas.StepSums.{look_and_built, looks_twice}

@@ -1,5 +1,5 @@
 use Rattle.re_needle.proofs.Prelude.{map, take, sym, ap, subst, ◌∙◌, or_left, or_right, alt, cat, expression_of, members, IsTrue, ℕ, Bytes}
-use Rattle.re_syntax.proofs.lemmas.ExpressionLaws.{expression-Set, expression-Not, expression-Repeat}
+use Rattle.re_trees.proofs.lemmas.ExpressionLaws.{expression-Set, expression-Not, expression-Repeat}
 use Rattle.re_needle.proofs.lemmas.ByteLaws.{bytes_any, bytes_set, bytes_not, bytes_repeat, bytes_more, all_more, one_more}
 use Rattle.re_needle.proofs.bytes.+bytes.Goals as goal
 

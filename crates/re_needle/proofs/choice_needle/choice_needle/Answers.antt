@@ -1,4 +1,4 @@
-use Rattle.re_syntax.proofs.lemmas.ExpressionLaws.{expression-Alt}
+use Rattle.re_trees.proofs.lemmas.ExpressionLaws.{expression-Alt}
 use Rattle.re_needle.proofs.choice_needle.choice_needle.Goals as goal
 
 pub returns-then-are_preferred : goal.returns-then-are_preferred

@@ -1,5 +1,5 @@
 use Rattle.re_needle.proofs.Prelude.{◌<◌, ◌≡◌, IsNeedleOf, length, get_or, expression_of, arith, rules}
-use Rattle.re_syntax.proofs.lemmas.ExpressionLaws.{expression-Cat}
+use Rattle.re_trees.proofs.lemmas.ExpressionLaws.{expression-Cat}
 use Rattle.re_needle.proofs.lemmas.NeedleLaws.{needle_of_part}
 use Rattle.re_needle.proofs.choice_needle.needle_inside.Goals as goal
 

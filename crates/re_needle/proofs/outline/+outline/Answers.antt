@@ -1,5 +1,5 @@
 use Rattle.re_needle.proofs.Prelude.{rules, ◌≡◌, map, take, refl, sym, ap, subst, ◌∙◌, arith, take_all, alt, cat, expression_of, members, AddsOutline, BeginsWith}
-use Rattle.re_syntax.proofs.lemmas.ExpressionLaws.{expression-Alt, expression-Cat, expression-Set, expression-Repeat}
+use Rattle.re_trees.proofs.lemmas.ExpressionLaws.{expression-Alt, expression-Cat, expression-Set, expression-Repeat}
 use Rattle.re_needle.proofs.lemmas.OutlineLaws.{adds_set, adds_stretch, adds_repeat, adds_more, ok_with}
 use Rattle.re_needle.proofs.lemmas.ChoiceOutlines.{adds_choice, begins_branch, joined_first, joined_second, no_branch, parts_more}
 use Rattle.re_needle.proofs.outline.+outline.Goals.{add_choice-then-i-eq0, add_choice-else-i-eq0}

@@ -1,5 +1,5 @@
 use Rattle.re_syntax.proofs.Prelude.{◌∙◌, ap, one_of, err_from_is_err_and, reported}
-use Rattle.re_syntax.proofs.lemmas.ExpressionLaws.{expression-Set}
+use Rattle.re_trees.proofs.lemmas.ExpressionLaws.{expression-Set}
 use Rattle.re_syntax.proofs.lemmas.BasicAtoms.{no_escape_atom, no_atom_needed, escaped_stands, shown_escape}
 use Rattle.re_syntax.proofs.basic.read_escaped.Goals as goal
 

@@ -1,4 +1,4 @@
-use Rattle.re_syntax.proofs.lemmas.ExpressionLaws.{expression-Begin}
+use Rattle.re_trees.proofs.lemmas.ExpressionLaws.{expression-Begin}
 use Rattle.re_syntax.proofs.lemmas.Places.{ok_as, err_as}
 use Rattle.re_syntax.proofs.lemmas.PiecesLaws.{runs_out}
 use Rattle.re_syntax.proofs.lemmas.BasicLeads.{without_lead, with_lead}

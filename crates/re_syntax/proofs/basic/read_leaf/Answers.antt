@@ -1,5 +1,5 @@
 use Rattle.re_syntax.proofs.Prelude.{◌+◌, ◌≢◌, get_or, drop, refl, ap, ◌∙◌, rules, one_of, reported}
-use Rattle.re_syntax.proofs.lemmas.ExpressionLaws.{expression-Set}
+use Rattle.re_trees.proofs.lemmas.ExpressionLaws.{expression-Set}
 use Rattle.re_syntax.proofs.lemmas.BasicEnds.{item_within}
 use Rattle.re_syntax.proofs.lemmas.Places.{ok_as, err_as, byte_here, front_here}
 use Rattle.re_syntax.proofs.lemmas.BasicAtoms.{single_stands, bracket_atom, no_bracket_atom, shown_no_bracket}

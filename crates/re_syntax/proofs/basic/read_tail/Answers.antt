@@ -1,4 +1,4 @@
-use Rattle.re_syntax.proofs.lemmas.ExpressionLaws.{expression-End}
+use Rattle.re_trees.proofs.lemmas.ExpressionLaws.{expression-End}
 use Rattle.re_syntax.proofs.lemmas.BasicEnds.{ended_without_tail, ended_with_tail}
 use Rattle.re_syntax.proofs.lemmas.Places.{ok_as}
 use Rattle.re_syntax.proofs.basic.read_tail.Goals as goal

@@ -1,5 +1,5 @@
 use Rattle.re_syntax.proofs.Prelude.{◌∙◌, err_from_is_err_and}
-use Rattle.re_syntax.proofs.lemmas.ExpressionLaws.{expression-Set, expression-Not}
+use Rattle.re_trees.proofs.lemmas.ExpressionLaws.{expression-Set, expression-Not}
 use Rattle.re_syntax.proofs.lemmas.BracketElements.{shown_along}
 use Rattle.re_syntax.proofs.lemmas.BracketWhole.{passes_since, opening_stands, complement_stands, set_stands, no_complement, no_set}
 use Rattle.re_syntax.proofs.bracket.read_next_bracket.Goals as goal

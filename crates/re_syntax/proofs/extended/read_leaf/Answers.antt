@@ -1,5 +1,5 @@
 use Rattle.re_syntax.proofs.Prelude.{◌≢◌, ◌+◌, ◌∙◌, get_or, drop, refl, ap, rules, err_from_is_err_and, one_of, reported}
-use Rattle.re_syntax.proofs.lemmas.ExpressionLaws.{expression-Set, expression-End}
+use Rattle.re_trees.proofs.lemmas.ExpressionLaws.{expression-Set, expression-End}
 use Rattle.re_syntax.proofs.lemmas.ExtendedAtoms.{shown_escape, escaped_stands, no_escape_atom, bracket_atom, no_bracket_atom, shown_no_bracket, dollar_stands, single_stands}
 use Rattle.re_syntax.proofs.lemmas.Places.{ok_as, err_as, byte_here, front_here}
 use Rattle.re_syntax.proofs.extended.read_leaf.Goals as goal

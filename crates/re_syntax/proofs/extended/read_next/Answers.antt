@@ -1,6 +1,6 @@
 use Rattle.re_syntax.proofs.Prelude.{drop, codes, rules, err_from_is_err_and, reported, Begins, OpensDuplication}
 use Rattle.re_syntax.specs.Working.ExtendedLevels.{in_group}
-use Rattle.re_syntax.proofs.lemmas.ExpressionLaws.{expression-Begin}
+use Rattle.re_trees.proofs.lemmas.ExpressionLaws.{expression-Begin}
 use Rattle.re_syntax.proofs.lemmas.ExtendedItems.{begins_here, no_items_without_atom, no_items_opening, item_of_atom, anchor_next, item_next}
 use Rattle.re_syntax.proofs.lemmas.Places.{ok_as, err_as, refused_as}
 use Rattle.re_syntax.proofs.extended.read_next.Goals as goal

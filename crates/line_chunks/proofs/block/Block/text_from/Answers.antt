@@ -1,5 +1,5 @@
 use Rattle.line_chunks.proofs.Prelude.{arith, ◌∙◌, ap, length, drop, All-drop, HasNoNewline, lines_of}
-use Rattle.re_syntax.proofs.lemmas.LinesLaws.{lines_of-terminated}
+use Rattle.re_trees.proofs.lemmas.LinesLaws.{lines_of-terminated}
 use Rattle.line_chunks.proofs.lemmas.BlockLemmas.{begins_within, rest_is, free_in}
 use Rattle.line_chunks.proofs.block.Block.text_from.Goals as goal
 

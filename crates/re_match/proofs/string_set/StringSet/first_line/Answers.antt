@@ -1,5 +1,5 @@
 use Rattle.re_match.proofs.Prelude.{None, Some, refl, inl, inr, sym, ◌∙◌, slice_range, length-take-le, false≢true, lines_of, Literals}
-use Rattle.re_syntax.proofs.lemmas.LinesLaws.{AreLines-lines_of}
+use Rattle.re_trees.proofs.lemmas.LinesLaws.{AreLines-lines_of}
 use Rattle.re_match.proofs.lemmas.SetAround.{set_around, stops_around}
 use Rattle.re_match.proofs.lemmas.SetMatches.{empty_matches}
 use Rattle.re_match.proofs.lemmas.SetBlocks.{passes_set_block, passes_set_front}

@@ -1,5 +1,5 @@
 use Rattle.re_steps.proofs.Prelude.{◌≡◌, suc, ◌+◌, Some, None, refl, ap, ◌∙◌, add-one, expression_of, better, places}
-use Rattle.re_syntax.proofs.lemmas.BestStretches.{better_places}
+use Rattle.re_trees.proofs.lemmas.BestStretches.{better_places}
 use Rattle.re_steps.proofs.lemmas.BestSpans.{carries_on}
 use Rattle.re_steps.proofs.least.StartPair.step.Goals as goal
 

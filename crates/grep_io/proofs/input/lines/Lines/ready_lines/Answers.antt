@@ -1,5 +1,5 @@
 use Rattle.grep_io.proofs.Prelude.{[], ◌≤◌, ◌+◌, length, refl, sym, ap, ◌∙◌, arith, most_lines}
-use Rattle.re_syntax.proofs.lemmas.LinesLaws.{all_none, lines_of-terminated}
+use Rattle.re_trees.proofs.lemmas.LinesLaws.{all_none, lines_of-terminated}
 use Rattle.grep_io.proofs.lemmas.PassedLemmas.{count_block}
 use Rattle.grep_io.proofs.input.lines.Lines.ready_lines.Goals as goal
 

@@ -1,5 +1,5 @@
 use Rattle.grep_io.proofs.Prelude.{◌≡◌, ◌+◌, ◌-◌, ◌≤◌, length, sym, ◌∙◌, ap, subst, rules, arith, ⊤, PassesAll, Held, waiting}
-use Rattle.re_syntax.proofs.lemmas.LinesLaws.{none_in_empty}
+use Rattle.re_trees.proofs.lemmas.LinesLaws.{none_in_empty}
 use Rattle.grep_io.proofs.lemmas.WindowBlocks.{past_waiting, passed_before, ahead_after}
 use Rattle.grep_io.proofs.input.window.Window.pass.Goals as goal
 

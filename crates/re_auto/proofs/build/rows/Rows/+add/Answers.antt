@@ -1,5 +1,5 @@
 use Rattle.re_auto.proofs.Prelude.{rules, ◌≡◌, ◌<◌, ◌≤◌, IfOk, [], map, drop, Some, None, refl, sym, ap, ◌∙◌, subst, arith, drop-length, IfOk-weaker, alt, cat, empty, begin, end, repeat, expression_of, positions, the_lemmas, HasWidth, IsTail, IsAddedOf, part_of, HasRoom, Adds, again, shown}
-use Rattle.re_syntax.proofs.lemmas.ExpressionLaws.{expression-Empty, expression-Set, expression-Not, expression-Begin, expression-End, expression-Cat, expression-Alt}
+use Rattle.re_trees.proofs.lemmas.ExpressionLaws.{expression-Empty, expression-Set, expression-Not, expression-Begin, expression-End, expression-Cat, expression-Alt}
 use Rattle.re_auto.proofs.lemmas.Numbered.{part_numbered}
 use Rattle.re_auto.proofs.lemmas.PartLemmas.{always, never_holds, width_of}
 use Rattle.re_auto.proofs.lemmas.AddedLemmas.{blank_added, turn_added, branch_added, may_join, may_repeat, room_left, front, member_fits, branch_fits}

@@ -1,5 +1,0 @@
-use Rattle.re_syntax.proofs.lemmas.UnionsLaws.{members-union}
-use Rattle.re_syntax.proofs.bytes.ByteSet.union.Goals as goal
-
-pub returns : goal.returns
-returns c = members-union c.args.self c.args.other

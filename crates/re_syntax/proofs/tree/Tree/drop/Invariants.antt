@@ -1,6 +1,0 @@
-use Rattle.re_syntax.proofs.Prelude.{◌+◌}
-use Rattle.re_syntax.specs.Working.Nodes.{nodes_of, nodes_left}
-use Rattle.re_syntax.proofs.tree.Tree.drop.Given as goal
-
-abbrev pub decreases-trees : goal.decreases-trees
-decreases-trees l = nodes_of l.self + nodes_left l.rest

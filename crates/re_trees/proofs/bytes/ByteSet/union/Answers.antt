@@ -1,0 +1,5 @@
+use Rattle.re_trees.proofs.lemmas.UnionsLaws.{members-union}
+use Rattle.re_trees.proofs.bytes.ByteSet.union.Goals as goal
+
+pub returns : goal.returns
+returns c = members-union c.args.self c.args.other
