@@ -49,7 +49,7 @@ cases = all_of(case)
 # Help and the version
 
 
-READER = Path(__file__).resolve().parent.parent / "crates/grep_cmd/src/script/command.rt"
+READER = Path(__file__).resolve().parent.parent / "crates/script_commands/src/command.rt"
 """What reads commands."""
 
 

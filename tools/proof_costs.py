@@ -2,23 +2,25 @@
 """Where a crate's proof spends its time: tools/proof_costs.py CRATE [COUNT]
 
 Run it after a first check of the crate (`rt check --jobs 1` in a folder whose `out/` is empty). It prints the dearest
-functions by seconds, taken from the times of the files in out/incremental, with the parts that cost most (`Lts` is
-what the code becomes, `Proof` the goals that the prover searches for, `Answers` the written ones); then the dearest
-goals by the prover's steps, which don't depend on what else runs. A million steps take about 0.8 seconds.
+functions by seconds, taken from the times of the files in out/incremental, with the parts that cost most (`Key` is
+what ran before the first file of a function, `Lts` what the code becomes, `Proof` the goals that the prover searches
+for, `Answers` the written ones); then the dearest goals by the prover's steps, which don't depend on what else runs.
+A million steps take about 0.8 seconds.
 """
 import re
 import sys
 from collections import defaultdict
 from pathlib import Path
 
-PARTS = "Lts Proof Tie Answers Invariants Statement Code Met Goals Given Kinds Layout Reads Named TheLink Borrow"
+PARTS = "Key Lts Proof Tie Answers Invariants Statement Code Met Goals Given Kinds Layout Reads Named TheLink Borrow"
 PART = re.compile(rf"(.*?)\.({'|'.join(PARTS.split())})([-.].*)?$")
 GOAL = re.compile(r'"calls":\[.*?\],"goals".{0,400}?"largest":\[(\d+),\d+\].{0,200}?"name":"([^"]+)"')
 
 
 def subject(path):
     """The function or lemma file that a kept file belongs to, and the part of its proof."""
-    name = re.sub(r"^Rattle-\w+?-(proofs|specs)\.", "", path.name).removesuffix(".oantt").removesuffix(".decls")
+    name = path.name.removesuffix(".oantt").removesuffix(".decls")
+    name = re.sub(r"^Rattle-\w+?-(proofs|specs)\.(contracts\.)?", "", name)
     found = PART.match(name)
     return found.group(1, 2) if found else (name, "other")
 

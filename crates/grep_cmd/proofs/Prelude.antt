@@ -3,12 +3,9 @@ pub use Rattle.grep_cmd.specs.Editor.{AreButTexts, ArePresent, EditorsFollow, En
 pub use Rattle.grep_cmd.specs.Lists.{LeavesReport, ReportsChanges, ReportsPage, WritesHits, WritesReport}
 pub use Rattle.grep_cmd.specs.Replies.{AllSearchAtMost, AnswersScript, BeginsScript, GaveLines, IsAnswered, IsUpToReport, ReadsScript, Replies, RepliesTo, ScriptGives, ScriptState, SearchesAtMost, SearchesTouched, StopsWriting, bad_command, end_for, is_refusal, new_state, refused_for, reply_to, truncated, version_line}
 unfoldable pub use Rattle.grep_cmd.specs.Replies.{cause}
-pub use Rattle.grep_cmd.specs.Script.{AsksForMemory, Command, IsBegun, IsStep, IsUnfinished, Step, Steps, asking_command, asks_version, changes_command, close_command, context_command, context_from, counts, does, drop_command, edits, file_command, file_from, flag_command, flag_from, flag_of, is_bad, is_truncated, line_command, lists_changes, lists_page, missing_command, name_of, page_command, page_from, pattern_command, patterns_command, patterns_from, reports, reports_changes, reports_page, sets_text, show_command, shows, space, splice_command, splice_from, switch_of, switches_text, syntax_command, syntax_of, text_after, text_command, tells_version, unnamed_command, version_command}
-unfoldable pub use Rattle.grep_cmd.specs.Script.{command_of, words_of}
+pub use Rattle.grep_cmd.specs.Script.{IsBegun, IsStep, IsUnfinished, Step, Steps, does, is_bad, is_truncated, reports, reports_changes, reports_page, sets_text, text_after, tells_version}
 pub use Rattle.grep_cmd.specs.Show.{AreShown, Shows, status_line, with_margin}
 pub use Rattle.grep_cmd.specs.Working.Answered.{AnsweredSoFar, AnswersLine, AreDone, DoesStep, FlushesAfter, FlushesFor, HasRead, LosesLines, ReadsNext, Replied, TakesLines, WantsLines, answer_for, state_of, was_refused}
-pub use Rattle.grep_cmd.specs.Working.Commands.{counted_meant, file_meant, line_meant, meant}
-pub use Rattle.grep_cmd.specs.Working.ScriptWords.{four_words, words_of_rest}
 pub use Rattle.grep_cmd.specs.declared.script.ScriptEnd.{ScriptEnd}
 pub use Rattle.grep_cmd.specs.declared.script.ScriptEnd.TheVariants.{Clean}
 pub use Rattle.grep_cmd.specs.declared.script.ScriptFault.{ScriptFault}
@@ -49,13 +46,16 @@ pub use Rattle.line_marks.specs.declared.stretch.Stretch.{Stretch}
 pub use Rattle.grep_utility.specs.Words.{number_of}
 pub use Rattle.re_syntax.specs.Bytes.{Text}
 pub use Rattle.re_syntax.specs.Expression.{Expression}
-pub use Rattle.re_syntax.specs.Lines.{HasNoNewline, joined, newline, put_before}
+pub use Rattle.re_syntax.specs.Lines.{HasNoNewline, joined}
 unfoldable pub use Rattle.re_syntax.specs.Lines.{lines_of}
 pub use Rattle.re_syntax.specs.Parts.{AreParts, ArePartsFrom}
-pub use Rattle.std.proofs.Common.{All, Bool, Err, IfErr, IfOk, IsErr, List, MatchBool, None, Ok, Option, Result, Some, [], add-one, ap, append-nil, append_assoc, arith, bytes_eq, codes, cond, decimal, drop, eqb, eqb-true, false, flat_map, get_or, if◌then◌else◌, inl, inr, length, length-append, length-drop, length-set, length-take, lt-ltb, map, min, nat_eq, nat_le, nat_lt, ne_eqb, option_map, pow-suc, refl, remove, rules, slice_range, slice_set, subst, suc, sum_by, sym, take, take-take, true, true≢false, zero, ℕ, ◌%◌, ◌++◌, ◌+◌, ◌-◌, ◌/◌, ◌<◌, ◌^◌, ◌||◌, ◌∙◌, ◌∷◌, ◌≡◌, ◌≢◌, ◌≤◌, ◌⊎◌}
-pub use Rattle.std.proofs.lemmas.Bool.{cases_lt, cond-false, cond-true, false_from_ne_true, or_parts, or_right}
+pub use Rattle.script_commands.specs.Commands.{Command, asks_version, changes_command, close_command, context_command, context_from, counts, drop_command, edits, file_command, file_from, flag_command, flag_from, flag_of, line_command, lists_changes, lists_page, missing_command, name_of, page_command, page_from, pattern_command, patterns_command, patterns_from, show_command, shows, splice_command, splice_from, switch_of, switches_text, syntax_command, syntax_of, text_command, version_command}
+pub use Rattle.script_commands.specs.Working.ReadCommands.{counted_meant, file_meant, line_meant}
+unfoldable pub use Rattle.script_commands.specs.Commands.{asking_command, command_of, unnamed_command, words_of}
+pub use Rattle.std.proofs.Common.{All, Bool, Err, IfErr, IfOk, IsErr, List, MatchBool, None, Ok, Option, Result, Some, [], ap, append-nil, append_assoc, arith, bytes_eq, codes, cond, decimal, drop, eqb, false, flat_map, get_or, if◌then◌else◌, inl, inr, length, length-append, length-drop, length-set, length-take, lt-ltb, map, min, nat_eq, nat_le, nat_lt, ne_eqb, option_map, pow-suc, refl, remove, rules, slice_range, slice_set, subst, suc, sum_by, sym, take, take-take, true, true≢false, zero, ℕ, ◌%◌, ◌++◌, ◌+◌, ◌-◌, ◌/◌, ◌<◌, ◌^◌, ◌||◌, ◌∙◌, ◌∷◌, ◌≡◌, ◌≢◌, ◌≤◌, ◌⊎◌}
+pub use Rattle.std.proofs.lemmas.Bool.{cases_lt, or_parts, or_right}
 pub use Rattle.std.proofs.lemmas.Fmt.{decimal_is_IsNumeral_wide, length-decimal-le}
-pub use Rattle.std.proofs.lemmas.List.{get_or-map, length-map, length_push, take_more, take_rest}
+pub use Rattle.std.proofs.lemmas.List.{length-map, length_push}
 pub use Rattle.std.proofs.lemmas.List.Elements.{All-append, All-cons, All-drop, All-get_or, All-head, All-map, All-nil, All-set, All-tail, All-take, All-weaker}
 pub use Rattle.std.proofs.lemmas.List.Folds.{list_any-append}
 pub use Rattle.std.proofs.lemmas.List.Sums.{get_or-le-sum_by, sum_by-append, sum_by-cons, sum_by-take-drop, sum_by-take-le}

@@ -1,5 +1,3 @@
-pub mod ScriptWords
-pub mod ScriptCommands
 pub mod RowTests
 pub mod FreeLines
 pub mod ScriptAnswers

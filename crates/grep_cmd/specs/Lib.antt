@@ -7,6 +7,7 @@ pub use Rattle.re_syntax.specs.Spelled
 pub use Rattle.grep_core.specs.Files
 pub use Rattle.grep_core.specs.Meters
 pub use Rattle.grep_core.specs.Run
+pub use Rattle.script_commands.specs.Commands
 -- the utility, which this crate passes on
 pub use Rattle.grep_utility.specs.Words
 pub use Rattle.grep_utility.specs.Texts

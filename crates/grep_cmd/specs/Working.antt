@@ -1,3 +1,1 @@
-pub mod ScriptWords
-pub mod Commands
 pub mod Answered

@@ -6,9 +6,7 @@ ghost use Rattle.grep_cmd.specs.Replies.{GaveLines, ScriptGives, new_state};
 ghost use Rattle.grep_cmd.specs.Working.Answered.{FlushesAfter};
 
 mod answer;
-mod command;
 mod counted;
-mod line_words;
 mod pattern_lines;
 mod reply;
 

@@ -172,6 +172,7 @@ module _ (word : Text) (given : List Text) where
   is_word name = bytes_eq word name
 
   few_asking : Few (asking_command word given)
+  unfolding asking_command
   few_asking =
       few_if (is_word (codes "show")) (show_command given) _ (few_show given)
       (few_if (is_word (codes "changes")) (changes_command given) _ (few_changes_command given)
@@ -180,6 +181,7 @@ module _ (word : Text) (given : List Text) where
       (few_if (is_word (codes "text")) (text_command given) None (few_text_command given) few_none))))
 
   few_unnamed : Few (unnamed_command word given)
+  unfolding unnamed_command
   few_unnamed =
       few_if (is_word (codes "splice")) (splice_command given) _ (few_splice given)
       (few_if (is_word (codes "close")) (close_command given) _ (few_close given)

@@ -1,32 +1,11 @@
 -- What is taken and answered for one command of a script.
-use Rattle.grep_cmd.proofs.Prelude.{Bool, ScriptState, ◌≡◌, ◌≢◌, ℕ, ◌+◌, ◌<◌, false, List, [], ◌∷◌, ◌++◌, length, min, get_or, take, drop, ◌-◌, ◌^◌, IfOk, nat_eq, if◌then◌else◌, Option, Some, Result, Ok, Err, IfErr, inl, inr, refl, sym, ap, ◌∙◌, subst, append_assoc, append-nil, codes, arith, false_from_ne_true, eqb-true, take_more, length-take, list_any, Text, newline, joined, Status, Inputs, Adds, written, GoesOut, Numbered, HasHanded, EditFault, Edit, ScriptFault, Read, Write, Memory, Answer, Accepted, Truncated, Watched, changes_rows, total_row, page_row, page_rows, all_hits, AreShown, with_margin, status_line, all_known, state_of, LeavesReport, ReportsChanges, ReportsPage, Step, counts, IsStep, line_command, RepliesTo, SearchesAtMost, reply_to, truncated, is_refusal, ReadsNext, TakesLines, FlushesFor, Replied, IsUpToReport, DoesStep, WantsLines, AnswersLine, answer_for, was_refused}
+use Rattle.grep_cmd.proofs.Prelude.{Bool, ScriptState, ◌≡◌, ◌≢◌, ℕ, ◌<◌, false, List, [], ◌∷◌, ◌++◌, length, min, take, drop, ◌-◌, ◌^◌, IfOk, Option, Some, Result, Ok, Err, IfErr, inl, inr, refl, sym, ap, ◌∙◌, subst, append_assoc, append-nil, codes, arith, list_any, Text, Status, Inputs, Adds, written, GoesOut, Numbered, HasHanded, EditFault, Edit, ScriptFault, Read, Write, Memory, Answer, Accepted, Truncated, Watched, changes_rows, total_row, page_row, page_rows, all_hits, AreShown, with_margin, status_line, all_known, state_of, LeavesReport, ReportsChanges, ReportsPage, Step, counts, IsStep, line_command, RepliesTo, SearchesAtMost, reply_to, truncated, is_refusal, ReadsNext, TakesLines, FlushesFor, Replied, IsUpToReport, DoesStep, WantsLines, AnswersLine, answer_for, was_refused}
 use Rattle.grep_core.specs.declared.status.Status.TheVariants as status
 use Rattle.grep_core.specs.Meters.{Steps as StepCounts}
 use Rattle.grep_core.proofs.lemmas.RowLemmas.{goes_on, stops_later}
 use Rattle.grep_cmd.proofs.lemmas.RowTests.{none_mapped, none_joined, none_changes}
 use Rattle.grep_session.specs.declared.fault.EditFault.TheVariants as fault
 use Rattle.grep_cmd.specs.declared.script.reply.Answer.TheVariants.{Refused}
-
--- ---- lines joined
-
-joined-push : (t : Text) (ts : List Text) (u : Text) → joined ((t ∷ ts) ++ u ∷ []) ≡ joined (t ∷ ts) ++ newline ∷ u
-joined-push t [] u = refl
-joined-push t (v ∷ ts) u = ap (λ l. t ++ newline ∷ l) (joined-push v ts u) ∙ sym (append_assoc t (newline ∷ joined (v ∷ ts)) (newline ∷ u))
-
-pub joined-next : (ts : List Text) (u text new : Text) → text ≡ joined ts → new ≡ text ++ (if nat_eq (length ts) 0 then u else newline ∷ u) → new ≡ joined (ts ++ u ∷ [])
-joined-next [] u text new is more = more ∙ ap (λ l. l ++ u) is
-joined-next (t ∷ ts) u text new is more =
-    let some : nat_eq (length (t ∷ ts)) 0 ≡ false = false_from_ne_true _ (λ e. let none = eqb-true (length (t ∷ ts)) 0 e in absurd (omega (arith, none))) in
-    more ∙ ap (λ b. text ++ (if b then u else newline ∷ u)) some ∙ ap (λ l. l ++ newline ∷ u) is ∙ sym (joined-push t ts u)
-
-pub joined-next-at : (ts : List Text) (i : ℕ) (u text new : Text) → i < length ts → get_or ts i [] ≡ u → text ≡ joined (take i ts) → new ≡ text ++ (if nat_eq i 0 then u else newline ∷ u)
-    → new ≡ joined (take (i + 1) ts)
-joined-next-at ts i u text new h is so_far more =
-    let long : length (take i ts) ≡ i = take-length ts i h in
-    joined-next (take i ts) u text new so_far (more ∙ ap (λ n. text ++ (if nat_eq n 0 then u else newline ∷ u)) (sym long)) ∙ ap joined (ap (λ l. take i ts ++ l ∷ []) (sym is) ∙ sym (take_more ts i [] h))
-  where
-    take-length : (xs : List Text) (n : ℕ) → n < length xs → length (take n xs) ≡ n
-    take-length xs n below = omega (arith, below, length-take n xs)
 
 -- ---- refusals
 

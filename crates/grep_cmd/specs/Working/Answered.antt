@@ -15,7 +15,8 @@ use Rattle.grep_cmd.specs.declared.script.ScriptFault.TheVariants.{Read, Write, 
 use Rattle.grep_cmd.specs.declared.script.ScriptEnd.{ScriptEnd}
 use Rattle.grep_cmd.specs.declared.script.reply.Answer.{Answer}
 use Rattle.grep_cmd.specs.declared.script.reply.Answer.TheVariants.{Accepted, Refused, Truncated}
-use Rattle.grep_cmd.specs.Script.{Step, IsStep, WantsMore, AsksForMemory, line_command}
+use Rattle.script_commands.specs.Commands.{AsksForMemory, line_command}
+use Rattle.grep_cmd.specs.Script.{Step, IsStep, WantsMore}
 use Rattle.grep_cmd.specs.Replies.{RepliesTo, Replies, SearchesAtMost, SearchesTouched, truncated}
 use Rattle.grep_session.specs.Marks.{Watched}
 use Rattle.grep_cmd.specs.Replies.{is_refusal, end_for, ScriptState, IsUpToReport}

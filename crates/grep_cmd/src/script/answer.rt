@@ -7,26 +7,27 @@ ghost use Rattle.grep_core.specs.Working.Numbered.{HasHanded};
 ghost use Rattle.grep_session.specs.declared.fault.EditFault.TheVariants.{Memory};
 ghost use Rattle.grep_session.specs.Edits.{EditGives};
 ghost use Rattle.grep_session.specs.Touched.{NeedsNoMemory, TakesSteps};
-ghost use Rattle.grep_cmd.specs.Script.{line_command, counts};
-ghost use Rattle.grep_cmd.specs.declared.script.command.CountedEdit.{CountedEdit};
+ghost use Rattle.script_commands.specs.declared.command.CountedEdit.{CountedEdit};
+ghost use Rattle.script_commands.specs.Commands.{line_command, counts};
+ghost use Rattle.script_commands.specs.Working.ReadCommands.{line_meant, pattern_meant};
+ghost use Rattle.script_commands.specs.Working.ReadCommands.{counted_meant};
 ghost use Rattle.grep_cmd.specs.declared.script.reply.Answer.{Answer};
 ghost use Rattle.grep_cmd.specs.Show.{AreShown};
 ghost use Rattle.grep_cmd.specs.Lists.{LeavesReport, ReportsChanges, ReportsPage};
 ghost use Rattle.grep_session.specs.Marks.{MarksGiven, Watched};
 ghost use Rattle.grep_cmd.specs.Replies.{reply_to, version_line};
 ghost use Rattle.grep_cmd.specs.Working.Answered.{AnswersLine, Replied, answer_for, state_of};
-ghost use Rattle.grep_cmd.specs.Working.Commands.{line_meant, pattern_meant, counted_meant};
 
 use crate::reports::{show, show_changes, show_page};
-use crate::script::command::{
-    Command, CountedCommand, CountedEdit, FileEdit, LineEdit, PatternEdit, read_command,
-};
 use crate::script::counted::take_lines;
-use crate::script::pattern_lines::{join_lines, take_texts};
+use crate::script::pattern_lines::take_texts;
 use crate::script::reply::{Answer, write_reply};
 use crate::script::{ScriptFault, VERSION};
 use grep_core::{CountedRead, CountedWrite, Lines, WriteFault, write_line, write_line_after};
 use grep_session::{EditFault, Meter, Session};
+use script_commands::{
+    Command, CountedCommand, CountedEdit, FileEdit, LineEdit, PatternEdit, join_lines, read_command,
+};
 use std::alloc::{AllocError, Global};
 
 /// Makes an edit for which the command line is enough.

@@ -1,8 +1,7 @@
 //! The lines of a script that are patterns.
-ghost use Rattle.std.specs.Prelude.{◌≡◌, [], ◌∷◌, ◌++◌, List, IfOk, map, option_map, if◌then◌else◌};
+ghost use Rattle.std.specs.Prelude.{◌≡◌, [], ◌∷◌, ◌++◌, List, IfOk, map, option_map};
 ghost use Rattle.std.specs.Result.{result_map_both};
 ghost use Rattle.re_syntax.specs.Bytes.{Text};
-ghost use Rattle.re_syntax.specs.Lines.{joined, newline};
 ghost use Rattle.grep_core.specs.Reading.{IsOneLineAndFew};
 ghost use Rattle.grep_core.specs.Working.Numbered.{HasHanded};
 ghost use Rattle.grep_cmd.specs.Working.Answered.{TakesLines, Flushes};
@@ -53,29 +52,4 @@ pub fn take_texts<R: CountedRead, W: CountedWrite>(
         }
     }
     Ok(Some(taken))
-}
-
-/// Adds a line, after a newline where it is not the first.
-fn add_line(text: &mut Vec<u8>, first: bool, line: &[u8]) -> Result<(), AllocError>
-    ensures { IfOk result
-        (λ _. text.new.items ≡ text.old.items ++ (if first then line.now else newline ∷ line.now)) }
-{
-    if first {
-        text.extend_from_slice(line)?;
-        return Ok(());
-    }
-    text.push(b'\n')?;
-    text.extend_from_slice(line)?;
-    Ok(())
-}
-
-/// The lines with a newline between each two.
-pub fn join_lines(alloc: Global, lines: &[Vec<u8>]) -> Result<Vec<u8>, AllocError>
-    ensures { IfOk result (λ text. text.items ≡ joined (map (λ l. l.items) lines.now)) }
-{
-    let mut text = Vec::new(alloc);
-    for (at, line) in lines.iter().enumerate() {
-        add_line(&mut text, at == 0, line)?;
-    }
-    Ok(text)
 }

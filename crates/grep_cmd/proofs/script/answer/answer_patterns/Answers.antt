@@ -1,5 +1,5 @@
 use Rattle.grep_cmd.proofs.Prelude.{ap, state_of, ◌≤◌, length, map, refl, [], ◌∷◌, arith, does, reply_to, answer_for, counted_meant}
-use Rattle.grep_cmd.specs.declared.script.command.CountedEdit.TheVariants.{PutPatterns}
+use Rattle.script_commands.specs.declared.command.CountedEdit.TheVariants.{PutPatterns}
 use Rattle.grep_cmd.proofs.lemmas.ScriptAnswers.{answers_step, answers_truncated, answers_lost, refused_as, answered_in_time, not_for_memory}
 use Rattle.grep_cmd.proofs.script.answer.answer_patterns.Goals as goal
 

@@ -1,5 +1,5 @@
 -- The command of some words, by the first of them.
-use Rattle.grep_cmd.proofs.Prelude.{◌≡◌, ℕ, true, false, List, [], ◌∷◌, bytes_eq, codes, Some, None, refl, ap, ◌∙◌, cond-true, cond-false, Text, Splice, number_of, counts, command_of, file_command, missing_command, splice_from, splice_command, unnamed_command, four_words}
+use Rattle.script_commands.proofs.Prelude.{◌≡◌, ℕ, true, false, List, [], ◌∷◌, bytes_eq, codes, Some, None, refl, ap, ◌∙◌, cond-true, cond-false, Text, Splice, number_of, counts, command_of, file_command, missing_command, splice_from, splice_command, unnamed_command, four_words}
 
 pub command_none : command_of [] ≡ None
 unfolding command_of

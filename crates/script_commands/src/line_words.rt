@@ -1,8 +1,8 @@
 //! The words of a command line.
 ghost use Rattle.std.specs.Prelude.{◌≡◌, [], ◌∷◌, option_map};
 ghost use Rattle.std.specs.Iterator.{YieldsFirstRef, item_count};
-ghost use Rattle.grep_cmd.specs.Script.{words_of};
-ghost use Rattle.grep_cmd.specs.Working.ScriptWords.{only_word, two_words, four_words};
+ghost use Rattle.script_commands.specs.Commands.{words_of};
+ghost use Rattle.script_commands.specs.Working.LineWords.{only_word, two_words, four_words};
 
 use std::marker::Model;
 
@@ -15,7 +15,7 @@ pub struct LineWords<'a> {
 impl<'a> Model for LineWords<'a> {
     ghost use Rattle.std.specs.Prelude.{List};
     ghost use Rattle.re_syntax.specs.Bytes.{Text};
-    ghost use Rattle.grep_cmd.specs.Working.ScriptWords.{words_of_rest};
+    ghost use Rattle.script_commands.specs.Working.LineWords.{words_of_rest};
 
     ghost Value = { List Text };
 

@@ -1,6 +1,6 @@
-use Rattle.grep_cmd.proofs.Prelude.{◌≡◌, ◌<◌, [], ◌∷◌, ◌++◌, map, length, get_or, nat_eq, if◌then◌else◌, rules, arith, ◌∙◌, length-map, get_or-map, newline}
-use Rattle.grep_cmd.proofs.lemmas.ScriptAnswers.{joined-next-at}
-use Rattle.grep_cmd.proofs.script.pattern_lines.join_lines.Goals as goal
+use Rattle.script_commands.proofs.Prelude.{◌≡◌, ◌<◌, [], ◌∷◌, ◌++◌, map, length, get_or, nat_eq, if◌then◌else◌, rules, arith, ◌∙◌, length-map, get_or-map, newline}
+use Rattle.script_commands.proofs.lemmas.JoinedLines.{joined-next-at}
+use Rattle.script_commands.proofs.pattern_list.join_lines.Goals as goal
 
 pub loop-at-preserved : goal.loop-at-preserved
 loop-at-preserved c =

@@ -2,7 +2,7 @@
 use Rattle.std.specs.Prelude.{List, [], ◌∷◌, Option, Some, None}
 use Rattle.std.specs.Borrow.{Bor}
 use Rattle.re_syntax.specs.Bytes.{Text}
-use Rattle.grep_cmd.specs.Script.{words_of}
+use Rattle.script_commands.specs.Commands.{words_of}
 
 -- the words that are left of a line
 abbrev pub words_of_rest : Option (Bor Text) → List Text

@@ -1,6 +1,6 @@
-use Rattle.grep_cmd.proofs.Prelude.{◌≡◌, ◌+◌, ◌-◌, [], ◌∷◌, length, take, drop, rules, arith, sym, ap, ◌∙◌, add-one, take_rest, words_of, words_of_rest}
-use Rattle.grep_cmd.proofs.lemmas.ScriptWords.{words_of-at, words_of-none}
-use Rattle.grep_cmd.proofs.script.line_words.LineWordsIterator.next.Goals as goal
+use Rattle.script_commands.proofs.Prelude.{◌≡◌, ◌+◌, ◌-◌, [], ◌∷◌, length, take, drop, rules, arith, sym, ap, ◌∙◌, add-one, take_rest, words_of, words_of_rest}
+use Rattle.script_commands.proofs.lemmas.ScriptWords.{words_of-at, words_of-none}
+use Rattle.script_commands.proofs.line_words.LineWordsIterator.next.Goals as goal
 
 -- the word ends at the first space
 at_space : (c : goal.After-self-in-Some-1) → c.args.self.now ≡ take c.in-Some.at c.in_ok-rest.rest.now ∷ words_of (take (length c.in_ok-rest.rest.now - (c.in-Some.at + 1)) (drop (c.in-Some.at + 1) c.in_ok-rest.rest.now))

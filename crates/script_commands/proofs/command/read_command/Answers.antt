@@ -1,6 +1,6 @@
-use Rattle.grep_cmd.proofs.Prelude.{◌≡◌, true, false, codes, bytes_eq, [], option_map, IfOk, IfErr, rules, sym, ap, ◌∙◌, subst, command_of, line_command, file_command, missing_command, unnamed_command, AsksForMemory, meant}
-use Rattle.grep_cmd.proofs.lemmas.ScriptCommands.{command_none, command_file, command_missing, command_unnamed}
-use Rattle.grep_cmd.proofs.script.command.read_command.Goals as goal
+use Rattle.script_commands.proofs.Prelude.{◌≡◌, true, false, codes, bytes_eq, [], option_map, IfOk, IfErr, rules, sym, ap, ◌∙◌, subst, command_of, line_command, file_command, missing_command, unnamed_command, AsksForMemory, meant}
+use Rattle.script_commands.proofs.lemmas.ScriptCommands.{command_none, command_file, command_missing, command_unnamed}
+use Rattle.script_commands.proofs.command.read_command.Goals as goal
 
 pub returns-in_default-clause-read : goal.returns-in_default-clause-read
 returns-in_default-clause-read c = sym (ap command_of (sym c.words_of-words.ensures ∙ c.in_default.ensures.steps.0) ∙ command_none)

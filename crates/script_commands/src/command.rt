@@ -1,17 +1,17 @@
 //! The commands of a script.
 ghost use Rattle.std.specs.Prelude.{◌≡◌, [], Some, IfOk, IfErr, option_map};
 ghost use Rattle.grep_utility.specs.Words.{number_of};
-ghost use Rattle.grep_cmd.specs.Script.{name_of, flag_of, switch_of, syntax_of, file_command};
-ghost use Rattle.grep_cmd.specs.Script.{missing_command, close_command, splice_command};
-ghost use Rattle.grep_cmd.specs.Script.{patterns_command, pattern_command, drop_command};
-ghost use Rattle.grep_cmd.specs.Script.{flag_command, syntax_command, no_context, context_from};
-ghost use Rattle.grep_cmd.specs.Script.{context_command, show_command, unnamed_command};
-ghost use Rattle.grep_cmd.specs.Script.{line_command, changes_command, page_command};
-ghost use Rattle.grep_cmd.specs.Script.{version_command, text_command, asking_command};
-ghost use Rattle.grep_cmd.specs.Script.{AsksForMemory};
-ghost use Rattle.grep_cmd.specs.Working.Commands.{meant};
+ghost use Rattle.script_commands.specs.Commands.{name_of, flag_of, switch_of, syntax_of, file_command};
+ghost use Rattle.script_commands.specs.Commands.{missing_command, close_command, splice_command};
+ghost use Rattle.script_commands.specs.Commands.{patterns_command, pattern_command, drop_command};
+ghost use Rattle.script_commands.specs.Commands.{flag_command, syntax_command, no_context, context_from};
+ghost use Rattle.script_commands.specs.Commands.{context_command, show_command, unnamed_command};
+ghost use Rattle.script_commands.specs.Commands.{line_command, changes_command, page_command};
+ghost use Rattle.script_commands.specs.Commands.{version_command, text_command, asking_command};
+ghost use Rattle.script_commands.specs.Commands.{AsksForMemory};
+ghost use Rattle.script_commands.specs.Working.ReadCommands.{meant};
 
-use crate::script::line_words::{LineWords, words_of};
+use crate::line_words::{LineWords, words_of};
 use grep_core::{Context, Flag};
 use grep_utility::{Meaning, meaning_of_option, read_number};
 use re_syntax::Syntax;
@@ -334,6 +334,7 @@ fn read_text(words: LineWords<'_>) -> Option<Command>
 }
 
 /// The command of this word and those that follow it, where it is no edit.
+#[tactic(auto, unfolding(crate::specs::Commands::asking_command))]
 fn read_asking(word: &[u8], words: LineWords<'_>) -> Option<Command>
     ensures { option_map meant result ≡ asking_command word.now words.entry }
 {
@@ -356,6 +357,7 @@ fn read_asking(word: &[u8], words: LineWords<'_>) -> Option<Command>
 }
 
 /// The command of this word and those that follow it, where it has no name in it.
+#[tactic(auto, unfolding(crate::specs::Commands::unnamed_command))]
 fn read_unnamed(word: &[u8], words: LineWords<'_>) -> Option<Command>
     ensures { option_map meant result ≡ unnamed_command word.now words.entry }
 {

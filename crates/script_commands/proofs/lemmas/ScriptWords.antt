@@ -1,5 +1,5 @@
 -- The first word of a line, by the place of its first space.
-use Rattle.grep_cmd.proofs.Prelude.{◌≡◌, ℕ, zero, suc, ◌<◌, nat_eq, true, false, [], ◌∷◌, length, take, drop, get_or, refl, ap, ◌∙◌, arith, cond-true, cond-false, Text, put_before, space, words_of}
+use Rattle.script_commands.proofs.Prelude.{◌≡◌, ℕ, zero, suc, ◌<◌, nat_eq, true, false, [], ◌∷◌, length, take, drop, get_or, refl, ap, ◌∙◌, arith, cond-true, cond-false, Text, put_before, space, words_of}
 
 -- the first word ends at the first space
 pub words_of-at : (t : Text) (i : ℕ) → i < length t → nat_eq (get_or t i 0) space ≡ true → ((k : ℕ) → k < i → nat_eq (get_or t k 0) space ≡ false) →

@@ -1,5 +1,5 @@
-use Rattle.grep_cmd.proofs.Prelude.{◌≡◌, map, take, joined}
-use Rattle.grep_cmd.proofs.script.pattern_lines.join_lines.Given as goal
+use Rattle.script_commands.proofs.Prelude.{◌≡◌, map, take, joined}
+use Rattle.script_commands.proofs.pattern_list.join_lines.Given as goal
 
 -- the lines before this place were joined
 abbrev pub invariant-loop-at : goal.invariant-loop-at

@@ -1,0 +1,3 @@
+pub mod ScriptWords
+pub mod ScriptCommands
+pub mod JoinedLines

@@ -1,0 +1,206 @@
+-- The commands of a script: what a line asks for, with the lines that it counts (occur(1), COMMANDS).
+use Rattle.std.specs.Prelude.{◌≡◌, ℕ, ◌≤◌, nat_eq, Bool, true, false, if◌then◌else◌, List, [], ◌∷◌}
+use Rattle.std.specs.Prelude.{length, codes, bytes_eq, Option, Some, None, option_map}
+use Rattle.re_syntax.specs.declared.syntax.Syntax.{Syntax}
+use Rattle.re_syntax.specs.declared.syntax.Syntax.TheVariants.{Basic, Extended, Fixed}
+use Rattle.re_syntax.specs.Bytes.{Text}
+use Rattle.re_syntax.specs.Lines.{put_before, joined}
+use Rattle.grep_core.specs.declared.options.Flag.{Flag}
+use Rattle.grep_session.specs.Edits.{Edit, AddFile, AddMissing, DropFile, Splice, AddPatterns}
+use Rattle.grep_session.specs.Edits.{DropPattern, ChangePattern, SetFlag, SetSyntax, SetContext}
+use Rattle.grep_utility.specs.declared.words.tokens.Meaning.{Meaning}
+use Rattle.grep_utility.specs.declared.words.tokens.Meaning.TheVariants as meaning
+use Rattle.grep_utility.specs.Words.{meaning_of, number_of}
+
+-- ---- words
+
+abbrev pub space : ℕ
+space = 32
+
+-- the words of a line, separated by single spaces: one more than there are spaces
+unfoldable pub words_of : Text → List Text
+words_of [] = [] ∷ []
+words_of (b ∷ rest) = if nat_eq b space then [] ∷ words_of rest else put_before b (words_of rest)
+
+-- a name is one byte or more
+abbrev pub name_of : Text → Option Text
+name_of [] = None
+name_of (b ∷ rest) = Some (b ∷ rest)
+
+-- an option of the output or of matching is named by its letter
+abbrev pub flag_meant : Option Meaning → Option Flag
+flag_meant (Some (meaning.Flag flag)) = Some flag
+flag_meant _ = None
+
+abbrev pub flag_of : Text → Option Flag
+flag_of (b ∷ []) = flag_meant (meaning_of b)
+flag_of _ = None
+
+abbrev pub switch_of : Text → Option Bool
+switch_of word =
+    if bytes_eq word (codes "on") then Some true else if bytes_eq word (codes "off") then Some false
+    else None
+
+abbrev pub syntax_of : Text → Option Syntax
+syntax_of word =
+    if bytes_eq word (codes "basic") then Some Basic else
+    if bytes_eq word (codes "extended") then Some Extended else
+    if bytes_eq word (codes "fixed") then Some Fixed else None
+
+-- ---- commands
+
+-- an edit, an edit with the number of next lines that it counts, the report, what changed, a page
+-- with the number of its first hit and of its hits, the version, or whether rows have their text
+pub data Command : Type 0 where
+  edits : Edit → Command
+  counts : ℕ → (List Text → Edit) → Command
+  shows : Command
+  lists_changes : Command
+  lists_page : ℕ → ℕ → Command
+  asks_version : Command
+  switches_text : Bool → Command
+
+abbrev pub file_from : Option Text → Option ℕ → Option Command
+file_from (Some name) (Some count) = Some (counts count (AddFile name))
+file_from _ _ = None
+
+-- `file NAME COUNT`
+abbrev pub file_command : List Text → Option Command
+file_command (name ∷ count ∷ []) = file_from (name_of name) (number_of count)
+file_command _ = None
+
+-- `missing NAME`
+abbrev pub missing_command : List Text → Option Command
+missing_command (name ∷ []) = option_map (λ n. edits (AddMissing n)) (name_of name)
+missing_command _ = None
+
+-- `close K`
+abbrev pub close_command : List Text → Option Command
+close_command (file ∷ []) = option_map (λ k. edits (DropFile k)) (number_of file)
+close_command _ = None
+
+abbrev pub splice_from : Option ℕ → Option ℕ → Option ℕ → Option ℕ → Option Command
+splice_from (Some file) (Some start) (Some removed) (Some count) =
+    Some (counts count (Splice file start removed))
+splice_from _ _ _ _ = None
+
+-- `splice K START REMOVE COUNT`
+abbrev pub splice_command : List Text → Option Command
+splice_command (file ∷ start ∷ removed ∷ count ∷ []) =
+    splice_from (number_of file) (number_of start) (number_of removed) (number_of count)
+splice_command _ = None
+
+abbrev pub patterns_from : Option ℕ → Option Command
+patterns_from (Some count) =
+    if nat_eq count 0 then None else Some (counts count (λ lines. AddPatterns (joined lines)))
+patterns_from None = None
+
+-- `patterns COUNT`, where there is at least one
+abbrev pub patterns_command : List Text → Option Command
+patterns_command (count ∷ []) = patterns_from (number_of count)
+patterns_command _ = None
+
+-- `drop P`
+abbrev pub drop_command : List Text → Option Command
+drop_command (pattern ∷ []) = option_map (λ p. edits (DropPattern p)) (number_of pattern)
+drop_command _ = None
+
+-- `pattern P`, which counts one line
+abbrev pub pattern_command : List Text → Option Command
+pattern_command (pattern ∷ []) =
+    option_map (λ p. counts 1 (λ lines. ChangePattern p (joined lines))) (number_of pattern)
+pattern_command _ = None
+
+abbrev pub flag_from : Option Flag → Option Bool → Option Command
+flag_from (Some flag) (Some on) = Some (edits (SetFlag flag on))
+flag_from _ _ = None
+
+-- `flag LETTER on` or `flag LETTER off`
+abbrev pub flag_command : List Text → Option Command
+flag_command (letter ∷ switch ∷ []) = flag_from (flag_of letter) (switch_of switch)
+flag_command _ = None
+
+-- `syntax basic`, `syntax extended` or `syntax fixed`
+abbrev pub syntax_command : List Text → Option Command
+syntax_command (name ∷ []) = option_map (λ syntax. edits (SetSyntax syntax)) (syntax_of name)
+syntax_command _ = None
+
+abbrev pub context_from : Option ℕ → Option ℕ → Option Command
+context_from (Some before) (Some after) =
+    Some (edits (SetContext (Some (record { before = before; after = after }))))
+context_from _ _ = None
+
+abbrev pub no_context : Text → Option Command
+no_context word = if bytes_eq word (codes "off") then Some (edits (SetContext None)) else None
+
+-- `context BEFORE AFTER` or `context off`
+abbrev pub context_command : List Text → Option Command
+context_command (word ∷ []) = no_context word
+context_command (before ∷ after ∷ []) = context_from (number_of before) (number_of after)
+context_command _ = None
+
+-- `show`
+abbrev pub show_command : List Text → Option Command
+show_command [] = Some shows
+show_command _ = None
+
+-- `changes`
+abbrev pub changes_command : List Text → Option Command
+changes_command [] = Some lists_changes
+changes_command _ = None
+
+abbrev pub page_from : Option ℕ → Option ℕ → Option Command
+page_from (Some first) (Some count) = Some (lists_page first count)
+page_from _ _ = None
+
+-- `page FIRST COUNT`
+abbrev pub page_command : List Text → Option Command
+page_command (first ∷ count ∷ []) = page_from (number_of first) (number_of count)
+page_command _ = None
+
+-- `version`
+abbrev pub version_command : List Text → Option Command
+version_command [] = Some asks_version
+version_command _ = None
+
+-- `text on` or `text off`
+abbrev pub text_command : List Text → Option Command
+text_command (switch ∷ []) = option_map (λ on. switches_text on) (switch_of switch)
+text_command _ = None
+
+unfoldable pub asking_command : Text → List Text → Option Command
+asking_command word given =
+    if bytes_eq word (codes "show") then show_command given else
+    if bytes_eq word (codes "changes") then changes_command given else
+    if bytes_eq word (codes "page") then page_command given else
+    if bytes_eq word (codes "version") then version_command given else
+    if bytes_eq word (codes "text") then text_command given else None
+
+unfoldable pub unnamed_command : Text → List Text → Option Command
+unnamed_command word given =
+    if bytes_eq word (codes "splice") then splice_command given else
+    if bytes_eq word (codes "close") then close_command given else
+    if bytes_eq word (codes "patterns") then patterns_command given else
+    if bytes_eq word (codes "drop") then drop_command given else
+    if bytes_eq word (codes "pattern") then pattern_command given else
+    if bytes_eq word (codes "flag") then flag_command given else
+    if bytes_eq word (codes "syntax") then syntax_command given else
+    if bytes_eq word (codes "context") then context_command given else asking_command word given
+
+-- the command of these words, where they are one
+unfoldable pub command_of : List Text → Option Command
+command_of [] = None
+command_of (word ∷ given) =
+    if bytes_eq word (codes "file") then file_command given else
+    if bytes_eq word (codes "missing") then missing_command given else unnamed_command word given
+
+-- the command of a line
+abbrev pub line_command : Text → Option Command
+line_command line = command_of (words_of line)
+
+-- memory can run out at the command, of which these lines were taken: for its name, for one of the
+-- lines that it counts, or for the list that is made of them
+abbrev pub AsksForMemory : Option Command → List Text → Type 0
+AsksForMemory (Some (counts count edit)) taken = length taken ≤ count
+AsksForMemory (Some (edits (AddMissing name))) taken = taken ≡ []
+AsksForMemory _ taken = ⊥
