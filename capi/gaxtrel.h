@@ -25,10 +25,9 @@ extern "C" {
 /* The work of one call. A step is a byte over which a set of positions, or a table of strings, was
    advanced; a passed byte is one over which a search for strings went. */
 typedef struct gaxtrel_work {
-    uint64_t built;   /* steps that were computed */
-    uint64_t reused;  /* steps that were found in a cache */
-    uint64_t passed;  /* bytes that were passed */
-    uint64_t refused; /* how often memory that saves work was refused */
+    uint64_t built;  /* steps that were computed */
+    uint64_t reused; /* steps that were found in a cache */
+    uint64_t passed; /* bytes that were passed */
 } gaxtrel_work;
 
 /* A matcher for one pattern or several, or none. `work` is that of the last call, to be read. */
@@ -45,7 +44,7 @@ typedef struct gaxtrel_session {
     gaxtrel_work work;
 } gaxtrel_session;
 
-#define GAXTREL_NONE {0, false, {0, 0, 0, 0}}
+#define GAXTREL_NONE {0, false, {0, 0, 0}}
 
 /* Why a pattern is refused, and at which byte of it; of several patterns the number of the first
    that is refused, counted from 0. */
@@ -67,7 +66,7 @@ enum { GAXTREL_OK = 0, GAXTREL_REFUSED = 1, GAXTREL_NO_MEMORY = 2, GAXTREL_NO_SY
 
 enum { GAXTREL_NO_STATES = 3, GAXTREL_NO_SESSION = 3 };
 
-enum { GAXTREL_NO = 0, GAXTREL_YES = 1, GAXTREL_MISUSED = 2 };
+enum { GAXTREL_NO = 0, GAXTREL_YES = 1, GAXTREL_MISUSED = 3 };
 
 enum {
     GAXTREL_UNCLOSED_BRACKET = 1,
@@ -106,22 +105,23 @@ uint32_t gaxtrel_compile_lines(gaxtrel_matcher *matcher, const uint8_t *patterns
 void gaxtrel_free(gaxtrel_matcher *matcher);
 
 /* The calls below answer GAXTREL_MISUSED if `matcher` holds none, and write nothing else then; else
-   GAXTREL_YES or GAXTREL_NO. `p` is the number of patterns: each call takes at most so many steps
-   (`built` and `reused` together) as it says, and passes at most as many bytes. */
+   GAXTREL_YES or GAXTREL_NO, or what they say. `p` is the number of patterns: each call takes at most
+   so many steps (`built` and `reused` together) as it says, and passes at most as many bytes. */
 
 /* Whether the line is matched. At most p * (length + 1). */
 uint32_t gaxtrel_is_match(gaxtrel_matcher *matcher, const uint8_t *line, size_t length);
 
 /* The next part of the line: of the matched stretches that are not empty and begin at `from` or
    later the one that begins earliest, and of those that begin there the longest. `part` is written
-   for GAXTREL_YES alone. At most p * (length + 1). */
+   for GAXTREL_YES alone. At most p * (length + 1), which a loop over the parts may take for each:
+   call gaxtrel_parts for all. */
 uint32_t gaxtrel_find(gaxtrel_matcher *matcher, const uint8_t *line, size_t length, size_t from,
                       gaxtrel_part *part);
 
 /* All parts of the line from a place on, each searched from the end of the one before: how many
-   there are goes to `count`, and the first ones to `parts`, which has room for `room`. At most four
-   times p * (length + 1), however many they are, where `refused` is 0; else so much for each part
-   and once more. */
+   there are goes to `count`, and the first ones to `parts`, which has room for `room`. At most
+   p * (length + 1), however many they are, and 16 bytes of memory for each byte of the line. Where
+   these are refused it answers GAXTREL_NO_MEMORY: nothing is written, and `work` is 0. */
 uint32_t gaxtrel_parts(gaxtrel_matcher *matcher, const uint8_t *line, size_t length, size_t from,
                        gaxtrel_part *parts, size_t room, size_t *count);
 

@@ -1,11 +1,12 @@
 #!/usr/bin/env bash
 # Runs tests in which requests for memory between two marks are refused. In one of crates/re_tests none is made:
 # folding and stepping take no memory. In the others each request is refused in turn, one a run, until none is left to
-# refuse: in crates/re_tests of a matcher that is made, which is out of memory or answers as ever, and of its
-# searches, also for the parts of a line, which go on without the cache or the list of ends; in crates/line_tests of
-# splices of lines in chunks, after which all lines are as they were; in crates/command_tests of lines, which are handed
-# out whole by the next call, of words and of whole searches, which tell so, with the output up to there, and of the
-# edits of sessions: one that is refused for that leaves the session as it was, and made again answers as its row says.
+# refuse: in crates/re_tests of a matcher that is made, which is out of memory or answers as ever, of its searches,
+# which go on without the cache, and of those for the parts of a line, for which there is room or none; in
+# crates/line_tests of splices of lines in chunks, after which all lines are as they were; in crates/command_tests of
+# lines, which are handed out whole by the next call, of words and of whole searches, which report it, with the output up
+# to there, and of the edits of sessions: one that is refused for that leaves the session as it was, and made again
+# answers as its row says.
 # Edits that need no memory, reports, messages and the status make no request.
 # At first programs are run in the place of tests that are wrong on purpose: each has to be found. It wants a C compiler.
 set -euo pipefail
@@ -64,7 +65,7 @@ try() {
 try asks_for_none re_tests automata::stepping_takes_no_memory "folding and stepping"
 try goes_on re_tests cache::matchers_without_memory "a matcher that is made"
 try goes_on re_tests cache::searches_without_memory "searches of a matcher"
-try goes_on re_tests courses::parts_without_memory "parts of a line"
+try goes_on re_tests line_parts::parts_without_memory "parts of a line"
 try goes_on line_tests memory::splices_without_memory "splices of lines in chunks"
 try goes_on command_tests long_lines::lines_without_memory "lines"
 try goes_on command_tests memory::words_without_memory "words"

@@ -1,6 +1,7 @@
 // Compares the library with regexec of the C library and with RE2, in one run: calls per second by CPU time on lines of
 // 100 bytes, 10 KB and 1 MB, the time to compile, and the memory of what is compiled, before and after a search. Each
-// measurement has a process of its own; one that takes too long for one call is `-`. Two answers that differ are named.
+// measurement has a process of its own; one that takes too long for one call, or whose pattern is refused, is `-`. Two
+// answers that differ are named.
 //
 //     bench [SECONDS [calls|compile|memory]]     seconds for each measurement, 0.3; what is measured, all
 #include "gaxtrel.h"
@@ -42,7 +43,23 @@ struct Gaxtrel {
         gaxtrel_part part;
         return gaxtrel_find(&matcher, (const uint8_t *)line.data(), line.size(), 0, &part) == GAXTREL_YES;
     }
+    double parts(const std::string &line) {
+        gaxtrel_part first[8];
+        size_t count;
+        if (gaxtrel_parts(&matcher, (const uint8_t *)line.data(), line.size(), 0, first, 8, &count) > GAXTREL_YES)
+            abort();
+        return count;
+    }
 };
+
+// How many parts that are not empty a line has, by the next stretch from a place on.
+template <class Next> static double count_parts(size_t size, Next next) {
+    double count = 0;
+    size_t start = 0, end = 0;
+    for (size_t from = 0; from <= size && next(from, start, end); from = end > start ? end : end + 1)
+        count += end > start;
+    return count;
+}
 
 struct Regexec {
     regex_t expression;
@@ -54,6 +71,14 @@ struct Regexec {
     bool finds(const std::string &line) {
         regmatch_t part;
         return !regexec(&expression, line.c_str(), 1, &part, 0);
+    }
+    double parts(const std::string &line) {
+        return count_parts(line.size(), [&](size_t from, size_t &start, size_t &end) {
+            regmatch_t part;
+            if (regexec(&expression, line.c_str() + from, 1, &part, from ? REG_NOTBOL : 0)) return false;
+            start = from + part.rm_so, end = from + part.rm_eo;
+            return true;
+        });
     }
 };
 
@@ -78,7 +103,17 @@ struct Re2 {
         re2::StringPiece part;
         return expression.Match(line, 0, line.size(), RE2::UNANCHORED, &part, 1);
     }
+    double parts(const std::string &line) {
+        return count_parts(line.size(), [&](size_t from, size_t &start, size_t &end) {
+            re2::StringPiece part;
+            if (!expression.Match(line, from, line.size(), RE2::UNANCHORED, &part, 1)) return false;
+            start = part.data() - line.data(), end = start + part.size();
+            return true;
+        });
+    }
 };
+
+enum Asked { MATCHES, FINDS, PARTS };
 
 struct Result {
     double first, second; // a rate or a size, and a count of matched lines or another size
@@ -117,12 +152,14 @@ template <class Call> static double rate(Call call) {
     return done / spent;
 }
 
-template <class Matcher, bool FINDS> static Result calls(const char *pattern, const std::vector<std::string> &lines) {
+template <class Matcher, Asked ASKED> static Result calls(const char *pattern, const std::vector<std::string> &lines) {
     return apart([&] {
         Matcher matcher(pattern);
         double matched = 0;
         size_t next = 0;
-        auto ask = [&](const std::string &line) { return FINDS ? matcher.finds(line) : matcher.matches(line); };
+        auto ask = [&](const std::string &line) -> double {
+            return ASKED == PARTS ? matcher.parts(line) : ASKED == FINDS ? matcher.finds(line) : matcher.matches(line);
+        };
         for (auto &line : lines) matched += ask(line);
         return Result{rate([&] { ask(lines[next++ % lines.size()]); }), matched};
     });
@@ -171,10 +208,10 @@ static void show(double number) {
         printf("%10.0f", number);
 }
 
-template <bool FINDS>
+template <Asked ASKED>
 static void compare(const char *call, const char *name, const char *pattern, const std::vector<std::string> &lines) {
-    Result own = calls<Gaxtrel, FINDS>(pattern, lines), libc = calls<Regexec, FINDS>(pattern, lines),
-           re2 = calls<Re2, FINDS>(pattern, lines);
+    Result own = calls<Gaxtrel, ASKED>(pattern, lines), libc = calls<Regexec, ASKED>(pattern, lines),
+           re2 = calls<Re2, ASKED>(pattern, lines);
     printf("%-8s %-8s %-32s %8zu", call, name, pattern, lines[0].size());
     show(own.first), show(libc.first), show(re2.first);
     printf("   / RE2 %5.2f%s\n", re2.first ? own.first / re2.first : 0,
@@ -185,6 +222,7 @@ static void compare(const char *call, const char *name, const char *pattern, con
 static const char *const ordinary[] = {"error: [a-z]+ [0-9]{3}", "[0-9]{3} ?[a-f]+[x-z]", "disk|error|fatal",
                                        "[a-z]+: [a-z]+$", "z$"};
 static const char *const hostile[] = {"(a*)*b", "(a|aa)*a{20}c", "(.*)(.*)(.*)(.*)[bc]", "(a?){50}a{50}b"};
+static const char *const hostile_parts[] = {"(a{250}){16}[b-d]|(a{25}){2}x", "a|a*[bc]", "(a|aa)*a{20}c"};
 static const char *const mixed[] = {"^(a|b)*a(a|b){20}[cd]$", "(a|b)*a(a|b){12}aa[cd]"};
 static const char *const small[] = {"abc",
                                     "^a.*z$",
@@ -203,10 +241,12 @@ static void compare_calls() {
         size_t lines = size < 1000 ? 200 : size < 100000 ? 20 : 10;
         auto log = log_lines(size, lines), ab = mixed_lines(size, size < 100000 ? lines / 10 + 1 : 2);
         std::vector<std::string> same(1, std::string(size, 'a'));
-        for (auto pattern : ordinary) compare<false>("is_match", "ordinary", pattern, log);
-        for (auto pattern : ordinary) compare<true>("find", "ordinary", pattern, log);
-        for (auto pattern : hostile) compare<false>("is_match", "hostile", pattern, same);
-        for (auto pattern : mixed) compare<false>("is_match", "hostile", pattern, ab);
+        for (auto pattern : ordinary) compare<MATCHES>("is_match", "ordinary", pattern, log);
+        for (auto pattern : ordinary) compare<FINDS>("find", "ordinary", pattern, log);
+        for (auto pattern : ordinary) compare<PARTS>("parts", "ordinary", pattern, log);
+        for (auto pattern : hostile) compare<MATCHES>("is_match", "hostile", pattern, same);
+        for (auto pattern : mixed) compare<MATCHES>("is_match", "hostile", pattern, ab);
+        for (auto pattern : hostile_parts) compare<PARTS>("parts", "hostile", pattern, same);
     }
 }
 

@@ -113,8 +113,12 @@ static int parts(void) {
     memset(line, 'a', sizeof line);
     CHECK(60, gaxtrel_compile(&m, P("a|a*[bc]"), GAXTREL_EXTENDED, false, false, &fault) == GAXTREL_OK);
     CHECK(61, gaxtrel_parts(&m, line, sizeof line, 0, found, 4, &count) == GAXTREL_YES && count == sizeof line);
-    CHECK(62, m.work.refused == 0 && steps(&m) <= 4 * (sizeof line + 1) && m.work.passed <= 4 * (sizeof line + 1));
+    CHECK(62, steps(&m) <= sizeof line + 1 && m.work.passed <= sizeof line + 1);
     CHECK(63, found[3].start == 3 && found[3].end == 4);
+    CHECK(64, gaxtrel_compile_lines(&m, P("a\na*[bc]"), GAXTREL_EXTENDED, false, false, &fault) == GAXTREL_OK);
+    CHECK(65, gaxtrel_parts(&m, line, sizeof line, 1, found, 4, &count) == GAXTREL_YES && count == sizeof line - 1);
+    CHECK(66, steps(&m) <= 2 * (sizeof line + 1) && m.work.passed <= 2 * (sizeof line + 1));
+    CHECK(67, gaxtrel_parts(&m, line, sizeof line, SIZE_MAX, found, 4, &count) == GAXTREL_NO && steps(&m) == 0);
     gaxtrel_free(&m);
     return 0;
 }
@@ -152,13 +156,15 @@ static int lines(void) {
 static int hostile(void) {
     static const char *const patterns[] = {
         "(a*)*[bc]",      "(a|aa)*[bc]",           "^(a|b)*a(a|b){20}[cd]$", "(a{1,30}){1,30}[bc]",
-        "(a?){50}a{50}b", "(.*)(.*)(.*)(.*)[bc]$", "(((((a*)*)*)*)*)*[^a]"};
+        "(a?){50}a{50}b", "(.*)(.*)(.*)(.*)[bc]$", "(((((a*)*)*)*)*)*[^a]",   "(a{250}){16}[b-d]|(a{25}){2}x",
+        "a|a*[bc]"};
     static uint8_t line[5000];
     for (size_t i = 0; i < sizeof line; i++) line[i] = "aaaaaaab"[i * i % 8];
     for (size_t k = 0; k < sizeof patterns / sizeof *patterns; k++) {
         gaxtrel_matcher m = GAXTREL_NONE;
         gaxtrel_fault fault;
         gaxtrel_part part;
+        size_t count;
         CHECK(90, gaxtrel_compile(&m, (const uint8_t *)patterns[k], strlen(patterns[k]), GAXTREL_EXTENDED, false, false,
                                   &fault) == GAXTREL_OK);
         for (size_t size = 0; size <= sizeof line; size = 2 * size + 13) {
@@ -166,6 +172,8 @@ static int hostile(void) {
             CHECK(92, steps(&m) <= size + 1 && m.work.passed <= size + 1);
             CHECK(93, gaxtrel_find(&m, line, size, 0, &part) <= GAXTREL_YES);
             CHECK(94, steps(&m) <= size + 1 && m.work.passed <= size + 1);
+            CHECK(95, gaxtrel_parts(&m, line, size, 0, &part, 1, &count) <= GAXTREL_YES);
+            CHECK(96, steps(&m) <= size + 1 && m.work.passed <= size + 1);
         }
         gaxtrel_free(&m);
     }

@@ -64,13 +64,11 @@ class Error(ValueError):
 
 
 class Work(NamedTuple):
-    """What a call took: steps that were computed, steps that a cache knew, bytes that were passed,
-    and how often memory that saves work was refused."""
+    """What a call took: steps that were computed, steps that a cache knew, bytes that were passed."""
 
     built: int
     reused: int
     passed: int
-    refused: int
 
 
 class Match:
@@ -213,7 +211,9 @@ class Pattern(_Held):
     def _ask(self, call: _Call, *words: Any) -> bool:
         """The answer of a call; a closed pattern has none."""
         answer = call(self._at, *words)
-        if answer > 1:
+        if answer == 2:
+            raise MemoryError
+        if answer > 2:
             raise ValueError("the pattern is closed")
         return answer == 1
 
@@ -232,7 +232,8 @@ class Pattern(_Held):
 
     def finditer(self, line: bytes, start: int = 0) -> Iterator[Match]:
         """All parts of the line from a place on, each searched from the end of the one before.
-        They are found at once, in time linear in the line."""
+        They are found at once, in time linear in the line; where memory for that is refused it
+        raises a `MemoryError`."""
         count, room = ctypes.c_size_t(), min(len(_bytes(line)), _FIRST_ROOM)
         while True:
             parts = (_Part * room)()
@@ -280,7 +281,7 @@ class Session(_Held):
 
     def __init__(self, states: int = 256) -> None:
         super().__init__(_Session(), _close)
-        self._work = Work(0, 0, 0, 0)
+        self._work = Work(0, 0, 0)
         if not 1 <= states <= 65536:
             raise ValueError(f"{states} states")
         if _open(self._at, states):

@@ -172,13 +172,15 @@ fn searches_without_memory(rt: HostRuntime) -> Result<(), Fail> {
 }
 
 /// A search of a file whose second line needs memory, and how many lines may be done where it is
-/// out of memory: none where the buffer is refused, and else those before the line that is refused.
-static DONE: [(&str, &[u64]); 5] = [
+/// out of memory: none where the buffer is refused, and else those before the line that is refused,
+/// or whose parts are.
+static DONE: [(&str, &[u64]); 6] = [
     ("-c b h", &[0, 1]),
     ("-vc b h", &[0, 1]),
     ("-q c h", &[0, 1]),
     ("-l c h", &[0, 1]),
     ("-B 1 c h", &[0, 1, 2]),
+    ("-o c h", &[0, 1, 2]),
 ];
 
 /// Refuses each request of a search in turn; how many lines were done never falls.

@@ -1,7 +1,6 @@
 -- the machine values of what owns a box by its pointer
 pub mod Values
 pub mod HandleValues
-pub mod LiveValues
 -- lemmas by subject; the answers to goals of functions lie in folders of their modules
 pub mod PartLemmas
 pub mod TextLemmas

@@ -1,13 +1,14 @@
 -- The parts of a line, one more at a time, over an array.
-use Rattle.std.proofs.Common.{◌≡◌, ◌∙◌, ℕ, ◌+◌, ◌<◌, ◌≤◌, Bool, List, [], ◌∷◌, ◌++◌, inl, inr, length, set, refl, sym, ap, subst, arith, append-nil, append_assoc, suc}
+use Rattle.std.proofs.Common.{◌≡◌, ◌∙◌, ℕ, ◌+◌, ◌*◌, ◌<◌, ◌≤◌, List, [], ◌∷◌, ◌++◌, inl, inr, length, set, refl, sym, ap, subst, arith, append-nil, append_assoc, suc}
 use Rattle.std.proofs.lemmas.Bool.{cases_lt}
 use Rattle.std.proofs.lemmas.List.{length_push}
 use Rattle.re_syntax.specs.Bytes.{Text}
-use Rattle.re_syntax.specs.Expression.{Expression}
 use Rattle.re_syntax.specs.Parts.{IsFound, IsPart, ArePartsFrom}
 use Rattle.re_trees.specs.declared.span.Span.{Span}
+use Rattle.re_meter.specs.Meters.{Steps, AddsAtMost}
+use Rattle.re_search.specs.Working.Sought.{Sought}
 use Rattle.gaxtrel.specs.declared.part.GaxtrelPart.{GaxtrelPart}
-use Rattle.gaxtrel.specs.Calls.{part_at, put_over}
+use Rattle.gaxtrel.specs.Calls.{PutsParts, part_at, put_over}
 
 -- the array stays as long as it is
 pub length-put_over : (places : List (ℕ × ℕ)) (old : List GaxtrelPart) → length (put_over places old) ≡ length old
@@ -29,7 +30,11 @@ put_past [] place (part ∷ old) full = absurd (let no : ⊥ = omega (arith, ful
 put_past (d ∷ done) place [] full = refl
 put_past (d ∷ done) place (part ∷ old) full = ap (λ l. part_at d ∷ l) (put_past done place old (omega (arith, full)))
 
-module _ (es : List Expression) (line : Text) (whole : Bool) where
+-- one turn of as many matchers
+pub goes_on_by : (m n before after : ℕ) (first old new : Steps) → m ≡ n → ((begun : Steps) → AddsAtMost (m * before) begun old → AddsAtMost (m * after) begun new) → AddsAtMost (n * before) first old → AddsAtMost (n * after) first new
+goes_on_by m n before after first old new many turn = subst (λ k. AddsAtMost (k * before) first old → AddsAtMost (k * after) first new) many (turn first)
+
+module _ (sought : Sought) (line : Text) where
   -- `count` parts were found from a place on, and were written over an array
   pub record PartsSoFar (from at count : ℕ) (old now : List GaxtrelPart) : Type 0 where
     pub done : List (ℕ × ℕ)
@@ -37,13 +42,13 @@ module _ (es : List Expression) (line : Text) (whole : Bool) where
     pub few : from + count ≤ at
     pub on_line : at ≤ length line
     pub written : now ≡ put_over done old
-    pub goes_on : (rest : List (ℕ × ℕ)) → ArePartsFrom es line whole at rest → ArePartsFrom es line whole from (done ++ rest)
+    pub goes_on : (rest : List (ℕ × ℕ)) → ArePartsFrom sought.expressions line sought.whole at rest → ArePartsFrom sought.expressions line sought.whole from (done ++ rest)
 
   pub none_yet : (from : ℕ) (old : List GaxtrelPart) → from ≤ length line → PartsSoFar from from 0 old old
   none_yet from old on = record { done = []; counted = refl; few = omega arith; on_line = on; written = refl; goes_on = λ rest are. are }
 
   -- one part more
-  pub one_more : (from at count : ℕ) (old mid now : List GaxtrelPart) (span : Span) → PartsSoFar from at count old mid → IsPart es line whole at span.start span.end
+  pub one_more : (from at count : ℕ) (old mid now : List GaxtrelPart) (span : Span) → PartsSoFar from at count old mid → IsPart sought.expressions line sought.whole at span.start span.end
       → (count < length mid → now ≡ set mid count (part_at (span.start, span.end))) → (length mid ≤ count → now ≡ mid) → PartsSoFar from span.end (count + 1) old now
   one_more from at count old mid now span s p put full =
       let place : ℕ × ℕ = (span.start, span.end) in
@@ -58,10 +63,10 @@ module _ (es : List Expression) (line : Text) (whole : Bool) where
         few = omega (arith, s.few, p.found.begins, p.found.not_empty);
         on_line = p.found.on_line;
         written = written;
-        goes_on = λ rest are. subst (ArePartsFrom es line whole from) (sym (append_assoc s.done (place ∷ []) rest)) (s.goes_on (place ∷ rest) (p, are));
+        goes_on = λ rest are. subst (ArePartsFrom sought.expressions line sought.whole from) (sym (append_assoc s.done (place ∷ []) rest)) (s.goes_on (place ∷ rest) (p, are));
       }
 
   -- there is none more
-  pub none_more : (from at count : ℕ) (old now : List GaxtrelPart) → PartsSoFar from at count old now → ((i j : ℕ) → IsFound es line whole at i j → ⊥)
-      → (all : List (ℕ × ℕ)) × ArePartsFrom es line whole from all × (count ≡ length all) × (now ≡ put_over all old)
-  none_more from at count old now s none = (s.done, subst (ArePartsFrom es line whole from) (append-nil s.done) (s.goes_on [] none), s.counted, s.written)
+  pub none_more : (from at count : ℕ) (old now : List GaxtrelPart) → PartsSoFar from at count old now → ((i j : ℕ) → IsFound sought.expressions line sought.whole at i j → ⊥)
+      → PutsParts sought line from old now count
+  none_more from at count old now s none = (s.done, subst (ArePartsFrom sought.expressions line sought.whole from) (append-nil s.done) (s.goes_on [] none), s.counted, s.written)

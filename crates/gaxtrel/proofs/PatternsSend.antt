@@ -1,8 +1,7 @@
 -- Patterns may go to another thread.
 use denote.Param.Send.{IsSend, sendable}
 use Rattle.re_auto.proofs.tables.Tables.TheSendSync as tables
-use Rattle.re_match.below.re_ends.proofs.back.EndPair.TheSendSync as back
-use Rattle.re_match.below.re_steps.proofs.least.StartPair.TheSendSync as least
+use Rattle.re_match.below.re_ends.proofs.table.EndTable.TheSendSync as ends
 use Rattle.re_match.below.re_steps.proofs.sets.SetPair.TheSendSync as sets
 use Rattle.re_match.below.re_steps.proofs.table.StepTable.TheSendSync as table
 use Rattle.re_match.proofs.prefilter.Prefilter.TheSendSync as prefilter
@@ -23,8 +22,7 @@ cached : IsSend cached_row.the_row
 cached =
     search (
       tables.the_field_send,
-      back.the_field_send,
-      least.the_field_send,
+      ends.the_field_send,
       sets.the_field_send,
       table.the_field_send,
       prefilter.the_field_send,

@@ -1,21 +1,28 @@
 -- The lines of a text are those of its whole lines and then the last one, if that lacks its newline.
-use Rattle.std.proofs.Common.{◌≡◌, ◌∙◌, ℕ, ◌+◌, ◌-◌, ◌*◌, ◌<◌, ◌≤◌, List, [], ◌∷◌, ◌++◌, All, Option, Some, None, inl, inr, length, take, drop, refl, sym, ap, subst, arith, append_assoc, length-append, length-drop}
+use Rattle.std.proofs.Common.{◌≡◌, ◌∙◌, ℕ, ◌+◌, ◌-◌, ◌*◌, ◌<◌, ◌≤◌, Bool, List, [], ◌∷◌, ◌++◌, All, Option, Some, None, inl, inr, length, map, take, drop, refl, sym, ap, subst, arith, mul-le-mul_left, append_assoc, length-append, length-drop}
 use Rattle.std.specs.Bool.{⊤}
 use Rattle.std.proofs.Math.Seq.{take-append_seam}
-use Rattle.std.proofs.lemmas.List.{drop_all}
+use Rattle.std.proofs.lemmas.List.{drop_all, length-take-le, take_rest}
 use Rattle.std.proofs.lemmas.List.Elements.{All-append, All-cons, All-nil}
 use Rattle.re_syntax.specs.Bytes.{Text}
+use Rattle.re_syntax.specs.Expression.{Expression}
 use Rattle.re_syntax.specs.Lines.{HasNoNewline, newline, terminated, lines_of}
 use Rattle.re_trees.specs.declared.span.Span.{Span}
 use Rattle.re_syntax.proofs.lemmas.LinesLaws.{lines_of-last, lines_of-terminated}
 use Rattle.re_syntax.proofs.lemmas.SplittingLaws.{lines_of-empty}
 use Rattle.re_meter.specs.Meters.{Steps, AddsAtMost}
-use Rattle.re_meter.proofs.lemmas.Adding.{adds_both, adds_none}
+use Rattle.re_meter.proofs.lemmas.Adding.{adds_both, adds_none, adds_within}
 use Rattle.re_runs.specs.Working.Blocks.{FindsNext, HoldsOfMany, IsBlock, IsNext, PassesAll}
 use Rattle.re_runs.proofs.lemmas.NextLines.{left_after, lines_of-beyond}
-use Rattle.re_search.specs.Working.Sought.{FindsSought, IsSought, Sought}
+use Rattle.re_search.specs.declared.searchers.Searchers.{Searchers}
+use Rattle.re_search.specs.Working.Searchers.{sought_by}
+use Rattle.re_search.specs.Working.Sought.{CountsSought, FindsSought, IsSought, Sought}
 use Rattle.grep_core.proofs.lemmas.CountedLines.{many_within}
-use Rattle.gaxtrel.specs.Calls.{FindsLine, bytes_to_next, moved}
+use Rattle.gaxtrel.specs.Calls.{FindsLine, bytes_to_next, line_cost, moved}
+
+-- what matchers that are asked together search for
+pub sought_is : {M : Type 0} {g : _} (e : M → Expression) (s : Searchers M g) {ms : List M} {whole : Bool} → s.matchers.now ≡ ms → s.whole ≡ whole → sought_by e s ≡ record { expressions = map e ms; whole = whole }
+sought_is e s same same_whole = λ i. record { expressions = map e (same i); whole = same_whole i }
 
 -- ---- lines that are found and counted in a longer list
 
@@ -88,53 +95,80 @@ module _ (text : Text) (cut : ℕ) (passed : PassesAll (λ _. ⊤) text cut) whe
   and_last : HasNoNewline (drop cut text) → cut < length text → lines_of text ≡ lines_of (take cut text) ++ drop cut text ∷ []
   and_last free below = all_lines ∙ ap (λ l. lines_of (take cut text) ++ l) (one_line (drop cut text) free (omega (arith, below, length-drop cut text)))
 
-  module _ (P : Text → Type 0) where
-    pub next_in_front : (at : Span) → FindsNext P (lines_of (take cut text)) (Some at) → FindsNext P (lines_of text) (Some at)
-    next_in_front at found = subst (λ l. IsNext P l at) (sym all_lines) (found_before P (lines_of (take cut text)) (lines_of (drop cut text)) at found)
+  -- the whole lines are searched for what is asked, which is what is sought
+  module _ (asked sought : Sought) (known : asked ≡ sought) where
+    found_in : (found : Option Span) → FindsSought asked (lines_of (take cut text)) found → FindsSought sought (lines_of (take cut text)) found
+    found_in found = subst (λ q. FindsSought q (lines_of (take cut text)) found) known
 
-    pub none_in_front : length text ≤ cut → FindsNext P (lines_of (take cut text)) None → FindsNext P (lines_of text) None
-    none_in_front past none = subst (All (λ line. ¬ P line)) (sym (all_ended past)) (All-append (λ line. ¬ P line) (lines_of (take cut text)) [] none (All-nil (λ line. ¬ P line)))
+    none_with : (rest : List Text) → lines_of text ≡ lines_of (take cut text) ++ rest → FindsSought asked (lines_of (take cut text)) None → All (λ line. ¬ IsSought sought line) rest → FindsSought sought (lines_of text) None
+    none_with rest are none others = subst (All (λ line. ¬ IsSought sought line)) (sym are) (All-append (λ line. ¬ IsSought sought line) (lines_of (take cut text)) rest (found_in None none) others)
 
-    pub next_at_last : HasNoNewline (drop cut text) → cut < length text → FindsNext P (lines_of (take cut text)) None → P (drop cut text) → FindsNext P (lines_of text) (Some (record { start = cut; end = length text }))
-    next_at_last free below none holds =
-        let starts : cut ≡ length (terminated (lines_of (take cut text))) = passed.5 ∙ ap (λ l. length (terminated l)) (sym front_lines) in
-        subst (λ l. IsNext P l (record { start = cut; end = length text })) (sym (and_last free below))
-        (found_last P (lines_of (take cut text)) (drop cut text) (record { start = cut; end = length text }) none holds starts (omega (arith, below, length-drop cut text)))
+    counted_with : (rest : List Text) (n m : ℕ) → lines_of text ≡ lines_of (take cut text) ++ rest → CountsSought asked (lines_of (take cut text)) n → CountsSought sought rest m → CountsSought sought (lines_of text) (n + m)
+    counted_with rest n m are counted others = subst (λ l. CountsSought sought l (n + m)) (sym are) (counted_before (IsSought sought) (lines_of (take cut text)) rest n m (subst (λ q. CountsSought q (lines_of (take cut text)) n) known counted) others)
 
-    pub none_at_last : HasNoNewline (drop cut text) → cut < length text → FindsNext P (lines_of (take cut text)) None → (P (drop cut text) → ⊥) → FindsNext P (lines_of text) None
-    none_at_last free below none not =
-        subst (All (λ line. ¬ P line)) (sym (and_last free below)) (All-append (λ line. ¬ P line) (lines_of (take cut text)) (drop cut text ∷ []) none (All-cons (λ line. ¬ P line) (drop cut text) [] not (All-nil (λ line. ¬ P line))))
+    pub next_in_front : (at : Span) → FindsSought asked (lines_of (take cut text)) (Some at) → FindsSought sought (lines_of text) (Some at)
+    next_in_front at found = subst (λ l. IsNext (IsSought sought) l at) (sym all_lines) (found_before (IsSought sought) (lines_of (take cut text)) (lines_of (drop cut text)) at (found_in (Some at) found))
 
-    pub counts_front : (n : ℕ) → length text ≤ cut → HoldsOfMany P (lines_of (take cut text)) n → HoldsOfMany P (lines_of text) n
-    counts_front n past counted =
-        let same : n + 0 ≡ n = omega arith in
-        subst (HoldsOfMany P (lines_of text)) same (subst (λ l. HoldsOfMany P l (n + 0)) (sym (all_ended past)) (counted_before P (lines_of (take cut text)) [] n 0 counted refl))
+    pub none_in_front : length text ≤ cut → FindsSought asked (lines_of (take cut text)) None → FindsSought sought (lines_of text) None
+    none_in_front past none = none_with [] (all_ended past) none (All-nil (λ line. ¬ IsSought sought line))
 
-    pub counts_last : (n : ℕ) → HasNoNewline (drop cut text) → cut < length text → P (drop cut text) → HoldsOfMany P (lines_of (take cut text)) n → HoldsOfMany P (lines_of text) (n + 1)
-    counts_last n free below holds counted =
-        subst (λ l. HoldsOfMany P l (n + 1)) (sym (and_last free below)) (counted_before P (lines_of (take cut text)) (drop cut text ∷ []) n 1 counted (0, refl, inl (holds, refl)))
-
-    pub counts_without : (n : ℕ) → HasNoNewline (drop cut text) → cut < length text → (P (drop cut text) → ⊥) → HoldsOfMany P (lines_of (take cut text)) n → HoldsOfMany P (lines_of text) n
-    counts_without n free below not counted =
-        let same : n + 0 ≡ n = omega arith in
-        subst (HoldsOfMany P (lines_of text)) same (subst (λ l. HoldsOfMany P l (n + 0)) (sym (and_last free below)) (counted_before P (lines_of (take cut text)) (drop cut text ∷ []) n 0 counted (0, refl, inr (not, refl))))
+    pub counts_front : (n : ℕ) → length text ≤ cut → CountsSought asked (lines_of (take cut text)) n → CountsSought sought (lines_of text) n
+    counts_front n past counted = let same : n + 0 ≡ n = omega arith in subst (CountsSought sought (lines_of text)) same (counted_with [] n 0 (all_ended past) counted refl)
 
     -- there are no more of them than bytes
-    pub few_counted : (n : ℕ) → HoldsOfMany P (lines_of (take cut text)) n → n ≤ cut
-    few_counted n counted = omega (arith, many_within P (lines_of (take cut text)) n counted, ap length front_lines, few_lines passed.0, passed.5)
+    pub few_counted : (n : ℕ) → CountsSought asked (lines_of (take cut text)) n → n ≤ cut
+    few_counted n counted = omega (arith, many_within (IsSought asked) (lines_of (take cut text)) n counted, ap length front_lines, few_lines passed.0, passed.5)
 
--- ---- what the search of a text takes
+    -- the search takes no more than one search of the text
+    pub front_cost : (old new : Steps) → AddsAtMost (length asked.expressions * length (take cut text)) old new → AddsAtMost (line_cost (length sought.expressions) text) old new
+    front_cost old new few =
+        let most = mul-le-mul_left (length sought.expressions) (omega (arith, cut_within, length-take-le cut text cut_within)) in
+        adds_within _ _ _ _ old new most most (subst (λ q. AddsAtMost (length q.expressions * length (take cut text)) old new) known few)
 
--- and then the last line
-pub last_cost : (n m cut front rest long : ℕ) (old mid new : Steps) → m ≡ n → front ≡ cut → rest ≡ long - cut → cut ≤ long → AddsAtMost (n * front) old mid → AddsAtMost (m * (rest + 1)) mid new → AddsAtMost (n * (long + 1)) old new
-last_cost n m cut front rest long old mid new many whole left within first then =
-    let sum : cut + (long - cut) ≡ long = omega (arith, within) in
-    let both : n * front + m * (rest + 1) ≡ n * (long + 1) =
-    ap (λ k. n * front + k * (rest + 1)) many ∙ ap (λ f. n * f + n * (rest + 1)) whole ∙ ap (λ r. n * cut + n * (r + 1)) left ∙ grouped n cut (long - cut) ∙ ap (λ k. n * (k + 1)) sum in
-    subst (λ k. AddsAtMost k old new) both (adds_both (n * front) (m * (rest + 1)) (n * front) (m * (rest + 1)) old mid new first then)
-  where
-    grouped : (k a b : ℕ) → k * a + k * (b + 1) ≡ k * (a + b + 1)
-    grouped k a b = omega arith
+    -- and then the last line
+    module _ (now : Sought) (same : now ≡ asked) where
+      abbrev pub last_line : Text
+      last_line = take (length text - cut) (drop cut text)
+
+      last_is : ◌≡◌ {A = Sought × Text} (now, last_line) (sought, drop cut text)
+      last_is i = ((same ∙ known) i, take_rest text cut i)
+
+      last_sought : IsSought now last_line → IsSought sought (drop cut text)
+      last_sought = subst (λ (p : Sought × Text). IsSought p.0 p.1) last_is
+
+      last_unsought : (IsSought now last_line → ⊥) → ¬ IsSought sought (drop cut text)
+      last_unsought not = subst (λ (p : Sought × Text). ¬ IsSought p.0 p.1) last_is not
+
+      pub next_at_last : HasNoNewline (drop cut text) → cut < length text → FindsSought asked (lines_of (take cut text)) None → IsSought now last_line → FindsSought sought (lines_of text) (Some (record { start = cut; end = length text }))
+      next_at_last free below none holds =
+          let starts : cut ≡ length (terminated (lines_of (take cut text))) = passed.5 ∙ ap (λ l. length (terminated l)) (sym front_lines) in
+          subst (λ l. IsNext (IsSought sought) l (record { start = cut; end = length text })) (sym (and_last free below))
+          (found_last (IsSought sought) (lines_of (take cut text)) (drop cut text) (record { start = cut; end = length text }) (found_in None none) (last_sought holds) starts (omega (arith, below, length-drop cut text)))
+
+      pub none_at_last : HasNoNewline (drop cut text) → cut < length text → FindsSought asked (lines_of (take cut text)) None → (IsSought now last_line → ⊥) → FindsSought sought (lines_of text) None
+      none_at_last free below none not =
+          none_with (drop cut text ∷ []) (and_last free below) none (All-cons (λ line. ¬ IsSought sought line) (drop cut text) [] (last_unsought not) (All-nil (λ line. ¬ IsSought sought line)))
+
+      pub counts_last : (n : ℕ) → HasNoNewline (drop cut text) → cut < length text → IsSought now last_line → CountsSought asked (lines_of (take cut text)) n → CountsSought sought (lines_of text) (n + 1)
+      counts_last n free below holds counted = counted_with (drop cut text ∷ []) n 1 (and_last free below) counted (0, refl, inl (last_sought holds, refl))
+
+      pub counts_without : (n : ℕ) → HasNoNewline (drop cut text) → cut < length text → (IsSought now last_line → ⊥) → CountsSought asked (lines_of (take cut text)) n → CountsSought sought (lines_of text) n
+      counts_without n free below not counted =
+          let one : n + 0 ≡ n = omega arith in
+          subst (CountsSought sought (lines_of text)) one (counted_with (drop cut text ∷ []) n 0 (and_last free below) counted (0, refl, inr (last_unsought not, refl)))
+
+      pub last_cost : (old mid new : Steps) → AddsAtMost (length asked.expressions * length (take cut text)) old mid → AddsAtMost (line_cost (length now.expressions) last_line) mid new → AddsAtMost (line_cost (length sought.expressions) text) old new
+      last_cost old mid new first then =
+          let n = length sought.expressions in
+          let sum : cut + (length text - cut) ≡ length text = omega (arith, cut_within) in
+          let front : length (take cut text) ≡ cut = length-take-le cut text cut_within in
+          let rest : length last_line ≡ length text - cut = ap length (take_rest text cut) ∙ length-drop cut text in
+          let both : length asked.expressions * length (take cut text) + length now.expressions * (length last_line + 1) ≡ n * (length text + 1) =
+          (λ i. length ((known i).expressions) * front i + length (((same ∙ known) i).expressions) * (rest i + 1)) ∙ grouped n cut (length text - cut) ∙ ap (λ k. n * (k + 1)) sum in
+          subst (λ k. AddsAtMost k old new) both (adds_both _ _ _ _ old mid new first then)
+        where
+          grouped : (k a b : ℕ) → k * a + k * (b + 1) ≡ k * (a + b + 1)
+          grouped k a b = omega arith
 
 -- past its end a text has no line
 pub none_past : (sought : Sought) (text : Text) (from : ℕ) (steps : Steps) → length text ≤ from → FindsLine sought text from None steps steps
@@ -146,11 +180,11 @@ none_past sought text from steps past = record {
 }
 
 -- what is found in the rest of a text
-pub line_found : (sought : Sought) (text rest : Text) (from : ℕ) (found place : Option Span) (old new : Steps) → rest ≡ drop from text → place ≡ moved from found → FindsSought sought (lines_of rest) found
-    → AddsAtMost (length sought.expressions * bytes_to_next rest found) old new → FindsLine sought text from place old new
-line_found sought text rest from found place old new is at finds few = record {
+pub line_found : (now sought : Sought) (text rest : Text) (from : ℕ) (found : Option Span) (old new : Steps) → now ≡ sought → rest ≡ drop from text → FindsSought now (lines_of rest) found
+    → AddsAtMost (length now.expressions * bytes_to_next rest found) old new → FindsLine sought text from (moved from found) old new
+line_found now sought text rest from found old new same is finds few = record {
   found = found;
-  finds = subst (λ r. FindsSought sought (lines_of r) found) is finds;
-  is_place = at;
-  few = subst (λ r. AddsAtMost (length sought.expressions * bytes_to_next r found) old new) is few;
+  finds = subst (λ (p : Sought × Text). FindsSought p.0 (lines_of p.1) found) (λ i. (same i, is i)) finds;
+  is_place = refl;
+  few = subst (λ (p : Sought × Text). AddsAtMost (length (p.0).expressions * bytes_to_next p.1 found) old new) (λ i. (same i, is i)) few;
 }

@@ -7,9 +7,9 @@ use Rattle.re_syntax.specs.declared.fault.FaultKind.{FaultKind}
 use Rattle.re_syntax.specs.declared.fault.FaultKind.TheVariants as f
 use Rattle.re_trees.specs.declared.span.Span.{Span}
 use Rattle.re_syntax.specs.Lines.{lines_of}
+use Rattle.re_syntax.specs.Parts.{ArePartsFrom}
 use Rattle.re_syntax.specs.Profile.{most_patterns}
-use Rattle.re_meter.specs.Meters.{Steps, Adds, AddsAtMost}
-use Rattle.re_auto.specs.Searches.{searches_for}
+use Rattle.re_meter.specs.Meters.{Steps, AddsAtMost}
 use Rattle.re_search.specs.Working.Sought.{FindsSought, Sought}
 use Rattle.gaxtrel.specs.declared.numbers.GaxtrelFault.{GaxtrelFault}
 use Rattle.gaxtrel.specs.declared.part.GaxtrelPart.{GaxtrelPart}
@@ -59,23 +59,11 @@ put_over (place ∷ places) (part ∷ old) = part_at place ∷ put_over places o
 -- the work of one call, as a meter counts it
 abbrev pub steps_of : GaxtrelWork → Steps
 steps_of work =
-    record {
-      built = work.built;
-      reused = work.reused;
-      passed = work.passed;
-      refused = work.refused;
-    }
+    record { built = work.built; reused = work.reused; passed = work.passed }
 
 -- a search of a line by so many matchers
 abbrev pub line_cost : ℕ → Text → ℕ
 line_cost matchers line = matchers * (length line + 1)
-
--- the search for so many parts of a line: that of no more than four searches of the line, unless
--- memory for the places of the parts was refused
-abbrev pub TakesParts : ℕ → Text → ℕ → Steps → Steps → Type 0
-TakesParts matchers line parts old new =
-    (refusals : ℕ) × Adds (searches_for refusals (parts + 1) * line_cost matchers line)
-    (searches_for refusals (parts + 1) * line_cost matchers line) refusals old new
 
 -- a search for the next line of a text: up to the end of that line; without one the whole text
 abbrev pub bytes_to_next : Text → Option Span → ℕ
@@ -88,6 +76,12 @@ bytes_to_next text (Some place) = place.end + 1
 abbrev pub Tells : ℕ → GaxtrelPart → Option Span → Type 0
 Tells answer part None = answer ≡ 0
 Tells answer part (Some span) = (answer ≡ 1) × (part ≡ part_at (span.start, span.end))
+
+-- so many parts that a line has from a place on are all, and were written over an array in order
+abbrev pub PutsParts : Sought → Text → ℕ → List GaxtrelPart → List GaxtrelPart → ℕ → Type 0
+PutsParts sought line from old new count =
+    (all : List (ℕ × ℕ)) × ArePartsFrom sought.expressions line sought.whole from all
+    × (count ≡ length all) × (new ≡ put_over all old)
 
 -- a place further on
 abbrev pub moved : ℕ → Option Span → Option Span

@@ -2,6 +2,5 @@
 pub mod Kept
 pub mod Held
 pub mod Live
-pub mod LiveHeld
 -- what the calls of the library take and answer
 pub mod Calls

@@ -1,5 +1,5 @@
 //! The calls that make a matcher, and the one that frees it.
-ghost use Rattle.std.specs.Prelude.{◌≡◌, ◌≤◌, ◌<◌, ◌↔◌, [], ◌∷◌, List, All, None, length};
+ghost use Rattle.std.specs.Prelude.{◌≡◌, ◌≤◌, ◌<◌, ◌↔◌, ◌⊎◌, [], ◌∷◌, List, All, None, Some, length};
 ghost use Rattle.std.specs.List.{AllZip};
 ghost use Rattle.re_syntax.specs.declared.syntax.Syntax.{Syntax};
 ghost use Rattle.re_syntax.specs.declared.fault.PatternFault.{PatternFault};
@@ -52,13 +52,7 @@ pub extern "C" fn gaxtrel_compile(
         return 3;
     };
     match Patterns::of_text(alloc, pattern, syntax, fold, whole) {
-        Ok(made) => match Box::new(alloc, made) {
-            Ok(boxed) => {
-                *matcher = GaxtrelMatcher::of(boxed, &fresh_meter());
-                0
-            }
-            Err(_) => 2,
-        },
+        Ok(made) => hold(alloc, made, matcher),
         Err(refused) => {
             if matches!(refused.kind, FaultKind::Memory) {
                 return 2;
@@ -108,13 +102,7 @@ pub extern "C" fn gaxtrel_compile_lines(
         return 1;
     }
     match Patterns::of_lines(alloc, patterns, syntax, fold, whole) {
-        Ok(made) => match Box::new(alloc, made) {
-            Ok(boxed) => {
-                *matcher = GaxtrelMatcher::of(boxed, &fresh_meter());
-                0
-            }
-            Err(_) => 2,
-        },
+        Ok(made) => hold(alloc, made, matcher),
         Err(refused) => {
             if matches!(refused.1.kind, FaultKind::Memory) {
                 return 2;
@@ -123,6 +111,20 @@ pub extern "C" fn gaxtrel_compile_lines(
             1
         }
     }
+}
+
+// Holds the patterns: 0, or 2 if memory is refused.
+fn hold(alloc: Global, patterns: Patterns, matcher: &mut GaxtrelMatcher) -> u32
+    requires { matcher.old.handle.held ≡ None }
+    ensures two { (result ≡ 0) ⊎ (result ≡ 2) }
+    ensures held { result ≡ 0 → matcher.new.handle.held ≡ Some patterns }
+    ensures none { result ≡ 2 → matcher.new.handle.held ≡ None }
+{
+    let Ok(boxed) = Box::new(alloc, patterns) else {
+        return 2;
+    };
+    *matcher = GaxtrelMatcher::of(boxed, &fresh_meter());
+    0
 }
 
 /// Frees what `matcher` holds. It then holds none.

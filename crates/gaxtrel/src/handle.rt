@@ -20,8 +20,9 @@ pub struct Handle {
 
 impl Model for Handle {
     ghost use Rattle.gaxtrel.specs.Held.{held_owns};
+    ghost use Rattle.gaxtrel.specs.contracts.patterns.Patterns as patterns;
 
-    ghost also_owns = { λ h. held_owns h.alloc h.at h.held };
+    ghost also_owns = { λ h. held_owns patterns.the_row h.alloc h.at h.held };
 }
 
 impl Handle {

@@ -10,6 +10,7 @@ use crate::patterns::Patterns;
 use crate::work::{GaxtrelWork, no_work, work_of};
 use re_search::Meter;
 use std::alloc::Global;
+use std::mem::replace;
 
 /// Patterns, or none. C makes one of zeros, which holds none, and then only passes its address and
 /// reads `work`.
@@ -47,8 +48,17 @@ impl GaxtrelMatcher {
         }
     }
 
-    /// The patterns that it holds.
-    pub(crate) fn into_box(self) -> Option<Box<Patterns>>
+    /// Takes the patterns out. It then holds none.
+    pub(crate) fn take(&mut self, alloc: Global) -> Option<Box<Patterns>>
+        ensures taken { MatchOption result (self.old.handle.held ≡ None)
+            (λ patterns. self.old.handle.held ≡ Some patterns.value) }
+        ensures none { self.new.handle.held ≡ None }
+    {
+        replace(self, GaxtrelMatcher::empty(alloc)).into_box()
+    }
+
+    // The patterns that it holds.
+    fn into_box(self) -> Option<Box<Patterns>>
         ensures { MatchOption result (self.handle.held ≡ None)
             (λ patterns. self.handle.held ≡ Some patterns.value) }
     {

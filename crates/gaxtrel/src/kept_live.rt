@@ -1,7 +1,7 @@
 //! What C keeps of a session.
 ghost use Rattle.std.specs.Prelude.{◌≡◌, true, Some, None, MatchOption};
 ghost use Rattle.re_meter.specs.Meters.{fresh};
-ghost use Rattle.gaxtrel.specs.LiveHeld.{is_held};
+ghost use Rattle.gaxtrel.specs.Held.{is_held};
 ghost use Rattle.gaxtrel.specs.Calls.{steps_of};
 
 use crate::live::Live;
@@ -10,6 +10,7 @@ use crate::loose::Loose;
 use crate::work::{GaxtrelWork, no_work, work_of};
 use re_search::Meter;
 use std::alloc::Global;
+use std::mem::replace;
 
 /// A session, or none. C makes one of zeros, which holds none, and then only passes its address and
 /// reads `work`.
@@ -47,8 +48,17 @@ impl GaxtrelSession {
         }
     }
 
-    /// The session that it holds.
-    pub(crate) fn into_box(self) -> Option<Box<Live>>
+    /// Takes the session out. It then holds none.
+    pub(crate) fn take(&mut self, alloc: Global) -> Option<Box<Live>>
+        ensures taken { MatchOption result (self.old.handle.held ≡ None)
+            (λ live. self.old.handle.held ≡ Some live.value) }
+        ensures none { self.new.handle.held ≡ None }
+    {
+        replace(self, GaxtrelSession::empty(alloc)).into_box()
+    }
+
+    // The session that it holds.
+    fn into_box(self) -> Option<Box<Live>>
         ensures { MatchOption result (self.handle.held ≡ None)
             (λ live. self.handle.held ≡ Some live.value) }
     {

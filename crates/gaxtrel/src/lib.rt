@@ -3,7 +3,6 @@
 #![tactic(auto)]
 
 mod compile;
-mod counted_lines;
 mod handle;
 mod kept;
 mod kept_live;

@@ -19,9 +19,10 @@ pub struct LiveHandle {
 }
 
 impl Model for LiveHandle {
-    ghost use Rattle.gaxtrel.specs.LiveHeld.{held_owns};
+    ghost use Rattle.gaxtrel.specs.Held.{held_owns};
+    ghost use Rattle.gaxtrel.specs.contracts.live.Live as live;
 
-    ghost also_owns = { λ h. held_owns h.alloc h.at h.held };
+    ghost also_owns = { λ h. held_owns live.the_row h.alloc h.at h.held };
 }
 
 impl LiveHandle {

@@ -1,6 +1,6 @@
 //! A part of a line, or a line of a text.
 ghost use Rattle.std.specs.Prelude.{◌≡◌, ◌<◌, ◌≤◌, length, set};
-ghost use Rattle.gaxtrel.specs.Calls.{part_at};
+ghost use Rattle.gaxtrel.specs.Calls.{Tells, part_at};
 
 use re_search::Span;
 
@@ -14,13 +14,27 @@ pub struct GaxtrelPart {
     pub end: usize,
 }
 
-/// The part that a span is.
-pub(crate) fn part_of(span: Span) -> GaxtrelPart
+// The part that a span is.
+fn part_of(span: Span) -> GaxtrelPart
     ensures { result ≡ record { start = span.start; end = span.end } }
 {
     GaxtrelPart {
         start: span.start,
         end: span.end,
+    }
+}
+
+/// Writes the place that was found: 1 if there is one, 0 if not.
+pub(crate) fn put_found(found: Option<Span>, part: &mut GaxtrelPart) -> u32
+    ensures tells { Tells result part.new found }
+    ensures none { (result ≡ 1 → ⊥) → part.new ≡ part.old }
+{
+    match found {
+        Some(span) => {
+            *part = part_of(span);
+            1
+        }
+        None => 0,
     }
 }
 

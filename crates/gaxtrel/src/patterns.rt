@@ -1,11 +1,10 @@
 //! The matchers of patterns, which are asked together.
-ghost use Rattle.std.specs.Prelude.{◌≡◌, ◌↔◌, ◌⊎◌, [], ◌∷◌, List, ℕ, IsTrue, IfOk, IfErr};
+ghost use Rattle.std.specs.Prelude.{◌≡◌, ◌↔◌, ◌⊎◌, [], ◌∷◌, List, IsTrue, IfOk, IfErr};
 ghost use Rattle.std.specs.Prelude.{All, length, map};
 ghost use Rattle.std.specs.List.{AllZip};
 ghost use Rattle.std.specs.Option.{ForSome};
 ghost use Rattle.re_syntax.specs.Expression.{Expression};
 ghost use Rattle.re_syntax.specs.Lines.{lines_of};
-ghost use Rattle.re_syntax.specs.Parts.{ArePartsFrom};
 ghost use Rattle.re_syntax.specs.Spelled.{IsMeant};
 ghost use Rattle.re_meter.specs.Meters.{AddsAtMost};
 ghost use Rattle.re_auto.specs.Searches.{FindsPart};
@@ -15,15 +14,14 @@ ghost use Rattle.re_search.specs.Working.Matchers.{matched_expression};
 ghost use Rattle.re_search.specs.Working.Sought.{CountsSought, IsSought};
 ghost use Rattle.grep_core.specs.Matchers.{IsFirstRefused};
 ghost use Rattle.gaxtrel.specs.Kept.{expressions_in, sought_in};
-ghost use Rattle.gaxtrel.specs.Calls.{FindsLine, TakesParts, line_cost, put_over};
+ghost use Rattle.gaxtrel.specs.Calls.{FindsLine, PutsParts, line_cost};
 
-use crate::counted_lines::count_in_text;
-use crate::line_parts::{find_in_line, is_line_matched, put_line_parts};
+use crate::line_parts::put_parts;
 use crate::part::GaxtrelPart;
-use crate::text_search::next_line_from;
+use crate::text_search::{count_in_text, is_matched, next_in_text};
 use grep_core::Options;
 use grep_utility::matchers_of;
-use re_search::{Filter, Matcher, Meter, Span, Syntax, needed_strings};
+use re_search::{Filter, LineParts, Matcher, Meter, Span, Syntax, needed_strings, parts};
 use re_syntax::{FaultKind, PatternFault};
 use std::alloc::{AllocError, Global};
 use std::marker::Model;
@@ -35,7 +33,6 @@ const STATES: usize = 4096;
 /// matched. Contracts see the matchers and that.
 #[derive(Drop)]
 pub struct Patterns {
-    alloc: Global,
     matchers: Vec<Matcher>,
     needed: Filter,
     whole: bool,
@@ -94,7 +91,6 @@ impl Patterns {
             });
         };
         Ok(Patterns {
-            alloc,
             matchers,
             needed: Filter::none(),
             whole,
@@ -130,7 +126,6 @@ impl Patterns {
         };
         let needed = needed_or_none(alloc, &matchers);
         Ok(Patterns {
-            alloc,
             matchers,
             needed,
             whole,
@@ -144,14 +139,8 @@ impl Patterns {
         ensures steps { AddsAtMost (line_cost (length (expressions_in self.old)) line.now) meter.old
             meter.new }
     {
-        is_line_matched(
-            self.alloc,
-            &mut self.matchers,
-            &self.needed,
-            self.whole,
-            line,
-            meter,
-        )
+        let whole = self.whole;
+        is_matched(&mut self.matchers, &self.needed, whole, line, meter)
     }
 
     /// The part of the line that begins earliest at `from` or later, and of those that begin
@@ -162,34 +151,41 @@ impl Patterns {
         ensures steps { AddsAtMost (line_cost (length (expressions_in self.old)) line.now) meter.old
             meter.new }
     {
-        find_in_line(&mut self.matchers, self.whole, line, from, meter)
+        if from > line.len() {
+            return None;
+        }
+        parts(&mut self.matchers, line, from, meter)
     }
 
     /// How many parts the line has from a place on. The first ones are written over the array, as
     /// many as it has room for.
+    ///
+    /// # Errors
+    ///
+    /// If there is no memory for what is learned of the line. Then nothing is searched or written.
     pub(crate) fn parts(
         &mut self,
+        alloc: Global,
         line: &[u8],
         from: usize,
         parts: &mut [GaxtrelPart],
         meter: &mut Meter,
-    ) -> usize
-        ensures reported { (all : List (ℕ × ℕ))
-            × ArePartsFrom (expressions_in self.old) line.now self.old.whole from all
-            × (result ≡ length all) × (parts.new ≡ put_over all parts.old) }
+    ) -> Result<usize, AllocError>
+        ensures put { IfOk result
+            (PutsParts (sought_in self.old) line.now from parts.old parts.new) }
+        ensures refused { IfErr result
+            (λ _. (parts.new ≡ parts.old) × (meter.new ≡ meter.old)) }
         ensures same { sought_in self.new ≡ sought_in self.old }
-        ensures steps { TakesParts (length (expressions_in self.old)) line.now result meter.old
+        ensures steps { AddsAtMost (line_cost (length (expressions_in self.old)) line.now) meter.old
             meter.new }
     {
-        put_line_parts(
-            self.alloc,
-            &mut self.matchers,
-            self.whole,
-            line,
-            from,
-            parts,
-            meter,
-        )
+        if from > line.len() {
+            return Ok(0);
+        }
+        let mut learned = LineParts::new(alloc);
+        learned.make_room(line.len())?;
+        let (whole, learned) = (self.whole, &mut learned);
+        Ok(put_parts(&mut self.matchers, whole, line, from, learned, parts, meter))
     }
 
     /// The first line from a place on that some pattern matches, by its place in the text without
@@ -198,15 +194,18 @@ impl Patterns {
         ensures reported { FindsLine (sought_in self.old) text.now from result meter.old meter.new }
         ensures same { sought_in self.new ≡ sought_in self.old }
     {
-        next_line_from(
-            self.alloc,
-            &mut self.matchers,
-            &self.needed,
-            self.whole,
-            text,
-            from,
-            meter,
-        )
+        if from >= text.len() {
+            return None;
+        }
+        let (whole, rest) = (self.whole, &text[from..]);
+        let found = next_in_text(&mut self.matchers, &self.needed, whole, rest, meter);
+        let Some(at) = found else {
+            return None;
+        };
+        Some(Span {
+            start: from + at.start,
+            end: from + at.end,
+        })
     }
 
     /// How many lines of a text some pattern matches.
@@ -216,14 +215,8 @@ impl Patterns {
         ensures steps { AddsAtMost (line_cost (length (expressions_in self.old)) text.now) meter.old
             meter.new }
     {
-        count_in_text(
-            self.alloc,
-            &mut self.matchers,
-            &self.needed,
-            self.whole,
-            text,
-            meter,
-        )
+        let whole = self.whole;
+        count_in_text(&mut self.matchers, &self.needed, whole, text, meter)
     }
 }
 

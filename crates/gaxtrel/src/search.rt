@@ -1,21 +1,19 @@
 //! The calls that search a line or a text.
-ghost use Rattle.std.specs.Prelude.{◌≡◌, ◌≤◌, ◌<◌, ◌↔◌, List, ℕ, None, Option, length};
+ghost use Rattle.std.specs.Prelude.{◌≡◌, ◌≤◌, ◌<◌, ◌↔◌, None, Option, length};
 ghost use Rattle.re_syntax.specs.Lines.{lines_of};
-ghost use Rattle.re_syntax.specs.Parts.{ArePartsFrom};
 ghost use Rattle.re_trees.specs.declared.span.Span.{Span};
 ghost use Rattle.re_meter.specs.Meters.{AddsAtMost, fresh};
 ghost use Rattle.re_auto.specs.Searches.{FindsPart};
 ghost use Rattle.re_search.specs.Working.Sought.{CountsSought, IsSought, Sought};
 ghost use Rattle.gaxtrel.specs.Kept.{IsFor};
-ghost use Rattle.gaxtrel.specs.Calls.{FindsLine, TakesParts, Tells, line_cost, put_over, steps_of};
+ghost use Rattle.gaxtrel.specs.Calls.{FindsLine, PutsParts, Tells, line_cost, steps_of};
 
 use crate::kept::GaxtrelMatcher;
-use crate::part::{GaxtrelPart, part_of};
+use crate::part::{GaxtrelPart, put_found};
 use re_auto::fresh_meter;
 use std::alloc::Global;
-use std::mem::replace;
 
-/// Whether the line is matched: 1 if so, 0 if not; 2 if `matcher` holds none.
+/// Whether the line is matched: 1 if so, 0 if not; 3 if `matcher` holds none.
 #[unsafe(no_mangle)]
 pub extern "C" fn gaxtrel_is_match(alloc: Global, matcher: &mut GaxtrelMatcher, line: &[u8]) -> u32
     ensures answered { (sought : Sought) → IsFor matcher.old.handle.held sought →
@@ -25,10 +23,10 @@ pub extern "C" fn gaxtrel_is_match(alloc: Global, matcher: &mut GaxtrelMatcher, 
         AddsAtMost (line_cost (length sought.expressions) line.now) fresh
         (steps_of matcher.new.work) }
     ensures none { matcher.old.handle.held ≡ None →
-        (result ≡ 2) × (matcher.new.handle.held ≡ None) }
+        (result ≡ 3) × (matcher.new.handle.held ≡ None) }
 {
-    let Some(mut boxed) = replace(matcher, GaxtrelMatcher::empty(alloc)).into_box() else {
-        return 2;
+    let Some(mut boxed) = matcher.take(alloc) else {
+        return 3;
     };
     let mut meter = fresh_meter();
     let matched = boxed.is_match(line, &mut meter);
@@ -37,7 +35,7 @@ pub extern "C" fn gaxtrel_is_match(alloc: Global, matcher: &mut GaxtrelMatcher, 
 }
 
 /// The part of the line that begins earliest at `from` or later, and of those that begin there the
-/// longest: 1 if there is one, 0 if not; 2 if `matcher` holds none.
+/// longest: 1 if there is one, 0 if not; 3 if `matcher` holds none.
 #[unsafe(no_mangle)]
 pub extern "C" fn gaxtrel_find(
     alloc: Global,
@@ -54,27 +52,21 @@ pub extern "C" fn gaxtrel_find(
         AddsAtMost (line_cost (length sought.expressions) line.now) fresh
         (steps_of matcher.new.work) }
     ensures none { matcher.old.handle.held ≡ None →
-        (result ≡ 2) × (matcher.new.handle.held ≡ None) }
+        (result ≡ 3) × (matcher.new.handle.held ≡ None) }
     ensures no_part { (result ≡ 1 → ⊥) → part.new ≡ part.old }
 {
-    let Some(mut boxed) = replace(matcher, GaxtrelMatcher::empty(alloc)).into_box() else {
-        return 2;
+    let Some(mut boxed) = matcher.take(alloc) else {
+        return 3;
     };
     let mut meter = fresh_meter();
     let found = boxed.find(line, from, &mut meter);
     *matcher = GaxtrelMatcher::of(boxed, &meter);
-    match found {
-        Some(span) => {
-            *part = part_of(span);
-            1
-        }
-        None => 0,
-    }
+    put_found(found, part)
 }
 
 /// All parts of the line from a place on: how many there are goes to `count`, and the first ones
-/// over `parts`, as many as it has room for. Answers 1 if there is one, 0 if not; 2 if `matcher`
-/// holds none.
+/// over `parts`, as many as it has room for. Answers 1 if there is one, 0 if not; 2 if memory is
+/// refused, and 3 if `matcher` holds none: then nothing is written.
 #[unsafe(no_mangle)]
 pub extern "C" fn gaxtrel_parts(
     alloc: Global,
@@ -84,29 +76,35 @@ pub extern "C" fn gaxtrel_parts(
     parts: &mut [GaxtrelPart],
     count: &mut usize,
 ) -> u32
+    ensures kept { (sought : Sought) → IsFor matcher.old.handle.held sought →
+        IsFor matcher.new.handle.held sought × (result ≤ 2) }
     ensures found { (sought : Sought) → IsFor matcher.old.handle.held sought →
-        IsFor matcher.new.handle.held sought × (result < 2) × ((result ≡ 1) ↔ (1 ≤ count.new))
-        × ((all : List (ℕ × ℕ)) × ArePartsFrom sought.expressions line.now sought.whole from all
-        × (count.new ≡ length all) × (parts.new ≡ put_over all parts.old)) }
+        (result ≡ 2 → ⊥) → ((result ≡ 1) ↔ (1 ≤ count.new))
+        × PutsParts sought line.now from parts.old parts.new count.new }
     ensures work { (sought : Sought) → IsFor matcher.old.handle.held sought →
-        TakesParts (length sought.expressions) line.now count.new fresh
+        AddsAtMost (line_cost (length sought.expressions) line.now) fresh
         (steps_of matcher.new.work) }
+    ensures refused { result ≡ 2 → (parts.new ≡ parts.old) × (count.new ≡ count.old)
+        × (steps_of matcher.new.work ≡ fresh) }
     ensures none { matcher.old.handle.held ≡ None →
-        (result ≡ 2) × (matcher.new.handle.held ≡ None) × (parts.new ≡ parts.old)
+        (result ≡ 3) × (matcher.new.handle.held ≡ None) × (parts.new ≡ parts.old)
         × (count.new ≡ count.old) }
 {
-    let Some(mut boxed) = replace(matcher, GaxtrelMatcher::empty(alloc)).into_box() else {
-        return 2;
+    let Some(mut boxed) = matcher.take(alloc) else {
+        return 3;
     };
     let mut meter = fresh_meter();
-    let found = boxed.parts(line, from, parts, &mut meter);
+    let found = boxed.parts(alloc, line, from, parts, &mut meter);
     *matcher = GaxtrelMatcher::of(boxed, &meter);
+    let Ok(found) = found else {
+        return 2;
+    };
     *count = found;
     (found > 0) as u32
 }
 
 /// The first matched line of what is left of a text from `from` on, by its place in the text
-/// without its newline: 1 if there is one, 0 if not; 2 if `matcher` holds none.
+/// without its newline: 1 if there is one, 0 if not; 3 if `matcher` holds none.
 #[unsafe(no_mangle)]
 pub extern "C" fn gaxtrel_next_line(
     alloc: Global,
@@ -121,25 +119,19 @@ pub extern "C" fn gaxtrel_next_line(
         × FindsLine sought text.now from place fresh (steps_of matcher.new.work)
         × Tells result line.new place) }
     ensures none { matcher.old.handle.held ≡ None →
-        (result ≡ 2) × (matcher.new.handle.held ≡ None) }
+        (result ≡ 3) × (matcher.new.handle.held ≡ None) }
     ensures no_line { (result ≡ 1 → ⊥) → line.new ≡ line.old }
 {
-    let Some(mut boxed) = replace(matcher, GaxtrelMatcher::empty(alloc)).into_box() else {
-        return 2;
+    let Some(mut boxed) = matcher.take(alloc) else {
+        return 3;
     };
     let mut meter = fresh_meter();
     let found = boxed.next_line(text, from, &mut meter);
     *matcher = GaxtrelMatcher::of(boxed, &meter);
-    match found {
-        Some(span) => {
-            *line = part_of(span);
-            1
-        }
-        None => 0,
-    }
+    put_found(found, line)
 }
 
-/// How many lines of a text are matched goes to `count`: 1 if some is, 0 if none is; 2 if
+/// How many lines of a text are matched goes to `count`: 1 if some is, 0 if none is; 3 if
 /// `matcher` holds none.
 #[unsafe(no_mangle)]
 pub extern "C" fn gaxtrel_count_lines(
@@ -155,10 +147,10 @@ pub extern "C" fn gaxtrel_count_lines(
         AddsAtMost (line_cost (length sought.expressions) text.now) fresh
         (steps_of matcher.new.work) }
     ensures none { matcher.old.handle.held ≡ None →
-        (result ≡ 2) × (matcher.new.handle.held ≡ None) × (count.new ≡ count.old) }
+        (result ≡ 3) × (matcher.new.handle.held ≡ None) × (count.new ≡ count.old) }
 {
-    let Some(mut boxed) = replace(matcher, GaxtrelMatcher::empty(alloc)).into_box() else {
-        return 2;
+    let Some(mut boxed) = matcher.take(alloc) else {
+        return 3;
     };
     let mut meter = fresh_meter();
     let counted = boxed.count_lines(text, &mut meter);

@@ -10,7 +10,6 @@ use crate::kept_live::GaxtrelSession;
 use crate::live::Live;
 use re_auto::fresh_meter;
 use std::alloc::Global;
-use std::mem::replace;
 
 /// How many states of its automaton a pattern may keep at most.
 const MOST_STATES: usize = 65_536;
@@ -63,7 +62,7 @@ pub extern "C" fn gaxtrel_session_answer(
     ensures none { session.old.handle.held ≡ None →
         (result ≡ 3) × (session.new.handle.held ≡ None) × (count.new ≡ count.old) }
 {
-    let Some(mut boxed) = replace(session, GaxtrelSession::empty(alloc)).into_box() else {
+    let Some(mut boxed) = session.take(alloc) else {
         return 3;
     };
     let mut meter = fresh_meter();
@@ -91,7 +90,7 @@ pub extern "C" fn gaxtrel_session_replies(
         (result ≡ 3) × (session.new.handle.held ≡ None) × (into.new ≡ into.old)
         × (count.new ≡ count.old) }
 {
-    let Some(boxed) = replace(session, GaxtrelSession::empty(alloc)).into_box() else {
+    let Some(boxed) = session.take(alloc) else {
         return 3;
     };
     boxed.put_replies(from, into);

@@ -1,56 +1,38 @@
-//! What several matchers find in the lines of a text, whose last line may lack its newline.
-ghost use Rattle.std.specs.Prelude.{◌*◌, ◌<◌, ◌≤◌, IfSome, length, map};
+//! What several matchers find in a line, and in the lines of a text, whose last line may lack its
+//! newline.
+ghost use Rattle.std.specs.Prelude.{◌*◌, ◌≤◌, ◌↔◌, IfSome, IsTrue, length, map};
 ghost use Rattle.std.specs.Option.{ForSome};
 ghost use Rattle.re_syntax.specs.Lines.{lines_of};
 ghost use Rattle.re_meter.specs.Meters.{AddsAtMost};
-ghost use Rattle.re_auto.specs.Searches.{AllAnswer, SameMatchers};
+ghost use Rattle.re_auto.specs.Searches.{AllAnswer, SameMatchers, SomeMatches};
 ghost use Rattle.re_search.specs.Working.Filters.{AreNeeded};
-ghost use Rattle.re_search.specs.Working.Matchers.{matched_expression, room_of, wants_whole};
-ghost use Rattle.re_runs.specs.Working.Blocks.{IsBlock, next_cost};
-ghost use Rattle.re_search.specs.Working.Sought.{FindsSought};
-ghost use Rattle.gaxtrel.specs.Calls.{FindsLine, bytes_to_next};
+ghost use Rattle.re_search.specs.Working.Sought.{CountsSought, FindsSought};
+ghost use Rattle.gaxtrel.specs.Calls.{bytes_to_next, line_cost};
 
-use crate::line_parts::is_matched_by;
 use re_runs::line_start;
-use re_search::{Filter, LineMatch, Matcher, Meter, Searchers, Span};
-use std::alloc::Global;
+use re_search::{Filter, LineMatch, Meter, Searchers, Span};
 
-/// The first line from a place on that some matcher matches, by its place in the text without its
-/// newline.
-pub(crate) fn next_line_from(
-    alloc: Global,
-    matchers: &mut Vec<Matcher>,
+/// Whether some matcher matches the line.
+pub(crate) fn is_matched<M: LineMatch>(
+    matchers: &mut [M],
     needed: &Filter,
     whole: bool,
-    text: &[u8],
-    from: usize,
+    line: &[u8],
     meter: &mut Meter,
-) -> Option<Span>
-    requires alike { AllAnswer whole (map wants_whole matchers.old.items) }
+) -> bool
+    requires alike { AllAnswer whole (map M.whole matchers.old) }
     requires needed { ForSome needed.now
-        (λ strings. AreNeeded strings (map matched_expression matchers.old.items)) }
-    ensures reported { FindsLine
-        (record { expressions = map matched_expression matchers.old.items; whole = whole }) text.now
-        from result meter.old meter.new }
-    ensures same { SameMatchers matched_expression wants_whole room_of matchers.old.items
-        matchers.new.items }
+        (λ strings. AreNeeded strings (map M.expression matchers.old)) }
+    ensures reported { IsTrue result ↔ SomeMatches (map M.expression matchers.old) line.now whole }
+    ensures same { SameMatchers M.expression M.whole M.room matchers.old matchers.new }
+    ensures steps { AddsAtMost (line_cost (length (map M.expression matchers.old)) line.now)
+        meter.old meter.new }
 {
-    if from >= text.len() {
-        return None;
-    }
-    let found = next_in_text(alloc, matchers, needed, whole, &text[from..], meter);
-    let Some(at) = found else {
-        return None;
-    };
-    Some(Span {
-        start: from + at.start,
-        end: from + at.end,
-    })
+    Searchers::new(matchers, needed, whole).is_matched(line, meter)
 }
 
-// The first line of a text that some matcher matches.
-fn next_in_text<M: LineMatch>(
-    alloc: Global,
+/// The first line of a text that some matcher matches.
+pub(crate) fn next_in_text<M: LineMatch>(
     matchers: &mut [M],
     needed: &Filter,
     whole: bool,
@@ -69,15 +51,16 @@ fn next_in_text<M: LineMatch>(
         (length (map M.expression matchers.old) * bytes_to_next text.now result)
         meter.old meter.new }
 {
+    let mut searchers = Searchers::new(matchers, needed, whole);
     let cut = line_start(text);
-    let found = next_in_block(alloc, matchers, needed, whole, &text[..cut], meter);
+    let found = searchers.next_matched(&text[..cut], meter);
     if let Some(at) = found {
         return Some(at);
     }
     if cut >= text.len() {
         return None;
     }
-    if is_matched_by(alloc, matchers, needed, whole, &text[cut..], meter) {
+    if searchers.is_matched(&text[cut..], meter) {
         return Some(Span {
             start: cut,
             end: text.len(),
@@ -86,26 +69,32 @@ fn next_in_text<M: LineMatch>(
     None
 }
 
-// The first of whole lines that some matcher matches.
-fn next_in_block<M: LineMatch>(
-    alloc: Global,
+/// How many lines of a text some matcher matches.
+pub(crate) fn count_in_text<M: LineMatch>(
     matchers: &mut [M],
     needed: &Filter,
     whole: bool,
-    block: &[u8],
+    text: &[u8],
     meter: &mut Meter,
-) -> Option<Span>
-    requires block { IsBlock block.now }
+) -> u64
     requires alike { AllAnswer whole (map M.whole matchers.old) }
     requires needed { ForSome needed.now
         (λ strings. AreNeeded strings (map M.expression matchers.old)) }
-    ensures reported { FindsSought
-        (record { expressions = map M.expression matchers.old; whole = whole })
-        (lines_of block.now) result }
-    ensures within { IfSome result (λ at. (at.start ≤ at.end) × (at.end < length block.now)) }
+    ensures reported { CountsSought
+        (record { expressions = map M.expression matchers.old; whole = whole }) (lines_of text.now)
+        result }
     ensures same { SameMatchers M.expression M.whole M.room matchers.old matchers.new }
-    ensures steps { AddsAtMost
-        (length (map M.expression matchers.old) * next_cost block.now result) meter.old meter.new }
+    ensures steps { AddsAtMost (line_cost (length (map M.expression matchers.old)) text.now)
+        meter.old meter.new }
 {
-    Searchers::new(alloc, matchers, needed, whole).next_matched(block, meter)
+    let mut searchers = Searchers::new(matchers, needed, whole);
+    let cut = line_start(text);
+    let count = searchers.count_matched(&text[..cut], meter);
+    if cut >= text.len() {
+        return count;
+    }
+    if searchers.is_matched(&text[cut..], meter) {
+        return count + 1;
+    }
+    count
 }

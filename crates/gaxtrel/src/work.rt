@@ -16,8 +16,6 @@ pub struct GaxtrelWork {
     pub reused: u64,
     /// The number of bytes that were passed.
     pub passed: u64,
-    /// How often an allocation of memory that saves work failed.
-    pub refused: u64,
 }
 
 /// No work.
@@ -28,7 +26,6 @@ pub(crate) fn no_work() -> GaxtrelWork
         built: 0,
         reused: 0,
         passed: 0,
-        refused: 0,
     }
 }
 
@@ -40,6 +37,5 @@ pub(crate) fn work_of(meter: &Meter) -> GaxtrelWork
         built: meter.built(),
         reused: meter.reused(),
         passed: meter.passed(),
-        refused: meter.refused(),
     }
 }

@@ -14,7 +14,7 @@ pub use Rattle.grep_cmd.specs.declared.script.reply.Answer.{Answer}
 pub use Rattle.grep_cmd.specs.declared.script.reply.Answer.TheVariants.{Accepted, Truncated}
 pub use Rattle.grep_core.specs.Choose.{IfHolds}
 pub use Rattle.grep_core.specs.Files.{Ending, File, Inputs, broken, whole}
-pub use Rattle.grep_core.specs.Meters.{Adds}
+pub use Rattle.grep_core.specs.Meters.{AddsAtMost}
 pub use Rattle.grep_core.specs.Output.{written}
 pub use Rattle.grep_core.specs.Reading.{IsOneLineAndFew, file_of, most_lines}
 pub use Rattle.grep_core.specs.Row.{output_line}

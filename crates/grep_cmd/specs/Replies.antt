@@ -7,7 +7,7 @@ use Rattle.std.specs.Io.KnownBytes.{prepend_known, Consumes}
 use Rattle.re_syntax.specs.Bytes.{Text}
 use Rattle.re_syntax.specs.Lines.{HasNoNewline, lines_of}
 use Rattle.grep_core.specs.Files.{File, Inputs, whole, broken}
-use Rattle.grep_core.specs.Meters.{Adds, Steps as StepCounts}
+use Rattle.grep_core.specs.Meters.{AddsAtMost, Steps as StepCounts}
 use Rattle.grep_core.specs.Output.{written}
 use Rattle.grep_core.specs.Reading.{Reading, IsReadingOf, AreLeft, open_source, file_of}
 use Rattle.grep_core.specs.Reading.{failures_of}
@@ -111,32 +111,28 @@ Replies (step ∷ steps) before replies after =
 
 -- ---- work
 
--- a command takes this many steps of search at most: none, or what its edit costs, where the
--- allocation for a line's list of ends failed so often; what is no edit searches nothing
-abbrev pub SearchesAtMost : Step → Inputs → ℕ → ℕ → Type 0
-SearchesAtMost (does edit) before refusals most =
-    ((most ≡ 0) × (refusals ≡ 0)) ⊎ Costs refusals edit before most
-SearchesAtMost _ before refusals most = (most ≡ 0) × (refusals ≡ 0)
+-- a command takes this many steps of search at most: none, or what its edit costs; what is no edit
+-- searches nothing
+abbrev pub SearchesAtMost : Step → Inputs → ℕ → Type 0
+SearchesAtMost (does edit) before most = (most ≡ 0) ⊎ Costs edit before most
+SearchesAtMost _ before most = most ≡ 0
 
 -- some commands, answered so, take this many together
-abbrev pub AllSearchAtMost : List Step → ScriptState → List Text → ScriptState → ℕ → ℕ → Type 0
-AllSearchAtMost [] before replies after refusals most =
-    (replies ≡ []) × (after ≡ before) × (refusals ≡ 0) × (most ≡ 0)
-AllSearchAtMost (step ∷ steps) before replies after refusals most =
-    (reply : List Text) × (between : ScriptState) × (given : List Text) ×
-    (mine : ℕ) × (others : ℕ) × (own : ℕ) × (rest : ℕ) ×
-    RepliesTo step before reply between × SearchesAtMost step before.session.inputs mine own ×
-    AllSearchAtMost steps between given after others rest × (replies ≡ reply ++ given) ×
-    (refusals ≡ mine + others) × (most ≡ own + rest)
+abbrev pub AllSearchAtMost : List Step → ScriptState → List Text → ScriptState → ℕ → Type 0
+AllSearchAtMost [] before replies after most = (replies ≡ []) × (after ≡ before) × (most ≡ 0)
+AllSearchAtMost (step ∷ steps) before replies after most =
+    (reply : List Text) × (between : ScriptState) × (given : List Text) × (own : ℕ) × (rest : ℕ) ×
+    RepliesTo step before reply between × SearchesAtMost step before.session.inputs own ×
+    AllSearchAtMost steps between given after rest × (replies ≡ reply ++ given) ×
+    (most ≡ own + rest)
 
 -- the commands of a script, answered so, took no more steps of search, and passed no more bytes, than
 -- their edits cost
 pub record SearchesTouched (before : ScriptState) (steps : List Step) (replies : List Text)
     (after : ScriptState) (begun spent : StepCounts) : Type 0 where
   pub most : ℕ
-  pub refusals : ℕ
-  pub is_most : AllSearchAtMost steps before replies after refusals most
-  pub few : Adds most most refusals begun spent
+  pub is_most : AllSearchAtMost steps before replies after most
+  pub few : AddsAtMost most begun spent
 
 -- ---- runs
 

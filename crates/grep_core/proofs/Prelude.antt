@@ -1,21 +1,21 @@
 -- The words of specs and of std that proofs of this crate use, passed on from one place. Declares nothing.
 pub use Rattle.grep_core.specs.Around.{BeginsGroup, Groups, IsRow, IsShown, Shows, group_separator}
 pub use Rattle.grep_core.specs.Choose.{Chosen, EachGives, IfHolds}
-pub use Rattle.grep_core.specs.Cost.{AsksParts, FilesCost, LinesCost, PartsAsked, SearchesFiles, SearchesLine, SearchesLines, search_cost}
+pub use Rattle.grep_core.specs.Cost.{SearchesFiles, SearchesLines, files_cost, line_cost, lines_cost, part_searches, parts_cost, search_cost}
 pub use Rattle.grep_core.specs.Files.{Ending, File, HasSelected, Matched, Selected, broken, missing, whole}
-pub use Rattle.grep_core.specs.Laws.{ContextIsForLines, HasOneAnswer, IsOne, MeansOne, MemorySavesSteps}
+pub use Rattle.grep_core.specs.Laws.{ContextIsForLines, HasOneAnswer, IsOne, MeansOne}
 pub use Rattle.grep_core.specs.Matchers.{IsFirstRefused}
 pub use Rattle.grep_core.specs.Messages.{AnySelected, FaultMet, FaultMetBy, Message, Messages, Reached, Reported, StatusOf, Stops, cannot_open, message, read_error}
 pub use Rattle.grep_core.specs.Output.{CountOf, Form, GroupsOf, Out, OutAs, PartRowsOf, PartsOfLine, RowsOf, SelectedLines, are_many, around, counts, form, head_of, lines, lines_with, names, nothing, numbered, parts, shown_name, shown_number, written}
 pub use Rattle.grep_core.specs.Row.{colon, head, hyphen, output_line, prefix}
 pub use Rattle.grep_core.specs.Run.{AreReadings, BreaksOff, Devices, FailuresMet, Finishes, LeftMet, RunGives, StopsAfter, Story, TakesAll, TakesFront, TakesPast, Writer, WritesAll, begun, count_more, devices, file_at, files_of, first_lines, writer}
 pub use Rattle.grep_core.specs.Sources.{Returns, source_at}
-pub use Rattle.grep_core.specs.Working.BlockRows.{BreaksLines, RowsOfLines, TakesLines}
+pub use Rattle.grep_core.specs.Working.BlockRows.{BreaksLines, RowsOfLines, StopsLines, TakesLines}
 pub use Rattle.grep_core.specs.Working.Given.{SearchGives}
 pub use Rattle.grep_core.specs.Working.Groups.{GroupedAs, rows_after}
 pub use Rattle.grep_core.specs.Working.LastLines.{LastLines, with_lines}
 pub use Rattle.grep_core.specs.Working.MatcherLists.{AreMatchers}
-pub use Rattle.grep_core.specs.Working.OneLine.{BreaksLine, BreaksSelected, IsBare, IsPlain, LineRowsOf, RowsOfLine, RowsOfSelected, TakesLine, WritesSelected, rows_selected}
+pub use Rattle.grep_core.specs.Working.OneLine.{BreaksLine, BreaksSelected, IsBare, IsPlain, LineRowsOf, RowsOfLine, RowsOfSelected, StopsLine, TakesLine, WritesSelected, rows_selected}
 pub use Rattle.grep_core.specs.Working.Passed.{AreUnselected, Waits}
 pub use Rattle.grep_core.specs.Working.Progress.{after_line, last_of, next_shown, progress_from, row_by, row_with, rows_around, rows_at, with_waiting}
 pub use Rattle.grep_core.specs.Working.Requests.{name_shown, selects}
@@ -44,15 +44,13 @@ pub use Rattle.grep_io.specs.Working.Numbered.{AreAhead, HasHanded, NextIs, Numb
 pub use Rattle.grep_io.specs.Written.{GoesOut, StopsWithin, Writes}
 pub use Rattle.grep_io.specs.declared.input.lines.ReadFault.{ReadFault}
 pub use Rattle.grep_io.specs.declared.input.lines.Stage.TheVariants.{Open}
-pub use Rattle.re_meter.specs.Meters.{Adds, refused_more}
+pub use Rattle.re_meter.specs.Meters.{AddsAtMost}
 pub use Rattle.re_search.specs.Reading.{IsOutOfMemory, IsReadable, IsRefusedFor, IsSmallFor}
-pub use Rattle.re_search.specs.Searches.{searches_for}
 pub use Rattle.re_search.specs.Working.Blocks.{HoldsOfMany, IsBlock, IsNext}
-pub use Rattle.re_search.specs.Working.Courses.{HasTaken, IsCourseOf, refusals}
+pub use Rattle.re_search.specs.Working.LineParts.{ArePartsOf, spent}
 pub use Rattle.re_search.specs.Working.Matchers.{matched_expression, wants_whole}
 pub use Rattle.re_search.specs.Working.Searchers.{SameSearchers, asks_whole, sought_by}
 pub use Rattle.re_search.specs.Working.Sought.{IsSought, Sought}
-pub use Rattle.re_search.specs.declared.course.Course.{Course}
 pub use Rattle.re_search.specs.declared.matcher.Matcher.{Matcher}
 pub use Rattle.re_syntax.specs.Bytes.{Text}
 pub use Rattle.re_syntax.specs.Expression.{Expression, alt}
@@ -64,7 +62,7 @@ pub use Rattle.re_syntax.specs.Spelled.{IsMeant}
 pub use Rattle.re_syntax.specs.declared.fault.PatternFault.{PatternFault}
 pub use Rattle.re_trees.specs.declared.span.Span.{Span}
 pub use Rattle.re_syntax.specs.declared.syntax.Syntax.{Syntax}
-pub use Rattle.std.proofs.Common.{All, Any, Bool, Bor, Decides, Err, IfOk, IfSome, IsErr, IsErrAnd, IsTrue, List, MatchBool, MatchOption, None, Ok, OnErr, Option, Result, Some, [], ap, append-nil, append_assoc, arith, codes, decimal, drop, drop-drop, drop_at, false, get_or, get_or-append-add, get_or-drop, if◌then◌else◌, inl, inr, is_err, is_some, le-ltb, length, length-append, length-drop, length-take, length-take-le, lt-ltb, ltb-false, ltb-true, map, min, mul-le-mul_left, mul-le-mul_right, nat_eq, nat_le, nat_lt, not, refl, rules, slice_range, subst, suc, sym, take, take-append-drop, take-suc, take_all, true, zero, ℕ, ◌&&◌, ◌*◌, ◌++◌, ◌+◌, ◌-◌, ◌<◌, ◌^◌, ◌||◌, ◌↔◌, ◌∙◌, ◌∷◌, ◌≡◌, ◌≢◌, ◌≤◌, ◌⊎◌}
+pub use Rattle.std.proofs.Common.{All, Any, Bool, Bor, Decides, Err, IfErr, IfOk, IfSome, IsErr, IsErrAnd, IsTrue, List, MatchBool, MatchOption, None, Ok, OnErr, Option, Result, Some, [], ap, append-nil, append_assoc, arith, codes, decimal, drop, drop-drop, drop_at, false, get_or, get_or-append-add, get_or-drop, if◌then◌else◌, inl, inr, is_err, is_some, le-ltb, length, length-append, length-drop, length-take, length-take-le, lt-ltb, ltb-false, ltb-true, map, min, mul-le-mul_left, mul-le-mul_right, nat_eq, nat_le, nat_lt, not, refl, rules, slice_range, subst, suc, sum_by, sym, take, take-append-drop, take-suc, take_all, true, zero, ℕ, ◌&&◌, ◌*◌, ◌++◌, ◌+◌, ◌-◌, ◌<◌, ◌^◌, ◌||◌, ◌↔◌, ◌∙◌, ◌∷◌, ◌≡◌, ◌≢◌, ◌≤◌, ◌⊎◌}
 pub use Rattle.std.proofs.KnownBytes.{Appends-nil, Appends-trans, Consumes-nil}
 pub use Rattle.std.proofs.Math.Decide.{dec_le, map_dec}
 pub use Rattle.std.proofs.Math.Nat.{min-eq_left, min-eq_right}
@@ -73,5 +71,6 @@ pub use Rattle.std.proofs.lemmas.Bool.{cases_Bool, cases_lt, cond-false, cond-tr
 pub use Rattle.std.proofs.lemmas.Grind.{flat_map-append}
 pub use Rattle.std.proofs.lemmas.List.{drop-append-le, drop_all, get_or-append_right, get_or_append_left, get_or_push, length-map, length_push, map-append, nil_from_length, take_more}
 pub use Rattle.std.proofs.lemmas.List.Elements.{All-append, All-cons, All-drop, All-get_or, All-head, All-nil, All-push, All-tail}
+pub use Rattle.std.proofs.lemmas.List.Sums.{sum_by-append, sum_by-cons, sum_by_push}
 pub use Rattle.std.specs.Io.KnownBytes.{Appends, Consumes}
 pub use Rattle.std.specs.List.{AllZip, enumerate_from}

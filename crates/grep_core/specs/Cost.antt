@@ -2,12 +2,9 @@
 -- a table goes. A passed byte is one over which a search for strings that the matches need goes. No
 -- more steps are taken than this cost, and no more bytes are passed. A search of a line costs one
 -- for each byte and one more.
-use Rattle.std.specs.Prelude.{◌≡◌, ℕ, ◌+◌, ◌*◌, List, [], ◌∷◌, length}
-use Rattle.re_meter.specs.Meters.{Steps, Adds}
+use Rattle.std.specs.Prelude.{ℕ, ◌+◌, ◌*◌, List, length, sum_by}
+use Rattle.re_meter.specs.Meters.{Steps, AddsAtMost}
 use Rattle.re_syntax.specs.Bytes.{Text}
-use Rattle.re_syntax.specs.Expression.{Expression}
-use Rattle.re_syntax.specs.Parts.{AreParts}
-use Rattle.re_search.specs.Searches.{searches_for}
 use Rattle.grep_core.specs.declared.options.Options.{Options}
 use Rattle.grep_core.specs.Files.{File}
 use Rattle.grep_core.specs.Output.{Form, parts, form}
@@ -16,61 +13,30 @@ use Rattle.grep_core.specs.Output.{Form, parts, form}
 abbrev pub search_cost : ℕ → Text → ℕ
 search_cost matchers line = matchers * (length line + 1)
 
-module _ (es : List Expression) (options : Options) where
-  -- how many searches of a line its parts cost: they are asked for once for each part and once
-  -- more, where parts are written; `refusals` says how often the allocation for the line's ends
-  -- failed
-  abbrev pub PartsAsked : Form → Text → ℕ → ℕ → Type 0
-  PartsAsked parts line refusals times =
-      (ps : List (ℕ × ℕ)) × AreParts es line options.line_regexp ps ×
-      (times ≡ searches_for refusals (length ps + 1))
-  PartsAsked _ line refusals times = (refusals ≡ 0) × (times ≡ 0)
+-- how often a line is searched for its parts: once where they are written
+abbrev pub part_searches : Form → ℕ
+part_searches parts = 1
+part_searches _ = 0
 
-  -- each line of a file is searched once by each matcher, and its parts are asked for besides; the
-  -- refusals of all lines add up
-  abbrev pub LinesCost : ℕ → List Text → ℕ → ℕ → Type 0
-  LinesCost matchers [] refusals cost = (refusals ≡ 0) × (cost ≡ 0)
-  LinesCost matchers (line ∷ text) refusals cost =
-      (own : ℕ) × (others : ℕ) × (times : ℕ) × (rest : ℕ) ×
-      PartsAsked (form options) line own times × LinesCost matchers text others rest
-      × (refusals ≡ own + others) × (cost ≡ (times + 1) * search_cost matchers line + rest)
+module _ (options : Options) (matchers : ℕ) where
+  -- what the parts of a line cost
+  abbrev pub parts_cost : Text → ℕ
+  parts_cost line = part_searches (form options) * search_cost matchers line
 
-  -- each line of each file
-  abbrev pub FilesCost : ℕ → List File → ℕ → ℕ → Type 0
-  FilesCost matchers [] refusals cost = (refusals ≡ 0) × (cost ≡ 0)
-  FilesCost matchers (file ∷ files) refusals cost =
-      (own : ℕ) × (others : ℕ) × (first : ℕ) × (rest : ℕ) ×
-      LinesCost matchers file.lines own first × FilesCost matchers files others rest
-      × (refusals ≡ own + others) × (cost ≡ first + rest)
+  -- a line is searched once, and for its parts besides
+  abbrev pub line_cost : Text → ℕ
+  line_cost line = (part_searches (form options) + 1) * search_cost matchers line
 
-  module _ (matchers : ℕ) (line : Text) (old new : Steps) where
-    -- the parts of the line were asked for
-    pub record AsksParts : Type 0 where
-      pub times : ℕ
-      pub refusals : ℕ
-      pub are_times : PartsAsked (form options) line refusals times
-      pub few : Adds (times * search_cost matchers line) (times * search_cost matchers line)
-          refusals old new
+  abbrev pub lines_cost : List Text → ℕ
+  lines_cost text = sum_by line_cost text
 
-    -- the line was searched once, and its parts were asked for besides
-    pub record SearchesLine : Type 0 where
-      pub times : ℕ
-      pub refusals : ℕ
-      pub are_times : PartsAsked (form options) line refusals times
-      pub few : Adds ((times + 1) * search_cost matchers line)
-          ((times + 1) * search_cost matchers line) refusals old new
+  abbrev pub files_cost : List File → ℕ
+  files_cost files = sum_by (λ file. lines_cost file.lines) files
 
-  module _ (matchers : ℕ) where
-    -- no more work was done than the search of these lines costs
-    pub record SearchesLines (text : List Text) (old new : Steps) : Type 0 where
-      pub cost : ℕ
-      pub refusals : ℕ
-      pub is_cost : LinesCost matchers text refusals cost
-      pub few : Adds cost cost refusals old new
+  -- no more work was done than the search of these lines costs
+  abbrev pub SearchesLines : List Text → Steps → Steps → Type 0
+  SearchesLines text old new = AddsAtMost (lines_cost text) old new
 
-    -- no more work was done than the search of these files costs
-    pub record SearchesFiles (files : List File) (old new : Steps) : Type 0 where
-      pub cost : ℕ
-      pub refusals : ℕ
-      pub is_cost : FilesCost matchers files refusals cost
-      pub few : Adds cost cost refusals old new
+  -- no more work was done than the search of these files costs
+  abbrev pub SearchesFiles : List File → Steps → Steps → Type 0
+  SearchesFiles files old new = AddsAtMost (files_cost files) old new

@@ -1,5 +1,5 @@
 -- What the definitions promise of themselves.
-use Rattle.std.specs.Prelude.{◌≡◌, ℕ, ◌||◌, IsTrue, ◌↔◌, List, Option, None, ◌≤◌}
+use Rattle.std.specs.Prelude.{◌≡◌, ◌||◌, IsTrue, ◌↔◌, List, Option, None}
 use Rattle.re_syntax.specs.declared.syntax.Syntax.{Syntax}
 use Rattle.re_syntax.specs.Bytes.{Text}
 use Rattle.re_syntax.specs.Expression.{Expression}
@@ -8,29 +8,17 @@ use Rattle.grep_core.specs.declared.options.Options.{Options}
 use Rattle.grep_core.specs.Files.{File, AreMeant}
 use Rattle.grep_core.specs.Output.{around, form, Out}
 use Rattle.grep_core.specs.Messages.{Messages, StatusOf}
-use Rattle.grep_core.specs.Cost.{FilesCost}
 
 -- P holds of one value and of no other
 abbrev pub IsOne : {A : Type 0} → (A → Type 0) → Type 0
 IsOne {A} P = (x : A) × P x × ((y : A) → P y → y ≡ x)
 
--- all expressions and files have one output, one list of messages and one status, and if no
--- allocation fails the search of them has one cost
+-- all expressions and files have one output, one list of messages and one status
 pub record HasOneAnswer (options : Options) : Type 0 where
   pub one_output : (es : List Expression) (files : List File) → IsOne (Out es options files)
   pub one_list_of_messages : (es : List Expression) (files : List File) →
       IsOne (Messages es options files)
   pub one_status : (es : List Expression) (files : List File) → IsOne (StatusOf es options files)
-  pub one_cost : (es : List Expression) (matchers : ℕ) (files : List File) →
-      IsOne (FilesCost es options matchers files 0)
-
--- a search costs no more if no allocation fails, when the parts of a line cost at most four
--- searches of it, than if it is, when each part of such a line costs one
-abbrev pub MemorySavesSteps : Options → Type 0
-MemorySavesSteps options =
-    (es : List Expression) (matchers : ℕ) (files : List File) (refusals few most : ℕ) →
-    FilesCost es options matchers files 0 few → FilesCost es options matchers files refusals most →
-    few ≤ most
 
 -- patterns mean at most one list of expressions
 abbrev pub MeansOne : Syntax → Options → Type 0

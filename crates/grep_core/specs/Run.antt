@@ -144,7 +144,7 @@ module _ (es : List Expression) (options : Options) (sources : List Source) wher
     pub left : List (Option Text)
     pub are_left : LeftMet es options reached readings left
     pub gave_back : returned_with left
-    pub steps : SearchesFiles es options (length es) (files_of sources readings) old.steps new.steps
+    pub steps : SearchesFiles options (length es) (files_of sources readings) old.steps new.steps
 
   -- the output for some of the files for which the sources stand
   abbrev pub OutOf : List Reading → List File → List Text → Type 0

@@ -1,20 +1,13 @@
 //! Laws of the definitions, each the contract of a function that does nothing.
-ghost use Rattle.grep_core.specs.Laws.{HasOneAnswer, MeansOne, MemorySavesSteps, ContextIsForLines};
+ghost use Rattle.grep_core.specs.Laws.{HasOneAnswer, MeansOne, ContextIsForLines};
 
 use crate::Options;
 use re_syntax::Syntax;
 
-/// All expressions and files have one output, one list of messages and one status, and if no
-/// allocation fails the search of them has one cost.
+/// All expressions and files have one output, one list of messages and one status.
 #[tactic(auto, using(crate::proofs::lemmas::LawsHold::has_one_answer))]
 pub fn has_one_answer(_options: Options)
     ensures { HasOneAnswer _options }
-{}
-
-/// A search costs no more if no allocation fails than if one does.
-#[tactic(auto, using(crate::proofs::lemmas::LawsHold::memory_saves_steps))]
-pub fn memory_saves_steps(_options: Options)
-    ensures { MemorySavesSteps _options }
 {}
 
 /// Patterns mean at most one list of expressions.

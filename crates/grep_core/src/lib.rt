@@ -13,7 +13,7 @@ pub use grep_io::{
     Buffered, CountedRead, CountedWrite, Limited, Lines, ReadDevice, ReadFault, Stage, Tally,
     WholeLines, WriteDevice, WriteFault, push_all,
 };
-pub use laws::{context_is_for_lines, has_one_answer, means_one, memory_saves_steps};
+pub use laws::{context_is_for_lines, has_one_answer, means_one};
 pub use options::{Context, Flag, Form, Options};
 pub use output::around::{Progress, Shown};
 pub use output::counts::{write_count, write_name};

@@ -81,6 +81,7 @@ pub enum Form {
 
 impl Options {
     /// What the options ask for.
+    #[inline]
     pub fn form(self) -> Form
         ensures { form_of result ≡ form self }
     {

@@ -2,7 +2,7 @@
 pub use Rattle.grep_io.specs.Buffer.{BufferedWriter, Sends, SendsAll, SendsSome, all_contents}
 pub use Rattle.grep_io.specs.Counted.{Counts, PushAppends, one_more}
 pub use Rattle.grep_io.specs.File.{Ending, File, broken, whole}
-pub use Rattle.grep_io.specs.Reading.{HasRead, IsOneLineAndFew, ends_after, fails_after, file_of, most_lines, open_source, up_to_limit}
+pub use Rattle.grep_io.specs.Reading.{HasRead, IsOneLineAndFew, buffer_size, ends_after, fails_after, file_of, most_lines, open_source, up_to_limit}
 pub use Rattle.grep_io.specs.Working.Handed.{AreHanded, BeginsWith, HandsLines, StandsFor}
 pub use Rattle.grep_io.specs.Working.Held.{HasWholeLine, Held, waiting}
 pub use Rattle.grep_io.specs.Working.Limited.{limited}

@@ -5,7 +5,7 @@ pub use Rattle.grep_core.specs.Cost.{search_cost}
 pub use Rattle.grep_core.specs.Files.{AreMeant, File, HasSelected, Inputs, Matched, Selected, missing, whole}
 pub use Rattle.grep_core.specs.Matchers.{IsFirstRefused}
 pub use Rattle.grep_core.specs.Messages.{AnySelected, FaultMet, Message, Messages, Reached, StatusOf, Stops, message}
-pub use Rattle.grep_core.specs.Meters.{Adds, Steps}
+pub use Rattle.grep_core.specs.Meters.{Steps}
 pub use Rattle.grep_core.specs.Output.{Form, GroupsOf, Out, OutAs, PartsOfLine, around, counts, form, lines, lines_with, names, nothing, parts, shown_name, shown_number, written}
 pub use Rattle.grep_core.specs.Row.{hyphen, output_line}
 pub use Rattle.grep_core.specs.Run.{file_at}
@@ -26,14 +26,14 @@ pub use Rattle.grep_core.specs.declared.status.FileEnd.TheVariants.{Missing, Who
 pub use Rattle.grep_core.specs.declared.status.Status.{Status}
 pub use Rattle.grep_session.specs.Edits.{AddFile, AddMissing, AddPatterns, Applies, ChangePattern, DropFile, DropPattern, Edit, EditGives, HasPlace, Reads, SetContext, SetFlag, SetSyntax, Splice, no_inputs, option_of, spliced, whole_file, with_files, with_option, with_patterns}
 pub use Rattle.grep_session.specs.Headline.{AcceptedEditsDecide, Attempt, ComesTo, GrepGives, IsStatusOfInputs, Makes, ReportsAllInputs, ReportsInputs, accepted, with_accepted}
-pub use Rattle.grep_session.specs.Laws.{AreAlike, EditsAreDetermined, MemorySavesEditSteps}
+pub use Rattle.grep_session.specs.Laws.{AreAlike, EditsAreDetermined}
 pub use Rattle.grep_session.specs.Listed.{ListedParts}
 pub use Rattle.grep_session.specs.Marks.{AreFit, IsFit, MarksAfter, MarksGiven, Watched, known_marks, mark_at}
 pub use Rattle.line_marks.specs.Stretches.{Marked, Splices, lost, new_mark, whole_mark}
-pub use Rattle.grep_session.specs.Touched.{Costs, CostsAccepted, CostsAs, Narrows, NeedsNoMemory, PartsCost, PartsCostOf, PartsSearchCost, TakesSteps, Touched, Touches, all_lines, pairs_cost, parts_alone, searched_by, touched_by_flag}
+pub use Rattle.grep_session.specs.Touched.{Costs, CostsAccepted, CostsAs, Narrows, NeedsNoMemory, TakesSteps, Touched, Touches, all_lines, pairs_cost, parting, parts_alone, searched_by, touched_by_flag}
 pub use Rattle.grep_session.specs.Working.Again.{AreReadable, ReadsAgain, read_as}
-pub use Rattle.grep_session.specs.Working.Changed.{ChangeCost, CostAnew, CostOfEach, CostWhere, HasChanged, HasNewParts, IsNarrower, IsSought, IsWithin, NewPartsCost, SearchCost, SearchesEach, SearchesOne, TakesAtMost, WasFileKept, WasKept, is_narrower, searched_for}
-pub use Rattle.grep_session.specs.Working.Columns.{AddsColumn, AddsColumns, AddsLater, AddsPairs, AddsSought, AreAllParts, AreDecided, AreLeft, AreMatches, ArePartsAgain, CostsParts, Grows, IsAmong, IsAmongOld, IsNextLine, KeepsAll, StaysSame, WereMatched, first_sought, has_new_parts, has_number, later_numbers, left_numbers, next_line_cost, past_sought, sought}
+pub use Rattle.grep_session.specs.Working.Changed.{HasChanged, HasNewParts, IsNarrower, IsParted, IsSought, IsWithin, SearchesEach, WasFileKept, WasKept, is_narrower, searched_for}
+pub use Rattle.grep_session.specs.Working.Columns.{AddsColumn, AddsColumns, AddsLater, AddsPairs, AddsSought, AreAllParts, AreLeft, AreMatches, ArePartsAgain, Grows, IsAmong, IsAmongOld, IsNextLine, KeepsAll, StaysSame, WereMatched, first_sought, has_new_parts, has_number, has_pair, is_parted, later_numbers, left_numbers, marked_cost, next_line_cost, past_sought, sought}
 pub use Rattle.grep_session.specs.Working.Counts.{SelectedFrom}
 pub use Rattle.grep_session.specs.Working.Effects.{LosesAll}
 pub use Rattle.grep_session.specs.Working.Found.{IsColumn, chunks_of, chunks_of_files, lines_of_files}
@@ -54,11 +54,10 @@ pub use Rattle.line_chunks.specs.Working.Chunks.{FitColumns, FitsColumn, KeptLin
 pub use Rattle.line_chunks.specs.Working.Finds.{AreBelow, FoundIn, finds_at, is_paired, lowered, numbers_at, without}
 pub use Rattle.memchr.specs.Find.{FindsNeedle}
 pub use Rattle.re_search.specs.Reading.{IsOutOfMemory, IsReadable}
-pub use Rattle.re_search.specs.Searches.{AddsAtMost, AllAnswer, SameMatchers, searches_for}
+pub use Rattle.re_search.specs.Searches.{AddsAtMost, AllAnswer, SameMatchers}
 pub use Rattle.re_search.specs.Working.Blocks.{HoldsOfMany, IsNext}
-pub use Rattle.re_search.specs.Working.Courses.{HasTaken, IsCourseOf, refusals}
+pub use Rattle.re_search.specs.Working.LineParts.{ArePartsOf, spent}
 pub use Rattle.re_search.specs.Working.Matchers.{matched_expression, room_of, wants_whole}
-pub use Rattle.re_search.specs.declared.course.Course.{Course}
 pub use Rattle.re_search.specs.declared.matcher.Matcher.{Matcher}
 pub use Rattle.re_syntax.specs.Bytes.{Text}
 pub use Rattle.re_syntax.specs.Expression.{Expression, byte, cat, sequence}
@@ -74,11 +73,11 @@ pub use Rattle.re_syntax.specs.declared.fault.PatternFault.{PatternFault}
 pub use Rattle.re_trees.specs.declared.span.Span.{Span}
 pub use Rattle.re_syntax.specs.declared.syntax.Syntax.{Syntax}
 pub use Rattle.re_syntax.specs.declared.syntax.Syntax.TheVariants.{Fixed}
-pub use Rattle.std.proofs.Common.{All, Any, Bool, Decides, Err, IfOk, IfSome, IsErr, IsTrue, List, MatchBool, MatchOption, None, Ok, Option, Result, Some, [], add-one, ap, append-nil, append_assoc, arith, cond, drop, drop-cons, drop-set-lt, false, filter, get_or, get_or-drop, get_or-set_other, get_or-take, if◌then◌else◌, inl, inr, insert, is_some, length, length-append, length-drop, length-take, length-take-le, lt-ltb, ltb-true, map, mul-le-mul_right, nat_eq, nat_le, nat_lt, not, option_map, refl, remove, set, slice_range, slice_set, subst, suc, sym, take, take-append-drop, take-suc, take-take, take_all, true, unwrap_or, zero, ℕ, ◌&&◌, ◌*◌, ◌++◌, ◌+◌, ◌-◌, ◌<◌, ◌==◌, ◌^◌, ◌||◌, ◌↔◌, ◌∙◌, ◌∷◌, ◌≡◌, ◌≢◌, ◌≤◌, ◌⊎◌}
+pub use Rattle.std.proofs.Common.{All, Any, Bool, Decides, Err, IfOk, IfSome, IsErr, IsTrue, List, MatchBool, MatchOption, None, Ok, Option, Result, Some, [], add-one, ap, append-nil, append_assoc, arith, cond, drop, drop-cons, drop-set-lt, false, filter, get_or, get_or-drop, get_or-set_other, get_or-take, if◌then◌else◌, inl, inr, insert, is_some, length, length-append, length-drop, length-take, length-take-le, lt-ltb, ltb-true, map, nat_eq, nat_le, nat_lt, not, option_map, refl, remove, set, slice_range, slice_set, subst, suc, sym, take, take-append-drop, take-suc, take-take, take_all, true, unwrap_or, zero, ℕ, ◌&&◌, ◌*◌, ◌++◌, ◌+◌, ◌-◌, ◌<◌, ◌==◌, ◌^◌, ◌||◌, ◌↔◌, ◌∙◌, ◌∷◌, ◌≡◌, ◌≢◌, ◌≤◌, ◌⊎◌}
 pub use Rattle.std.proofs.Math.Seq.{drop-append_seam, drop-length, get_or-append_seam, map-set_same, take-append_seam}
 pub use Rattle.std.proofs.lemmas.Bool.{cases_lt, eqb-false, false≢true}
 pub use Rattle.std.proofs.lemmas.Bool.Decides.{nat_tests}
-pub use Rattle.std.proofs.lemmas.List.{drop-take, drop_all, drop_more, get_or_append_left, get_or_at, get_or_default, get_or_past, length-map, length_push, map-append, map-set, nil_from_length, set_at, take_more}
+pub use Rattle.std.proofs.lemmas.List.{drop-take, drop_all, drop_more, get_or_append_left, get_or_at, get_or_default, get_or_past, length-map, map-append, map-set, nil_from_length, set_at, take_more}
 pub use Rattle.std.proofs.lemmas.List.Concat.{flat_map-append}
 pub use Rattle.std.proofs.lemmas.List.Elements.{All-append, All-cons, All-drop, All-from_all_within, All-get_or, All-head, All-map, All-nil, All-push, All-set, All-tail, All-take, All-weaker, AllWithin-from_all, AllWithin-more_set}
 pub use Rattle.std.specs.Bool.{OnTrue}

@@ -15,6 +15,7 @@ pub mod PuttingLemmas
 pub mod SurvivingLemmas
 pub mod FindsLemmas
 pub mod StepLemmas
+pub mod MarkedLemmas
 pub mod ChangeLemmas
 pub mod PartingLemmas
 pub mod PatternLemmas

@@ -1,5 +1,5 @@
 -- Laws of the definitions.
-use Rattle.std.specs.Prelude.{◌≡◌, ◌≤◌, ℕ, Result, Ok, Err}
+use Rattle.std.specs.Prelude.{◌≡◌, ℕ, Result, Ok, Err}
 use Rattle.grep_core.specs.Files.{Inputs}
 use Rattle.grep_session.specs.declared.fault.EditFault.{EditFault}
 use Rattle.grep_session.specs.declared.fault.EditFault.TheVariants.{Pattern}
@@ -18,18 +18,11 @@ AreAlike (Ok a) (Err g) = ⊥
 AreAlike (Err f) (Ok b) = ⊥
 AreAlike (Err f) (Err g) = AreAlikeFaults f g
 
--- an edit has one outcome for its inputs, up to alike refusals, and one cost if no allocation fails
+-- an edit has one outcome for its inputs, up to alike refusals, and one cost
 pub record HasOneOutcome (edit : Edit) (old : Inputs) : Type 0 where
   pub one_outcome : (a b : Result Inputs EditFault) → Applies edit old a → Applies edit old b →
       AreAlike a b
-  pub one_cost : (a b : ℕ) → Costs 0 edit old a → Costs 0 edit old b → a ≡ b
+  pub one_cost : (a b : ℕ) → Costs edit old a → Costs edit old b → a ≡ b
 
 abbrev pub EditsAreDetermined : Type 0
 EditsAreDetermined = (edit : Edit) (old : Inputs) → HasOneOutcome edit old
-
--- an edit costs no more if no allocation fails, when the parts of a line cost at most four searches
--- of it, than if it is, when each part of a line may cost one
-abbrev pub MemorySavesEditSteps : Type 0
-MemorySavesEditSteps =
-    (edit : Edit) (old : Inputs) (refusals few most : ℕ) → Costs 0 edit old few →
-    Costs refusals edit old most → few ≤ most

@@ -1,18 +1,16 @@
 -- How many steps an edit takes, and how many bytes it passes, at most: only what it touches is
 -- searched.
-use Rattle.std.specs.Prelude.{◌≡◌, ◌≢◌, ℕ, ◌+◌, ◌*◌, ◌<◌, ◌≤◌, false, List, [], All, ◌∷◌, ◌++◌, ◌⊎◌}
-use Rattle.std.specs.Prelude.{Result, Ok, Err, get_or, length, MatchBool, ⊤}
+use Rattle.std.specs.Prelude.{◌≡◌, ◌≢◌, ℕ, ◌+◌, ◌<◌, ◌≤◌, false, List, [], All, ◌∷◌, ◌++◌, ◌⊎◌}
+use Rattle.std.specs.Prelude.{Result, Ok, Err, get_or, length, if◌then◌else◌, ⊤}
 use Rattle.std.specs.List.{flat_map}
 use Rattle.re_syntax.specs.Bytes.{Text}
 use Rattle.re_syntax.specs.Expression.{Expression}
 use Rattle.re_syntax.specs.Holds.{Matches}
 use Rattle.re_syntax.specs.Lines.{HasNoNewline, list_of}
-use Rattle.re_syntax.specs.Parts.{AreParts}
 use Rattle.re_syntax.specs.Spelled.{IsMeant}
 use Rattle.re_syntax.specs.declared.syntax.Syntax.{Syntax}
 use Rattle.re_syntax.specs.declared.syntax.Syntax.TheVariants.{Fixed}
-use Rattle.grep_core.specs.Meters.{Steps, Adds}
-use Rattle.re_search.specs.Searches.{searches_for}
+use Rattle.grep_core.specs.Meters.{Steps, AddsAtMost}
 use Rattle.grep_core.specs.declared.options.Flag.{Flag}
 use Rattle.grep_core.specs.declared.options.Flag.TheVariants.{IgnoreCase, OnlyMatching, LineRegexp}
 use Rattle.grep_core.specs.declared.options.Options.{Options}
@@ -99,58 +97,38 @@ abbrev pub pairs_cost : ℕ → List Text → ℕ
 pairs_cost patterns [] = 0
 pairs_cost patterns (line ∷ lines) = search_cost patterns line + pairs_cost patterns lines
 
-module _ (es : List Expression) (options : Options) where
-  -- the cost of the search for a line's parts under `-o`: all patterns search once for each part and
-  -- once more, but at most four times, unless the allocation for the line's list of ends failed;
-  -- `refusals` says how often it did
-  abbrev pub PartsSearchCost : Text → ℕ → ℕ → Type 0
-  PartsSearchCost line refusals cost =
-      MatchBool options.only_matching
-      ((parts : List (ℕ × ℕ)) × AreParts es line options.line_regexp parts ×
-      (cost ≡ searches_for refusals (length parts + 1) * search_cost (length es) line))
-      ((refusals ≡ 0) × (cost ≡ 0))
+-- how many patterns search for the parts of a line that some pattern matches: all under `-o`, and
+-- otherwise none
+abbrev pub parting : List Expression → Options → ℕ
+parting es options = if options.only_matching then length es else 0
 
-  -- the cost of a line's parts: they are searched for where some pattern matches the line
-  abbrev pub PartsCostOf : Text → ℕ → ℕ → Type 0
-  PartsCostOf line refusals cost =
-      IfHolds (Matched es options line) (PartsSearchCost line refusals cost)
-      ((refusals ≡ 0) × (cost ≡ 0))
-
-  -- the sums of the lines' refusals and costs
-  abbrev pub PartsCost : List Text → ℕ → ℕ → Type 0
-  PartsCost [] refusals cost = (refusals ≡ 0) × (cost ≡ 0)
-  PartsCost (line ∷ lines) refusals cost =
-      (mine : ℕ) × (others : ℕ) × (own : ℕ) × (rest : ℕ) × PartsCostOf line mine own ×
-      PartsCost lines others rest × (refusals ≡ mine + others) × (cost ≡ own + rest)
-
--- the cost of an accepted edit, with the patterns and the options that it leaves
-pub record CostsAccepted (refusals : ℕ) (edit : Edit) (old new : Inputs) (cost : ℕ) : Type 0 where
+-- the cost of an accepted edit, with the patterns and the options that it leaves: that of the pairs,
+-- and of the parts of those of the lines that some pattern matches
+pub record CostsAccepted (edit : Edit) (old new : Inputs) (cost : ℕ) : Type 0 where
   pub es : List Expression
   pub are_meant : AreMeant new.syntax new.options new.patterns es
   pub touched : Touched
   pub are_touched : Touches edit old touched
-  pub parts : ℕ
-  pub are_parts : PartsCost es new.options touched.lines refusals parts
-  pub is_sum : cost ≡ pairs_cost touched.patterns touched.paired + parts
+  pub parted : List Text
+  pub are_parted : Chosen (Matched es new.options) touched.lines parted
+  pub is_sum : cost ≡
+      pairs_cost touched.patterns touched.paired + pairs_cost (parting es new.options) parted
 
 -- a refused edit costs nothing
-abbrev pub CostsAs : ℕ → Edit → Inputs → Result Inputs EditFault → ℕ → Type 0
-CostsAs refusals edit old (Ok new) cost = CostsAccepted refusals edit old new cost
-CostsAs refusals edit old (Err fault) cost = (refusals ≡ 0) × (cost ≡ 0)
+abbrev pub CostsAs : Edit → Inputs → Result Inputs EditFault → ℕ → Type 0
+CostsAs edit old (Ok new) cost = CostsAccepted edit old new cost
+CostsAs edit old (Err fault) cost = cost ≡ 0
 
--- the cost of an edit of these inputs, where the allocation for a line's list of ends failed so
--- often
-abbrev pub Costs : ℕ → Edit → Inputs → ℕ → Type 0
-Costs refusals edit old cost =
-    (outcome : Result Inputs EditFault) × Applies edit old outcome ×
-    CostsAs refusals edit old outcome cost
+-- the cost of an edit of these inputs
+abbrev pub Costs : Edit → Inputs → ℕ → Type 0
+Costs edit old cost =
+    (outcome : Result Inputs EditFault) × Applies edit old outcome × CostsAs edit old outcome cost
 
 -- the steps of an edit, and the bytes that it passes: none, or no more than its cost
 pub record TakesSteps (edit : Edit) (old : Inputs) (begun ended : Steps) : Type 0 where
   pub most : ℕ
-  pub refusals : ℕ
-  pub is_most : ((most ≡ 0) × (refusals ≡ 0)) ⊎ Costs refusals edit old most
-  pub few : Adds most most refusals begun ended
+  pub is_most : (most ≡ 0) ⊎ Costs edit old most
+  pub few : AddsAtMost most begun ended
 
 -- the options on which nothing that is kept depends
 abbrev pub is_of_output : Flag → Type 0

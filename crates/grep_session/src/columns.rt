@@ -9,7 +9,7 @@ ghost use Rattle.re_search.specs.Working.Matchers.{matched_expression, wants_who
 ghost use Rattle.re_search.specs.Searches.{AllAnswer};
 ghost use Rattle.line_chunks.specs.Working.Chunks.{FitsColumn, all_of, line_text};
 ghost use Rattle.grep_session.specs.Working.Changed.{HasChanged, WasKept, WasFileKept, IsWithin};
-ghost use Rattle.grep_session.specs.Working.Changed.{ChangeCost, SearchesEach};
+ghost use Rattle.grep_session.specs.Working.Changed.{SearchesEach};
 ghost use Rattle.grep_session.specs.Working.Columns.{AddsColumns, StaysSame};
 ghost use Rattle.grep_session.specs.Working.Found.{IsColumn, chunks_of_files, lines_of_files};
 ghost use Rattle.grep_session.specs.Working.Kept.{IsFileKept, kept_file};
@@ -24,7 +24,7 @@ use crate::search::SearchContext;
 use crate::vec_push::push;
 use grep_core::Options;
 use line_chunks::{Chunk, Found, Matches};
-use re_search::{LineMatch, Matcher, Meter};
+use re_search::{LineMatch, LineParts, Matcher, Meter};
 use std::alloc::{AllocError, Global};
 
 /// Whether what was found in a chunk stays as it is: no pattern that was added matches a line of
@@ -48,6 +48,7 @@ fn find_in_chunk<M: LineMatch>(
     matchers: &mut [M],
     change: Change,
     chunk: &Chunk,
+    line_parts: &mut LineParts,
     meter: &mut Meter,
 ) -> Result<Option<Found>, AllocError>
     requires whole { AllAnswer search.now.options.line_regexp (map M.whole matchers.old) }
@@ -63,8 +64,7 @@ fn find_in_chunk<M: LineMatch>(
     ensures steps { (before changed : List Expression) →
         HasChanged change (map M.expression matchers.old) before changed search.now.options →
         All (WasKept change before search.now.options) chunk.now
-        → SearchesEach
-        (ChangeCost change changed (map M.expression matchers.old) search.now.options)
+        → SearchesEach change changed (map M.expression matchers.old) search.now.options
         (map line_text chunk.now) meter.old meter.new }
 {
     let old = chunk.matches();
@@ -72,7 +72,9 @@ fn find_in_chunk<M: LineMatch>(
     if is_same(change, old, &new) {
         return Ok(None);
     }
-    let parts = find_parts(search, matchers, change, chunk, old, &new, meter)?;
+    let parts = find_parts(
+        search, matchers, change, chunk, old, &new, line_parts, meter,
+    )?;
     let found = Found::of(search.alloc, chunk.len(), new, parts)?;
     Ok(Some(found))
 }
@@ -84,6 +86,7 @@ pub fn find_in_lines<M: LineMatch>(
     change: Change,
     lines: &FileLines,
     found: &mut Vec<Option<Found>>,
+    line_parts: &mut LineParts,
     meter: &mut Meter,
 ) -> Result<(), AllocError>
     requires whole { AllAnswer search.now.options.line_regexp (map M.whole matchers.old) }
@@ -97,12 +100,11 @@ pub fn find_in_lines<M: LineMatch>(
     ensures steps { (before changed : List Expression) →
         HasChanged change (map M.expression matchers.old) before changed search.now.options →
         All (WasKept change before search.now.options) (all_of lines.now)
-        → SearchesEach
-        (ChangeCost change changed (map M.expression matchers.old) search.now.options)
+        → SearchesEach change changed (map M.expression matchers.old) search.now.options
         (map line_text (all_of lines.now)) meter.old meter.new }
 {
     for i in 0..lines.chunk_count() {
-        let one = find_in_chunk(search, matchers, change, lines.chunk(i), meter)?;
+        let one = find_in_chunk(search, matchers, change, lines.chunk(i), line_parts, meter)?;
         push(found, one)?;
     }
     Ok(())
@@ -127,16 +129,24 @@ fn find_all<M: LineMatch>(
     ensures steps { (before changed : List Expression) →
         HasChanged change (map M.expression matchers.old) before changed search.now.options →
         All (WasFileKept change before search.now.options) files.now
-        → SearchesEach
-        (ChangeCost change changed (map M.expression matchers.old) search.now.options)
+        → SearchesEach change changed (map M.expression matchers.old) search.now.options
         (lines_of_files (map kept_file files.now)) meter.old meter.new }
 {
+    let mut line_parts = LineParts::new(search.alloc);
     let mut found = Vec::new(search.alloc);
     for file in files {
         let Some(lines) = &file.lines else {
             continue;
         };
-        find_in_lines(search, matchers, change, lines, &mut found, meter)?;
+        find_in_lines(
+            search,
+            matchers,
+            change,
+            lines,
+            &mut found,
+            &mut line_parts,
+            meter,
+        )?;
     }
     Ok(found)
 }
@@ -168,8 +178,7 @@ pub fn find_columns(
     ensures steps { (before changed : List Expression) →
         HasChanged change (map matched_expression matchers.old.items) before changed options.now →
         All (WasFileKept change before options.now) files.old.items
-        → SearchesEach
-        (ChangeCost change changed (map matched_expression matchers.old.items) options.now)
+        → SearchesEach change changed (map matched_expression matchers.old.items) options.now
         (lines_of_files (map kept_file files.old.items)) meter.old meter.new }
 {
     let search = SearchContext {

@@ -1,17 +1,12 @@
 //! Laws of the definitions, as functions that do nothing.
 ghost use Rattle.grep_session.specs.Headline.{AcceptedEditsDecide};
-ghost use Rattle.grep_session.specs.Laws.{EditsAreDetermined, MemorySavesEditSteps};
+ghost use Rattle.grep_session.specs.Laws.{EditsAreDetermined};
 
 /// An edit has one outcome for its inputs, up to what is reported of a refused pattern, and one
-/// cost if no allocation fails.
+/// cost.
 #[tactic(auto, using(crate::proofs::lemmas::EditLaws::edits_are_determined))]
 pub fn edits_are_determined()
     ensures { EditsAreDetermined }
-{}
-
-/// An edit costs no more if no allocation fails than if one does.
-pub fn memory_saves_edit_steps()
-    ensures { MemorySavesEditSteps }
 {}
 
 /// After any attempts on a new session it holds the inputs that the accepted edits alone leave. A

@@ -32,7 +32,7 @@ mod verdicts;
 pub use caches::Caches;
 pub use fault::EditFault;
 pub use hit::Hit;
-pub use laws::{accepted_edits_decide, edits_are_determined, memory_saves_edit_steps};
+pub use laws::{accepted_edits_decide, edits_are_determined};
 pub use line_marks::{Mark, Stretch};
 pub use new_lines::NewLines;
 pub use re_search::Meter;

@@ -1,18 +1,15 @@
 //! Which patterns match which lines of a chunk.
-ghost use Rattle.std.specs.Prelude.{◌≡◌, ◌+◌, ◌-◌, ◌*◌, ◌<◌, ◌≤◌, List, [], ◌∷◌, length, map};
+ghost use Rattle.std.specs.Prelude.{◌≡◌, ◌+◌, ◌-◌, ◌*◌, ◌<◌, ◌≤◌, [], ◌∷◌, length, map};
 ghost use Rattle.std.specs.Prelude.{false, IfOk, IsTrue};
-ghost use Rattle.re_syntax.specs.Expression.{Expression};
 ghost use Rattle.re_syntax.specs.Lines.{terminated};
 ghost use Rattle.re_syntax.specs.Profile.{most_patterns};
 ghost use Rattle.re_search.specs.Searches.{AllAnswer, AddsAtMost};
 ghost use Rattle.line_chunks.specs.Working.Chunks.{line_text};
 ghost use Rattle.line_chunks.specs.Working.Finds.{AreBelow};
-ghost use Rattle.grep_core.specs.Files.{Matched};
-ghost use Rattle.grep_session.specs.Working.Changed.{IsWithin, is_narrower, CostWhere};
-ghost use Rattle.grep_session.specs.Working.Changed.{SearchesEach};
+ghost use Rattle.grep_session.specs.Working.Changed.{IsWithin, is_narrower};
 ghost use Rattle.grep_session.specs.Working.Columns.{first_sought, past_sought, AreLeft, AddsColumn};
 ghost use Rattle.grep_session.specs.Working.Columns.{AddsLater, AreMatches, AddsPairs};
-ghost use Rattle.grep_session.specs.Working.Columns.{IsAmong, WereMatched};
+ghost use Rattle.grep_session.specs.Working.Columns.{IsAmong, has_pair, marked_cost};
 ghost use Rattle.re_search.specs.Searches.{SameMatchers};
 
 use crate::change::Change;
@@ -73,10 +70,8 @@ fn narrow_column<M: LineMatch>(
     ensures same_expression { M.expression matcher.new ≡ M.expression matcher.old }
     ensures same_whole { M.whole matcher.new ≡ M.whole matcher.old }
     ensures same_room { M.room matcher.new ≡ M.room matcher.old }
-    ensures steps { (es : List Expression) →
-        WereMatched es search.now.options (map line_text chunk.now) number old.now →
-        SearchesEach (CostWhere (Matched es search.now.options) 1) (map line_text chunk.now)
-        meter.old meter.new }
+    ensures steps { AddsAtMost (marked_cost (has_pair number old.now) 1
+        (map line_text chunk.now) (length chunk.now)) meter.old meter.new }
 {
     if old.len() == 0 {
         return Ok(());
@@ -206,11 +201,9 @@ pub fn find_matches<M: LineMatch>(
         AddsAtMost
         ((past_sought change (length matchers.old) - first_sought change (length matchers.old))
         * length (terminated (map line_text chunk.now))) meter.old meter.new }
-    ensures narrow { IsTrue (is_narrower change) → (es : List Expression) →
-        WereMatched es search.now.options (map line_text chunk.now)
-        (first_sought change (length matchers.old)) old.now →
-        SearchesEach (CostWhere (Matched es search.now.options) 1) (map line_text chunk.now)
-        meter.old meter.new }
+    ensures narrow { IsTrue (is_narrower change) → AddsAtMost
+        (marked_cost (has_pair (first_sought change (length matchers.old)) old.now) 1
+        (map line_text chunk.now) (length chunk.now)) meter.old meter.new }
 {
     let size = chunk.len();
     let mut matches = left_matches(search, change, size, old)?;

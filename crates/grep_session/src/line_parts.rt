@@ -1,19 +1,19 @@
 //! The parts of the lines of a chunk after a change of the patterns.
-ghost use Rattle.std.specs.Prelude.{◌≡◌, ℕ, ◌+◌, ◌<◌, ◌≤◌, true, false, [], List, length, map, get_or};
-ghost use Rattle.std.specs.Prelude.{IfOk};
-ghost use Rattle.re_syntax.specs.Expression.{Expression};
-ghost use Rattle.re_search.specs.Searches.{AllAnswer};
+ghost use Rattle.std.specs.Prelude.{◌≡◌, ℕ, ◌+◌, ◌<◌, ◌≤◌, true, false, [], length, map, get_or};
+ghost use Rattle.std.specs.Prelude.{IfOk, ◌&&◌, if◌then◌else◌};
+ghost use Rattle.re_search.specs.Searches.{AddsAtMost, AllAnswer};
+ghost use Rattle.grep_core.specs.Cost.{search_cost};
 ghost use Rattle.line_chunks.specs.Working.Chunks.{no_line, line_text};
 ghost use Rattle.line_chunks.specs.Working.Finds.{AreBelow, is_paired, numbers_at};
-ghost use Rattle.grep_session.specs.Working.Changed.{NewPartsCost, SearchesEach};
+ghost use Rattle.grep_session.specs.Touched.{parting};
 ghost use Rattle.grep_session.specs.Working.Columns.{Grows, has_new_parts, ArePartsAgain, AreAllParts};
-ghost use Rattle.grep_session.specs.Working.Columns.{AreDecided, CostsParts};
+ghost use Rattle.grep_session.specs.Working.Columns.{is_parted, marked_cost};
 ghost use Rattle.re_search.specs.Searches.{SameMatchers};
 
 use crate::change::Change;
 use crate::search::{SearchContext, parts_of};
 use line_chunks::{Chunk, Matches, SpanLists};
-use re_search::{LineMatch, Meter};
+use re_search::{LineMatch, LineParts, Meter};
 use std::alloc::AllocError;
 
 /// Of each line of a chunk that some pattern matches, whether its parts are searched anew.
@@ -56,6 +56,7 @@ fn put_parts<M: LineMatch>(
     matched: bool,
     anew: bool,
     parts: &mut SpanLists,
+    line_parts: &mut LineParts,
     meter: &mut Meter,
 ) -> Result<(), AllocError>
     requires whole { AllAnswer search.now.options.line_regexp (map M.whole matchers.old) }
@@ -69,8 +70,9 @@ fn put_parts<M: LineMatch>(
         ArePartsAgain matched anew (map M.expression matchers.old) search.now.options
         (get_or chunk.now k no_line) (get_or parts.new k [])) }
     ensures same_matchers { SameMatchers M.expression M.whole M.room matchers.old matchers.new }
-    ensures steps { CostsParts matched anew (map M.expression matchers.old) search.now.options
-        (line_text (get_or chunk.now k no_line)) meter.old meter.new }
+    ensures steps { AddsAtMost (if matched && anew then search_cost
+        (parting (map M.expression matchers.old) search.now.options)
+        (line_text (get_or chunk.now k no_line)) else 0) meter.old meter.new }
 {
     if !matched {
         return Ok(());
@@ -78,7 +80,7 @@ fn put_parts<M: LineMatch>(
     if !anew {
         return parts.put(k, chunk.spans(k));
     }
-    let spans = parts_of(search, matchers, chunk.line(k), meter)?;
+    let spans = parts_of(search, matchers, chunk.line(k), line_parts, meter)?;
     parts.put(k, &spans)
 }
 
@@ -91,6 +93,7 @@ pub fn find_parts<M: LineMatch>(
     chunk: &Chunk,
     old: &Matches,
     new: &Matches,
+    line_parts: &mut LineParts,
     meter: &mut Meter,
 ) -> Result<SpanLists, AllocError>
     requires whole { AllAnswer search.now.options.line_regexp (map M.whole matchers.old) }
@@ -102,12 +105,9 @@ pub fn find_parts<M: LineMatch>(
         (AreAllParts change (map M.expression matchers.old) search.now.options chunk.now old.now
         new.now) }
     ensures same_matchers { SameMatchers M.expression M.whole M.room matchers.old matchers.new }
-    ensures steps { (changed : List Expression) →
-        AreDecided change changed (map M.expression matchers.old) search.now.options
-        (map line_text chunk.now) old.now new.now →
-        SearchesEach
-        (NewPartsCost change changed (map M.expression matchers.old) search.now.options)
-        (map line_text chunk.now) meter.old meter.new }
+    ensures steps { AddsAtMost (marked_cost (is_parted change old.now new.now)
+        (parting (map M.expression matchers.old) search.now.options) (map line_text chunk.now)
+        (length chunk.now)) meter.old meter.new }
 {
     let mut parts = SpanLists::new(search.alloc);
     if !search.options.only_matching {
@@ -118,7 +118,7 @@ pub fn find_parts<M: LineMatch>(
     let anew = marks_anew(search, change, size, old, new)?;
     for k in 0..size {
         put_parts(
-            search, matchers, chunk, k, matched[k], anew[k], &mut parts, meter,
+            search, matchers, chunk, k, matched[k], anew[k], &mut parts, line_parts, meter,
         )?;
     }
     Ok(parts)

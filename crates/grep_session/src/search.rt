@@ -1,12 +1,14 @@
 //! What is found in lines, and kept.
 ghost use Rattle.std.specs.Prelude.{◌≡◌, ◌≤◌, length, map, IfOk, IfErr, [], All};
 ghost use Rattle.re_search.specs.Working.Matchers.{matched_expression, wants_whole, room_of};
-ghost use Rattle.re_search.specs.Searches.{AllAnswer};
+ghost use Rattle.re_search.specs.Searches.{AddsAtMost, AllAnswer};
 ghost use Rattle.re_syntax.specs.Lines.{HasNoNewline};
 ghost use Rattle.re_syntax.specs.Profile.{most_patterns};
 ghost use Rattle.line_chunks.specs.Working.Chunks.{all_of, line_text};
-ghost use Rattle.grep_session.specs.Touched.{PartsSearchCost};
-ghost use Rattle.grep_session.specs.Working.Changed.{CostAnew, SearchesEach, SearchesOne};
+ghost use Rattle.grep_core.specs.Cost.{search_cost};
+ghost use Rattle.grep_session.specs.Touched.{parting};
+ghost use Rattle.grep_session.specs.Working.Changed.{SearchesEach};
+ghost use Rattle.grep_session.specs.declared.change.Change.TheVariants.{Rebuild};
 ghost use Rattle.grep_session.specs.Working.Kept.{ArePartsKept, IsKept};
 ghost use Rattle.re_search.specs.Searches.{SameMatchers};
 
@@ -15,7 +17,7 @@ use crate::columns::find_in_lines;
 use crate::kept::FileLines;
 use crate::new_lines::{NewLines, kept_of};
 use grep_core::Options;
-use re_search::{Course, LineMatch, Matcher, Meter, Span, next_part};
+use re_search::{LineMatch, LineParts, Matcher, Meter, Span, next_part};
 use std::alloc::{AllocError, Global};
 
 /// Allocator and options of a search.
@@ -27,32 +29,35 @@ pub struct SearchContext {
     pub options: Options,
 }
 
-/// The parts of the line under `-o`, otherwise none.
+/// The parts of the line under `-o`, otherwise none. `line_parts` gets room for the line.
 pub fn parts_of<M: LineMatch>(
     search: &SearchContext,
     matchers: &mut [M],
     line: &[u8],
+    line_parts: &mut LineParts,
     meter: &mut Meter,
 ) -> Result<Vec<Span>, AllocError>
     requires whole { AllAnswer search.now.options.line_regexp (map M.whole matchers.old) }
     ensures ok { IfOk result
         (λ spans. ArePartsKept (map M.expression matchers.old) search.now.options line.now spans.items) }
     ensures same_matchers { SameMatchers M.expression M.whole M.room matchers.old matchers.new }
-    ensures steps { SearchesOne (PartsSearchCost (map M.expression matchers.old) search.now.options) line.now
+    ensures steps { AddsAtMost
+        (search_cost (parting (map M.expression matchers.old) search.now.options) line.now)
         meter.old meter.new }
 {
     let mut spans = Vec::new(search.alloc);
     if !search.options.only_matching {
         return Ok(spans);
     }
-    let mut course = Course::new(search.alloc, matchers.len(), line, meter);
+    line_parts.make_room(line.len())?;
+    line_parts.begin();
     let mut from = 0;
     while let Some(part) = next_part(
         matchers,
         search.options.line_regexp,
         line,
         from,
-        &mut course,
+        line_parts,
         meter,
     ) {
         spans.push(part)?;
@@ -79,8 +84,8 @@ pub fn search_new(
     ensures same_matchers { SameMatchers matched_expression wants_whole room_of matchers.old.items
         matchers.new.items }
     ensures memory { given ≡ [] → IfErr result (λ _. ⊥) }
-    ensures steps { SearchesEach (CostAnew (map matched_expression matchers.old.items) options.now)
-        given meter.old meter.new }
+    ensures steps { SearchesEach Rebuild (map matched_expression matchers.old.items)
+        (map matched_expression matchers.old.items) options.now given meter.old meter.new }
 {
     let mut lines = kept_of(given);
     if lines.len() == 0 {
@@ -90,6 +95,7 @@ pub fn search_new(
         alloc,
         options: *options,
     };
+    let mut line_parts = LineParts::new(alloc);
     let mut found = Vec::new(alloc);
     find_in_lines(
         &search,
@@ -97,6 +103,7 @@ pub fn search_new(
         Change::Rebuild,
         &lines,
         &mut found,
+        &mut line_parts,
         meter,
     )?;
     lines.put_columns(&mut found.into_iter());

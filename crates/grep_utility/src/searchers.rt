@@ -40,8 +40,8 @@ pub struct OwnedSearchers {
 }
 
 /// The matchers of a search for the patterns, which are the lines of `texts`: one for all that are read as
-/// strings, where that is quicker; one for each, where they are more than eight and each needs a string; else
-/// one automaton for as many as have 4,096 positions together.
+/// strings, where that is quicker; one for each, where they are more than eight, each needs a string and no
+/// parts are asked for; else one automaton for as many as have 4,096 positions together.
 ///
 /// # Errors
 ///
@@ -68,7 +68,7 @@ pub fn searchers_of(
         };
         return Ok(OwnedSearchers { matchers, needed });
     }
-    if has_more_than(FEW, texts) {
+    if has_more_than(FEW, texts) && !options.only_matching {
         let each = searchers_of_each(alloc, texts, syntax, options)?;
         if !each.needed.is_empty() {
             return Ok(each);
@@ -156,14 +156,13 @@ fn read_strings(alloc: Global, texts: &[u8], syntax: Syntax, fold: bool) -> Opti
     Some(strings)
 }
 
-/// Whether one pass for the strings is quicker than an automaton: they are several, and many, looked for as
-/// parts, or long and in one case.
+/// Whether one pass for the strings is quicker than an automaton: they are many, or several that are long
+/// and in one case.
 fn are_quicker(strings: &[u8], options: &Options) -> bool {
     if !has_more_than(1, strings) {
         return false;
     }
-    options.only_matching
-        || has_more_than(FEW, strings)
+    has_more_than(FEW, strings)
         || !options.ignore_case && !split_file(strings).any(|string| string.len() < LONG)
 }
 

@@ -7,14 +7,12 @@ pub mod AgainAndOptional
 pub mod RepeatedByCopies
 pub mod PositionsDecide
 pub mod SetsByChains
-pub mod LeastStarts
 pub mod WithoutPositions
 pub mod CountLaws
 pub mod RowLemmas
 pub mod RangeLemmas
 pub mod PartLemmas
 pub mod SetsByWords
-pub mod StartsByLists
 pub mod AddedLemmas
 pub mod RepeatedLemmas
 pub mod ClassLemmas

@@ -1,5 +1,5 @@
 -- What a search of a line finds, and how much work it takes.
-use Rattle.std.specs.Prelude.{◌≡◌, ℕ, zero, suc, ◌↔◌, Bool, List, min, Option, MatchOption, All, Any, IsTrue, map}
+use Rattle.std.specs.Prelude.{◌≡◌, ℕ, ◌↔◌, Bool, List, Option, MatchOption, All, Any, IsTrue, map}
 use Rattle.re_trees.specs.Bytes.{Text}
 use Rattle.re_trees.specs.Expression.{Expression}
 use Rattle.re_trees.specs.Holds.{Matches}
@@ -39,9 +39,3 @@ pub record SameMatchers {M : Type 0} (expression : M → Expression) (whole : M 
   pub same_expressions : map expression new ≡ map expression old
   pub same_wholes : map whole new ≡ map whole old
   pub same_rooms : map room new ≡ map room old
-
--- how many searches of a line its parts cost, by how often they are asked for: no more than four,
--- unless the allocation for their ends failed
-abbrev pub searches_for : ℕ → ℕ → ℕ
-searches_for zero times = min times 4
-searches_for (suc refusals) times = times

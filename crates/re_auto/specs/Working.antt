@@ -1,11 +1,9 @@
 pub mod Positions
 pub mod SteppedSets
-pub mod Starts
 pub mod Bits
 pub mod Ranges
 pub mod Beginnings
 pub mod Tables
 pub mod StateSets
-pub mod StartSets
 pub mod PartTables
 pub mod ByteClasses

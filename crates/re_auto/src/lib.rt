@@ -12,9 +12,9 @@ mod step;
 mod tables;
 
 pub use build::BuildFault;
-pub use laws::{fronts_decide, least_starts_are_enough, positions_decide};
+pub use laws::{fronts_decide, positions_decide};
 pub use mode::Mode;
+pub use ranges::WordRange;
 pub use re_meter::{Meter, fresh_meter};
 pub use step::automaton::Automaton;
-pub use step::starts::Starts;
 pub use step::state_set::StateSet;

@@ -1,2 +1,5 @@
+-- the terms of contracts: of this crate as a library, and of its private functions
 pub mod GreatestEnds
-pub mod EndPairs
+pub mod Ranks
+pub mod KeptSteps
+pub mod EndTables

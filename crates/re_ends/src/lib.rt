@@ -2,8 +2,11 @@
 //! begins there. They are found in one pass back from the line's end.
 #![tactic(auto)]
 
-mod back;
-mod laws;
+mod kept;
+mod list;
+mod pass;
+mod ranks;
+mod table;
 
-pub use back::EndPair;
-pub use laws::ends_decide;
+pub use pass::Asked;
+pub use table::{EndTable, Window};

@@ -1,25 +1,29 @@
 -- The words of specs and of std that proofs of this crate use, passed on from one place. Declares nothing.
 pub use Rattle.memchr.specs.Find.{FindsNeedle, OccursAt}
 pub use Rattle.re_auto.specs.Searches.{FindsPart}
-pub use Rattle.re_ends.specs.Working.GreatestEnds.{AddsEnds, FoundPast, MatchesPast}
+pub use Rattle.re_ends.specs.Working.GreatestEnds.{AddsEnds, FindsIn, FoundPast, IsBorder, MatchesPast}
 pub use Rattle.re_match.specs.Working.CachedMatchers.{CachedMatcher, SameCached, cache_in, no_cache}
 pub use Rattle.re_match.specs.Working.Literals.{Literals, any_literal, literal_meaning}
 pub use Rattle.re_match.specs.Working.Strings.{IsPartOfLines, StringMatcher, look_expression}
-pub use Rattle.re_match.specs.Working.NextParts.{BeginsLater}
+pub use Rattle.re_match.specs.Working.Aheads.{BeginsLater, IsWindowOf, past}
+pub use Rattle.re_match.specs.Working.Windows.{AreEdgesFor}
+pub use Rattle.re_match.specs.declared.ahead.Ahead.{Ahead}
+pub use Rattle.re_match.specs.declared.ahead.Ahead.TheVariants.{In, Nothing, Part}
 pub use Rattle.re_match.specs.Working.Same.{SameMatcher}
 pub use Rattle.re_match.specs.Working.Sweeps.{IsSameFrom, LooksOver, StopsAt, left_for}
+pub use Rattle.re_match.specs.declared.strings.Look.{Look}
+pub use Rattle.re_match.specs.declared.strings.Look.TheVariants.{Many, One}
 pub use Rattle.re_match.specs.declared.sweeps.Stop.{Stop}
 pub use Rattle.re_match.specs.declared.sweeps.Stop.TheVariants.{Matched, Seen, Unseen}
 pub use Rattle.re_match.specs.declared.sweeps.Sweep.{Sweep}
 pub use Rattle.re_auto.specs.declared.mode.Mode.{Mode}
 pub use Rattle.re_meter.specs.Meters.{AddsUpTo, Steps, many_passed}
 pub use Rattle.re_runs.specs.Working.Blocks.{IsBlock, IsLineFrom, PassesAll, PassesUnmatched, StopsInLine}
-pub use Rattle.re_needle.specs.Working.Needles.{HasBytesOf, IsJustRun, IsNeedleOf}
+pub use Rattle.re_needle.specs.Working.Needles.{IsJustRun, IsNeedleOf}
 pub use Rattle.re_runs.specs.Working.Finders.{runs_of}
 pub use Rattle.re_runs.specs.Working.Runs.{FindsRun, RunStandsAt, Runs, look_cost, set_at}
 pub use Rattle.re_runs.specs.declared.block.Swept.{Swept}
 pub use Rattle.re_needle.specs.declared.needle.Needle.{Needle}
-pub use Rattle.re_steps.specs.Working.Lone.{HasNone, IsLongest}
 pub use Rattle.re_steps.specs.Working.Rows.{cache_of}
 pub use Rattle.re_steps.specs.Working.Stages.{Cache, IsReadied, Searches, mode_for}
 unfoldable pub use Rattle.re_steps.specs.Working.Stages.{Goes}
@@ -37,7 +41,7 @@ unfoldable pub use Rattle.re_trees.specs.Lines.{lines_of}
 pub use Rattle.re_trees.specs.Parts.{IsFound, IsPart}
 pub use Rattle.re_trees.specs.Working.Trees.{expression_of}
 pub use Rattle.re_trees.specs.declared.span.Span.{Span}
-pub use Rattle.std.proofs.Common.{All, Bool, Decides, IfSome, IsTrue, List, None, Option, Some, [], ap, append-nil, arith, bytes_eq, drop, drop-drop, drop_of_length-le, eq-eqb, eqb-true, false, get_or, get_or-append-add, get_or-drop, get_or-take, inl, inr, is_some, length, length-append, length-drop, length-take, length-take-le, map, min, option_map, refl, rules, slice_get, slice_index, slice_range, subst, suc, sym, take, take-append-drop, true, zero, zero-add, ℕ, ◌++◌, ◌+◌, ◌-◌, ◌<◌, ◌↔◌, ◌∙◌, ◌∷◌, ◌≡◌, ◌≢◌, ◌≤◌}
+pub use Rattle.std.proofs.Common.{All, Bool, Decides, IfSome, IsTrue, List, None, Option, Some, [], ap, append-nil, arith, bytes_eq, drop, drop-drop, drop_of_length-le, eq-eqb, eqb-true, false, get_or, get_or-append-add, get_or-drop, get_or-take, inl, inr, is_some, length, length-append, length-drop, length-take, length-take-le, map, min, option_map, refl, rules, slice_get, slice_index, slice_range, subst, suc, sym, take, take-append-drop, true, zero, zero-add, ℕ, ◌++◌, ◌+◌, ◌-◌, ◌<◌, ◌↔◌, ◌∙◌, ◌∷◌, ◌≡◌, ◌≢◌, ◌≤◌, ◌⊎◌}
 pub use Rattle.std.proofs.Math.Decide.{dec_le}
 pub use Rattle.std.proofs.Math.Seq.{drop-length}
 pub use Rattle.std.proofs.lemmas.Bool.{cases_eq, cases_lt, eqb-false, false≢true}

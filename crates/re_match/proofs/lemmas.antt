@@ -2,10 +2,12 @@ pub mod OneText
 pub mod LiteralLaws
 pub mod SetFolded
 pub mod SetMatches
+pub mod StretchLaws
 pub mod SetBlocks
 pub mod SetAround
 pub mod StepSums
-pub mod LaterParts
+pub mod WindowLaws
+pub mod AheadLaws
 pub mod SweptLines
 pub mod LookLaws
 pub mod SameLaws

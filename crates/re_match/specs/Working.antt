@@ -3,5 +3,6 @@ pub mod Literals
 pub mod Strings
 pub mod CachedMatchers
 pub mod Prefilters
-pub mod NextParts
+pub mod Windows
+pub mod Aheads
 pub mod Sweeps

@@ -1,7 +1,7 @@
 //! Search by stepping an automaton over the line, with a cache of the steps between sets of
 //! positions.
 ghost use Rattle.std.specs.Prelude.{◌≡◌, ℕ, ◌+◌, ◌-◌, ◌<◌, ◌≤◌, ◌↔◌, [], ◌∷◌, true, false, IsTrue, IfOk};
-ghost use Rattle.std.specs.Prelude.{IfErr, IfSome, length, map};
+ghost use Rattle.std.specs.Prelude.{IfErr, IfSome, length, slice_index, ◌⊎◌};
 ghost use Rattle.std.specs.NonZero.{non_zero_usize_get};
 ghost use Rattle.re_trees.specs.Working.Trees.{expression_of};
 ghost use Rattle.re_trees.specs.Holds.{Matches, positions};
@@ -12,21 +12,24 @@ ghost use Rattle.re_auto.specs.Working.StateSets.{IsMadeFor};
 ghost use Rattle.re_auto.specs.Searches.{FindsPart};
 ghost use Rattle.re_needle.specs.Working.Needles.{IsNeeded, IsSettled};
 ghost use Rattle.re_meter.specs.Meters.{AddsAtMost, AddsUpTo, many_built};
-ghost use Rattle.re_steps.specs.Working.Simulations.{AreSetsFor, AreStartsFor};
+ghost use Rattle.re_steps.specs.Working.Simulations.{AreSetsFor};
 ghost use Rattle.re_steps.specs.Working.Stages.{Cache, Searches, FinishesFrom, IsReadied, mode_for};
-ghost use Rattle.re_ends.specs.Working.GreatestEnds.{AddsEnds, FoundPast};
-ghost use Rattle.re_ends.specs.Working.EndPairs.{AreEndsFor};
+ghost use Rattle.re_ends.specs.Working.GreatestEnds.{AddsEnds, FoundPast, FindsIn, IsBorder};
+ghost use Rattle.re_ends.specs.Working.EndTables.{AreEndsFor};
+ghost use Rattle.re_match.specs.Working.Aheads.{CountsAhead, IsAhead, IsWindowOf, past, stretch_cost};
+ghost use Rattle.re_match.specs.Working.Windows.{AreEdgesFor, IsSaid};
 ghost use Rattle.re_match.specs.Working.CachedMatchers.{AnswersLine, SameCached, no_cache};
 ghost use Rattle.re_match.specs.Working.Sweeps.{LooksOver};
 
-use crate::front_ends::add_line;
+use crate::ahead::Ahead;
+use crate::front_ends::{add_line, is_line};
 use crate::line_match::LineMatch;
 use crate::prefilter::Prefilter;
 use crate::sweeps::{Stop, Sweep, Sweeps, next_by_sweeps};
-use crate::tries::NextPart;
+use crate::window::Edges;
 use re_auto::{Automaton, BuildFault, Meter, Mode, StateSet};
-use re_ends::EndPair;
-use re_steps::{LineSearch, Outcome, SetPair, StartPair, StepTable};
+use re_ends::{Asked, EndTable, Window};
+use re_steps::{LineSearch, Outcome, SetPair, StepTable};
 use re_trees::{Span, Tree};
 use std::alloc::Global;
 use std::marker::Model;
@@ -41,9 +44,9 @@ pub struct Cached {
     automaton: Automaton,
     whole: bool,
     prefilter: Prefilter,
+    edges: Edges,
     sets: SetPair,
-    starts: StartPair,
-    back: EndPair,
+    back: EndTable,
     table: Option<StepTable>,
     most: NonZeroUsize,
     alloc: Global,
@@ -57,8 +60,9 @@ impl Model for Cached {
     ghost use Rattle.re_trees.specs.contracts.tree.Tree as e;
     ghost use Rattle.re_auto.specs.contracts.step.state_set.StateSet as s;
     ghost use Rattle.re_match.specs.Working.Prefilters.{IsPrefilterFor};
-    ghost use Rattle.re_steps.specs.Working.Simulations.{AreSetsFor, AreStartsFor};
-    ghost use Rattle.re_ends.specs.Working.EndPairs.{AreEndsFor};
+    ghost use Rattle.re_steps.specs.Working.Simulations.{AreSetsFor};
+    ghost use Rattle.re_ends.specs.Working.EndTables.{AreEndsFor};
+    ghost use Rattle.re_match.specs.Working.Windows.{AreEdgesFor};
     ghost use Rattle.re_match.specs.Working.CachedMatchers.{CachedMatcher, IsTableFor, cache_in};
 
     ghost Value = { CachedMatcher };
@@ -74,7 +78,7 @@ impl Model for Cached {
         } };
 
     ghost invariant = { λ c. AreSetsFor (expression_of c.automaton) c.sets ×
-        AreStartsFor (expression_of c.automaton) c.starts
+        AreEdgesFor (expression_of c.automaton) c.edges
         × IsPrefilterFor (expression_of c.automaton) c.prefilter
         × AreEndsFor (expression_of c.automaton) c.back
         × IfSome c.table
@@ -112,7 +116,7 @@ impl Cached {
             drop(automaton);
             return Err(BuildFault::Memory);
         };
-        let (sets, starts, back) = match pairs_for(alloc, &automaton) {
+        let (sets, back) = match sets_for(alloc, &automaton) {
             Ok(pairs) => pairs,
             Err(fault) => {
                 drop(automaton);
@@ -120,12 +124,13 @@ impl Cached {
                 return Err(fault);
             }
         };
+        let edges = Edges::of(&automaton);
         Ok(Cached {
             automaton,
             whole,
             prefilter,
+            edges,
             sets,
-            starts,
             back,
             table: None,
             most,
@@ -247,8 +252,9 @@ impl Cached {
         requires within { from ≤ length line.now }
         requires whole { self.old.whole ≡ true }
         ensures reported { FindsPart (expression_of self.old.tree ∷ []) line.now true from result }
+        ensures end { IfSome result (λ part. part.end ≡ length line.now) }
         ensures same { self.new ≡ self.old }
-        ensures steps { AddsAtMost (length line.now - from + 1) meter.old meter.new }
+        ensures steps { AddsAtMost (stretch_cost from (length line.now)) meter.old meter.new }
     {
         if from > 0 || line.is_empty() || !self.is_match_afresh(line, meter) {
             return None;
@@ -259,49 +265,107 @@ impl Cached {
         })
     }
 
+    // Where the next match of the line is.
+    #[inline(always)]
+    fn next_match(&self, line: &[u8], from: usize, meter: &mut Meter) -> Ahead
+        requires { from < length line.now }
+        ensures { IsSaid (expression_of self.now.tree) line.now from meter.old meter.new result }
+    {
+        self.prefilter.next_match(&self.edges, line, from, meter)
+    }
+
     // The next part if it need not be the whole line.
     fn part(&mut self, line: &[u8], from: usize, meter: &mut Meter) -> Option<Span>
         requires { from ≤ length line.now }
         ensures reported { FindsPart (expression_of self.old.tree ∷ []) line.now false from result }
         ensures same { self.new ≡ self.old }
-        ensures steps { AddsAtMost (length line.now - from + 1) meter.old meter.new }
+        ensures steps { AddsAtMost (length line.now - from) meter.old meter.new }
     {
-        match self.prefilter.part(&self.automaton, line, from, meter) {
-            NextPart::Known(found) => found,
-            NextPart::Later(start) => self.starts.find(&self.automaton, line, start, meter),
+        let mut place = from;
+        'windows: while place < line.len() {
+            let window = match self.next_match(line, place, meter) {
+                Ahead::Part(part) => return Some(part),
+                Ahead::In(window) => window,
+                Ahead::Nothing => return None,
+            };
+            if let Some(part) = self.find_in(line, window, meter) {
+                return Some(part);
+            }
+            place = place_after(line, window);
         }
+        None
     }
 
-    // Gives each place the greatest end of the matched stretches that begin there, in a pass back
-    // over the line.
-    fn put_ends(&mut self, line: &[u8], ends: &mut [usize], meter: &mut Meter)
-        requires { length ends.old ≡ length line.now }
-        ensures added { AddsEnds (FoundPast (expression_of self.old.tree ∷ []) line.now false)
-            line.now ends.old ends.new }
+    // The next part in the window.
+    fn find_in(&mut self, line: &[u8], window: Window, meter: &mut Meter) -> Option<Span>
+        requires low { window.start ≤ window.end }
+        requires border { IsBorder (expression_of self.old.tree) line.now window.end }
+        ensures found { FindsIn (expression_of self.old.tree) line.now window.start window.end result }
         ensures same { self.new ≡ self.old }
-        ensures counted { meter.new ≡ many_built (length line.now) meter.old }
+        ensures steps { AddsUpTo (window.end - window.start) 0 meter.old meter.new }
     {
-        self.back.add_ends(&self.automaton, line, ends, meter);
+        let asked = Asked {
+            alloc: self.alloc,
+            automaton: &self.automaton,
+            line,
+        };
+        self.back.find(&asked, window, meter)
+    }
+
+    // What is said of the next part if it has to be the whole line.
+    fn look_at_line(&mut self, line: &[u8], from: usize, meter: &mut Meter) -> Ahead
+        requires within { from ≤ length line.now }
+        requires whole { self.old.whole ≡ true }
+        ensures reported { IsAhead (expression_of self.old.tree) line.now true from result }
+        ensures same { self.new ≡ self.old }
+        ensures steps { CountsAhead line.now from meter.old meter.new result }
+    {
+        let Some(part) = self.whole_line(line, from, meter) else {
+            return Ahead::Nothing;
+        };
+        Ahead::Part(part)
+    }
+
+    // Gives each place of the window the greatest end of the matched stretches that begin there, where it
+    // is greater than the end that the place has.
+    fn put_ends(&mut self, line: &[u8], window: Window, ends: &mut [usize], meter: &mut Meter)
+        requires window { IsWindowOf (expression_of self.old.tree) line.now window }
+        requires room { length ends.old ≡ window.end - window.start }
+        ensures added { AddsEnds
+            (λ i m. FoundPast (expression_of self.old.tree ∷ []) line.now false (window.start + i) m)
+            ends.old ends.old ends.new }
+        ensures same { self.new ≡ self.old }
+        ensures steps { AddsUpTo (window.end - window.start) 0 meter.old meter.new }
+    {
+        let asked = Asked {
+            alloc: self.alloc,
+            automaton: &self.automaton,
+            line,
+        };
+        self.back.add_ends(&asked, window, ends, meter);
     }
 }
 
-// The sets, the starts and the ends for the automaton. The only error is `Memory`.
-fn pairs_for(
-    alloc: Global,
-    automaton: &Automaton,
-) -> Result<(SetPair, StartPair, EndPair), BuildFault>
+// The sets and the ends for the automaton. The only error is `Memory`.
+fn sets_for(alloc: Global, automaton: &Automaton) -> Result<(SetPair, EndTable), BuildFault>
     ensures made { IfOk result
-        (λ pairs. AreSetsFor (expression_of automaton.now) pairs.0
-        × AreStartsFor (expression_of automaton.now) pairs.1
-        × AreEndsFor (expression_of automaton.now) pairs.2) }
+        (λ pair. AreSetsFor (expression_of automaton.now) pair.0
+        × AreEndsFor (expression_of automaton.now) pair.1) }
     ensures refused { IfErr result (λ fault. fault ≡ Memory) }
 {
     let sets = SetPair::new(alloc, automaton)?;
-    let starts = StartPair::new(alloc, automaton)?;
-    let Ok(back) = EndPair::new(alloc, automaton) else {
+    let Ok(back) = EndTable::new(alloc, automaton) else {
         return Err(BuildFault::Memory);
     };
-    Ok((sets, starts, back))
+    Ok((sets, back))
+}
+
+// Where a search goes on after the window: no match begins at the byte that ends it.
+fn place_after(line: &[u8], window: Window) -> usize
+    requires { window.end ≤ length line.now }
+    ensures { result ≡ past line.now window.end }
+{
+    (window.end + 1).min(line.len())
 }
 
 // The rest of a search, by steps alone, from a place where the search has this set.
@@ -370,22 +434,45 @@ impl LineMatch for Cached {
         self.part(line, from, meter)
     }
 
-    fn add_ends(&mut self, line: &[u8], ends: &mut [usize], spare: &mut [usize], meter: &mut Meter)
-        requires ends { length ends.old ≡ length line.now }
-        requires spare { length spare.old ≡ length line.now }
-        ensures added { AddsEnds
-            (FoundPast (expression_of self.old.tree ∷ []) line.now self.old.whole) line.now ends.old
-            ends.new }
-        ensures same_spare { length spare.new ≡ length spare.old }
-        ensures steps { AddsAtMost (length line.now + 1) meter.old meter.new }
+    fn next_window(&mut self, line: &[u8], from: usize, meter: &mut Meter) -> Ahead
+        requires { from < length line.now }
+        ensures reported { IsAhead (expression_of self.old.tree) line.now self.old.whole from result }
         ensures same { self.new ≡ self.old }
+        ensures steps { CountsAhead line.now from meter.old meter.new result }
     {
         if self.whole {
-            let matched = self.is_match_afresh(line, meter);
-            add_line(matched, line, ends);
+            return self.look_at_line(line, from, meter);
+        }
+        self.next_match(line, from, meter)
+    }
+
+    fn add_ends(
+        &mut self,
+        line: &[u8],
+        window: Window,
+        ends: &mut [usize],
+        spare: &mut [usize],
+        meter: &mut Meter,
+    )
+        requires window { IsWindowOf (expression_of self.old.tree) line.now window }
+        requires ends { length ends.old ≡ window.end - window.start }
+        requires spare { length spare.old ≡ window.end - window.start }
+        ensures added { AddsEnds
+            (λ i m. FoundPast (expression_of self.old.tree ∷ []) line.now self.old.whole
+            (window.start + i) m) ends.old ends.old ends.new }
+        ensures samespare { length spare.new ≡ length spare.old }
+        ensures steps { AddsUpTo (stretch_cost window.start window.end) 0 meter.old meter.new }
+        ensures same { SameCached self.old self.new }
+    {
+        if !self.whole {
+            self.put_ends(line, window, ends, meter);
             return;
         }
-        self.put_ends(line, ends, meter);
+        if !is_line(line, window) {
+            return;
+        }
+        let matched = self.searched(line, meter);
+        add_line(matched, line, ends);
     }
 
     fn next_matched(&mut self, block: &[u8], meter: &mut Meter) -> Option<Span> {

@@ -2,6 +2,7 @@
 //! parts, in counted work.
 #![tactic(auto)]
 
+mod ahead;
 mod cached;
 mod front_ends;
 mod line_match;
@@ -10,10 +11,12 @@ mod scan_backoff;
 mod string_set;
 mod strings;
 mod sweeps;
-mod tries;
+mod window;
 
+pub use ahead::Ahead;
 pub use cached::Cached;
 pub use line_match::LineMatch;
+pub use re_ends::Window;
 pub use scan_backoff::ScanBackoff;
 pub use string_set::StringSet;
 pub use strings::{Look, Strings};

@@ -1,26 +1,30 @@
 //! What is known of lines, parts and blocks by what each match contains.
-ghost use Rattle.std.specs.Prelude.{◌≡◌, ℕ, ◌+◌, ◌≤◌, ◌⊎◌, false, IfOk, IfSome, IsTrue, Some, length, map};
-ghost use Rattle.std.specs.Prelude.{slice_range};
+ghost use Rattle.std.specs.Prelude.{◌≡◌, ℕ, ◌+◌, ◌-◌, ◌<◌, ◌≤◌, ◌⊎◌, false, IfOk, IfSome, IsTrue, Some};
+ghost use Rattle.std.specs.Prelude.{drop, length, slice_range};
 ghost use Rattle.re_trees.specs.Expression.{Expression};
 ghost use Rattle.re_trees.specs.Working.Trees.{expression_of};
 ghost use Rattle.re_trees.specs.Lines.{HasNoNewline};
-ghost use Rattle.re_meter.specs.Meters.{AddsUpTo};
-ghost use Rattle.re_needle.specs.Working.Needles.{IsNeeded, IsNeedleFor};
+ghost use Rattle.re_meter.specs.Meters.{AddsUpTo, Steps};
+ghost use Rattle.re_needle.specs.Working.Needles.{IsNeeded, IsNeedleFor, IsNeedleOf};
 ghost use Rattle.re_runs.specs.Working.Finders.{runs_of};
 ghost use Rattle.re_needle.specs.Working.Needles.{IsSettled};
 ghost use Rattle.re_runs.specs.Working.Runs.{FindsRun, IsLongestRun};
 ghost use Rattle.re_match.specs.Working.Sweeps.{StopsAt, LooksOver};
-ghost use Rattle.re_match.specs.Working.NextParts.{IsSaid};
+ghost use Rattle.re_match.specs.Working.Windows.{AreEdgesFor, IsSaid};
+ghost use Rattle.re_match.specs.declared.ahead.Ahead.TheVariants.{In};
 ghost use Rattle.re_match.specs.Working.Prefilters.{IsPrefilterFor};
 ghost use Rattle.re_runs.specs.Working.Blocks.{IsBlock, PassesUnmatched};
 
+use crate::ahead::Ahead;
+use crate::front_ends::rest_of;
 use crate::scan_backoff::ScanBackoff;
 use crate::sweeps::{Stop, Sweep};
-use crate::tries::{NextPart, next_tried};
-use re_auto::{Automaton, Meter};
-use re_needle::{LookCost, Needle, bytes_of, has_begin};
+use crate::window::Edges;
+use re_auto::Meter;
+use re_ends::Window;
+use re_needle::{LookCost, Needle, has_begin};
 use re_runs::{RunFinder, Swept, first_line_beginning_with, first_line_with_run, has_no_newline};
-use re_trees::{ByteSet, Span, Tree};
+use re_trees::{Span, Tree};
 use std::alloc::{AllocError, Global};
 
 // A search that begins so many bytes after its line does counts as a byte that a look passed.
@@ -31,8 +35,6 @@ const WORTH_A_BYTE: usize = 32;
 #[derive(Drop)]
 pub struct Prefilter {
     needle: Option<Needle>,
-    // Bytes, among which are all of each match.
-    bytes: ByteSet,
     // Whether the expression has a `^`.
     has_begin: bool,
     backoff: ScanBackoff,
@@ -44,11 +46,9 @@ impl Prefilter {
         ensures { IfOk result (IsPrefilterFor (expression_of tree.now)) }
     {
         let needle = Needle::of(alloc, tree)?;
-        let bytes = bytes_of(tree);
         let backoff = ScanBackoff::new(look_cost(&needle));
         Ok(Prefilter {
             needle,
-            bytes,
             has_begin: has_begin(tree),
             backoff,
         })
@@ -142,34 +142,31 @@ impl Prefilter {
         swept.start
     }
 
-    /// What is known of the next part of the line, where the whole line need not be matched. If the
-    /// needle is not all there is, places before its places are tried one after another.
+    /// Where the next match of the line is, if the whole line need not be matched. A needle that is
+    /// common isn't looked for.
     #[inline(always)]
-    pub fn part(
-        &self,
-        automaton: &Automaton,
-        line: &[u8],
-        from: usize,
-        meter: &mut Meter,
-    ) -> NextPart
-        requires within { from ≤ length line.now }
-        requires right { IsPrefilterFor (expression_of automaton.now) self.now }
-        ensures { IsSaid (expression_of automaton.now) line.now from meter.old meter.new result }
+    pub fn next_match(&self, edges: &Edges, line: &[u8], from: usize, meter: &mut Meter) -> Ahead
+        requires { from < length line.now }
+        ensures { (e : Expression) → IsPrefilterFor e self.now → AreEdgesFor e edges.now →
+            IsSaid e line.now from meter.old meter.new result }
     {
         let Some(needle) = &self.needle else {
-            return NextPart::Later(from);
+            return Ahead::In(rest_of(line, from));
         };
-        if !needle.is_all {
-            return next_tried(needle, &self.bytes, automaton, line, from, meter);
+        if needle.is_common {
+            return Ahead::In(rest_of(line, from));
         }
         let Some(place) = needle.finder.find(&line[from..], meter) else {
-            return NextPart::Known(None);
+            return Ahead::Nothing;
         };
-        let start = from + place;
-        let Some(end) = needle.finder.longest_end(line, start) else {
-            return NextPart::Later(from);
+        let near = from + place;
+        if !needle.is_all {
+            return Ahead::In(window_at(needle, edges, line, from, near, meter));
+        }
+        let Some(end) = needle.finder.longest_end(line, near) else {
+            return Ahead::Nothing;
         };
-        NextPart::Known(Some(Span { start, end }))
+        Ahead::Part(Span { start: near, end })
     }
 
     /// Passes whole lines of a block of whole lines, none of which is matched. Each of their bytes is
@@ -192,6 +189,34 @@ impl Prefilter {
         meter.add_built(sweep.start as u64);
         sweep
     }
+}
+
+// The stretch in which the next match is, where the needle's next place is `near`: from there on, if
+// each match begins with the needle, else from the bytes before it on that matches can have.
+fn window_at(
+    needle: &Needle,
+    edges: &Edges,
+    line: &[u8],
+    from: usize,
+    near: usize,
+    meter: &mut Meter,
+) -> Window
+    requires low { from ≤ near }
+    requires within { near < length line.now }
+    requires next { FindsRun (drop from line.now) (runs_of needle.now.finder) (Some (near - from)) }
+    ensures { (e : Expression) (before : Steps) → IsNeedleOf e needle.now → AreEdgesFor e edges.now →
+        AddsUpTo 0 (near + 1 - from) before meter.old →
+        IsSaid e line.now from before meter.new (In result) }
+{
+    if needle.is_first {
+        let end = edges.end(line, near, meter);
+        return Window { start: near, end };
+    }
+    let Some(start) = edges.start(line, from, near, meter) else {
+        return rest_of(line, from);
+    };
+    let end = edges.end(line, near, meter);
+    Window { start, end }
 }
 
 // Whether the run that a look found is in one line. A run of sets may go over a newline.

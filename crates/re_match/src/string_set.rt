@@ -1,5 +1,5 @@
 //! Many fixed strings that are looked for at once.
-ghost use Rattle.std.specs.Prelude.{◌≡◌, ℕ, ◌+◌, ◌≤◌, ◌↔◌, [], ◌∷◌, true, false, IsTrue, IfOk};
+ghost use Rattle.std.specs.Prelude.{◌≡◌, ℕ, ◌+◌, ◌^◌, ◌<◌, ◌≤◌, ◌↔◌, [], ◌∷◌, true, false, IsTrue, IfOk};
 ghost use Rattle.std.specs.Prelude.{IfSome, length, map, slice_range};
 ghost use Rattle.re_strings.specs.Working.Branches.{AreAscending, HaveSame};
 ghost use Rattle.re_strings.specs.Working.FixedSets.{IsString};
@@ -12,7 +12,8 @@ ghost use Rattle.re_match.specs.declared.sweeps.Stop.TheVariants.{Matched};
 ghost use Rattle.re_strings.specs.Working.Keys.{keys};
 ghost use Rattle.re_auto.specs.Searches.{FindsPart};
 ghost use Rattle.re_runs.specs.Working.Blocks.{IsBlock, IsLineFrom, PassesUnmatched};
-ghost use Rattle.re_ends.specs.Working.GreatestEnds.{AddsEnds, FoundPast};
+ghost use Rattle.re_trees.specs.Parts.{IsFound};
+ghost use Rattle.re_ends.specs.Working.GreatestEnds.{AddsEnds};
 
 use crate::sweeps::Sweep;
 use re_auto::Meter;
@@ -151,13 +152,15 @@ impl StringSet {
         self.table.find(line, from, meter)
     }
 
-    /// Gives each place the greatest end of the strings that begin there.
-    pub fn put_ends(&self, line: &[u8], ends: &mut [usize])
-        requires { length ends.old ≡ length line.now }
-        ensures { AddsEnds (FoundPast (any_literal self.now ∷ []) line.now false) line.now ends.old
-            ends.new }
+    /// Gives each place of the stretch of a line that begins at `start` the greatest end of the strings
+    /// that begin there.
+    pub fn put_ends(&self, line: &[u8], start: usize, ends: &mut [usize])
+        requires room { length ends.old ≡ length line.now }
+        requires small { start + length line.now < 2 ^ 64 }
+        ensures { AddsEnds (λ i m. (j : ℕ) × (m < start + j)
+            × IsFound (any_literal self.now ∷ []) line.now false 0 i j) line.now ends.old ends.new }
     {
-        self.table.add_ends(line, ends);
+        self.table.add_ends(line, start, ends);
     }
 }
 

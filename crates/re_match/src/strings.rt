@@ -1,7 +1,8 @@
 //! Search for fixed strings (XCU grep, option `-F`).
 ghost use Rattle.std.specs.Prelude.{◌≡◌, ℕ, ◌+◌, ◌-◌, ◌<◌, ◌≤◌, ◌↔◌, [], ◌∷◌, false, true, IsTrue, IfOk};
-ghost use Rattle.std.specs.Prelude.{IfSome, Bool, ◌⊎◌, length};
+ghost use Rattle.std.specs.Prelude.{IfSome, Bool, ◌⊎◌, ◌^◌, length, map};
 ghost use Rattle.re_trees.specs.Bytes.{Text};
+ghost use Rattle.re_trees.specs.Expression.{byte, sequence};
 ghost use Rattle.re_trees.specs.Holds.{Matches};
 ghost use Rattle.re_trees.specs.Lines.{lines_of};
 ghost use Rattle.re_meter.specs.Meters.{AddsAtMost, AddsUpTo, many_built, many_passed};
@@ -13,18 +14,22 @@ ghost use Rattle.re_match.specs.Working.Strings.{look_expression, matched_string
 ghost use Rattle.re_match.specs.Working.Strings.{IsForSet, IsOnLines, LooksFor, CountsLook};
 ghost use Rattle.re_match.specs.Working.Strings.{LooksForPart, CountsPart};
 ghost use Rattle.re_match.specs.Working.Literals.{any_literal};
+ghost use Rattle.re_match.specs.Working.Aheads.{CountsAhead, IsAhead, IsWindowOf, stretch_cost};
 ghost use Rattle.re_match.specs.Working.Same.{SameMatcher};
 ghost use Rattle.re_match.specs.Working.Sweeps.{StopsAt};
 ghost use Rattle.re_auto.specs.Searches.{FindsPart};
+ghost use Rattle.re_trees.specs.Parts.{IsFound};
 ghost use Rattle.re_ends.specs.Working.GreatestEnds.{AddsEnds, FoundPast};
 
-use crate::front_ends::{add_line, bytes_to_part};
+use crate::ahead::Ahead;
+use crate::front_ends::{add_line, bytes_to_part, is_line, rest_of};
 use crate::line_match::LineMatch;
 use crate::scan_backoff::ScanBackoff;
 use crate::string_set::StringSet;
 use crate::sweeps::{Stop, Sweep, Sweeps, next_by_sweeps};
 use memchr::memmem::Finder;
 use re_auto::Meter;
+use re_ends::Window;
 use re_needle::LookCost;
 use re_runs::{
     bytes_to, count_by, find_text, first_line_with, has_no_newline, line_end, next_line_with,
@@ -132,12 +137,14 @@ impl Look {
         Some(Span { start, end })
     }
 
-    // Gives each place the greatest end of the strings that begin there.
-    fn put_ends(&self, line: &[u8], ends: &mut [usize], spare: &mut [usize])
+    // Gives each place of the stretch of a line that begins at `start` the greatest end of the strings
+    // that begin there.
+    fn put_ends(&self, line: &[u8], start: usize, ends: &mut [usize], spare: &mut [usize])
         requires ends { length ends.old ≡ length line.now }
         requires spare { length spare.old ≡ length line.now }
-        ensures added { AddsEnds (FoundPast (look_expression self.now ∷ []) line.now false) line.now
-            ends.old ends.new }
+        requires small { start + length line.now < 2 ^ 64 }
+        ensures added { AddsEnds (λ i m. (j : ℕ) × (m < start + j)
+            × IsFound (look_expression self.now ∷ []) line.now false 0 i j) line.now ends.old ends.new }
         ensures same_spare { length spare.new ≡ length spare.old }
     {
         match self {
@@ -145,9 +152,9 @@ impl Look {
                 if finder.needle().is_empty() {
                     return;
                 }
-                add_occurrences(finder.needle(), line, ends, spare);
+                add_occurrences(finder.needle(), line, start, ends, spare);
             }
-            Look::Many(set) => set.put_ends(line, ends),
+            Look::Many(set) => set.put_ends(line, start, ends),
         }
     }
 }
@@ -249,6 +256,20 @@ impl Strings {
         })
     }
 
+    // The part, if the whole line has to be a string.
+    fn look_at_line(&self, line: &[u8], from: usize, meter: &mut Meter) -> Ahead
+        ensures reported { IsAhead (matched_strings self.now) line.now true from result }
+        ensures steps { CountsAhead line.now from meter.old meter.new result }
+    {
+        if from == 0 {
+            meter.add_built(line.len() as u64 + 1);
+        }
+        let Some(part) = self.whole_line(line, from) else {
+            return Ahead::Nothing;
+        };
+        Ahead::Part(part)
+    }
+
     // Whether each line that has a string is matched, and a line can have it.
     fn is_part(&self) -> bool
         ensures { IsTrue result ↔ IsPartOfLines self.now }
@@ -281,6 +302,26 @@ impl Strings {
         }
         self.look.occurrence(line, from, meter)
     }
+}
+
+// The next part where one string is looked for.
+fn look_for(finder: &Finder, line: &[u8], from: usize, meter: &mut Meter) -> Ahead
+    requires { from < length line.now }
+    ensures reported { IsAhead (sequence (map byte finder.now)) line.now false from result }
+    ensures steps { CountsAhead line.now from meter.old meter.new result }
+{
+    let length = finder.needle().len();
+    if length == 0 {
+        return Ahead::Nothing;
+    }
+    let Some(place) = find_text(finder, &line[from..], meter) else {
+        meter.add_built((line.len() - from) as u64);
+        return Ahead::Nothing;
+    };
+    let start = from + place;
+    let end = start + length;
+    meter.add_built((end - from) as u64);
+    Ahead::Part(Span { start, end })
 }
 
 impl LineMatch for Strings {
@@ -332,21 +373,50 @@ impl LineMatch for Strings {
         found
     }
 
-    fn add_ends(&mut self, line: &[u8], ends: &mut [usize], spare: &mut [usize], meter: &mut Meter)
-        requires ends { length ends.old ≡ length line.now }
-        requires spare { length spare.old ≡ length line.now }
-        ensures added { AddsEnds (FoundPast (matched_strings self.old ∷ []) line.now self.old.whole)
-            line.now ends.old ends.new }
-        ensures same_spare { length spare.new ≡ length spare.old }
-        ensures steps { AddsAtMost (length line.now + 1) meter.old meter.new }
+    fn next_window(&mut self, line: &[u8], from: usize, meter: &mut Meter) -> Ahead
+        requires { from < length line.now }
+        ensures reported { IsAhead (matched_strings self.old) line.now self.old.whole from result }
+        ensures steps { CountsAhead line.now from meter.old meter.new result }
         ensures same { self.new ≡ self.old }
     {
-        meter.add_built(line.len() as u64 + 1);
         if self.whole {
-            add_line(self.look.is_line(line), line, ends);
+            return self.look_at_line(line, from, meter);
+        }
+        if let Look::One(finder) = &self.look {
+            return look_for(finder, line, from, meter);
+        }
+        Ahead::In(rest_of(line, from))
+    }
+
+    fn add_ends(
+        &mut self,
+        line: &[u8],
+        window: Window,
+        ends: &mut [usize],
+        spare: &mut [usize],
+        meter: &mut Meter,
+    )
+        requires window { IsWindowOf (matched_strings self.old) line.now window }
+        requires ends { length ends.old ≡ window.end - window.start }
+        requires spare { length spare.old ≡ window.end - window.start }
+        ensures added { AddsEnds
+            (λ i m. FoundPast (matched_strings self.old ∷ []) line.now self.old.whole (window.start + i) m)
+            ends.old ends.old ends.new }
+        ensures same_spare { length spare.new ≡ length spare.old }
+        ensures steps { AddsUpTo (stretch_cost window.start window.end) 0 meter.old meter.new }
+        ensures same { self.new ≡ self.old }
+    {
+        if !self.whole {
+            meter.add_built((window.end - window.start) as u64);
+            let stretch = &line[window.start..window.end];
+            self.look.put_ends(stretch, window.start, ends, spare);
             return;
         }
-        self.look.put_ends(line, ends, spare);
+        if !is_line(line, window) {
+            return;
+        }
+        meter.add_built(line.len() as u64 + 1);
+        add_line(self.look.is_line(line), line, ends);
     }
 
     fn next_matched(&mut self, block: &[u8], meter: &mut Meter) -> Option<Span>

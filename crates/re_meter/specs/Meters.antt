@@ -1,16 +1,14 @@
 -- The work of searches, counted up to the greatest u64.
-use Rattle.std.specs.Prelude.{◌≡◌, ℕ, zero, suc, ◌+◌, ◌-◌, ◌^◌, ◌≤◌, min}
+use Rattle.std.specs.Prelude.{ℕ, ◌+◌, ◌-◌, ◌^◌, ◌≤◌, min}
 
--- the steps that were computed, those that were found in a cache, the bytes that were passed, and
--- how often an allocation of memory that saves work failed
+-- the steps that were computed, those that were found in a cache, and the bytes that were passed
 pub record Steps : Type 0 where
   pub built : ℕ
   pub reused : ℕ
   pub passed : ℕ
-  pub refused : ℕ
 
 abbrev pub fresh : Steps
-fresh = record { built = 0; reused = 0; passed = 0; refused = 0 }
+fresh = record { built = 0; reused = 0; passed = 0 }
 
 -- a count increased by a number; it stays at the greatest u64
 abbrev pub counted : ℕ → ℕ → ℕ
@@ -22,7 +20,6 @@ many_built more steps =
       built = counted more steps.built;
       reused = steps.reused;
       passed = steps.passed;
-      refused = steps.refused;
     }
 
 abbrev pub many_reused : ℕ → Steps → Steps
@@ -31,7 +28,6 @@ many_reused more steps =
       built = steps.built;
       reused = counted more steps.reused;
       passed = steps.passed;
-      refused = steps.refused;
     }
 
 abbrev pub one_reused : Steps → Steps
@@ -43,40 +39,16 @@ many_passed more steps =
       built = steps.built;
       reused = steps.reused;
       passed = counted more steps.passed;
-      refused = steps.refused;
     }
 
-abbrev pub with_refusal : Steps → Steps
-with_refusal steps =
-    record {
-      built = steps.built;
-      reused = steps.reused;
-      passed = steps.passed;
-      refused = counted 1 steps.refused;
-    }
-
--- a count of refusals after some more of them
-abbrev pub refused_more : ℕ → ℕ → ℕ
-refused_more zero n = n
-refused_more (suc k) n = counted 1 (refused_more k n)
-
--- at most so many steps were counted, and at most so many bytes were passed; no count fell, but each
--- stops at the greatest u64
-pub record CountsAtMost (most_steps most_bytes : ℕ) (old new : Steps) : Type 0 where
+-- at most so many steps were counted, and at most so many bytes were passed; no count fell, but
+-- each stops at the greatest u64
+pub record AddsUpTo (most_steps most_bytes : ℕ) (old new : Steps) : Type 0 where
   pub built : min old.built (2 ^ 64 - 1) ≤ new.built
   pub reused : min old.reused (2 ^ 64 - 1) ≤ new.reused
   pub passed : min old.passed (2 ^ 64 - 1) ≤ new.passed
   pub sum : new.built + new.reused ≤ old.built + old.reused + most_steps
   pub bytes : new.passed ≤ old.passed + most_bytes
-
--- the same, and allocations failed so often
-pub record Adds (most_steps most_bytes refusals : ℕ) (old new : Steps) : Type 0 where
-  pub counts : CountsAtMost most_steps most_bytes old new
-  pub refused : new.refused ≡ refused_more refusals old.refused
-
--- the same, and no allocation failed
-abbrev pub AddsUpTo : ℕ → ℕ → Steps → Steps → Type 0
-AddsUpTo most_steps most_bytes old new = Adds most_steps most_bytes 0 old new
 
 -- at most `most` steps were counted, and at most `most` bytes were passed
 abbrev pub AddsAtMost : ℕ → Steps → Steps → Type 0

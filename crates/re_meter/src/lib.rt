@@ -1,23 +1,19 @@
 //! The meter on which every search counts its work.
 #![tactic(auto)]
 
-ghost use Rattle.std.specs.Prelude.{◌≡◌, IfSome, IfNone, replicate};
-ghost use Rattle.re_meter.specs.Meters.{many_built, many_reused, one_reused, many_passed};
-ghost use Rattle.re_meter.specs.Meters.{with_refusal, fresh};
+ghost use Rattle.std.specs.Prelude.{◌≡◌};
+ghost use Rattle.re_meter.specs.Meters.{many_built, many_reused, one_reused, many_passed, fresh};
 
-use std::alloc::Global;
 use std::marker::Model;
 
 /// The work of searches. A step is a byte over which a set of positions, or a table of strings, was
 /// advanced; a passed byte is one over which a search for a string, for many strings, or for a run
-/// of sets went. It also counts how often an allocation of memory that saves work failed. Each
-/// count stops at the greatest `u64`. Only [`fresh_meter`] makes a meter.
+/// of sets went. Each count stops at the greatest `u64`. Only [`fresh_meter`] makes a meter.
 #[derive(Drop)]
 pub struct Meter {
     built: u64,
     reused: u64,
     passed: u64,
-    refused: u64,
 }
 
 impl Model for Meter {
@@ -25,8 +21,7 @@ impl Model for Meter {
 
     ghost Value = { Steps };
 
-    ghost view = { λ m.
-        record { built = m.built; reused = m.reused; passed = m.passed; refused = m.refused } };
+    ghost view = { λ m. record { built = m.built; reused = m.reused; passed = m.passed } };
 }
 
 impl Meter {
@@ -49,13 +44,6 @@ impl Meter {
         ensures { result ≡ self.now.passed }
     {
         self.passed
-    }
-
-    /// How often an allocation of memory that saves work failed.
-    pub fn refused(&self) -> u64
-        ensures { result ≡ self.now.refused }
-    {
-        self.refused
     }
 
     /// Counts `steps` more computed steps.
@@ -86,23 +74,6 @@ impl Meter {
     {
         self.passed = self.passed.saturating_add(bytes as u64);
     }
-
-    /// A list of `count` zeros, which saves work. `None` if memory for it is refused: that is
-    /// counted, and nothing else counts as a refusal.
-    pub fn zeros(&mut self, alloc: Global, count: usize) -> Option<Vec<usize>>
-        ensures made { IfSome result (λ list. list.items ≡ replicate count 0) }
-        ensures long { IfSome result (λ list. list.len ≡ count) }
-        ensures given { IfSome result (λ _. self.new ≡ self.old) }
-        ensures refused { IfNone result (self.new ≡ with_refusal self.old) }
-    {
-        match vec![in alloc; 0usize; count] {
-            Ok(list) => Some(list),
-            Err(_) => {
-                self.refused = self.refused.saturating_add(1);
-                None
-            }
-        }
-    }
 }
 
 /// A meter at 0.
@@ -113,6 +84,5 @@ pub fn fresh_meter() -> Meter
         built: 0,
         reused: 0,
         passed: 0,
-        refused: 0,
     }
 }

@@ -1,5 +1,4 @@
 pub mod NeededLaws
-pub mod ByteLaws
 pub mod OutlineLaws
 pub mod ChoiceOutlines
 pub mod NeedleLaws

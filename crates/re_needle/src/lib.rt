@@ -2,7 +2,6 @@
 #![tactic(auto)]
 
 mod anchors;
-mod bytes;
 mod choice;
 mod choice_needle;
 mod cost;
@@ -12,6 +11,5 @@ mod outline;
 mod outline_item;
 
 pub use anchors::has_begin;
-pub use bytes::bytes_of;
 pub use cost::LookCost;
 pub use needle::{Needle, one_byte};

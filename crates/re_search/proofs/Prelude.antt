@@ -1,27 +1,26 @@
 -- The words of specs and of std that proofs of this crate use, passed on from one place. Declares nothing.
 pub use Rattle.memchr.specs.Find.{IsFirstByte, is_byte}
-pub use Rattle.re_auto.specs.Searches.{AllAnswer, DecidesMatchOfAll, FindsPart, FindsPartOfAll, SameMatchers, SomeMatches, searches_for}
+pub use Rattle.re_auto.specs.Searches.{AllAnswer, DecidesMatchOfAll, FindsPart, FindsPartOfAll, SameMatchers, SomeMatches}
 pub use Rattle.re_ends.specs.Working.GreatestEnds.{AddsEnds, FoundPast}
+pub use Rattle.re_ends.specs.declared.table.Window.{Window}
+pub use Rattle.re_match.specs.Working.Aheads.{IsAhead, past, stretch_cost}
+pub use Rattle.re_match.specs.declared.ahead.Ahead.TheVariants.{In}
 pub use Rattle.re_match.specs.Working.Literals.{Literals, any_literal}
 pub use Rattle.re_match.specs.Working.Same.{SameMatcher}
 pub use Rattle.re_match.specs.declared.sweeps.Stop.{Stop}
 pub use Rattle.re_match.specs.declared.sweeps.Stop.TheVariants.{Matched, Seen, Unseen}
 pub use Rattle.re_match.specs.declared.sweeps.Sweep.{Sweep}
-pub use Rattle.re_meter.specs.Meters.{Adds, AddsUpTo, CountsAtMost, counted, refused_more, with_refusal}
+pub use Rattle.re_meter.specs.Meters.{AddsUpTo}
 pub use Rattle.re_runs.specs.Working.Blocks.{CountsMatched, FindsMatched, IsLineFrom}
 pub use Rattle.re_needle.specs.Working.Needles.{IsNeeded, StandsBetween}
 pub use Rattle.re_search.specs.Reading.{IsNotSpelled, IsReadable, IsRefusedFor}
 pub use Rattle.re_search.specs.Working.Blocks.{CountsMatchedByAll, StopsNear, left_for_all}
-pub use Rattle.re_search.specs.Working.Courses.{AreAnswers, AreEnds, AreLimits, HasTaken, IsAnswer, IsKnownOf, IsReady, KeepsOthers, passes, passes_before, refusals}
 pub use Rattle.re_search.specs.Working.Filters.{AreNeeded, NeedsOneOf, PassesByFilter}
+pub use Rattle.re_search.specs.Working.LineParts.{AreAllEnds, AreEnds, AreEndsIn, ArePartsOf, FindsBefore, LineEnds, spent}
 pub use Rattle.re_search.specs.Working.Matchers.{matched_expression}
 pub use Rattle.re_search.specs.Working.Searchers.{SameSearchers, expressions_by, sought_by}
 pub use Rattle.re_search.specs.Working.Sought.{FindsSought, IsSought, PassesUnsought, Sought}
 pub use Rattle.re_search.specs.Working.Strings.{AddsEach, AddsStrings, string_expression}
-pub use Rattle.re_search.specs.declared.course.Course.{Course}
-pub use Rattle.re_search.specs.declared.course.Known.{Known}
-pub use Rattle.re_search.specs.declared.course.Known.TheVariants.{Ends, Nothing, Refused}
-pub use Rattle.re_search.specs.declared.kept.PartAnswer.{PartAnswer}
 pub use Rattle.re_search.specs.declared.matcher.Matcher.{Matcher}
 pub use Rattle.re_search.specs.declared.searchers.Searchers.{Searchers}
 pub use Rattle.re_syntax.specs.Bytes.{Text}
@@ -40,11 +39,13 @@ pub use Rattle.re_trees.specs.declared.span.Span.{Span}
 pub use Rattle.re_syntax.specs.declared.syntax.Syntax.{Syntax}
 pub use Rattle.re_syntax.specs.declared.syntax.Syntax.TheVariants.{Basic, Extended, Fixed}
 pub use Rattle.re_trees.specs.declared.tree.Tree.{the_lemmas}
-pub use Rattle.std.proofs.Common.{All, Any, Bool, IfSome, IsTrue, List, None, Option, Some, [], add-one, ap, append-nil, append_assoc, arith, drop, drop-drop, eq-eqb, false, get_or, if◌then◌else◌, inl, inr, is_some, length, length-append, length-drop, lt-ltb, map, min, mul-le-mul_left, mul-le-mul_right, nat_lt, refl, replicate, rules, set, slice_index, slice_range, slice_set, subst, sym, take, take-suc, take_all, true, true≢false, ℕ, ◌*◌, ◌++◌, ◌+◌, ◌-◌, ◌<◌, ◌^◌, ◌↔◌, ◌∙◌, ◌∷◌, ◌≡◌, ◌≢◌, ◌≤◌, ◌⊎◌}
+pub use Rattle.std.proofs.Common.{All, Any, Bool, IfSome, IsTrue, List, None, Option, Some, [], add-one, ap, append-nil, append_assoc, arith, drop, drop-drop, eq-eqb, false, get_or, if◌then◌else◌, inl, inr, is_some, length, length-append, length-drop, lt-ltb, map, max, mul-le-mul_left, mul-le-mul_right, nat_lt, refl, rules, set, slice_index, slice_range, slice_set, subst, sym, take, take-suc, take_all, true, true≢false, suc, zero, ℕ, ◌*◌, ◌++◌, ◌+◌, ◌-◌, ◌<◌, ◌^◌, ◌↔◌, ◌∙◌, ◌∷◌, ◌≡◌, ◌≢◌, ◌≤◌, ◌⊎◌}
+pub use Rattle.std.proofs.Math.Decide.{dec_le}
 pub use Rattle.std.proofs.Math.Seq.{map-set_same}
 pub use Rattle.std.proofs.lemmas.Bool.{cases_lt, false≢true}
-pub use Rattle.std.proofs.lemmas.List.{get_or-map, get_or-replicate, get_or_default, get_or_past, length-map, length-replicate, map-append, take_rest, with_items_is}
+pub use Rattle.std.proofs.lemmas.List.{get_or-map, get_or-replicate, length-replicate, get_or_default, get_or_past, length-map, map-append, take_rest, with_items_is}
 pub use Rattle.std.proofs.lemmas.List.Elements.{All-append, All-cons, All-from_get_or, All-head, All-map, All-nil, All-push, All-tail}
 pub use Rattle.std.proofs.lemmas.Option.{IfSome_then}
 pub use Rattle.std.proofs.lemmas.Result.{IfErr-weaker, IfOk-weaker}
 pub use Rattle.std.specs.Option.{ForSome}
+pub use Rattle.std.specs.Prelude.{replicate}

@@ -11,7 +11,6 @@ pub mod OneMatcher
 pub mod SearchedBlocks
 pub mod FilterLaws
 pub mod PlainLaws
-pub mod KeptAnswers
-pub mod CourseLaws
+pub mod LinePartsLaws
 pub mod PlainStrings
 pub mod ReadingLaws

@@ -5,5 +5,5 @@ pub mod Blocks
 pub mod Filters
 pub mod Sought
 pub mod Searchers
-pub mod Courses
+pub mod LineParts
 pub mod Strings

@@ -3,21 +3,20 @@
 #![tactic(auto)]
 
 mod choice;
-mod course;
 mod filter;
-mod kept;
+mod line_parts;
 mod matcher;
 mod plain;
 mod searchers;
 mod several;
 
 pub use choice::Choice;
-pub use course::Course;
 pub use filter::{Filter, needed_strings};
+pub use line_parts::{LineParts, next_part};
 pub use matcher::Matcher;
 pub use plain::add_strings;
 pub use re_auto::Meter;
 pub use re_match::{Cached, LineMatch, Strings};
 pub use re_syntax::{Span, Syntax};
-pub use searchers::{Searchers, next_part};
+pub use searchers::Searchers;
 pub use several::parts;

@@ -15,11 +15,10 @@ ghost use Rattle.re_match.specs.Working.Same.{SameMatcher};
 ghost use Rattle.re_match.specs.declared.strings.Look.TheVariants.{One};
 ghost use Rattle.re_auto.specs.Searches.{FindsPart};
 ghost use Rattle.re_meter.specs.Meters.{AddsAtMost};
-ghost use Rattle.re_ends.specs.Working.GreatestEnds.{AddsEnds, FoundPast};
 
 use crate::plain::string_of;
 use re_auto::Meter;
-use re_match::{Cached, LineMatch, Strings};
+use re_match::{Ahead, Cached, LineMatch, Strings, Window};
 use re_syntax::{
     FaultKind, MOST_POSITIONS, PatternFault, Span, Syntax, Tree, basic_positions,
     extended_positions, read_basic, read_extended, read_fixed,
@@ -143,20 +142,24 @@ impl LineMatch for Matcher {
         }
     }
 
-    fn add_ends(&mut self, line: &[u8], ends: &mut [usize], spare: &mut [usize], meter: &mut Meter)
-        requires ends { length ends.old ≡ length line.now }
-        requires spare { length spare.old ≡ length line.now }
-        ensures added { AddsEnds
-            (FoundPast (matched_expression self.old ∷ []) line.now (wants_whole self.old)) line.now
-            ends.old ends.new }
-        ensures same_spare { length spare.new ≡ length spare.old }
-        ensures steps { AddsAtMost (length line.now + 1) meter.old meter.new }
-        ensures same_entries { entries_of self.new ≡ entries_of self.old }
-        ensures same { SameMatcher matched_expression wants_whole room_of self.old self.new }
-    {
+    fn next_window(&mut self, line: &[u8], from: usize, meter: &mut Meter) -> Ahead {
         match self {
-            Matcher::Strings(strings) => strings.add_ends(line, ends, spare, meter),
-            Matcher::Cached(cached) => cached.add_ends(line, ends, spare, meter),
+            Matcher::Strings(strings) => strings.next_window(line, from, meter),
+            Matcher::Cached(cached) => cached.next_window(line, from, meter),
+        }
+    }
+
+    fn add_ends(
+        &mut self,
+        line: &[u8],
+        window: Window,
+        ends: &mut [usize],
+        spare: &mut [usize],
+        meter: &mut Meter,
+    ) {
+        match self {
+            Matcher::Strings(strings) => strings.add_ends(line, window, ends, spare, meter),
+            Matcher::Cached(cached) => cached.add_ends(line, window, ends, spare, meter),
         }
     }
 

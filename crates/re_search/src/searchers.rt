@@ -8,9 +8,7 @@ mod matches;
 mod parts;
 
 use crate::filter::Filter;
-pub use parts::next_part;
 use re_match::LineMatch;
-use std::alloc::Global;
 
 /// Matchers that are asked together, after a filter. They are borrowed: their owner gets them back
 /// unchanged, except for what they keep of their searches.
@@ -19,7 +17,6 @@ use std::alloc::Global;
 /// of the filter is matched by none of them.
 #[derive(Drop)]
 pub struct Searchers<'a, 'f, M: LineMatch> {
-    alloc: Global,
     matchers: &'a mut [M],
     filter: &'f Filter,
     whole: bool,

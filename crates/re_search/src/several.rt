@@ -6,9 +6,7 @@ ghost use Rattle.re_syntax.specs.Bytes.{Text};
 ghost use Rattle.re_syntax.specs.Expression.{Expression};
 ghost use Rattle.re_auto.specs.Searches.{FindsPart, FindsPartOfAll, DecidesMatchOfAll, AllAnswer};
 ghost use Rattle.re_auto.specs.Searches.{AddsAtMost, SameMatchers};
-ghost use Rattle.re_search.specs.Working.Courses.{AreAnswers};
 
-use crate::kept::{PartAnswer, ask};
 use re_auto::Meter;
 use re_match::LineMatch;
 use re_syntax::Span;
@@ -35,37 +33,6 @@ pub fn parts<M: LineMatch>(
     let mut best = None;
     for matcher in matchers.iter_mut() {
         let found = matcher.find(line, from, meter);
-        best = better(best, found);
-    }
-    best
-}
-
-/// Like [`parts`], by matchers that all give this answer to whether the whole line has to be matched. A
-/// matcher whose last answer tells is not asked.
-pub(crate) fn parts_by_answers<M: LineMatch>(
-    matchers: &mut [M],
-    whole: bool,
-    answers: &mut Vec<PartAnswer>,
-    line: &[u8],
-    from: usize,
-    meter: &mut Meter,
-) -> Option<Span>
-    requires within { from ≤ length line.now }
-    requires alike { AllAnswer whole (map M.whole matchers.old) }
-    requires right { AreAnswers
-        (record { expressions = map M.expression matchers.old; whole = whole }) line.now
-        answers.old.items }
-    ensures reported { FindsPart (map M.expression matchers.old) line.now whole from result }
-    ensures same_matchers { SameMatchers M.expression M.whole M.room matchers.old matchers.new }
-    ensures right { AreAnswers
-        (record { expressions = map M.expression matchers.old; whole = whole }) line.now
-        answers.new.items }
-    ensures steps { AddsAtMost (length matchers.old * (length line.now - from + 1)) meter.old
-        meter.new }
-{
-    let mut best = None;
-    for (number, matcher) in matchers.iter_mut().enumerate() {
-        let found = ask(matcher, number, answers, line, from, meter);
         best = better(best, found);
     }
     best

@@ -1,12 +1,7 @@
 -- The words of specs and of std that proofs of this crate use, passed on from one place. Declares nothing.
 pub use Rattle.lru.specs.LruCache.{IsValid, LruCache, displaced, put_entries}
-pub use Rattle.re_auto.specs.Searches.{FindsPart}
-pub use Rattle.re_auto.specs.Working.Bits.{InWord}
 unfoldable pub use Rattle.re_auto.specs.Working.Bits.{Has}
-pub use Rattle.re_auto.specs.Working.Positions.{Part, PartHolds, Reaches, is_begin, is_end, part_of}
-pub use Rattle.re_auto.specs.Working.StartSets.{place_of}
-unfoldable pub use Rattle.re_auto.specs.Working.StartSets.{StartsAt}
-pub use Rattle.re_auto.specs.Working.Starts.{IsMatched}
+pub use Rattle.re_auto.specs.Working.Positions.{PartHolds, is_begin, is_end, part_of}
 pub use Rattle.re_auto.specs.Working.StateSets.{IsMadeFor, IsNowhere, IsSame, TakenAlike}
 unfoldable pub use Rattle.re_auto.specs.Working.StateSets.{IsAccepting, IsNextSet, StandsAt}
 pub use Rattle.re_auto.specs.Working.SteppedSets.{IsAfter, IsNext}
@@ -15,14 +10,12 @@ pub use Rattle.re_auto.specs.contracts.mode.Mode.{the_type}
 pub use Rattle.re_auto.specs.contracts.step.state_set.StateSetPartialEq.TheImpl.{eq-value}
 pub use Rattle.re_auto.specs.declared.mode.Mode.{Mode}
 pub use Rattle.re_auto.specs.declared.mode.Mode.TheVariants.{Search, Whole}
-pub use Rattle.re_auto.specs.declared.step.starts.Starts.{Starts}
 pub use Rattle.re_auto.specs.declared.step.state_set.StateSet.{StateSet}
 pub use Rattle.re_meter.specs.Meters.{AddsUpTo, Steps, many_built, many_reused}
-pub use Rattle.re_steps.specs.Working.Lone.{AreReached, GoesOnAt, HasNone, IsLastEnd, IsLongest}
 pub use Rattle.re_steps.specs.Working.Pairs.{IsKeptOrLost, Mirrors, shown, unknown}
 pub use Rattle.re_steps.specs.Working.Rows.{AreExtended, AreSound, ComesTo, HasFirstRows, IsCellOf, IsKnownCell, IsMarkOf, IsRightFor, IsRow, IsRowOf, Lands, LandsAlone, Lasts, Rows, SaysNext, cache_of, cell_at, expression_in, limit, row_under, rows_of, walked}
-pub use Rattle.re_steps.specs.Working.Simulations.{AreSetsFor, AreStartsFor, Carries, EndsAt}
-unfoldable pub use Rattle.re_steps.specs.Working.Simulations.{IsBestSpan, NoneEndsBefore}
+pub use Rattle.re_steps.specs.Working.Simulations.{AreSetsFor, EndsAt}
+unfoldable pub use Rattle.re_steps.specs.Working.Simulations.{NoneEndsBefore}
 pub use Rattle.re_steps.specs.Working.Stages.{AreAlike, Cache, Finishes, GoesOver, HoldsNoOther, IsHeld, IsPlain, IsReadied, Searches, Stage, mode_for}
 unfoldable pub use Rattle.re_steps.specs.Working.Stages.{Goes}
 pub use Rattle.re_steps.specs.Working.Walks.{Arrives, HasLanded, IsAt, LeadsOn}
@@ -34,11 +27,8 @@ pub use Rattle.re_steps.specs.declared.walk.Went.{Went}
 pub use Rattle.re_trees.specs.Bytes.{Text}
 pub use Rattle.re_trees.specs.Expression.{Expression}
 pub use Rattle.re_trees.specs.Holds.{Holds, Matches, positions}
-pub use Rattle.re_trees.specs.Parts.{IsFound}
-pub use Rattle.re_trees.specs.Working.BestStretches.{IsBest, Least, better, places}
 pub use Rattle.re_trees.specs.Working.Trees.{expression_of}
-pub use Rattle.re_trees.specs.declared.span.Span.{Span}
-pub use Rattle.std.proofs.Common.{Bool, IfNone, IfSome, IsSome, IsTrue, List, None, Option, Some, [], add-one, ap, arith, bit_and, cond, eq-eqb, eqb-true, false, get_or, get_or-set_other, get_or-set_same, if◌then◌else◌, inl, inr, is_some, length, length-append, length-set, lt-ltb, ltb-true, nat_eq, nat_lt, ne_eqb, position, refl, replicate, set, slice_get, slice_index, subst, suc, sym, take, take_all, true, true≢false, zero, ℕ, ◌&&◌, ◌*◌, ◌++◌, ◌+◌, ◌-◌, ◌/◌, ◌<◌, ◌^◌, ◌↔◌, ◌∙◌, ◌∷◌, ◌≡◌, ◌≤◌, ◌⊎◌}
+pub use Rattle.std.proofs.Common.{Bool, IfNone, IfSome, IsSome, IsTrue, List, None, Option, Some, [], add-one, ap, arith, cond, eq-eqb, false, get_or, get_or-set_other, get_or-set_same, if◌then◌else◌, inl, inr, length, length-append, length-set, lt-ltb, ltb-true, nat_eq, nat_lt, ne_eqb, position, refl, replicate, set, slice_get, slice_index, subst, suc, sym, take, take_all, true, zero, ℕ, ◌&&◌, ◌*◌, ◌++◌, ◌+◌, ◌-◌, ◌/◌, ◌<◌, ◌↔◌, ◌∙◌, ◌∷◌, ◌≡◌, ◌≤◌, ◌⊎◌}
 pub use Rattle.std.proofs.Math.Bool.{beq}
 pub use Rattle.std.proofs.Math.Seq.{get_or-append_right}
 pub use Rattle.std.proofs.lemmas.Bool.{cases_eq, cases_lt, false≢true}
@@ -47,10 +37,8 @@ pub use Rattle.std.proofs.lemmas.List.{get_or-replicate, get_or_append_left, len
 pub use Rattle.std.proofs.lemmas.List.Quantifiers.{position-Some}
 pub use Rattle.std.proofs.lemmas.List.Sums.{fails_before_first}
 pub use Rattle.std.proofs.lemmas.Map.Entries.{lookup_from_place}
-pub use Rattle.std.proofs.lemmas.Nat.{and_le_l, div-mul-add}
-pub use Rattle.std.proofs.lemmas.Nat.Bits.{bit_at-zero}
+pub use Rattle.std.proofs.lemmas.Nat.{div-mul-add}
 pub use Rattle.std.proofs.lemmas.Option.{get_or_from_slice_get, slice_get-get_or, slice_get_cases, slice_get_within}
 pub use Rattle.std.specs.Cmp.Lexicographic.{same_text}
-pub use Rattle.std.specs.Int.{bit_at}
 pub use Rattle.std.specs.List.{AllByRecursion, list_any, position_or_len}
 pub use Rattle.std.specs.Map.{keys_of, lookup, lookup_entry}

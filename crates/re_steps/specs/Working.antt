@@ -3,4 +3,3 @@ pub mod Pairs
 pub mod Rows
 pub mod Stages
 pub mod Walks
-pub mod Lone

@@ -14,14 +14,21 @@ struct ZBox {
     right: usize,
 }
 
-/// Gives each place of the line where the text stands the text's end there, if `ends` has no
-/// greater one. It compares each byte of the line a few times at most, whatever the text. What is in
-/// `spare` doesn't matter, and gets lost.
-pub fn add_occurrences(text: &[u8], line: &[u8], ends: &mut [usize], spare: &mut [usize])
+/// Gives each place of the stretch of a line where the text stands the text's end there, if `ends`
+/// has no greater one. The stretch begins at `start`. It compares each byte a few times at most,
+/// whatever the text. What is in `spare` doesn't matter, and gets lost.
+pub fn add_occurrences(
+    text: &[u8],
+    line: &[u8],
+    start: usize,
+    ends: &mut [usize],
+    spare: &mut [usize],
+)
     requires some { 1 ≤ length text.now }
     requires ends { length ends.old ≡ length line.now }
     requires spare { length spare.old ≡ length line.now }
-    ensures added { AddsEnds (λ i m. (m < i + length text.now) × OccursAt line.now text.now i)
+    requires small { start + length line.now < 2 ^ 64 }
+    ensures added { AddsEnds (λ i m. (m < start + (i + length text.now)) × OccursAt line.now text.now i)
         line.now ends.old ends.new }
     ensures spare { length spare.new ≡ length spare.old }
 {
@@ -32,18 +39,18 @@ pub fn add_occurrences(text: &[u8], line: &[u8], ends: &mut [usize], spare: &mut
     let mut window = ZBox { left: 0, right: 0 };
     'places: for place in 0..line.len() {
         let length = common_length(text, line, spare, place, &mut window);
-        put_whole(ends, place, length, text.len());
+        put_whole(ends, place, length, text.len(), start);
     }
 }
 
 // Puts the end of a common beginning if that is the whole text.
-fn put_whole(ends: &mut [usize], place: usize, length: usize, whole: usize)
-    requires { place + length < 2 ^ 64 }
-    ensures { AddsEnds (λ i m. (i ≡ place) × (length ≡ whole) × (m < place + length)) ends.old
+fn put_whole(ends: &mut [usize], place: usize, length: usize, whole: usize, start: usize)
+    requires { start + (place + length) < 2 ^ 64 }
+    ensures { AddsEnds (λ i m. (i ≡ place) × (length ≡ whole) × (m < start + (place + length))) ends.old
         ends.old ends.new }
 {
     if length == whole {
-        put_end(ends, place, place + length);
+        put_end(ends, place, start + (place + length));
     }
 }
 

@@ -2,7 +2,7 @@
 //!
 //! The library that tools/refuse_growths.sh loads before the C library takes requests of two sizes
 //! as commands, and refuses the first request of these calls. Without it each request is granted.
-use re_auto::{Automaton, Mode, Starts, StateSet, fresh_meter};
+use re_auto::{Automaton, Mode, StateSet, fresh_meter};
 use re_syntax::{fold, read_extended};
 use std::alloc::{AllocError, Global};
 
@@ -44,26 +44,6 @@ fn accepts(rt: &HostRuntime, automaton: &Automaton, first: u8, second: u8) -> Op
     Some(accepted)
 }
 
-/// The least start of a matched stretch that ends at the end of a line of two bytes.
-fn reported(
-    rt: &HostRuntime,
-    automaton: &Automaton,
-    first: u8,
-    second: u8,
-) -> Option<Option<usize>> {
-    let mut here = Starts::blank(rt.alloc(), automaton).ok()?;
-    let mut there = Starts::blank(rt.alloc(), automaton).ok()?;
-    let mut meter = fresh_meter();
-    ask(rt.alloc(), REFUSE).ok()?;
-    here.start(0);
-    here.advance(automaton, Mode::Search, first, &mut there, &mut meter);
-    here.copy_from(&there);
-    here.advance(automaton, Mode::Search, second, &mut there, &mut meter);
-    let start = there.accepts(automaton, true);
-    ask(rt.alloc(), WAS_REFUSED).ok()?;
-    Some(start)
-}
-
 #[test]
 fn stepping_takes_no_memory(rt: HostRuntime) {
     let automaton = folded(&rt, b"(^|a)y*[x-z]{1,3}$|([b-d]z)+");
@@ -71,7 +51,5 @@ fn stepping_takes_no_memory(rt: HostRuntime) {
     if let Some(automaton) = automaton {
         assert_eq!(rt; accepts(&rt, &automaton, b'A', b'Z'), Some(true));
         assert_eq!(rt; accepts(&rt, &automaton, b'q', b'z'), Some(false));
-        assert_eq!(rt; reported(&rt, &automaton, b'A', b'z'), Some(Some(0)));
-        assert_eq!(rt; reported(&rt, &automaton, b'q', b'z'), Some(None));
     }
 }

@@ -51,7 +51,7 @@ fn assert_filtered(rt: &impl Abort, alloc: Global, row: &Row) -> Result<(), Fail
     let mut matchers = all_made(alloc, texts)?;
     let needed = needed_strings(alloc, &matchers)?;
     let mut meter = fresh_meter();
-    let verdict = Searchers::new(alloc, &mut matchers, &needed, false).is_matched(line, &mut meter);
+    let verdict = Searchers::new(&mut matchers, &needed, false).is_matched(line, &mut meter);
     assert_eq!(rt; verdict, expected, "{texts:?} on {line:?}");
     let steps = meter.built().saturating_add(meter.reused());
     assert!(rt; least <= steps && steps <= most, "{texts:?} on {line:?}");

@@ -1,5 +1,5 @@
-//! The tests of `re_auto`, `re_search` and the tables of `re_runs`: nothing but tests, by what these
-//! show.
+//! The tests of `re_auto`, `re_ends`, `re_search` and the tables of `re_runs`: nothing but tests,
+//! by what these show.
 #![tactic(auto)]
 
 #[cfg(test)]
@@ -7,11 +7,13 @@ mod automata;
 #[cfg(test)]
 mod cache;
 #[cfg(test)]
-mod courses;
+mod ends;
 #[cfg(test)]
 mod filters;
 #[cfg(test)]
 mod half_bytes;
+#[cfg(test)]
+mod line_parts;
 #[cfg(test)]
 mod matchers;
 #[cfg(test)]

@@ -55,8 +55,8 @@ static MEANINGS: [Row; 6] = [
     (SetFlag(IgnoreCase, false), DONE, b"", b"", 1, 6),
 ];
 
-/// A search by two patterns costs twice a line's length and one; a search of its parts costs that
-/// once for each part and once more, but at most four times.
+/// A search by two patterns costs twice a line's length and one, and the search for its parts costs
+/// that once more.
 static TOUCHED: [Row; 14] = [
     (AddFile("f", b"aa\nb\nca\n"), DONE, b"", b"", 1, 0),
     (AddPatterns(b"a\nb"), DONE, b"aa\nb\nca\n", b"", 0, 16),
@@ -76,10 +76,10 @@ static TOUCHED: [Row; 14] = [
         b"1:a\n1:a\n2:b\n3:a\n",
         b"",
         0,
-        38,
+        16,
     ),
     (DropPattern(1), DONE, b"1:a\n1:a\n3:a\n", b"", 0, 2),
-    (AddPatterns(b"c"), DONE, b"1:a\n1:a\n3:c\n3:a\n", b"", 0, 26),
+    (AddPatterns(b"c"), DONE, b"1:a\n1:a\n3:c\n3:a\n", b"", 0, 14),
     (
         SetFlag(OnlyMatching, true),
         DONE,
@@ -126,8 +126,8 @@ static ANOTHER_PATTERN: [Row; 9] = [
         0,
         0,
     ),
-    (SetFlag(OnlyMatching, true), DONE, b"c\nca\n", b"", 0, 24),
-    (ChangePattern(1, "a"), DONE, b"a\na\n", b"", 0, 33),
+    (SetFlag(OnlyMatching, true), DONE, b"c\nca\n", b"", 0, 12),
+    (ChangePattern(1, "a"), DONE, b"a\na\n", b"", 0, 21),
 ];
 
 /// A string that has the one before in it is looked for in the lines of that alone, and another in
@@ -165,12 +165,12 @@ static TYPED_WITH_FLAGS: [Row; 12] = [
         b"ab\nab\nAb\n",
         b"",
         0,
-        24,
+        12,
     ),
-    (ChangePattern(0, "abx"), DONE, b"Abx\n", b"", 0, 20),
-    (SetFlag(LineRegexp, true), DONE, b"Abx\n", b"", 0, 23),
+    (ChangePattern(0, "abx"), DONE, b"Abx\n", b"", 0, 16),
+    (SetFlag(LineRegexp, true), DONE, b"Abx\n", b"", 0, 19),
     (ChangePattern(0, "ab"), DONE, b"", b"", 1, 15),
-    (ChangePattern(0, "bab"), DONE, b"bab\n", b"", 0, 23),
+    (ChangePattern(0, "bab"), DONE, b"bab\n", b"", 0, 19),
 ];
 
 /// Branches and repetitions of basic expressions have their parts.
@@ -186,7 +186,7 @@ static PARTS: [Row; 12] = [
     (SetFlag(OnlyMatching, true), DONE, b"", b"", 1, ANY),
     (SetFlag(LineNumber, true), DONE, b"", b"", 1, 0),
     (AddPatterns(b"ab|abcd|bc"), DONE, b"", b"", 1, 0),
-    (AddFile("f", b"xabcde\n"), DONE, b"1:abcd\n", b"", 0, 21),
+    (AddFile("f", b"xabcde\n"), DONE, b"1:abcd\n", b"", 0, 14),
     (
         AddFile("g", b"abab\nx\nbc\n"),
         DONE,
@@ -201,7 +201,7 @@ static PARTS: [Row; 12] = [
         b"f:1:abcd\ng:1:bc\ng:1:ab\ng:2:ab\ng:2:ab\ng:4:bc\n",
         b"",
         0,
-        20,
+        10,
     ),
     (
         Splice(1, 1, 2, b""),
@@ -213,11 +213,11 @@ static PARTS: [Row; 12] = [
     ),
     (DropFile(0), DONE, b"1:bc\n1:ab\n2:bc\n", b"", 0, 0),
     (AddPatterns(b"b"), DONE, b"1:bc\n1:ab\n2:bc\n", b"", 0, ANY),
-    (DropPattern(0), DONE, b"1:b\n1:b\n2:b\n", b"", 0, 21),
+    (DropPattern(0), DONE, b"1:b\n1:b\n2:b\n", b"", 0, 8),
     (Splice(0, 0, 1, b""), DONE, b"1:b\n", b"", 0, 0),
 ];
 
-/// All parts of a line cost at most four searches of it, though each goes on to the line's end.
+/// All parts of a line cost one search of it, though a search for each goes on to the line's end.
 static LINEAR: [Row; 4] = [
     (SetSyntax(Extended), DONE, b"", b"", 1, 0),
     (SetFlag(OnlyMatching, true), DONE, b"", b"", 1, 0),
@@ -228,7 +228,7 @@ static LINEAR: [Row; 4] = [
         b"a\na\na\na\na\na\na\na\na\na\na\na\na\na\na\na\na\na\na\na\na\na\na\na\n",
         b"",
         0,
-        125,
+        50,
     ),
 ];
 

@@ -1,5 +1,5 @@
 -- What is taken and answered for one command of a script.
-use Rattle.grep_cmd.proofs.Prelude.{Bool, ScriptState, ◌≡◌, ◌≢◌, ℕ, ◌<◌, false, List, [], ◌∷◌, ◌++◌, length, min, take, drop, ◌-◌, ◌^◌, IfOk, Option, Some, Result, Ok, Err, IfErr, inl, inr, refl, sym, ap, ◌∙◌, subst, append_assoc, append-nil, codes, arith, list_any, Text, Status, Inputs, Adds, written, GoesOut, Numbered, HasHanded, EditFault, Edit, ScriptFault, Read, Write, Memory, Answer, Accepted, Truncated, Watched, changes_rows, total_row, page_row, page_rows, all_hits, AreShown, with_margin, status_line, all_known, state_of, LeavesReport, ReportsChanges, ReportsPage, Step, counts, IsStep, line_command, RepliesTo, SearchesAtMost, reply_to, truncated, is_refusal, ReadsNext, TakesLines, FlushesFor, Replied, IsUpToReport, DoesStep, WantsLines, AnswersLine, answer_for, was_refused}
+use Rattle.grep_cmd.proofs.Prelude.{Bool, ScriptState, ◌≡◌, ◌≢◌, ℕ, ◌<◌, false, List, [], ◌∷◌, ◌++◌, length, min, take, drop, ◌-◌, ◌^◌, IfOk, Option, Some, Result, Ok, Err, IfErr, inl, inr, refl, sym, ap, ◌∙◌, subst, append_assoc, append-nil, codes, arith, list_any, Text, Status, Inputs, AddsAtMost, written, GoesOut, Numbered, HasHanded, EditFault, Edit, ScriptFault, Read, Write, Memory, Answer, Accepted, Truncated, Watched, changes_rows, total_row, page_row, page_rows, all_hits, AreShown, with_margin, status_line, all_known, state_of, LeavesReport, ReportsChanges, ReportsPage, Step, counts, IsStep, line_command, RepliesTo, SearchesAtMost, reply_to, truncated, is_refusal, ReadsNext, TakesLines, FlushesFor, Replied, IsUpToReport, DoesStep, WantsLines, AnswersLine, answer_for, was_refused}
 use Rattle.grep_core.specs.declared.status.Status.TheVariants as status
 use Rattle.grep_core.specs.Meters.{Steps as StepCounts}
 use Rattle.grep_core.proofs.lemmas.RowLemmas.{goes_on, stops_later}
@@ -111,16 +111,15 @@ module _ {R W : Type 0} (remaining : R → Option Text) (failures : R → ℕ) (
 
   -- a command for which its line is enough
   pub does_alone : (step : Step) (reply : List Text) → HasHanded remaining failures reader now handed → IsStep (line_command line) [] step → RepliesTo step before reply after
-      → (most refusals : ℕ) → SearchesAtMost step before.session.inputs refusals most → Adds most most refusals begun spent
+      → (most : ℕ) → SearchesAtMost step before.session.inputs most → AddsAtMost most begun spent
       → DoesStep remaining failures reader handed line now begun spent before after reply
-  does_alone step reply h is replies most refusals is_most few = record {
+  does_alone step reply h is replies most is_most few = record {
     taken = [];
     step = step;
     has_handed = subst (HasHanded remaining failures reader now) (sym (append-nil handed)) h;
     is_step = is;
     replies_to = replies;
     most = most;
-    refusals = refusals;
     is_most = is_most;
     few = few;
   }

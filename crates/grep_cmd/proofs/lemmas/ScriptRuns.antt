@@ -176,7 +176,7 @@ module _ {R W : Type 0} (remaining : R → Option Text) (failures : R → ℕ) (
       Wants = WantsLines remaining failures reader (s.handed ++ line ∷ []) line next spent last inputs after
 
       works : (then : ScriptState) (reply : List Text) → (d : DoesStep remaining failures reader (s.handed ++ line ∷ []) line next spent last inputs then reply) → SearchesTouched start (s.steps ++ d.step ∷ []) (s.replies ++ reply) then begun last
-      works then reply d = work_push start s.steps d.step inputs then s.replies reply begun spent last d.refusals d.most s.work d.replies_to d.is_most d.few
+      works then reply d = work_push start s.steps d.step inputs then s.replies reply begun spent last d.most s.work d.replies_to d.is_most d.few
 
       -- without a step
       idles : last ≡ spent → SearchesTouched start s.steps s.replies inputs begun last
@@ -215,7 +215,7 @@ module _ {R W : Type 0} (remaining : R → Option Text) (failures : R → ℕ) (
       }
 
       works_truncated : last ≡ spent → SearchesTouched start (s.steps ++ is_truncated ∷ []) (s.replies ++ truncated ∷ []) inputs begun last
-      works_truncated idle = work_push start s.steps is_truncated inputs inputs s.replies (truncated ∷ []) begun last last 0 0 (idles idle) (refl, refl) (refl, refl) (adds_none 0 0 last)
+      works_truncated idle = work_push start s.steps is_truncated inputs inputs s.replies (truncated ∷ []) begun last last 0 (idles idle) (refl, refl) refl (adds_none 0 0 last)
 
       reads_all : (taken : List Text) (kind : Ending) → StandsAs remaining failures reader next ((s.handed ++ line ∷ []) ++ taken) kind
           → ReadsScript (remaining reader) (remaining next.lines.reader) (failures reader) (failures next.lines.reader) (script_of (s.handed ++ line ∷ taken) kind)

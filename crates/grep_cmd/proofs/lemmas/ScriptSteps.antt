@@ -1,6 +1,6 @@
 -- The steps of a script, the replies to them and what they search, one more at a time.
-use Rattle.grep_cmd.proofs.Prelude.{◌≡◌, ℕ, ◌+◌, true, false, ◌||◌, if◌then◌else◌, List, [], ◌∷◌, ◌++◌, inl, refl, sym, ap, ◌∙◌, subst, append_assoc, append-nil, arith, or_right, list_any-append, list_any, Text, Ending, Adds, ScriptState, Clean, Step, IsStep, line_command, Steps, RepliesTo, Replies, SearchesAtMost, AllSearchAtMost, SearchesTouched, is_refusal, end_for, AreDone}
-use Rattle.re_meter.proofs.lemmas.Adding.{adds_none, all_both}
+use Rattle.grep_cmd.proofs.Prelude.{◌≡◌, ℕ, ◌+◌, true, false, ◌||◌, if◌then◌else◌, List, [], ◌∷◌, ◌++◌, inl, refl, sym, ap, ◌∙◌, subst, append_assoc, append-nil, arith, or_right, list_any-append, list_any, Text, Ending, AddsAtMost, ScriptState, Clean, Step, IsStep, line_command, Steps, RepliesTo, Replies, SearchesAtMost, AllSearchAtMost, SearchesTouched, is_refusal, end_for, AreDone}
+use Rattle.re_meter.proofs.lemmas.Adding.{adds_none, adds_both}
 use Rattle.grep_core.specs.Meters.{Steps as StepCounts}
 use Rattle.grep_cmd.specs.declared.script.ScriptEnd.TheVariants.{Refused}
 
@@ -29,52 +29,45 @@ replies_push [] step before between after replies reply (none, same) h =
 replies_push (s ∷ steps) step before between after replies reply (own, mid, rest, first, others, cut) h =
     (own, mid, rest ++ reply, first, replies_push steps step mid between after rest reply others h, ap (λ rs. rs ++ reply) cut ∙ append_assoc own rest reply)
 
--- the sums with one more command
-most_push : (steps : List Step) (step : Step) (before between after : ScriptState) (replies reply : List Text) (refusals mine most own : ℕ) → AllSearchAtMost steps before replies between refusals most → RepliesTo step between reply after
-    → SearchesAtMost step between.session.inputs mine own → AllSearchAtMost (steps ++ step ∷ []) before (replies ++ reply) after (refusals + mine) (most + own)
-most_push [] step before between after replies reply refusals mine most own (none, same, no_refusal, zero) h cost = (
+-- the sum with one more command
+most_push : (steps : List Step) (step : Step) (before between after : ScriptState) (replies reply : List Text) (most own : ℕ) → AllSearchAtMost steps before replies between most → RepliesTo step between reply after
+    → SearchesAtMost step between.session.inputs own → AllSearchAtMost (steps ++ step ∷ []) before (replies ++ reply) after (most + own)
+most_push [] step before between after replies reply most own (none, same, zero) h cost = (
   reply,
   after,
   [],
-  mine,
-  0,
   own,
   0,
   subst (λ i. RepliesTo step i reply after) same h,
-  subst (λ (i : ScriptState). SearchesAtMost step i.session.inputs mine own) same cost,
-  (refl, refl, refl, refl),
+  subst (λ (i : ScriptState). SearchesAtMost step i.session.inputs own) same cost,
+  (refl, refl, refl),
   ap (λ rs. rs ++ reply) none ∙ sym (append-nil reply),
-  omega (arith, no_refusal),
   omega (arith, zero),
 )
-most_push (s ∷ steps) step before between after replies reply refusals mine most own (first, mid, rest, here, there, one, others, given, cost, more, cut, times, sum) h last = (
+most_push (s ∷ steps) step before between after replies reply most own (first, mid, rest, one, others, given, cost, more, cut, sum) h last = (
   first,
   mid,
   rest ++ reply,
-  here,
-  there + mine,
   one,
   others + own,
   given,
   cost,
-  most_push steps step mid between after rest reply there mine others own more h last,
+  most_push steps step mid between after rest reply others own more h last,
   ap (λ rs. rs ++ reply) cut ∙ append_assoc first rest reply,
-  omega (arith, times),
   omega (arith, sum),
 )
 
 -- nothing was searched for no command
 pub work_none : (before : ScriptState) (steps : StepCounts) → SearchesTouched before [] [] before steps steps
-work_none before steps = record { most = 0; refusals = 0; is_most = (refl, refl, refl, refl); few = adds_none 0 0 steps }
+work_none before steps = record { most = 0; is_most = (refl, refl, refl); few = adds_none 0 0 steps }
 
 -- one more command searches no more than it costs
-pub work_push : (before : ScriptState) (steps : List Step) (step : Step) (between after : ScriptState) (replies reply : List Text) (begun spent last : StepCounts) (mine own : ℕ) → SearchesTouched before steps replies between begun spent
-    → RepliesTo step between reply after → SearchesAtMost step between.session.inputs mine own → Adds own own mine spent last → SearchesTouched before (steps ++ step ∷ []) (replies ++ reply) after begun last
-work_push before steps step between after replies reply begun spent last mine own w h cost few = record {
+pub work_push : (before : ScriptState) (steps : List Step) (step : Step) (between after : ScriptState) (replies reply : List Text) (begun spent last : StepCounts) (own : ℕ) → SearchesTouched before steps replies between begun spent
+    → RepliesTo step between reply after → SearchesAtMost step between.session.inputs own → AddsAtMost own spent last → SearchesTouched before (steps ++ step ∷ []) (replies ++ reply) after begun last
+work_push before steps step between after replies reply begun spent last own w h cost few = record {
   most = w.most + own;
-  refusals = w.refusals + mine;
-  is_most = most_push steps step before between after replies reply w.refusals mine w.most own w.is_most h cost;
-  few = all_both w.most own w.most own w.refusals mine begun spent last w.few few;
+  is_most = most_push steps step before between after replies reply w.most own w.is_most h cost;
+  few = adds_both w.most own w.most own begun spent last w.few few;
 }
 
 -- a reply that refuses nothing

@@ -4,7 +4,7 @@ use Rattle.std.specs.Prelude.{Option, Some, None, Result, Ok, Err, ◌⊎◌}
 use Rattle.std.specs.List.{list_any}
 use Rattle.re_syntax.specs.Bytes.{Text}
 use Rattle.grep_core.specs.Files.{whole, broken}
-use Rattle.grep_core.specs.Meters.{Adds, Steps as StepCounts}
+use Rattle.grep_core.specs.Meters.{AddsAtMost, Steps as StepCounts}
 use Rattle.grep_core.specs.Output.{written}
 use Rattle.grep_core.specs.Written.{GoesOut, StopsWithin}
 use Rattle.grep_core.specs.Reading.{IsOneLineAndFew}
@@ -106,9 +106,8 @@ module _ {R : Type 0} (remaining : R → Option Text) (failures : R → ℕ) (re
     pub is_step : IsStep (line_command line) taken step
     pub replies_to : RepliesTo step before reply after
     pub most : ℕ
-    pub refusals : ℕ
-    pub is_most : SearchesAtMost step before.session.inputs refusals most
-    pub few : Adds most most refusals begun spent
+    pub is_most : SearchesAtMost step before.session.inputs most
+    pub few : AddsAtMost most begun spent
 
 module _ {R : Type 0} (remaining : R → Option Text) (failures : R → ℕ) (reader : R)
     (handed : List Text) (line : Text) (now : Numbered R) (begun spent : StepCounts)

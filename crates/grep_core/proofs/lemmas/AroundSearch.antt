@@ -48,7 +48,7 @@ module _ {R : Type 0} (f : Following R) where
     pub are_chosen : SelectedLines es options many (file_so_far name lines) chosen
     pub counted : length chosen ≡ selected
     pub few : selected ≤ now.number
-    pub steps : SearchesLines es options (length es) lines began ended
+    pub steps : SearchesLines options (length es) lines began ended
 
   -- what the search of such a source gives, when a reader of it is left so
   abbrev pub FollowingGives : Numbered R → Writer → Writer → Steps → Steps → Result FileFound SearchFault → Type 0
@@ -101,7 +101,7 @@ module _ {R : Type 0} {f : Following R} where
     are_chosen = refl;
     counted = refl;
     few = omega arith;
-    steps = unsearched_lines es options (length es) [] steps;
+    steps = unsearched_lines options (length es) [] steps;
   }
 
   module _ {before : Numbered R} {old mid : Writer} {began amid : Steps} {selected : ℕ} {p : Progress} {recent : List Text} (s : FollowedSoFar f before old mid began amid selected p recent) where
@@ -135,7 +135,7 @@ module _ {R : Type 0} {f : Following R} where
 
   -- some lines were passed, which wait if any does
   pub followed_waiting : {before now : Numbered R} {old new : Writer} {began mid ended : Steps} {selected : ℕ} {p q : Progress} {recent held : LastLines} {passed : List Text} → recent.limit ≡ context.before → (s : FollowedSoFar f before old new began mid selected p recent.lines)
-      → HasHanded remaining failures reader now (s.lines ++ passed) → AreUnselected es options passed → Waits passed p q recent held → SearchesLines es options (length es) passed mid ended → (t : FollowedSoFar f now old new began ended selected q held.lines) × (t.lines ≡ s.lines ++ passed)
+      → HasHanded remaining failures reader now (s.lines ++ passed) → AreUnselected es options passed → Waits passed p q recent held → SearchesLines options (length es) passed mid ended → (t : FollowedSoFar f now old new began ended selected q held.lines) × (t.lines ≡ s.lines ++ passed)
   followed_waiting {began = began} {mid = mid} {ended = ended} {p = p} {q = q} {recent = recent} {passed = passed} limit s handed unselected waits spent = (
     record {
       asked = s.asked;
@@ -162,17 +162,17 @@ module _ {R : Type 0} {f : Following R} where
       are_chosen = chosen_on es options many shown name s.lines passed s.chosen unselected s.are_chosen;
       counted = s.counted;
       few = omega (arith, s.few, s.handed.counted, handed.counted, length-append s.lines passed);
-      steps = searched_more_lines es options (length es) s.lines passed began mid ended s.steps spent;
+      steps = searched_more_lines options (length es) s.lines passed began mid ended s.steps spent;
     },
     refl,
   )
 
   module _ {before now : Numbered R} {old mid : Writer} {began amid : Steps} {selected : ℕ} {p : Progress} {recent : List Text} (s : FollowedSoFar f before old mid began amid selected p recent) where
     -- lines that were searched could not be kept
-    pub followed_unkept : {all : List Text} {ended : Steps} {count : ℕ} → now.lines.reader ≡ before.lines.reader → IsOneLineAndFew before.lines.ahead → HasHanded remaining failures reader now (s.lines ++ all) → SearchesLines es options (length es) all amid ended → before.number ≡ count
+    pub followed_unkept : (all : List Text) {ended : Steps} {count : ℕ} → now.lines.reader ≡ before.lines.reader → IsOneLineAndFew before.lines.ahead → HasHanded remaining failures reader now (s.lines ++ all) → SearchesLines options (length es) all amid ended → before.number ≡ count
         → StopsSource es options many shown (open_source name (remaining reader)) (OneLeft (remaining now.lines.reader)) count (failures reader) (failures now.lines.reader) old mid began ended
-    followed_unkept {all = all} {ended = ended} {count = count} same few h spent is_count =
-        stops_among es options many shown name (remaining reader) (remaining now.lines.reader) old mid began ended s.lines all selected count (writes s) (searched_more_lines es options (length es) s.lines all began amid ended s.steps spent)
+    followed_unkept all {ended = ended} {count = count} same few h spent is_count =
+        stops_among es options many shown name (remaining reader) (remaining now.lines.reader) old mid began ended s.lines all selected count (writes s) (searched_more_lines options (length es) s.lines all began amid ended s.steps spent)
         (begins_with remaining failures name reader now.lines (s.lines ++ all) h.hands h.few) (s.handed.counted ∙ is_count)
         (subst (λ r. HasRead (open_source name (remaining reader)) (remaining r) s.lines) (sym same) (has_read remaining failures name reader before.lines s.lines s.handed.hands few)) (failures reader) (failures now.lines.reader) h.hands.none_failed
 
@@ -197,7 +197,7 @@ module _ {R : Type 0} {f : Following R} where
         pub held_few : length recent ≤ count
         held_few = omega (arith, is_count, ap length s.held ∙ length-last_of p.waiting s.lines s.tracks.within, s.tracks.within)
 
-        module _ {found : Bool} (reported : Decides found (Selected es options line)) {ended : Steps} (spent : SearchesLines es options (length es) (s.lines ++ line ∷ []) began ended) where
+        module _ {found : Bool} (reported : Decides found (Selected es options line)) {ended : Steps} (spent : SearchesLines options (length es) (s.lines ++ line ∷ []) began ended) where
           abbrev added : List Text
           added = rows_at options many name found (next_shown p found) (last_of p.waiting s.lines) (length s.lines + 1) line
 

@@ -11,13 +11,12 @@ module _ {R W : Type 0} (remaining : R → Option Text) (failures : R → ℕ) (
   abbrev Gives : Result FileFound SearchFault → Type 0
   Gives = SearchGives es options many shown (open_source name (remaining reader)) (OneLeft (remaining now.lines.reader)) (failures reader) (failures now.lines.reader) old (writer contents write_failures new) began ended
 
-  -- a write failed, and that is returned
-  pub breaks_with : (result : Result FileFound SearchFault) → IsErrAnd result (λ fault. fault ≡ Write)
-      → BreaksSource es options many shown (open_source name (remaining reader)) (OneLeft (remaining now.lines.reader)) (failures reader) (failures now.lines.reader) old (writer contents write_failures new) began ended → Gives result
-  breaks_with (Ok found) is broke = absurd is
-  breaks_with (Err fault) is broke = subst (λ f. Gives (Err f)) (sym is) broke
+  -- why it was given up is returned
+  pub given_up : (fault : SearchFault) (result : Result FileFound SearchFault) → IsErrAnd result (λ final. final ≡ fault) → Gives (Err fault) → Gives result
+  given_up fault (Ok found) is stopped = absurd is
+  given_up fault (Err final) is stopped = subst (λ f. Gives (Err f)) (sym is) stopped
 
-  module _ (mid : W) (lines : List Text) (selected : ℕ) (wrote : WritesLines es options many shown name lines old (writer contents write_failures mid) selected) (none_early : IsTrue (leaves_early options) → selected ≡ 0) (spent : SearchesLines es options (length es) lines began ended) where
+  module _ (mid : W) (lines : List Text) (selected : ℕ) (wrote : WritesLines es options many shown name lines old (writer contents write_failures mid) selected) (none_early : IsTrue (leaves_early options) → selected ≡ 0) (spent : SearchesLines options (length es) lines began ended) where
     abbrev Taken : Result (Option FileEnd) SearchFault → Type 0
     Taken = NextTaken remaining failures contents write_failures reader lines now mid new
 

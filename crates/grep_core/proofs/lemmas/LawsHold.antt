@@ -1,8 +1,7 @@
--- The laws of the definitions: one output, one list of messages, one status, one cost of the
--- search, and one meaning of the patterns.
-use Rattle.grep_core.proofs.Prelude.{◌≡◌, Bool, [], ◌∷◌, refl, sym, ap, ◌∙◌, if◌then◌else◌, Syntax, Text, Expression, folded, IsMeant, Options, Out, Messages, StatusOf, FilesCost, IsOne, HasOneAnswer, MeansOne, MemorySavesSteps}
+-- The laws of the definitions: one output, one list of messages, one status, and one meaning of the
+-- patterns.
+use Rattle.grep_core.proofs.Prelude.{◌≡◌, Bool, [], ◌∷◌, refl, sym, ap, ◌∙◌, if◌then◌else◌, Syntax, Text, Expression, folded, IsMeant, Options, Out, Messages, StatusOf, IsOne, HasOneAnswer, MeansOne}
 use Rattle.re_syntax.proofs.lemmas.SpelledUnique.{spells_one}
-use Rattle.grep_core.proofs.lemmas.CostLaws.{files_cost, fewest_files, FilesCost-determined}
 use Rattle.grep_core.proofs.lemmas.Determined.{Out-determined, Messages-determined, StatusOf-determined}
 use Rattle.grep_core.proofs.lemmas.Exist.{Out-exist, Messages-exist, StatusOf-exist}
 
@@ -10,18 +9,13 @@ use Rattle.grep_core.proofs.lemmas.Exist.{Out-exist, Messages-exist, StatusOf-ex
 is_one : {A : Type 0} (P : A → Type 0) → (x : A) × P x → ((x y : A) → P x → P y → x ≡ y) → IsOne P
 is_one P found once = (found.0, found.1, λ y p. once y found.0 p found.1)
 
--- there is one output, one list of messages, one status and one cost of the search
+-- there is one output, one list of messages and one status
 pub has_one_answer : (options : Options) → HasOneAnswer options
 has_one_answer options = record {
   one_output = (λ es files. is_one (Out es options files) (Out-exist es options files) (Out-determined es options files));
   one_list_of_messages = (λ es files. is_one (Messages es options files) (Messages-exist es options files) (Messages-determined es options files));
   one_status = (λ es files. is_one (StatusOf es options files) (StatusOf-exist es options files) (StatusOf-determined es options files));
-  one_cost = (λ es matchers files. is_one (FilesCost es options matchers files 0) (files_cost es options matchers files) (FilesCost-determined es options matchers files));
 }
-
--- memory saves steps
-pub memory_saves_steps : (options : Options) → MemorySavesSteps options
-memory_saves_steps options es matchers files refusals few most p q = fewest_files es options matchers files 0 refusals few most refl p q
 
 -- a pattern means at most one expression
 pub IsMeant-determined : (syntax : Syntax) (fold : Bool) (text : Text) (d e : Expression) → IsMeant syntax fold text d → IsMeant syntax fold text e → d ≡ e

@@ -1,9 +1,10 @@
 -- A search of the lines of an open source, one more line at a time, and what it says of the
 -- source's file.
-use Rattle.grep_core.proofs.Prelude.{◌≡◌, ℕ, ◌+◌, ◌-◌, ◌*◌, ◌^◌, nat_lt, ◌<◌, ◌≤◌, ◌⊎◌, Bool, true, false, ◌&&◌, IsTrue, Decides, List, [], ◌∷◌, ◌++◌, All, Option, length, min, take, refl, sym, ap, subst, ◌∙◌, append-nil, append_assoc, inl, inr, arith, Any, if◌then◌else◌, take-append_seam, false≢true, cases_Bool, cases_lt, lt-ltb, le-ltb, cond-true, cond-false, length_push, length-append, All-head, All-tail, Text, lines_of, Expression, HoldsOfMany, Options, Open, Whole, Broken, Left, one_more, Numbered, AreAhead, HasHanded, PassesNext, File, whole, broken, Matched, Selected, HasSelected, Form, nothing, names, counts, form, SelectedLines, FaultMet, open_source, file_of, failures_of, most_lines, OneLeft, HasRead, Writer, TakesAll, TakesFront, first_lines, GroupedAs, rows_after, StandsFor, BeginsWith, file_so_far, SearchesLine, SearchesLines, IsPlain, LineRowsOf, TakesLine, BreaksLine, RowsOfLines, TakesLines, BreaksLines, leaves_early, summary_as, BreaksSource, StopsSource, SearchesSource}
+use Rattle.grep_core.proofs.Prelude.{◌≡◌, ℕ, ◌+◌, ◌-◌, ◌*◌, ◌^◌, nat_lt, ◌<◌, ◌≤◌, ◌⊎◌, Bool, true, false, ◌&&◌, IsTrue, Decides, List, [], ◌∷◌, ◌++◌, All, Option, length, min, take, refl, sym, ap, subst, ◌∙◌, append-nil, append_assoc, inl, inr, arith, Any, if◌then◌else◌, take-append_seam, false≢true, cases_Bool, cases_lt, lt-ltb, le-ltb, cond-true, cond-false, length_push, length-append, All-head, All-tail, Text, lines_of, Expression, HoldsOfMany, Options, Open, Whole, Broken, Left, one_more, Numbered, AreAhead, HasHanded, PassesNext, File, whole, broken, Matched, Selected, HasSelected, Form, nothing, names, counts, form, SelectedLines, FaultMet, open_source, file_of, failures_of, most_lines, OneLeft, HasRead, IsOneLineAndFew, Writer, TakesAll, TakesFront, first_lines, GroupedAs, rows_after, StandsFor, BeginsWith, file_so_far, line_cost, SearchesLines, IsPlain, LineRowsOf, TakesLine, BreaksLine, StopsLine, RowsOfLines, TakesLines, BreaksLines, StopsLines, SearchFault, SearchGives, Err, leaves_early, summary_as, BreaksSource, StopsSource, SearchesSource}
 use Rattle.re_search.specs.Meters.{Steps}
 use Rattle.re_search.specs.Searches.{AddsAtMost}
 use Rattle.re_syntax.proofs.lemmas.SomeOfJoined.{Any-left}
+use Rattle.grep_core.specs.declared.status.SearchFault.TheVariants.{Write, Memory}
 use Rattle.grep_core.proofs.lemmas.Verdicts.{decided_yes, decided_no, picked}
 use Rattle.grep_core.proofs.lemmas.Decided.{dec_fault_met}
 use Rattle.grep_core.proofs.lemmas.CostLaws.{unsearched_lines, searched_one_line, searched_more_lines, searched_first_lines}
@@ -14,7 +15,7 @@ use Rattle.grep_core.proofs.lemmas.PassedLines.{passed_block, counted_block, blo
 use Rattle.grep_core.proofs.lemmas.SearchedBlockLemmas.{found_within}
 use Rattle.grep_core.proofs.lemmas.OneFile.{FaultMet-left, whole-failures}
 use Rattle.grep_core.proofs.lemmas.MoreLines.{SelectedLines-passed}
-use Rattle.grep_io.proofs.lemmas.HandedLemmas.{begins_with}
+use Rattle.grep_io.proofs.lemmas.HandedLemmas.{begins_with, has_read}
 use Rattle.grep_io.proofs.lemmas.NumberedLemmas.{has_handed_none}
 use Rattle.grep_core.proofs.lemmas.FileOutput.{positive, chosen_decides, rows_line, chosen_line, chosen_count, output_all, output_left, output_front, rows_begun, plain_rows}
 
@@ -157,7 +158,7 @@ module _ (es : List Expression) (options : Options) (many shown : Bool) (name : 
   some_decides lines old new selected w = subst (λ n. Decides (nat_lt 0 n) (Any (Selected es options) lines)) w.counted (chosen_decides es options many name lines w.chosen w.are_chosen)
 
   module _ (known rest : Option Text) (old new : Writer) (began ended : Steps) where
-    module _ (failed_before failed : ℕ) (lines : List Text) (selected : ℕ) (w : WritesLines lines old new selected) (spent : SearchesLines es options (length es) lines began ended) where
+    module _ (failed_before failed : ℕ) (lines : List Text) (selected : ℕ) (w : WritesLines lines old new selected) (spent : SearchesLines options (length es) lines began ended) where
       -- all lines were searched
       pub searches_whole : StandsFor name known rest failed_before failed lines whole → SearchesSource es options many shown (open_source name known) (OneLeft rest) failed_before failed old new began ended Whole selected
       searches_whole s =
@@ -174,7 +175,7 @@ module _ (es : List Expression) (options : Options) (many shown : Bool) (name : 
             are_rows = subst (λ f. GroupedAs es options many (form options) (f ∷ []) (w.of.groups ++ summary_as (form options) many name Whole selected)) (sym s.file)
                 (subst (λ n. GroupedAs es options many (form options) (ends ∷ []) (w.of.groups ++ summary_as (form options) many name Whole n)) w.counted (output_all es options many name lines Whole (form options) w.of.groups w.chosen w.of.are_groups w.are_chosen));
             wrote = subst (TakesAll old new) w.of.are_rows w.wrote;
-            steps = subst (λ f. SearchesLines es options (length es) f.lines began ended) (sym s.file) spent;
+            steps = subst (λ f. SearchesLines options (length es) f.lines began ended) (sym s.file) spent;
           }
 
       -- a read failed after them
@@ -195,7 +196,7 @@ module _ (es : List Expression) (options : Options) (many shown : Bool) (name : 
             are_rows = subst (λ f. GroupedAs es options many (form options) (f ∷ []) (w.of.groups ++ summary_as (form options) many name Broken selected)) (sym s.file)
                 (subst (λ n. GroupedAs es options many (form options) (ends ∷ []) (w.of.groups ++ summary_as (form options) many name Broken n)) w.counted (output_all es options many name lines Broken (form options) w.of.groups w.chosen w.of.are_groups w.are_chosen));
             wrote = subst (TakesAll old new) w.of.are_rows w.wrote;
-            steps = subst (λ f. SearchesLines es options (length es) f.lines began ended) (sym s.file) spent;
+            steps = subst (λ f. SearchesLines options (length es) f.lines began ended) (sym s.file) spent;
           }
 
       -- the source was left after them, at a selected line
@@ -216,11 +217,11 @@ module _ (es : List Expression) (options : Options) (many shown : Bool) (name : 
             rows = w.of.groups;
             are_rows = output_left es options many file name lines (form options) w.of.groups selected b.named (early_form options early) w.of.are_groups some;
             wrote = subst (TakesAll old new) w.of.are_rows w.wrote;
-            steps = subst (λ ls. SearchesLines es options (length es) ls began ended) (sym b.has_lines) (searched_first_lines es options (length es) lines b.more began ended spent);
+            steps = subst (λ ls. SearchesLines options (length es) ls began ended) (sym b.has_lines) (searched_first_lines options (length es) lines b.more began ended spent);
           }
 
     -- out of memory after the lines; more lines were searched
-    pub stops_among : (lines later : List Text) (selected count : ℕ) → WritesLines lines old new selected → SearchesLines es options (length es) (lines ++ later) began ended → BeginsWith name known (lines ++ later) → length lines ≡ count → HasRead (open_source name known) rest lines
+    pub stops_among : (lines later : List Text) (selected count : ℕ) → WritesLines lines old new selected → SearchesLines options (length es) (lines ++ later) began ended → BeginsWith name known (lines ++ later) → length lines ≡ count → HasRead (open_source name known) rest lines
         → (failed_before failed : ℕ) → failed ≡ failed_before → StopsSource es options many shown (open_source name known) (OneLeft rest) count failed_before failed old new began ended
     stops_among lines later selected count w spent b counted read failed_before failed none_failed =
         let file = file_of name b.reading in
@@ -238,19 +239,19 @@ module _ (es : List Expression) (options : Options) (many shown : Bool) (name : 
           rows = w.of.groups;
           are_rows = rows_begun es options many (form options) count file w.of.groups (subst (λ f. LineRowsOf es options many (form options) f w.of.groups) same w.of.are_groups);
           wrote = subst (TakesAll old new) w.of.are_rows w.wrote;
-          steps = subst (λ ls. SearchesLines es options (length es) ls began ended) (sym b.has_lines) (searched_first_lines es options (length es) (lines ++ later) b.more began ended spent);
+          steps = subst (λ ls. SearchesLines options (length es) ls began ended) (sym b.has_lines) (searched_first_lines options (length es) (lines ++ later) b.more began ended spent);
         }
 
     -- no more lines were searched
-    pub stops_after : (lines : List Text) (selected count : ℕ) → WritesLines lines old new selected → SearchesLines es options (length es) lines began ended → BeginsWith name known lines → length lines ≡ count → HasRead (open_source name known) rest lines
+    pub stops_after : (lines : List Text) (selected count : ℕ) → WritesLines lines old new selected → SearchesLines options (length es) lines began ended → BeginsWith name known lines → length lines ≡ count → HasRead (open_source name known) rest lines
         → (failed_before failed : ℕ) → failed ≡ failed_before → StopsSource es options many shown (open_source name known) (OneLeft rest) count failed_before failed old new began ended
     stops_after lines selected count w spent b =
-        stops_among lines [] selected count w (subst (λ ls. SearchesLines es options (length es) ls began ended) (sym (append-nil lines)) spent) (subst (BeginsWith name known) (sym (append-nil lines)) b)
+        stops_among lines [] selected count w (subst (λ ls. SearchesLines options (length es) ls began ended) (sym (append-nil lines)) spent) (subst (BeginsWith name known) (sym (append-nil lines)) b)
 
   module _ (known rest : Option Text) (old mid new : Writer) (began ended : Steps) (selected failed_before failed : ℕ) (none_failed : failed ≡ failed_before) where
     -- a write failed within the rows of these lines
     pub breaks_in : (lines rows : List Text) → WrittenOf (form options) lines rows → TakesFront old new rows → new.failures ≡ one_more old.failures
-        → SearchesLines es options (length es) lines began ended → BeginsWith name known lines → BreaksSource es options many shown (open_source name known) (OneLeft rest) failed_before failed old new began ended
+        → SearchesLines options (length es) lines began ended → BeginsWith name known lines → BreaksSource es options many shown (open_source name known) (OneLeft rest) failed_before failed old new began ended
     breaks_in lines rows of front counted spent b =
         let all = of.further (file_of name b.reading) b.more b.named b.has_lines in
         record {
@@ -268,11 +269,11 @@ module _ (es : List Expression) (options : Options) (many shown : Bool) (name : 
           are_rows = all.2;
           wrote = subst (TakesFront old new) (sym all.3) (TakesFront-longer old new rows all.1 front);
           counted = counted;
-          steps = subst (λ ls. SearchesLines es options (length es) ls began ended) (sym b.has_lines) (searched_first_lines es options (length es) lines b.more began ended spent);
+          steps = subst (λ ls. SearchesLines options (length es) ls began ended) (sym b.has_lines) (searched_first_lines options (length es) lines b.more began ended spent);
         }
 
     -- a write failed within the rows of lines that were searched at once
-    breaks_lines : IsPlain (form options) → (lines all : List Text) → WritesLines lines old mid selected → SearchesLines es options (length es) (lines ++ all) began ended → BeginsWith name known (lines ++ all)
+    breaks_lines : IsPlain (form options) → (lines all : List Text) → WritesLines lines old mid selected → SearchesLines options (length es) (lines ++ all) began ended → BeginsWith name known (lines ++ all)
         → BreaksLines es options many name (length lines + 1) all mid new → BreaksSource es options many shown (open_source name known) (OneLeft rest) failed_before failed old new began ended
     breaks_lines plain lines all w spent b broke =
         let added = adds_lines plain all lines w.rows broke.rows w.chosen broke.found (plain_written (form options) plain lines w.rows w.of) w.are_chosen broke.are_rows in
@@ -280,20 +281,20 @@ module _ (es : List Expression) (options : Options) (many shown : Bool) (name : 
 
     -- a write failed within the rows that the next line adds
     pub breaks_adding : (lines : List Text) (line : Text) (added : List Text) (w : WritesLines lines old mid selected) → WrittenOf (form options) (lines ++ line ∷ []) (w.rows ++ added)
-        → SearchesLines es options (length es) (lines ++ line ∷ []) began ended → BeginsWith name known (lines ++ line ∷ []) → TakesFront mid new added → new.failures ≡ one_more mid.failures
+        → SearchesLines options (length es) (lines ++ line ∷ []) began ended → BeginsWith name known (lines ++ line ∷ []) → TakesFront mid new added → new.failures ≡ one_more mid.failures
         → BreaksSource es options many shown (open_source name known) (OneLeft rest) failed_before failed old new began ended
     breaks_adding lines line added w of spent b front counted =
         breaks_in (lines ++ line ∷ []) (w.rows ++ added) of (TakesFront-more old mid new w.rows added w.wrote front) (counted ∙ ap one_more w.wrote.none_failed) spent b
 
     -- a write failed within the rows of the next line
-    breaks_within : IsPlain (form options) → (lines : List Text) (line : Text) → WritesLines lines old mid selected → SearchesLines es options (length es) (lines ++ line ∷ []) began ended → BeginsWith name known (lines ++ line ∷ [])
+    breaks_within : IsPlain (form options) → (lines : List Text) (line : Text) → WritesLines lines old mid selected → SearchesLines options (length es) (lines ++ line ∷ []) began ended → BeginsWith name known (lines ++ line ∷ [])
         → BreaksLine es options many name (length lines + 1) line mid new → BreaksSource es options many shown (open_source name known) (OneLeft rest) failed_before failed old new began ended
     breaks_within plain lines line w spent b broke =
         let rows = rows_line es options many name (form options) plain lines line w.rows broke.rows (plain_written (form options) plain lines w.rows w.of) broke.are_rows in
         breaks_adding lines line broke.rows w (written_plain (form options) plain (lines ++ line ∷ []) (w.rows ++ broke.rows) rows) spent b broke.wrote broke.counted
 
     -- all rows so far were written, and buffered output could not be sent
-    pub breaks_after : (lines : List Text) → WritesLines lines old mid selected → SearchesLines es options (length es) lines began ended → BeginsWith name known lines → TakesFront mid new [] → new.failures ≡ one_more mid.failures
+    pub breaks_after : (lines : List Text) → WritesLines lines old mid selected → SearchesLines options (length es) lines began ended → BeginsWith name known lines → TakesFront mid new [] → new.failures ≡ one_more mid.failures
         → BreaksSource es options many shown (open_source name known) (OneLeft rest) failed_before failed old new began ended
     breaks_after lines w spent b front counted =
         breaks_in lines w.rows w.of (subst (TakesFront old new) (append-nil w.rows) (TakesFront-more old mid new w.rows [] w.wrote front)) (counted ∙ ap one_more w.wrote.none_failed) spent b
@@ -329,7 +330,7 @@ module _ {R : Type 0} (remaining : R → Option Text) (failures : R → ℕ) (es
     pub wrote : WritesLines es options many shown name lines old new selected
     pub few : selected ≤ now.number
     pub none_early : IsTrue (leaves_early options) → selected ≡ 0
-    pub steps : SearchesLines es options (length es) lines began ended
+    pub steps : SearchesLines options (length es) lines began ended
 
 -- the same search, further on
 abbrev pub SearchedOn : {R : Type 0} {remaining : R → Option Text} {failures : R → ℕ} {es : List Expression} {options : Options} {many shown : Bool} {name : Text} {reader : R} {before : Numbered R} {old mid : Writer} {began amid : Steps} {selected : ℕ} → SearchedSoFar remaining failures es options many shown name reader before old mid began amid selected → Numbered R → Writer → Steps → ℕ → Type 0
@@ -347,7 +348,7 @@ module _ {R : Type 0} {remaining : R → Option Text} {failures : R → ℕ} {es
     wrote = writes_none es options many shown name of w;
     few = omega arith;
     none_early = λ _. refl;
-    steps = unsearched_lines es options (length es) [] steps;
+    steps = unsearched_lines options (length es) [] steps;
   }
 
   -- a block was passed where the selected lines are only counted
@@ -374,7 +375,7 @@ module _ {R : Type 0} {remaining : R → Option Text} {failures : R → ℕ} {es
           wrote = subst (WritesLines es options many shown name (s.lines ++ block_lines) old new) sum (writes_counted es options many shown name (counts_plain options asked) asked block_lines s.lines old new selected own s.wrote chosen);
           few = omega (arith, sum, within, s.few, s.handed.counted, handed_on.counted, length-append s.lines block_lines);
           none_early = λ early. absurd (counts_late options asked early);
-          steps = searched_more_lines es options (length es) s.lines block_lines began mid ended s.steps (block_spent es options block mid ended ahead.whole spent);
+          steps = searched_more_lines options (length es) s.lines block_lines began mid ended s.steps (block_spent es options block mid ended ahead.whole spent);
         }
 
   module _ {now : Numbered R} {old mid : Writer} {began ended : Steps} {selected : ℕ} (s : SearchedSoFar remaining failures es options many shown name reader now old mid began ended selected) where
@@ -394,9 +395,9 @@ module _ {R : Type 0} {remaining : R → Option Text} {failures : R → ℕ} {es
     pub numbers_further : before.number ≤ now.number
     numbers_further = omega (arith, numbers_on)
 
-    module _ {ended : Steps} (plain : IsPlain (form options)) (spent : SearchesLines es options (length es) all amid ended) where
-      all_spent : SearchesLines es options (length es) (s.lines ++ all) began ended
-      all_spent = searched_more_lines es options (length es) s.lines all began amid ended s.steps spent
+    module _ {ended : Steps} (plain : IsPlain (form options)) (spent : SearchesLines options (length es) all amid ended) where
+      all_spent : SearchesLines options (length es) (s.lines ++ all) began ended
+      all_spent = searched_more_lines options (length es) s.lines all began amid ended s.steps spent
 
       module _ {new : Writer} {found more : ℕ} (took : TakesLines es options many name (before.number + 1) all mid new found) (is : more ≡ min (selected + found) (2 ^ 64 - 1)) where
         sum : selected + found ≡ more
@@ -424,11 +425,20 @@ module _ {R : Type 0} {remaining : R → Option Text} {failures : R → ℕ} {es
             (begins name next) next.hands.none_failed early (omega (arith, some, sum))
 
       -- a write failed in their rows
-      pub breaks_in_lines : {new : Writer} → BreaksLines es options many name (before.number + 1) all mid new
+      breaks_in_lines : {new : Writer} → BreaksLines es options many name (before.number + 1) all mid new
           → BreaksSource es options many shown (open_source name (remaining reader)) (OneLeft (remaining now.lines.reader)) (failures reader) (failures now.lines.reader) old new began ended
       breaks_in_lines {new} broke =
           breaks_lines es options many shown name (remaining reader) (remaining now.lines.reader) old mid new began ended selected (failures reader) (failures now.lines.reader) next.hands.none_failed plain
           s.lines all s.wrote all_spent (begins name next) (subst (λ n. BreaksLines es options many name n all mid new) first_number broke)
+
+      -- that, or there is no room for the parts of one of them
+      pub stops_in_lines : now.lines.reader ≡ before.lines.reader → IsOneLineAndFew before.lines.ahead → (new : Writer) (fault : SearchFault) → StopsLines es options many name (before.number + 1) all mid new fault
+          → SearchGives es options many shown (open_source name (remaining reader)) (OneLeft (remaining now.lines.reader)) (failures reader) (failures now.lines.reader) old new began ended (Err fault)
+      stops_in_lines same few new Write broke = breaks_in_lines broke
+      stops_in_lines same few new (Memory n) (counted, unwritten) =
+          subst (λ w. StopsSource es options many shown (open_source name (remaining reader)) (OneLeft (remaining now.lines.reader)) n (failures reader) (failures now.lines.reader) old w began ended) (sym unwritten)
+          (stops_among es options many shown name (remaining reader) (remaining now.lines.reader) old mid began ended s.lines all selected n s.wrote all_spent (begins name next) (omega (arith, counted, s.handed.counted))
+          (subst (λ r. HasRead (open_source name (remaining reader)) (remaining r) s.lines) (sym same) (has_read remaining failures name reader before.lines s.lines s.handed.hands few)) (failures reader) (failures now.lines.reader) next.hands.none_failed)
 
   -- one more line was handed out
   module _ {before now : Numbered R} {old mid : Writer} {began amid : Steps} {selected : ℕ} (s : SearchedSoFar remaining failures es options many shown name reader before old mid began amid selected) (next : HasHanded remaining failures reader now (s.lines ++ now.lines.line ∷ [])) where
@@ -454,11 +464,11 @@ module _ {R : Type 0} {remaining : R → Option Text} {failures : R → ℕ} {es
       took : {new : Writer} → IsPlain (form options) → (found : Bool) → TakesLine es options many name count line mid new found → WritesLines es options many shown name (s.lines ++ line ∷ []) old new (if found then selected + 1 else selected)
       took {new} plain found t = writes_line es options many shown name plain s.lines line old mid new selected found s.wrote (subst (λ n. TakesLine es options many name n line mid new found) number t)
 
-      pub spent : {ended : Steps} → SearchesLine es options (length es) line amid ended → SearchesLines es options (length es) (s.lines ++ line ∷ []) began ended
-      spent {ended} one = searched_one_line es options (length es) s.lines line began amid ended s.steps one
+      pub spent : {ended : Steps} → AddsAtMost (line_cost options (length es) line) amid ended → SearchesLines options (length es) (s.lines ++ line ∷ []) began ended
+      spent {ended} one = searched_one_line options (length es) s.lines line began amid ended s.steps one
 
       -- it was searched, and the search continues
-      pub searched_line : IsPlain (form options) → {new : Writer} {ended : Steps} {found : Bool} {more : ℕ} → TakesLine es options many name count line mid new found → SearchesLine es options (length es) line amid ended
+      pub searched_line : IsPlain (form options) → {new : Writer} {ended : Steps} {found : Bool} {more : ℕ} → TakesLine es options many name count line mid new found → AddsAtMost (line_cost options (length es) line) amid ended
           → more ≡ (if found then selected + 1 else selected) → (IsTrue (leaves_early options) → found ≡ false) → SearchedOn s now new ended more
       searched_line plain {new} {ended} {found} {more} t one e goes_on = record {
         lines = s.lines ++ line ∷ [];
@@ -474,13 +484,13 @@ module _ {R : Type 0} {remaining : R → Option Text} {failures : R → ℕ} {es
           at_most false eq = omega (arith, eq, s.few, is_next)
 
       -- it is selected, and the source is left there
-      leaves_here : IsPlain (form options) → {new : Writer} {ended : Steps} {more : ℕ} → TakesLine es options many name count line mid new true → SearchesLine es options (length es) line amid ended → more ≡ selected + 1 → IsTrue (leaves_early options)
+      leaves_here : IsPlain (form options) → {new : Writer} {ended : Steps} {more : ℕ} → TakesLine es options many name count line mid new true → AddsAtMost (line_cost options (length es) line) amid ended → more ≡ selected + 1 → IsTrue (leaves_early options)
           → SearchesSource es options many shown (open_source name (remaining reader)) (OneLeft (remaining now.lines.reader)) (failures reader) (failures now.lines.reader) old new began ended Left more
       leaves_here plain {new} {ended} {more} t one e early =
           searches_left es options many shown name (remaining reader) (remaining now.lines.reader) old new began ended (failures reader) (failures now.lines.reader) (s.lines ++ line ∷ []) more (subst (WritesLines es options many shown name (s.lines ++ line ∷ []) old new) (sym e) (took plain true t)) (spent one)
           (begins name handed) next.hands.none_failed early (omega (arith, e))
 
-      pub leaves_at : IsPlain (form options) → {new : Writer} {ended : Steps} {found early : Bool} {more : ℕ} → TakesLine es options many name count line mid new found → SearchesLine es options (length es) line amid ended
+      pub leaves_at : IsPlain (form options) → {new : Writer} {ended : Steps} {found early : Bool} {more : ℕ} → TakesLine es options many name count line mid new found → AddsAtMost (line_cost options (length es) line) amid ended
           → more ≡ (if found then selected + 1 else selected) → early ≡ leaves_early options → (found && early) ≡ true
           → SearchesSource es options many shown (open_source name (remaining reader)) (OneLeft (remaining now.lines.reader)) (failures reader) (failures now.lines.reader) old new began ended Left more
       leaves_at plain {found = true} {early = true} t one e is_early both = leaves_here plain t one e (sym is_early)
@@ -488,8 +498,16 @@ module _ {R : Type 0} {remaining : R → Option Text} {failures : R → ℕ} {es
       leaves_at plain {found = false} t one e is_early both = absurd (false≢true both)
 
       -- a write failed in its rows
-      pub breaks_at : IsPlain (form options) → {new : Writer} {ended : Steps} → BreaksLine es options many name count line mid new → SearchesLine es options (length es) line amid ended
+      breaks_at : IsPlain (form options) → {new : Writer} {ended : Steps} → BreaksLine es options many name count line mid new → AddsAtMost (line_cost options (length es) line) amid ended
           → BreaksSource es options many shown (open_source name (remaining reader)) (OneLeft (remaining now.lines.reader)) (failures reader) (failures now.lines.reader) old new began ended
       breaks_at plain {new} {ended} broke one =
           breaks_within es options many shown name (remaining reader) (remaining now.lines.reader) old mid new began ended selected (failures reader) (failures now.lines.reader) next.hands.none_failed plain
           s.lines line s.wrote (spent one) (begins name handed) (subst (λ n. BreaksLine es options many name n line mid new) number broke)
+
+      -- that, or there is no room for its parts
+      pub stops_at : IsPlain (form options) → HasRead (open_source name (remaining reader)) (remaining now.lines.reader) s.lines → (new : Writer) {ended : Steps} (fault : SearchFault) → StopsLine es options many name count line mid new fault → AddsAtMost (line_cost options (length es) line) amid ended
+          → SearchGives es options many shown (open_source name (remaining reader)) (OneLeft (remaining now.lines.reader)) (failures reader) (failures now.lines.reader) old new began ended (Err fault)
+      stops_at plain read new Write broke one = breaks_at plain broke one
+      stops_at plain read new {ended = ended} (Memory n) (counted, unwritten) one =
+          subst (λ w. StopsSource es options many shown (open_source name (remaining reader)) (OneLeft (remaining now.lines.reader)) n (failures reader) (failures now.lines.reader) old w began ended) (sym unwritten)
+          (stops_among es options many shown name (remaining reader) (remaining now.lines.reader) old mid began ended s.lines (line ∷ []) selected n s.wrote (spent one) (begins name handed) (omega (arith, counted, number)) read (failures reader) (failures now.lines.reader) next.hands.none_failed)

@@ -1,5 +1,6 @@
 -- What was written for one line.
-use Rattle.grep_core.proofs.Prelude.{◌≡◌, ℕ, Bool, true, false, not, MatchBool, if◌then◌else◌, Decides, List, [], ◌∷◌, ◌++◌, Option, Result, Ok, Err, IfOk, OnErr, refl, sym, subst, inl, inr, false≢true, Text, Expression, Options, output_line, Writes, Matched, Selected, lines, counts, form, head_of, Writer, writer, file_so_far, selects, RowsOfSelected, WritesSelected, BreaksSelected, TakesLine, BreaksLine}
+use Rattle.grep_core.proofs.Prelude.{◌≡◌, ℕ, Bool, true, false, not, MatchBool, if◌then◌else◌, Decides, List, [], ◌∷◌, ◌++◌, Option, Result, Ok, Err, IfErr, IfOk, IsErrAnd, OnErr, refl, sym, subst, inl, inr, false≢true, Text, Expression, Options, SearchFault, output_line, Writes, Matched, Selected, lines, counts, form, head_of, Writer, writer, file_so_far, selects, RowsOfSelected, WritesSelected, BreaksSelected, TakesLine, BreaksLine}
+use Rattle.grep_core.specs.declared.status.SearchFault.TheVariants.{Write}
 use Rattle.grep_core.proofs.lemmas.PassLemmas.{TakesAll-line, TakesFront-line}
 use Rattle.grep_core.proofs.lemmas.WriterLaws.{TakesAll-nothing}
 
@@ -7,6 +8,11 @@ use Rattle.grep_core.proofs.lemmas.WriterLaws.{TakesAll-nothing}
 pub err_with : {T E P : Type 0} (r : Result T E) → P → OnErr r P
 err_with (Ok v) p = tt
 err_with (Err e) p = p
+
+-- a write failed, and that is returned
+pub unwritten : {T : Type 0} (P : SearchFault → Type 0) (r : Result T SearchFault) → IsErrAnd r (λ fault. fault ≡ Write) → P Write → IfErr r P
+unwritten P (Ok v) is p = tt
+unwritten P (Err fault) is p = subst P (sym is) p
 
 module _ {W : Type 0} (contents : W → Option Text) (failures : W → ℕ) (es : List Expression) (options : Options) (many : Bool) (name : Text) (number : ℕ) (line : Text) (a b : W) (asked : form options ≡ lines) where
   -- the row of a selected line
@@ -40,6 +46,11 @@ pub line_passed : (es : List Expression) (options : Options) (many : Bool) (name
     → TakesLine es options many name number line w w false
 line_passed es options many name number line w true e d = absurd (false≢true (sym e))
 line_passed es options many name number line w false e d = record { rows = []; are_rows = inr ((λ s. false≢true (d.1 s)), refl); wrote = TakesAll-nothing w; reported = d }
+
+-- where only their number is written, no line has rows
+pub line_only_counted : (es : List Expression) (options : Options) (many : Bool) (name : Text) (number : ℕ) (line : Text) (w : Writer) → form options ≡ counts → (found : Bool) → Decides found (Selected es options line) → TakesLine es options many name number line w w found
+line_only_counted es options many name number line w asked true d = line_counted es options many name number line w asked (d.0 refl)
+line_only_counted es options many name number line w asked false d = line_passed es options many name number line w false refl d
 
 -- a selected line has the rows that were written for it
 pub line_selected : (es ds : List Expression) (options : Options) (many : Bool) (name : Text) (number : ℕ) (line : Text) (a b : Writer) (verdict : Bool) → verdict ≡ true → Decides verdict (Selected es options line)

@@ -127,7 +127,7 @@ module _ (es : List Expression) (options : Options) (many shown : Bool) (source 
         rows = [];
         are_rows = rows_begun es options many (form options) 0 (file_of source.name some.0) [] (no_rows (form options) (first_lines 0 (file_of source.name some.0)) refl);
         wrote = subst (TakesAll w w) (sym (rows_after-none (form options) shown)) (TakesAll-nothing w);
-        steps = unsearched_lines es options (length es) (file_of source.name some.0).lines steps;
+        steps = unsearched_lines options (length es) (file_of source.name some.0).lines steps;
       }
     where
       no_lines : (text : List Text) → [] ≡ take 0 text
@@ -154,7 +154,7 @@ module _ (es : List Expression) (options : Options) (many shown : Bool) (source 
     rows = [];
     are_rows = output_all es options many source.name [] Missing (form options) [] [] (rows_none es options many source.name (form options)) refl;
     wrote = subst (TakesAll w w) (sym (rows_after-none (form options) shown)) (TakesAll-nothing w);
-    steps = unsearched_lines es options (length es) [] steps;
+    steps = unsearched_lines options (length es) [] steps;
   }
 
 -- where no lines are shown around selected ones, it makes no difference whether an earlier source

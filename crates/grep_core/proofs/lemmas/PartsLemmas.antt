@@ -1,10 +1,7 @@
 -- The parts of a line that were written, one more part at a time.
-use Rattle.grep_core.proofs.Prelude.{◌≡◌, ℕ, ◌+◌, ◌≤◌, Bool, List, [], ◌∷◌, ◌++◌, length, map, slice_range, refl, sym, ap, subst, ◌∙◌, append_assoc, append-nil, arith, map-append, length_push, length-append, Text, Expression, IsFound, IsPart, ArePartsFrom, AreParts, searches_for, Options, one_more, parts, form, head_of, Writer, TakesAll, TakesFront, file_so_far, RowsOfSelected, WritesSelected, BreaksSelected, search_cost, PartsAsked, AsksParts, Course, HasTaken, refusals}
+use Rattle.grep_core.proofs.Prelude.{◌≡◌, ℕ, ◌≤◌, Bool, List, [], ◌∷◌, ◌++◌, length, map, slice_range, refl, sym, ap, subst, ◌∙◌, append_assoc, append-nil, map-append, Text, Expression, IsFound, IsPart, ArePartsFrom, AreParts, Options, one_more, parts, form, head_of, Writer, TakesAll, TakesFront, file_so_far, RowsOfSelected, WritesSelected, BreaksSelected}
 use Rattle.re_syntax.proofs.lemmas.PartsLaws.{IsPart-unique}
 use Rattle.re_syntax.proofs.lemmas.PartsExist.{AreParts-exist}
-use Rattle.re_search.specs.Meters.{Steps}
-use Rattle.re_search.proofs.lemmas.CourseLaws.{few_searches}
-use Rattle.grep_core.proofs.lemmas.CostLaws.{adds_for_more, more_searches}
 use Rattle.grep_core.proofs.lemmas.WriterLaws.{TakesAll-nothing, TakesAll-more, TakesFront-more, TakesFront-longer}
 
 module _ (es : List Expression) (options : Options) (many : Bool) (name : Text) (number : ℕ) (line : Text) where
@@ -21,10 +18,10 @@ module _ (es : List Expression) (options : Options) (many : Bool) (name : Text) 
     pub on_line : from ≤ length line
     pub wrote : TakesAll old now (map part_row done)
 
-  pub parts_none : (w : Writer) (steps : Steps) (course : Course) (cost : ℕ) → 0 ≤ length line → HasTaken cost steps 0 course steps → (s : PartsSoFar 0 w w) × HasTaken cost steps (length s.done) course steps
-  parts_none w steps course cost on taken =
+  pub parts_none : (w : Writer) → 0 ≤ length line → PartsSoFar 0 w w
+  parts_none w on =
       let all = AreParts-exist es line options.line_regexp in
-      (record { done = []; left = all.0; are_parts = all.1; are_left = all.1; on_line = on; wrote = TakesAll-nothing w }, taken)
+      record { done = []; left = all.0; are_parts = all.1; are_left = all.1; on_line = on; wrote = TakesAll-nothing w }
 
   -- the next part is the first of those that are left
   next_left : (from i j : ℕ) (left : List (ℕ × ℕ)) → ArePartsFrom es line options.line_regexp from left → IsPart es line options.line_regexp from i j
@@ -67,30 +64,14 @@ module _ (es : List Expression) (options : Options) (many : Bool) (name : Text) 
         }
 
   -- the row of the next part was written
-  pub parts_next : (from i j : ℕ) (old mid now : Writer) (begun spent after : Steps) (before course : Course) (cost : ℕ) → (s : PartsSoFar from old mid) → HasTaken cost begun (length s.done) before spent → IsPart es line options.line_regexp from i j → TakesAll mid now (part_row (i, j) ∷ [])
-      → ((times : ℕ) → HasTaken cost begun times before spent → HasTaken cost begun (times + 1) course after) → (next : PartsSoFar j old now) × HasTaken cost begun (length next.done) course after
-  parts_next from i j old mid now begun spent after before course cost s few p took more =
+  pub parts_next : (from i j : ℕ) (old mid now : Writer) → PartsSoFar from old mid → IsPart es line options.line_regexp from i j → TakesAll mid now (part_row (i, j) ∷ []) → PartsSoFar j old now
+  parts_next from i j old mid now s p took =
       let next = next_left from i j s.left s.are_left p in
-      let one_more : length (s.done ++ (i, j) ∷ []) ≡ length s.done + 1 = length_push s.done (i, j) in (
-        record {
-          done = s.done ++ (i, j) ∷ [];
-          left = next.0;
-          are_parts = subst (AreParts es line options.line_regexp) (ap (λ l. s.done ++ l) next.1 ∙ sym (append_assoc s.done ((i, j) ∷ []) next.0)) s.are_parts;
-          are_left = next.2;
-          on_line = p.found.on_line;
-          wrote = subst (TakesAll old now) (sym (map-append part_row s.done ((i, j) ∷ []))) (TakesAll-more old mid now (map part_row s.done) (part_row (i, j) ∷ []) s.wrote took);
-        },
-        subst (λ n. HasTaken cost begun n course after) (sym one_more) (more (length s.done) few),
-      )
-
-  -- the parts were asked for once more than there are before a place
-  pub parts_asked : form options ≡ parts → (from : ℕ) (old now : Writer) (begun after : Steps) (course : Course) (matchers : ℕ) → (s : PartsSoFar from old now) → HasTaken (search_cost matchers line) begun (length s.done + 1) course after → AsksParts es options matchers line begun after
-  parts_asked asked from old now begun after course matchers s taken = record {
-    times = searches_for (refusals course.known) (length (s.done ++ s.left) + 1);
-    refusals = refusals course.known;
-    are_times = subst (λ shape. PartsAsked es options shape line (refusals course.known) (searches_for (refusals course.known) (length (s.done ++ s.left) + 1))) (sym asked) (s.done ++ s.left, s.are_parts, refl);
-    few =
-        adds_for_more (searches_for (refusals course.known) (length s.done + 1)) (searches_for (refusals course.known) (length (s.done ++ s.left) + 1)) (search_cost matchers line) (refusals course.known) begun after
-        (more_searches (refusals course.known) (length s.done + 1) (length (s.done ++ s.left) + 1) (omega (arith, length-append s.done s.left)))
-        (few_searches (search_cost matchers line) begun (length s.done + 1) course after taken);
-  }
+      record {
+        done = s.done ++ (i, j) ∷ [];
+        left = next.0;
+        are_parts = subst (AreParts es line options.line_regexp) (ap (λ l. s.done ++ l) next.1 ∙ sym (append_assoc s.done ((i, j) ∷ []) next.0)) s.are_parts;
+        are_left = next.2;
+        on_line = p.found.on_line;
+        wrote = subst (TakesAll old now) (sym (map-append part_row s.done ((i, j) ∷ []))) (TakesAll-more old mid now (map part_row s.done) (part_row (i, j) ∷ []) s.wrote took);
+      }

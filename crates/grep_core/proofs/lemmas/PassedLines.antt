@@ -28,9 +28,9 @@ counted_block es options block count matched counted found = selected options.in
     selected false plain = counts_same (Matched es options) (Selected es options) (λ line s. rw plain s) (λ line s. rw plain at s) (lines_of block) matched found
 
 -- each byte of a block was a step of each matcher at most
-pub block_spent : (es : List Expression) (options : Options) (ready : Text) (old new : Steps) → IsBlock ready → AddsAtMost (length es * length ready) old new → SearchesLines es options (length es) (lines_of ready) old new
+pub block_spent : (es : List Expression) (options : Options) (ready : Text) (old new : Steps) → IsBlock ready → AddsAtMost (length es * length ready) old new → SearchesLines options (length es) (lines_of ready) old new
 block_spent es options ready old new block spent =
-    searched_bytes es options (length es) (lines_of ready) old new (subst (λ t. AddsAtMost (length es * length t) old new) (block_lines ready block) spent)
+    searched_bytes options (length es) (lines_of ready) old new (subst (λ t. AddsAtMost (length es * length t) old new) (block_lines ready block) spent)
 
 -- ---- lines that are the next ones
 

@@ -4,7 +4,8 @@ use Rattle.re_syntax.proofs.lemmas.Decisions.{Any-none, Any-first, Any-later, An
 use Rattle.grep_core.specs.declared.status.Status.TheVariants.{Selected as selected}
 use Rattle.grep_core.specs.declared.status.RunFault.TheVariants.{Write, Memory}
 use Rattle.re_syntax.proofs.lemmas.SomeOfJoined.{Any-left, Any-right, Any-append-cases, Any-single, none_more}
-use Rattle.grep_core.proofs.lemmas.CostLaws.{searched_without_steps, searched_up_to}
+use Rattle.re_meter.proofs.lemmas.Adding.{adds_none}
+use Rattle.grep_core.proofs.lemmas.CostLaws.{searched_up_to}
 use Rattle.grep_core.proofs.lemmas.Decided.{dec_stops}
 use Rattle.grep_core.proofs.lemmas.Verdicts.{decided_no}
 use Rattle.grep_core.proofs.lemmas.MoreFiles.{GroupedAs-append, GroupedAs-front, grouped_out}
@@ -73,7 +74,7 @@ module _ (es : List Expression) (options : Options) (many : Bool) where
       left = [];
       are_left = refl;
       gave_back = none;
-      steps = searched_without_steps es options (length es) [] d.steps;
+      steps = adds_none 0 0 d.steps;
     };
     output = [];
     is_output = nothing_written (form options);
@@ -122,7 +123,7 @@ module _ (es : List Expression) (options : Options) (many : Bool) where
             left = s.story.left ++ f.failures.left;
             are_left = LeftMet-append es options before (source ∷ []) s.story.readings (f.reading ∷ []) s.story.left f.failures.left s.story.are_readings s.goes_on s.story.are_left (LeftMet-one es options source f.reading f.failures.left f.failures.are_left);
             gave_back = join s.story.left f.failures.left s.story.gave_back f.failures.gave_back;
-            steps = subst (λ fs. SearchesFiles es options (length es) fs old.steps new.steps) (sym all) (searched_up_to es options (length es) files file [] old.steps mid.steps new.steps s.story.steps f.steps);
+            steps = subst (λ fs. SearchesFiles options (length es) fs old.steps new.steps) (sym all) (searched_up_to options (length es) files file [] old.steps mid.steps new.steps s.story.steps f.steps);
           };
           output = s.output ++ f.rows;
           is_output = subst (λ fs. GroupedAs es options many (form options) fs (s.output ++ f.rows)) (sym all) (GroupedAs-append es options many (form options) files (file ∷ []) s.output f.rows s.is_output f.are_rows);
@@ -165,8 +166,8 @@ module _ (es : List Expression) (options : Options) (many : Bool) where
       all_many = is_many ∙ ap (nat_le 2) (sym (length-files_of all_sources readings are_all))
 
       -- the steps for the first sources and this one are within the cost of all
-      spent : (new : Devices) → SearchesLines es options (length es) file.lines mid.steps new.steps → SearchesFiles es options (length es) (files_of all_sources readings) old.steps new.steps
-      spent new steps = subst (λ fs. SearchesFiles es options (length es) fs old.steps new.steps) (sym all_files) (searched_up_to es options (length es) first file following old.steps mid.steps new.steps s.story.steps steps)
+      spent : (new : Devices) → SearchesLines options (length es) file.lines mid.steps new.steps → SearchesFiles options (length es) (files_of all_sources readings) old.steps new.steps
+      spent new steps = subst (λ fs. SearchesFiles options (length es) fs old.steps new.steps) (sym all_files) (searched_up_to options (length es) first file following old.steps mid.steps new.steps s.story.steps steps)
 
       -- the first sources and this one
       up_to_here : take (suc (length before)) all_sources ≡ before ++ source ∷ []
@@ -233,7 +234,7 @@ module _ (es : List Expression) (options : Options) (many : Bool) where
       counted_here new own counted = counted ∙ ap (λ n. count_more n own) s.story.counted ∙ sym (count_more-add old.source_failures s.story.failures own)
 
       -- what was done to the first sources and this one
-      abbrev story_here : (new : Devices) → CountsSource es options many some source own_given r mid.source_failures new.source_failures → SearchesLines es options (length es) file.lines mid.steps new.steps → Story es options all_sources (take (suc (length before)) all_sources) all_given old new
+      abbrev story_here : (new : Devices) → CountsSource es options many some source own_given r mid.source_failures new.source_failures → SearchesLines options (length es) file.lines mid.steps new.steps → Story es options all_sources (take (suc (length before)) all_sources) all_given old new
       story_here new failed steps = record {
         readings = readings;
         are_readings = are_all;
@@ -264,7 +265,7 @@ module _ (es : List Expression) (options : Options) (many : Bool) where
 
       -- a write failed within the output for this source
       breaks_out : (new : Devices) (rows : List Text) → GroupedAs es options many (form options) (file ∷ []) rows → TakesFront mid.out new.out (rows_after (form options) some rows) → new.messages ≡ mid.messages
-          → CountsSource es options many some source own_given r mid.source_failures new.source_failures → SearchesLines es options (length es) file.lines mid.steps new.steps
+          → CountsSource es options many some source own_given r mid.source_failures new.source_failures → SearchesLines options (length es) file.lines mid.steps new.steps
           → BreaksOff es options all_sources all_given old new
       breaks_out new rows is front_here same failed steps =
           let out = out_front rows is in
@@ -308,7 +309,7 @@ module _ (es : List Expression) (options : Options) (many : Bool) where
       -- a write failed within its message
       breaks_reported : (new : Devices) (rows messages : List Text) → GroupedAs es options many (form options) (file ∷ []) rows → TakesAll mid.out new.out (rows_after (form options) some rows)
           → Reported es options (file ∷ []) messages → TakesFront mid.messages new.messages messages
-          → CountsSource es options many some source own_given r mid.source_failures new.source_failures → SearchesLines es options (length es) file.lines mid.steps new.steps → BreaksOff es options all_sources all_given old new
+          → CountsSource es options many some source own_given r mid.source_failures new.source_failures → SearchesLines options (length es) file.lines mid.steps new.steps → BreaksOff es options all_sources all_given old new
       breaks_reported new rows messages is took reported_too front_here failed steps =
           let out = out_front rows is in
           let reported = says_front messages reported_too in
@@ -334,7 +335,7 @@ module _ (es : List Expression) (options : Options) (many : Bool) where
 
       -- out of memory after n of its lines
       stops : (new : Devices) (n : ℕ) (rows : List Text) (last : Option Text) → n ≤ length file.lines → HasRead source last (take n file.lines) → GroupedAs es options many (form options) (begun (form options) n file) rows → TakesAll mid.out new.out (rows_after (form options) some rows) → new.messages ≡ mid.messages
-          → new.source_failures ≡ mid.source_failures → own_given (last ∷ []) → SearchesLines es options (length es) file.lines mid.steps new.steps → StopsAfter es options all_sources all_given old new (length before) n
+          → new.source_failures ≡ mid.source_failures → own_given (last ∷ []) → SearchesLines options (length es) file.lines mid.steps new.steps → StopsAfter es options all_sources all_given old new (length before) n
       stops new n rows last inside read are took same none_failed gives steps =
           let first_rows = GroupedAs-append es options many (form options) first (begun (form options) n file) s.output rows s.is_output are in
           let here : file_at (files_of all_sources readings) (length before) ≡ file =
@@ -369,7 +370,7 @@ module _ (es : List Expression) (options : Options) (many : Bool) where
       -- under `-q` a line of this source is selected
       finishes_here : (new : Devices) (end : FileEnd) (found : ℕ) (rows messages : List Text) (own : ℕ) → Stops es options file → GroupedAs es options many (form options) (file ∷ []) rows → TakesAll mid.out new.out (rows_after (form options) some rows)
           → Reported es options (file ∷ []) messages → TakesAll mid.messages new.messages messages → IfHolds (FaultMet es options file) (own ≡ failures_of r) (own ≡ 0)
-          → new.source_failures ≡ count_more mid.source_failures own → (own_left : List (Option Text)) → AreLeft source r own_left → own_given own_left → SearchesLines es options (length es) file.lines mid.steps new.steps → Finishes es options all_sources all_given old new selected
+          → new.source_failures ≡ count_more mid.source_failures own → (own_left : List (Option Text)) → AreLeft source r own_left → own_given own_left → SearchesLines options (length es) file.lines mid.steps new.steps → Finishes es options all_sources all_given old new selected
       finishes_here new end found rows messages own here is took reported_too reported are_own counted own_left is_left gives steps =
           let quiet_form : form options ≡ nothing = cond-true _ _ _ here.0 in
           let none_out : (xs : List File) → GroupedAs es options many (form options) xs [] = λ xs. subst (λ shape. GroupedAs es options many shape xs []) (sym quiet_form) refl in

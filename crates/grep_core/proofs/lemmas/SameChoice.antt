@@ -1,6 +1,6 @@
 -- Expressions that hold on the same stretches give the same output, messages and status, and fewer
 -- of them cost no more.
-use Rattle.grep_core.proofs.Prelude.{◌++◌, ◌≡◌, ℕ, zero, suc, ◌+◌, ◌*◌, ◌≤◌, ◌↔◌, Bool, true, false, List, [], ◌∷◌, inl, inr, length, Any, MatchBool, Option, Result, Ok, Err, refl, arith, get_or, enumerate_from, Text, Expression, alt, Holds, Matches, IsFound, IsPart, ArePartsFrom, Context, Options, Status, RunFault, MessageWrite, IsShown, BeginsGroup, Groups, IfHolds, EachGives, search_cost, PartsAsked, LinesCost, FilesCost, SearchesFiles, File, Ending, whole, missing, broken, Matched, Selected, HasSelected, FaultMetBy, FaultMet, Stops, Reached, Message, Messages, AnySelected, StatusOf, Form, nothing, names, counts, parts, lines, around, form, shown_name, shown_number, GroupsOf, SelectedLines, CountOf, RowsOf, PartsOfLine, PartRowsOf, OutAs, Source, Reading, file_of, Writer, WritesAll, Devices, FailuresMet, LeftMet, Story, BreaksOff, RunGives, IsSameChoice, ServesForOthers, mul-le-mul_left, mul-le-mul_right}
+use Rattle.grep_core.proofs.Prelude.{◌++◌, ◌≡◌, ℕ, zero, suc, ◌+◌, ◌*◌, ◌≤◌, ◌↔◌, Bool, true, false, List, [], ◌∷◌, inl, inr, length, Any, MatchBool, Option, Result, Ok, Err, refl, arith, get_or, enumerate_from, Text, Expression, alt, Holds, Matches, IsFound, IsPart, ArePartsFrom, Context, Options, Status, RunFault, MessageWrite, IsShown, BeginsGroup, Groups, IfHolds, EachGives, File, Ending, whole, missing, broken, Matched, Selected, HasSelected, FaultMetBy, FaultMet, Stops, Reached, Message, Messages, AnySelected, StatusOf, Form, nothing, names, counts, parts, lines, around, form, shown_name, shown_number, GroupsOf, SelectedLines, CountOf, RowsOf, PartsOfLine, PartRowsOf, OutAs, Source, Reading, file_of, files_of, Writer, WritesAll, Devices, FailuresMet, LeftMet, Story, BreaksOff, RunGives, IsSameChoice, ServesForOthers, part_searches, line_cost, lines_cost, files_cost, sum_by-cons, mul-le-mul_left, mul-le-mul_right}
 use Rattle.re_syntax.proofs.lemmas.Decisions.{Any-first, Any-later, Any-cases, Any-none}
 use Rattle.re_search.specs.Meters.{Steps}
 use Rattle.grep_core.specs.declared.status.RunFault.TheVariants.{Write, Memory}
@@ -187,37 +187,17 @@ module _ (options : Options) where
 
     -- ---- work
 
-    PartsAsked-same : (shape : Form) (line : Text) (refusals times : ℕ) → PartsAsked ds options shape line refusals times → PartsAsked es options shape line refusals times
-    PartsAsked-same parts line refusals times h = (h.0, ArePartsFrom-same ds es same options line options.line_regexp 0 h.0 h.1, h.2)
-    PartsAsked-same nothing line refusals times h = h
-    PartsAsked-same names line refusals times h = h
-    PartsAsked-same counts line refusals times h = h
-    PartsAsked-same lines line refusals times h = h
-    PartsAsked-same (around context) line refusals times h = h
-
     -- fewer matchers cost no more
     module _ (few most : ℕ) (fewer : few ≤ most) where
-      line_cost : (times : ℕ) (line : Text) → (times + 1) * search_cost few line ≤ (times + 1) * search_cost most line
-      line_cost times line = mul-le-mul_left (times + 1) (mul-le-mul_right (length line + 1) fewer)
+      lines_cost-more : (text : List Text) → lines_cost options few text ≤ lines_cost options most text
+      lines_cost-more [] = omega arith
+      lines_cost-more (line ∷ text) =
+          let own : line_cost options few line ≤ line_cost options most line = mul-le-mul_left (part_searches (form options) + 1) (mul-le-mul_right (length line + 1) fewer) in
+          omega (arith, own, lines_cost-more text, sum_by-cons (line_cost options few) line text, sum_by-cons (line_cost options most) line text)
 
-      LinesCost-same : (text : List Text) (refusals cost : ℕ) → LinesCost ds options few text refusals cost → (more : ℕ) × LinesCost es options most text refusals more × (cost ≤ more)
-      LinesCost-same [] refusals cost h = (0, (h.0, refl), omega (arith, h.1))
-      LinesCost-same (line ∷ text) refusals cost h =
-          let rest = LinesCost-same text h.1 h.3 h.5 in
-          let own = line_cost h.2 line in
-          ((h.2 + 1) * search_cost most line + rest.0, (h.0, h.1, h.2, rest.0, PartsAsked-same (form options) line h.0 h.2 h.4, rest.1, h.6, refl), omega (arith, h.7, own, rest.2))
-
-      FilesCost-same : (files : List File) (refusals cost : ℕ) → FilesCost ds options few files refusals cost → (more : ℕ) × FilesCost es options most files refusals more × (cost ≤ more)
-      FilesCost-same [] refusals cost h = (0, (h.0, refl), omega (arith, h.1))
-      FilesCost-same (file ∷ files) refusals cost h =
-          let own = LinesCost-same file.lines h.0 h.2 h.4 in
-          let rest = FilesCost-same files h.1 h.3 h.5 in
-          (own.0 + rest.0, (h.0, h.1, own.0, rest.0, own.1, rest.1, h.6, refl), omega (arith, h.7, own.2, rest.2))
-
-      SearchesFiles-same : (files : List File) (old new : Steps) → SearchesFiles ds options few files old new → SearchesFiles es options most files old new
-      SearchesFiles-same files old new s =
-          let c = FilesCost-same files s.refusals s.cost s.is_cost in
-          record { cost = c.0; refusals = s.refusals; is_cost = c.1; few = cost_within s.cost c.0 s.refusals old new c.2 s.few }
+      files_cost-more : (files : List File) → files_cost options few files ≤ files_cost options most files
+      files_cost-more [] = omega arith
+      files_cost-more (file ∷ files) = omega (arith, lines_cost-more file.lines, files_cost-more files, sum_by-cons (λ (f : File). lines_cost options few f.lines) file files, sum_by-cons (λ (f : File). lines_cost options most f.lines) file files)
 
     -- ---- runs
 
@@ -232,7 +212,7 @@ module _ (options : Options) where
         left = s.left;
         are_left = LeftMet-same reached s.readings s.left s.are_left;
         gave_back = s.gave_back;
-        steps = SearchesFiles-same (length ds) (length es) fewer _ old.steps new.steps s.steps;
+        steps = cost_within _ _ old.steps new.steps (files_cost-more (length ds) (length es) fewer (files_of sources s.readings)) s.steps;
       }
 
       out_same : (many : Bool) (files : List File) (old new : Writer) → WritesAll (OutAs ds options many (form options) files) old new → WritesAll (OutAs es options many (form options) files) old new

@@ -3,6 +3,8 @@ use Rattle.std.specs.Prelude.{◌≡◌, ℕ, ◌+◌, Bool, IsTrue, ◌↔◌, 
 use Rattle.re_syntax.specs.Bytes.{Text}
 use Rattle.re_syntax.specs.Expression.{Expression}
 use Rattle.grep_core.specs.declared.options.Options.{Options}
+use Rattle.grep_core.specs.declared.status.SearchFault.{SearchFault}
+use Rattle.grep_core.specs.declared.status.SearchFault.TheVariants.{Write, Memory}
 use Rattle.grep_io.specs.Counted.{one_more}
 use Rattle.grep_core.specs.Files.{Selected}
 use Rattle.grep_core.specs.Run.{Writer, TakesAll, TakesFront}
@@ -33,3 +35,9 @@ module _ (es : List Expression) (options : Options) (many : Bool) (name : Text) 
       pub are_rows : RowsOfLines number lines rows found
       pub wrote : TakesFront old new rows
       pub counted : new.failures ≡ one_more old.failures
+
+    -- why they are not done: a write failed, or there was no room for the parts of one of them, and
+    -- nothing was written
+    abbrev pub StopsLines : SearchFault → Type 0
+    StopsLines Write = BreaksLines
+    StopsLines (Memory n) = (n + 1 ≡ number) × (new ≡ old)

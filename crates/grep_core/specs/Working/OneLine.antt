@@ -3,6 +3,8 @@ use Rattle.std.specs.Prelude.{◌≡◌, ℕ, ◌+◌, Bool, false, IsTrue, ◌�
 use Rattle.re_syntax.specs.Bytes.{Text}
 use Rattle.re_syntax.specs.Expression.{Expression}
 use Rattle.grep_core.specs.declared.options.Options.{Options}
+use Rattle.grep_core.specs.declared.status.SearchFault.{SearchFault}
+use Rattle.grep_core.specs.declared.status.SearchFault.TheVariants.{Write, Memory}
 use Rattle.grep_io.specs.Counted.{one_more}
 use Rattle.grep_core.specs.Choose.{IfHolds}
 use Rattle.grep_core.specs.Files.{File, Selected}
@@ -82,3 +84,9 @@ module _ (es : List Expression) (options : Options) (many : Bool) where
       pub are_rows : RowsOfLine name number line rows
       pub wrote : TakesFront old new rows
       pub counted : new.failures ≡ one_more old.failures
+
+    -- why a line is not done: a write failed, or there was no room for its parts, and nothing was
+    -- written
+    abbrev pub StopsLine : SearchFault → Type 0
+    StopsLine Write = BreaksLine
+    StopsLine (Memory n) = (n + 1 ≡ number) × (new ≡ old)

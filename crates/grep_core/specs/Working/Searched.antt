@@ -119,7 +119,7 @@ module _ (es : List Expression) (options : Options) (many shown : Bool) (source 
     pub are_rows : GroupedAs es options many (form options) (file_of source.name reading ∷ []) rows
     pub wrote : TakesFront old new (rows_after (form options) shown rows)
     pub counted : new.failures ≡ one_more old.failures
-    pub steps : SearchesLines es options (length es) (file_of source.name reading).lines began ended
+    pub steps : SearchesLines options (length es) (file_of source.name reading).lines began ended
 
   -- the rows of the first n lines of the source's file were written, and no device failed
   pub record StopsSource (n failed_before failed : ℕ) (old new : Writer)
@@ -135,7 +135,7 @@ module _ (es : List Expression) (options : Options) (many shown : Bool) (source 
     pub are_rows : GroupedAs es options many (form options)
         (begun (form options) n (file_of source.name reading)) rows
     pub wrote : TakesAll old new (rows_after (form options) shown rows)
-    pub steps : SearchesLines es options (length es) (file_of source.name reading).lines began ended
+    pub steps : SearchesLines options (length es) (file_of source.name reading).lines began ended
 
   -- the source was searched: it stands for a file, the rows of its output were written, and the
   -- summary is left
@@ -151,7 +151,7 @@ module _ (es : List Expression) (options : Options) (many shown : Bool) (source 
     pub are_rows : GroupedAs es options many (form options) (file_of source.name reading ∷ [])
         (rows ++ summary_as (form options) many source.name end selected)
     pub wrote : TakesAll old new (rows_after (form options) shown rows)
-    pub steps : SearchesLines es options (length es) (file_of source.name reading).lines began ended
+    pub steps : SearchesLines options (length es) (file_of source.name reading).lines began ended
 
   -- output and messages for the source's file were written
   pub record FinishesSource (old new : Devices) (end : FileEnd) (selected : ℕ) : Type 0 where
@@ -166,7 +166,7 @@ module _ (es : List Expression) (options : Options) (many shown : Bool) (source 
     pub messages : List Text
     pub are_messages : Reported es options (file_of source.name reading ∷ []) messages
     pub reported : TakesAll old.messages new.messages messages
-    pub steps : SearchesLines es options (length es) (file_of source.name reading).lines old.steps
+    pub steps : SearchesLines options (length es) (file_of source.name reading).lines old.steps
         new.steps
 
   -- the output for the source's file was written, and a write failed within its message
@@ -181,7 +181,7 @@ module _ (es : List Expression) (options : Options) (many shown : Bool) (source 
     pub are_messages : Reported es options (file_of source.name reading ∷ []) messages
     pub reported : TakesFront old.messages new.messages messages
     pub counted : new.messages.failures ≡ one_more old.messages.failures
-    pub steps : SearchesLines es options (length es) (file_of source.name reading).lines old.steps
+    pub steps : SearchesLines options (length es) (file_of source.name reading).lines old.steps
         new.steps
 
   -- what a search of source k returns

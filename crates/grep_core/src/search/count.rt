@@ -9,8 +9,8 @@ ghost use Rattle.grep_core.specs.Working.Given.{SearchGives};
 use crate::options::Options;
 use crate::output::request::FileRequest;
 use crate::search::file::count_found;
-use crate::search::line::search_line;
 use crate::search::next_line::take_next;
+use crate::search::selection::is_selected;
 use crate::status::{FileEnd, FileFound, SearchFault};
 use grep_io::{CountedRead, CountedWrite, Lines, ReadFault, Stage};
 use re_search::{LineMatch, Meter, Searchers};
@@ -62,8 +62,7 @@ pub fn count_lines<R: CountedRead, M: LineMatch, W: CountedWrite>(
             Ok(Some(end)) => return Ok(FileFound { end, selected }),
             Err(fault) => return Err(fault),
         }
-        let count = lines.number();
-        let found = search_line(searchers, request, count, lines.line(), out, meter)?;
+        let found = is_selected(searchers, request.options, lines.line(), meter);
         selected = count_found(selected, found);
     }
 }

@@ -22,7 +22,7 @@ use crate::search::requests::{SearchRequest, SourceRequest};
 use crate::sources::Sources;
 use crate::status::{FileEnd, FileFound, RunFault, SearchFault};
 use grep_io::{CountedRead, CountedWrite, Lines, ReadFault, Stage, WriteFault};
-use re_search::{LineMatch, Meter, Searchers};
+use re_search::{LineMatch, LineParts, Meter, Searchers};
 
 /// One more, if a line was found.
 pub fn count_found(selected: u64, found: bool) -> u64
@@ -38,6 +38,7 @@ fn search_lines<R: CountedRead, M: LineMatch, W: CountedWrite>(
     lines: &mut Lines<R>,
     searchers: &mut Searchers<'_, '_, M>,
     request: &FileRequest,
+    line_parts: &mut LineParts,
     out: &mut W,
     meter: &mut Meter,
 ) -> Result<FileFound, SearchFault>
@@ -59,7 +60,8 @@ fn search_lines<R: CountedRead, M: LineMatch, W: CountedWrite>(
     let mut selected: u64 = 0;
     'lines: loop {
         let stretch = next_held(lines, searchers, asked, meter);
-        let found = write_searched(&stretch, searchers, request, lines.number(), out, meter)?;
+        let done = lines.number();
+        let found = write_searched(&stretch, searchers, request, done, line_parts, out, meter)?;
         let (bytes, count, goes_on) = (stretch.bytes, stretch.count, stretch.line.is_some());
         lines.pass(bytes, count);
         selected = selected.saturating_add(found);
@@ -75,8 +77,9 @@ fn search_lines<R: CountedRead, M: LineMatch, W: CountedWrite>(
             Ok(Some(end)) => return Ok(FileFound { end, selected }),
             Err(fault) => return Err(fault),
         }
-        let count = lines.number();
-        let found = search_line(searchers, request, count, lines.line(), out, meter)?;
+        let number = lines.number();
+        let line = lines.line();
+        let found = search_line(searchers, request, number, line, line_parts, out, meter)?;
         selected = count_found(selected, found);
         if found & early {
             let end = FileEnd::Left;
@@ -91,6 +94,7 @@ fn search_opened<R: CountedRead, M: LineMatch, W: CountedWrite>(
     lines: &mut Lines<R>,
     searchers: &mut Searchers<'_, '_, M>,
     request: &FileRequest,
+    line_parts: &mut LineParts,
     out: &mut W,
     meter: &mut Meter,
 ) -> Result<FileFound, SearchFault>
@@ -110,7 +114,7 @@ fn search_opened<R: CountedRead, M: LineMatch, W: CountedWrite>(
         return count_lines(lines, searchers, request, out, meter);
     }
     let Some(context) = request.options.shown_around() else {
-        return search_lines(lines, searchers, request, out, meter);
+        return search_lines(lines, searchers, request, line_parts, out, meter);
     };
     let mut surroundings = Surroundings::new(source.search.alloc, context, source.shown);
     search_around(&mut surroundings, lines, searchers, request, out, meter)
@@ -173,6 +177,7 @@ pub fn search_source<S: Sources, M: LineMatch, W: CountedWrite, N: CountedWrite>
     source: &SourceRequest,
     sources: &mut S,
     searchers: &mut Searchers<'_, '_, M>,
+    line_parts: &mut LineParts,
     out: &mut W,
     messages: &mut N,
     meter: &mut Meter,
@@ -212,7 +217,9 @@ pub fn search_source<S: Sources, M: LineMatch, W: CountedWrite, N: CountedWrite>
         }
     };
     let request = source.of_file(sources.name(place));
-    let found = search_opened(source, &mut lines, searchers, &request, out, meter);
+    let found = search_opened(
+        source, &mut lines, searchers, &request, line_parts, out, meter,
+    );
     let ended = end_source(&request, place, found, out, messages);
     sources.close(lines.into_reader());
     ended

@@ -1,5 +1,6 @@
 //! The search of the lines that are held in one piece, and the rows that are written for them.
-ghost use Rattle.std.specs.Prelude.{◌≡◌, ◌⊎◌, ◌*◌, ◌+◌, ◌^◌, ◌<◌, List, length, false, true, IfOk, OnErr};
+ghost use Rattle.std.specs.Prelude.{◌≡◌, ◌⊎◌, ◌*◌, ◌+◌, ◌^◌, ◌<◌, List, length, false, true};
+ghost use Rattle.std.specs.Prelude.{IfErr, IfOk};
 ghost use Rattle.re_syntax.specs.Bytes.{Text};
 ghost use Rattle.re_syntax.specs.Lines.{terminated};
 ghost use Rattle.re_search.specs.Searches.{AddsAtMost};
@@ -10,13 +11,14 @@ ghost use Rattle.grep_core.specs.Cost.{SearchesLines};
 ghost use Rattle.grep_core.specs.Run.{writer};
 ghost use Rattle.grep_core.specs.Working.OneLine.{IsBare};
 ghost use Rattle.grep_core.specs.Working.SearchedBlocks.{IsDivided, IsNextOf};
-ghost use Rattle.grep_core.specs.Working.BlockRows.{TakesLines, BreaksLines};
+ghost use Rattle.grep_core.specs.Working.BlockRows.{TakesLines, StopsLines};
 
 use crate::output::request::FileRequest;
-use crate::search::line::write_selected;
+use crate::search::line::{make_room, write_selected};
 use crate::search::searched_block::SearchedBlock;
-use grep_io::{CountedRead, CountedWrite, Lines, WriteFault, count_newlines, push_all};
-use re_search::{LineMatch, Meter, Searchers};
+use crate::status::SearchFault;
+use grep_io::{CountedRead, CountedWrite, Lines, count_newlines, push_all};
+use re_search::{LineMatch, LineParts, Meter, Searchers};
 
 /// Searches the lines that are held in one piece up to the first that some matcher matches. None is
 /// searched where that is not asked, and where not all of them can be numbered.
@@ -67,15 +69,17 @@ pub fn next_held<'a, R: CountedRead, M: LineMatch>(
 
 /// Writes the rows of the selected lines of a stretch, and returns how many they are. `number` lines
 /// are before it. Its lines are not searched again. Under `-v` its lines before the matched one are
-/// selected, and are written as they are.
+/// selected, and are written as they are. Where there is no room for the parts of the matched line,
+/// nothing is written.
 pub fn write_searched<M: LineMatch, W: CountedWrite>(
     stretch: &SearchedBlock,
     searchers: &mut Searchers<'_, '_, M>,
     request: &FileRequest,
     number: u64,
+    line_parts: &mut LineParts,
     out: &mut W,
     meter: &mut Meter,
-) -> Result<u64, WriteFault>
+) -> Result<u64, SearchFault>
     requires whole { asks_whole searchers.old ≡ request.now.options.line_regexp }
     requires bare { request.now.options.invert_match ≡ true → (stretch.now.count ≡ 0)
         ⊎ IsBare request.now.options request.now.many }
@@ -86,8 +90,8 @@ pub fn write_searched<M: LineMatch, W: CountedWrite>(
         request.now.many request.now.name.now (number + 1) all
         (writer W.contents W.failures out.old) (writer W.contents W.failures out.new) found) }
     ensures err { (before : List Text) (all : List Text)
-        → IsDivided (sought_by M.expression searchers.old) stretch.now before all → OnErr result
-        (BreaksLines (expressions_by M.expression searchers.old) request.now.options
+        → IsDivided (sought_by M.expression searchers.old) stretch.now before all → IfErr result
+        (StopsLines (expressions_by M.expression searchers.old) request.now.options
         request.now.many request.now.name.now (number + 1) all
         (writer W.contents W.failures out.old) (writer W.contents W.failures out.new)) }
     ensures same { SameSearchers M.expression M.whole M.room searchers.old searchers.new }
@@ -95,7 +99,7 @@ pub fn write_searched<M: LineMatch, W: CountedWrite>(
         → IsDivided (sought_by M.expression searchers.old) stretch.now before all
         → (began : Steps) → AddsAtMost (length (expressions_by M.expression searchers.old)
         * length (terminated all)) began meter.old
-        → SearchesLines (expressions_by M.expression searchers.old) request.now.options
+        → SearchesLines request.now.options
         (length (expressions_by M.expression searchers.old)) all began meter.new }
 {
     if request.options.invert_match {
@@ -105,6 +109,10 @@ pub fn write_searched<M: LineMatch, W: CountedWrite>(
     let Some(line) = stretch.line else {
         return Ok(0);
     };
-    write_selected(searchers, request, number + stretch.count, line, out, meter)?;
+    if make_room(request, line, line_parts).is_err() {
+        return Err(SearchFault::Memory(number));
+    }
+    let last = number + stretch.count;
+    write_selected(searchers, request, last, line, line_parts, out, meter)?;
     Ok(1)
 }

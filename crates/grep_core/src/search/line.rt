@@ -1,17 +1,45 @@
 //! One line: whether it is selected, and what is written for it.
-ghost use Rattle.std.specs.Prelude.{◌≡◌, length, IfOk, OnErr};
+ghost use Rattle.std.specs.Prelude.{◌≡◌, ◌<◌, ◌≤◌, length, IfErr, IfOk, OnErr};
+ghost use Rattle.re_search.specs.Searches.{AddsAtMost};
 ghost use Rattle.re_search.specs.Working.Searchers.{SameSearchers, asks_whole, expressions_by};
 ghost use Rattle.grep_core.specs.Output.{form, parts};
 ghost use Rattle.grep_core.specs.Run.{writer};
-ghost use Rattle.grep_core.specs.Cost.{AsksParts, SearchesLine};
+ghost use Rattle.grep_core.specs.Cost.{line_cost, parts_cost, search_cost};
 ghost use Rattle.grep_core.specs.Working.OneLine.{WritesSelected, BreaksSelected, TakesLine};
-ghost use Rattle.grep_core.specs.Working.OneLine.{BreaksLine};
+ghost use Rattle.grep_core.specs.Working.OneLine.{StopsLine};
 
 use crate::options::Form;
 use crate::output::request::FileRequest;
 use crate::search::selection::is_selected;
+use crate::status::SearchFault;
 use grep_io::{CountedWrite, WriteFault};
-use re_search::{LineMatch, Meter, Searchers};
+use re_search::{LineMatch, LineParts, Meter, Searchers};
+use std::alloc::AllocError;
+
+/// Makes room for the parts of a line, if they are written.
+///
+/// Returns `AllocError` if an allocation fails.
+#[inline]
+pub fn make_room(
+    request: &FileRequest,
+    line: &[u8],
+    line_parts: &mut LineParts,
+) -> Result<(), AllocError>
+    ensures { IfOk result (λ _. form request.now.options ≡ parts
+        → length line.now ≤ line_parts.new.room) }
+{
+    match request.options.form() {
+        Form::Parts => {
+            line_parts.make_room(line.len())?;
+            Ok(())
+        }
+        Form::Nothing => Ok(()),
+        Form::Names => Ok(()),
+        Form::Counts => Ok(()),
+        Form::Lines => Ok(()),
+        Form::Around(_) => Ok(()),
+    }
+}
 
 /// Writes the parts of a line, each after the line's head.
 fn write_parts<M: LineMatch, W: CountedWrite>(
@@ -19,11 +47,13 @@ fn write_parts<M: LineMatch, W: CountedWrite>(
     request: &FileRequest,
     number: u64,
     line: &[u8],
+    line_parts: &mut LineParts,
     out: &mut W,
     meter: &mut Meter,
 ) -> Result<(), WriteFault>
     requires whole { asks_whole searchers.old ≡ request.now.options.line_regexp }
     requires asked { form request.now.options ≡ parts }
+    requires room { length line.now ≤ line_parts.old.room }
     ensures ok { IfOk result
         (λ _. WritesSelected (expressions_by M.expression searchers.old) request.now.options request.now.many
         request.now.name.now number line.now (writer W.contents W.failures out.old)
@@ -33,12 +63,13 @@ fn write_parts<M: LineMatch, W: CountedWrite>(
         request.now.name.now number line.now (writer W.contents W.failures out.old)
         (writer W.contents W.failures out.new)) }
     ensures same { SameSearchers M.expression M.whole M.room searchers.old searchers.new }
-    ensures steps { AsksParts (expressions_by M.expression searchers.old) request.now.options
-        (length (expressions_by M.expression searchers.old)) line.now meter.old meter.new }
+    ensures steps { AddsAtMost
+        (search_cost (length (expressions_by M.expression searchers.old)) line.now) meter.old
+        meter.new }
 {
-    let mut course = searchers.course(line, meter);
+    line_parts.begin();
     let mut from = 0;
-    while let Some(part) = searchers.next_part(line, from, &mut course, meter) {
+    while let Some(part) = searchers.next_part(line, from, line_parts, meter) {
         request.write_part(number, line, part, out, b"")?;
         from = part.end;
     }
@@ -51,10 +82,12 @@ pub fn write_selected<M: LineMatch, W: CountedWrite>(
     request: &FileRequest,
     number: u64,
     line: &[u8],
+    line_parts: &mut LineParts,
     out: &mut W,
     meter: &mut Meter,
 ) -> Result<(), WriteFault>
-    requires { asks_whole searchers.old ≡ request.now.options.line_regexp }
+    requires whole { asks_whole searchers.old ≡ request.now.options.line_regexp }
+    requires room { form request.now.options ≡ parts → length line.now ≤ line_parts.old.room }
     ensures ok { IfOk result
         (λ _. WritesSelected (expressions_by M.expression searchers.old) request.now.options request.now.many
         request.now.name.now number line.now (writer W.contents W.failures out.old)
@@ -64,12 +97,12 @@ pub fn write_selected<M: LineMatch, W: CountedWrite>(
         request.now.name.now number line.now (writer W.contents W.failures out.old)
         (writer W.contents W.failures out.new)) }
     ensures same { SameSearchers M.expression M.whole M.room searchers.old searchers.new }
-    ensures steps { AsksParts (expressions_by M.expression searchers.old) request.now.options
-        (length (expressions_by M.expression searchers.old)) line.now meter.old meter.new }
+    ensures steps { AddsAtMost (parts_cost request.now.options
+        (length (expressions_by M.expression searchers.old)) line.now) meter.old meter.new }
 {
     match request.options.form() {
         Form::Lines => request.write_text(number, line, out, b""),
-        Form::Parts => write_parts(searchers, request, number, line, out, meter),
+        Form::Parts => write_parts(searchers, request, number, line, line_parts, out, meter),
         Form::Nothing => Ok(()),
         Form::Names => Ok(()),
         Form::Counts => Ok(()),
@@ -77,31 +110,37 @@ pub fn write_selected<M: LineMatch, W: CountedWrite>(
     }
 }
 
-/// Writes the rows of a line, if there are any, and returns whether it is selected.
+/// Writes the rows of a line, if there are any, and returns whether it is selected. Where there is
+/// no room for its parts, nothing is written.
 pub fn search_line<M: LineMatch, W: CountedWrite>(
     searchers: &mut Searchers<'_, '_, M>,
     request: &FileRequest,
     number: u64,
     line: &[u8],
+    line_parts: &mut LineParts,
     out: &mut W,
     meter: &mut Meter,
-) -> Result<bool, WriteFault>
+) -> Result<bool, SearchFault>
     requires whole { asks_whole searchers.old ≡ request.now.options.line_regexp }
+    requires first { 0 < number }
     ensures ok { IfOk result
         (λ found. TakesLine (expressions_by M.expression searchers.old) request.now.options request.now.many
         request.now.name.now number line.now (writer W.contents W.failures out.old)
         (writer W.contents W.failures out.new) found) }
-    ensures err { OnErr result
-        (BreaksLine (expressions_by M.expression searchers.old) request.now.options request.now.many
+    ensures err { IfErr result
+        (StopsLine (expressions_by M.expression searchers.old) request.now.options request.now.many
         request.now.name.now number line.now (writer W.contents W.failures out.old)
         (writer W.contents W.failures out.new)) }
     ensures same { SameSearchers M.expression M.whole M.room searchers.old searchers.new }
-    ensures steps { SearchesLine (expressions_by M.expression searchers.old) request.now.options
-        (length (expressions_by M.expression searchers.old)) line.now meter.old meter.new }
+    ensures steps { AddsAtMost (line_cost request.now.options
+        (length (expressions_by M.expression searchers.old)) line.now) meter.old meter.new }
 {
     if !is_selected(searchers, request.options, line, meter) {
         return Ok(false);
     }
-    write_selected(searchers, request, number, line, out, meter)?;
+    if make_room(request, line, line_parts).is_err() {
+        return Err(SearchFault::Memory(number - 1));
+    }
+    write_selected(searchers, request, number, line, line_parts, out, meter)?;
     Ok(true)
 }

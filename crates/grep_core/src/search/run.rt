@@ -12,7 +12,7 @@ use crate::search::requests::{SearchRequest, SourceRequest};
 use crate::sources::Sources;
 use crate::status::{FileFound, RunFault, Status};
 use grep_io::CountedWrite;
-use re_search::{Filter, LineMatch, Meter, Searchers};
+use re_search::{Filter, LineMatch, LineParts, Meter, Searchers};
 
 /// One pass over all sources, in order, each opened at most once and read once from front to back
 /// (XCU grep). It writes the output and the messages that grep's definition gives for the files for
@@ -26,9 +26,7 @@ use re_search::{Filter, LineMatch, Meter, Searchers};
 /// more than `u64::MAX` lines is broken after that number of lines.
 ///
 /// The meter counts at most as many steps, and at most as many passed bytes, as one search of each
-/// line by each matcher costs. If parts are written, a line costs one more search for each of its
-/// parts and one for its end, but at most four, unless the allocation for that line's list of ends
-/// failed.
+/// line by each matcher costs, and one more where parts are written.
 ///
 /// What a buffering writer holds is sent before a read, which may wait, and before a message; what
 /// it holds at the end is left to the caller.
@@ -62,7 +60,8 @@ pub fn search_all<S: Sources, M: LineMatch, W: CountedWrite, N: CountedWrite>(
     ensures same_matchers { SameMatchers M.expression M.whole M.room matchers.old matchers.new }
 {
     let whole = request.options.line_regexp;
-    let mut searchers = Searchers::new(request.alloc, matchers, request.filter, whole);
+    let mut searchers = Searchers::new(matchers, request.filter, whole);
+    let mut line_parts = LineParts::new(request.alloc);
     let count = sources.count();
     let many = count >= 2;
     let mut some = false;
@@ -74,7 +73,15 @@ pub fn search_all<S: Sources, M: LineMatch, W: CountedWrite, N: CountedWrite>(
             many,
             shown: some,
         };
-        let found = match search_source(&source, sources, &mut searchers, out, messages, meter) {
+        let found = match search_source(
+            &source,
+            sources,
+            &mut searchers,
+            &mut line_parts,
+            out,
+            messages,
+            meter,
+        ) {
             Ok(found) => found,
             Err(fault) => return Err(fault),
         };

@@ -1,8 +1,9 @@
 -- The lines that a reader of lines has handed out, one more at a time, and the file for which its
 -- source stands.
-use Rattle.grep_io.proofs.Prelude.{◌≡◌, ◌≢◌, ℕ, ◌≤◌, List, [], ◌∷◌, ◌++◌, Option, None, Some, IfSome, length, All, inl, inr, refl, sym, ap, ◌∙◌, subst, append_assoc, append-nil, Consumes-nil, Consumes-trans, Consumes-kept, prepend_known-nil, All-push, prepend_known, Consumes, IsAtEnd, Text, newline, lines_of, ended_lines_of, terminated, HasNoNewline, one_more, LineReader, to_come, IsLineOf, HandsOut, IsUsedUp, IsCutOff, RunsOutOfMemory, Stage, Open, Ended, Failed, File, whole, broken, fails_after, ends_after, most_lines, up_to_limit, file_of, open_source, IsOneLineAndFew, HasRead, AreHanded, HandsLines, StandsFor, BeginsWith}
+use Rattle.grep_io.proofs.Prelude.{◌≡◌, ◌≢◌, ℕ, ◌<◌, ◌≤◌, List, [], ◌∷◌, ◌++◌, Option, None, Some, IfSome, length, All, inl, inr, refl, sym, ap, ◌∙◌, subst, arith, append_assoc, append-nil, Consumes-nil, Consumes-trans, Consumes-kept, prepend_known-nil, All-push, prepend_known, Consumes, IsAtEnd, Text, newline, lines_of, ended_lines_of, terminated, HasNoNewline, one_more, LineReader, to_come, IsLineOf, HandsOut, IsUsedUp, IsCutOff, RunsOutOfMemory, Stage, Open, Ended, Failed, File, whole, broken, fails_after, ends_after, most_lines, buffer_size, up_to_limit, file_of, open_source, IsOneLineAndFew, HasRead, AreHanded, HandsLines, StandsFor, BeginsWith}
 use Rattle.re_trees.proofs.lemmas.LinesLaws.{all_none, lines_of-last, lines_of-terminated, terminated-append}
 use Rattle.re_trees.proofs.lemmas.EndedLinesLaws.{ended_lines_of-unfinished}
+use Rattle.grep_io.proofs.lemmas.WindowLemmas.{one_line_and_few}
 use Rattle.grep_io.proofs.lemmas.FileLaws.{lines_of-beyond, up_to_limit-few, up_to_limit-over, up_to_limit-beyond}
 
 -- ---- texts
@@ -101,6 +102,27 @@ module _ {R : Type 0} (remaining : R → Option Text) (failures : R → ℕ) whe
       let lines : AreHanded Open s.given handed = subst (λ stage. AreHanded stage s.given handed) h.was_open s.are_handed in
       let next = further reader old new s.given handed new.stage h.taken h.no_newline lines.0 lines.1 s.gave in
       record { given = next.0; gave = next.1.0; are_handed = next.1.1.0; all_given = next.1.1.1; none_failed = h.none_failed ∙ s.none_failed }
+
+  held_line : (old new : LineReader R) (stage : Stage) → IsLineOf remaining failures old new stage → HasNoNewline new.line → length new.ahead < buffer_size
+      → (held : Text) × IsOneLineAndFew held × Consumes (to_come remaining failures old) (remaining new.reader) held
+  held_line old new Open taken free few = (
+    (new.line ++ newline ∷ []) ++ new.ahead,
+    subst IsOneLineAndFew (sym (append_assoc new.line (newline ∷ []) new.ahead)) (one_line_and_few new.line (newline ∷ new.ahead) free (omega (arith, few))),
+    Consumes-trans (to_come remaining failures old) (to_come remaining failures new) (remaining new.reader) (new.line ++ newline ∷ []) new.ahead taken (Consumes-front (remaining new.reader) new.ahead),
+  )
+  held_line old new Ended taken free few = (
+    new.line ++ new.ahead,
+    one_line_and_few new.line new.ahead free (omega (arith, few)),
+    Consumes-trans (to_come remaining failures old) (to_come remaining failures new) (remaining new.reader) new.line new.ahead taken.0 (Consumes-front (remaining new.reader) new.ahead),
+  )
+  held_line old new Failed taken free few = absurd taken
+
+  -- where a line was handed out, the lines before it were given, and it is held with what is ahead
+  pub has_read_before : (name : Text) (reader : R) (old new : LineReader R) (handed : List Text) → HandsLines remaining failures reader old handed → HandsOut remaining failures old new
+      → HasRead (open_source name (remaining reader)) (remaining new.reader) handed
+  has_read_before name reader old new handed s h =
+      let (held, few, read) = held_line old new new.stage h.taken h.no_newline h.few_held in
+      record { given = s.given; are_given = lines_given old.stage s.given handed s.are_handed; held = held; few_held = few; read = Consumes-trans (remaining reader) (to_come remaining failures old) (remaining new.reader) s.given held s.gave read }
 
   -- a call that lost nothing
   pub HandsLines-stays : (reader : R) (old new : LineReader R) (handed : List Text) → HandsLines remaining failures reader old handed → old.stage ≡ Open → RunsOutOfMemory remaining failures old new

@@ -1,5 +1,5 @@
 -- What a reader of lines is in contracts, and what a call for the next line does.
-use Rattle.std.specs.Prelude.{◌≡◌, ◌≢◌, ℕ, ◌≤◌, [], ◌∷◌, ◌++◌, length, Option}
+use Rattle.std.specs.Prelude.{◌≡◌, ◌≢◌, ℕ, ◌<◌, [], ◌∷◌, ◌++◌, length, Option}
 use Rattle.std.specs.Io.KnownBytes.{prepend_known, Keeps, Consumes, IsAtEnd}
 use Rattle.re_trees.specs.Bytes.{Text}
 use Rattle.re_trees.specs.Lines.{newline, HasNoNewline}
@@ -41,7 +41,7 @@ module _ {R : Type 0} (remaining : R → Option Text) (failures : R → ℕ) whe
     pub was_open : old.stage ≡ Open
     pub no_newline : HasNoNewline new.line
     pub taken : IsLineOf old new new.stage
-    pub few_held : length new.ahead ≤ buffer_size
+    pub few_held : length new.ahead < buffer_size
     pub none_failed : failures new.reader ≡ failures old.reader
 
   -- nothing was to come, and once that is known no more is asked of the reader

@@ -7,7 +7,7 @@ use Rattle.re_runs.specs.Working.Blocks.{IsBlock}
 use Rattle.grep_io.specs.declared.input.lines.ReadFault.{ReadFault}
 use Rattle.grep_io.specs.declared.input.lines.ReadFault.TheVariants.{Device, Memory}
 use Rattle.grep_io.specs.File.{Ending, whole, broken}
-use Rattle.grep_io.specs.Reading.{most_lines}
+use Rattle.grep_io.specs.Reading.{most_lines, open_source, HasRead}
 use Rattle.grep_io.specs.Working.Handed.{HandsLines, StandsFor}
 use Rattle.grep_io.specs.Working.LineReader.{LineReader}
 
@@ -50,6 +50,13 @@ module _ {R : Type 0} (remaining : R → Option Text) (failures : R → ℕ) whe
   HandsNext old new result =
       (reader : R) (handed : List Text) → HasHanded reader old handed →
       NextIs reader handed new result
+
+  -- the reader gave the lines before the one that was handed out, and after them no more than is
+  -- held of one line and one buffer
+  abbrev pub HasReadBefore : Numbered R → Numbered R → Type 0
+  HasReadBefore old new =
+      (reader : R) (handed : List Text) → HasHanded reader old handed → (name : Text) →
+      HasRead (open_source name (remaining reader)) (remaining new.lines.reader) handed
 
   -- these lines were passed, as if they had been handed out
   abbrev pub PassesNext : Numbered R → Numbered R → List Text → Type 0

@@ -1,13 +1,13 @@
 // The lines that a reader gives, one at a time, and their numbers.
 ghost use Rattle.std.specs.Prelude.{◌≡◌, ◌+◌, ◌≤◌, [], ◌++◌, Ok, Err, IfOk, IfErr, MatchBool};
-ghost use Rattle.std.specs.Prelude.{IsTrue, false, length, take};
+ghost use Rattle.std.specs.Prelude.{IsTrue, ⊤, false, length, take};
 ghost use Rattle.re_trees.specs.Bytes.{Text};
 ghost use Rattle.re_trees.specs.Lines.{lines_of};
 ghost use Rattle.re_runs.specs.Working.Blocks.{IsBlock};
 ghost use Rattle.grep_io.specs.Reading.{IsOneLineAndFew, most_lines};
 ghost use Rattle.grep_io.specs.Working.Held.{HasWholeLine};
 ghost use Rattle.grep_io.specs.Working.LineReader.{HandsOut, IsUsedUp, IsCutOff, RunsOutOfMemory};
-ghost use Rattle.grep_io.specs.Working.Numbered.{AreAhead, HandsNext, PassesNext};
+ghost use Rattle.grep_io.specs.Working.Numbered.{AreAhead, HandsNext, HasReadBefore, PassesNext};
 
 use crate::devices::counted::CountedRead;
 use crate::input::newlines::count_newlines;
@@ -240,6 +240,8 @@ impl<R: CountedRead> Lines<R> {
     pub fn next_numbered(&mut self) -> Result<bool, ReadFault>
         ensures next { HandsNext R.remaining R.failures self.old self.new result }
         ensures held { IsOneLineAndFew self.new.lines.ahead }
+        ensures before { IfOk result (λ more. MatchBool more
+            (HasReadBefore R.remaining R.failures self.old self.new) ⊤) }
         ensures same_loan { R.loan self.new.lines.reader ≡ R.loan self.old.lines.reader }
     {
         match self.next_line() {

@@ -156,7 +156,7 @@ impl Window {
             (self.new.ahead ≡ self.old.ahead)) }
         ensures no_newline { IfOk result (λ more. MatchBool more
             (HasNoNewline self.new.line) (HasNoNewline self.new.ahead × (self.new.line ≡ []))) }
-        ensures few { IfOk result (λ more. MatchBool more (length self.new.ahead ≤ 65536) ⊤) }
+        ensures few { IfOk result (λ more. MatchBool more (length self.new.ahead < 65536) ⊤) }
         ensures err { OnErr result ((self.new.ahead ≡ self.old.ahead) × (self.new.line ≡ [])) }
         ensures err_few { OnErr result (IsOneLineAndFew self.new.ahead) }
     {

@@ -1,13 +1,15 @@
 -- What is found in the lines of a chunk after a change, from what is found in each line.
-use Rattle.grep_session.proofs.Prelude.{◌≡◌, ℕ, ◌+◌, ◌-◌, ◌*◌, ◌<◌, ◌==◌, Bool, true, false, not, ◌||◌, inl, Decides, take, Matches, has_number, IsAmongOld, StaysSame, WereMatched, CostWhere, IsSought, SearchCost, is_narrower, List, [], ◌∷◌, ◌++◌, All, length, map, get_or, refl, sym, ap, subst, ◌∙◌, arith, length-append, append-nil, append_assoc, false≢true, nat_tests, length-map, length-drop, nil_from_length, get_or_default, All-append, Text, Expression, newline, terminated, Span, AddsAtMost, search_cost, Steps, Options, FoundIn, finds_at, is_paired, numbers_at, Matched, AreBelow, KeptLine, no_line, line_text, seen, Change, Rebuild, PartsOnly, Added, Dropped, Replaced, ChangeCost, CostOfEach, HasChanged, HasNewParts, IsWithin, NewPartsCost, SearchesEach, WasKept, searched_for, AreAllParts, AreDecided, AreMatches, Grows, KeepsAll, first_sought, has_new_parts, later_numbers, left_numbers, past_sought, sought, AddsMatching, IsKept}
+use Rattle.grep_session.proofs.Prelude.{◌≡◌, ℕ, ◌+◌, ◌-◌, ◌*◌, ◌<◌, ◌≤◌, ◌==◌, Bool, true, false, not, ◌||◌, inl, Decides, take, Matches, has_number, IsAmongOld, StaysSame, WereMatched, Chosen, IsSought, IsParted, is_narrower, is_parted, has_pair, marked_cost, pairs_cost, parting, List, [], ◌∷◌, ◌++◌, All, length, map, get_or, refl, sym, ap, subst, ◌∙◌, arith, length-append, append-nil, append_assoc, false≢true, nat_tests, length-map, length-drop, nil_from_length, get_or_default, All-append, Text, Expression, terminated, Span, AddsAtMost, Steps, Options, FoundIn, finds_at, is_paired, numbers_at, Matched, AreBelow, KeptLine, no_line, line_text, seen, Change, Rebuild, PartsOnly, Added, Dropped, Replaced, HasChanged, HasNewParts, IsWithin, SearchesEach, WasKept, searched_for, AreAllParts, AreMatches, Grows, KeepsAll, first_sought, has_new_parts, later_numbers, left_numbers, past_sought, sought, AddsMatching, IsKept}
 use Rattle.std.proofs.Math.ListN.{get_or-map}
 use Rattle.std.proofs.lemmas.List.{get_or-set_same}
 use Rattle.re_syntax.proofs.lemmas.Decisions.{Any-first}
-use Rattle.re_meter.proofs.lemmas.Adding.{all_both}
+use Rattle.std.proofs.lemmas.Bool.Decides.{Decides-and}
+use Rattle.re_meter.proofs.lemmas.Adding.{adds_both, adds_within}
 use Rattle.line_chunks.proofs.lemmas.PairLaws.{lt_no, numbers_at-append}
 use Rattle.line_chunks.proofs.lemmas.SeenLaws.{length-seen, line_seen}
 use Rattle.grep_session.proofs.lemmas.ChangeLemmas.{LineChanges, decided_single, line_changes, line_right, number_decides, some_decides}
-use Rattle.grep_session.proofs.lemmas.StepLemmas.{NewPartsCost-exists, each_none, each_front}
+use Rattle.grep_session.proofs.lemmas.MarkedLemmas.{marked_lines, terminated_cost}
+use Rattle.grep_session.proofs.lemmas.StepLemmas.{not_searched}
 
 -- what holds of each text with what was found in it holds of all lines
 all_seen : (P : KeptLine → Type 0) (texts : List Text) (found : FoundIn) → ((k : ℕ) → k < length texts → P (record { text = get_or texts k []; found = finds_at found k })) → All P (seen texts found)
@@ -71,14 +73,14 @@ module _ (change : Change) (es before changed : List Expression) (options : Opti
       ap (numbers_at k) m.later.added ∙ numbers_at-append k m.mid m.later.more ∙ ap (λ ns. numbers_at k m.mid ++ ns) (m.later.numbers k ∙ ap (later_numbers change) (own k inside)) in
       line_changes es before changed options line (numbers_at k new) change within h (all k no_line inside) (numbers_at k m.mid) (subst (λ ns. AddsMatching line.text options.line_regexp first (sought change es) ns (numbers_at k m.mid)) left adds) later
 
-  -- whether some expression matches them, and whether their parts are searched anew, is known
-  pub column_decides : AreDecided change changed es options (map line_text lines) old new
+  -- whether their parts are searched anew is known
+  column_decides : (k : ℕ) → k < length (map line_text lines) → Decides (is_parted change old new k) (IsParted change changed es options (get_or (map line_text lines) k []))
   column_decides k high =
       let inside : k < length lines = omega (arith, high, length-map lines line_text) in
       let text : line_text (get_or lines k no_line) ≡ get_or (map line_text lines) k [] = sym (get_or-map line_text lines k no_line) in
       let d = subst (λ ns. Decides (has_new_parts change ns (numbers_at k new)) (HasNewParts change changed options (get_or lines k no_line).text)) (sym (own k inside)) (changes_at k inside).decided in
       let some = some_decides (get_or lines k no_line).text options.line_regexp 0 es (numbers_at k new) (changes_at k inside).matching in
-      subst (λ t. Decides (is_paired k new) (Matched es options t) × Decides (has_new_parts change (numbers_at k old) (numbers_at k new)) (HasNewParts change changed options t)) text (some, d)
+      subst (λ t. Decides (is_parted change old new k) (IsParted change changed es options t)) text (Decides-and (is_paired k new) (has_new_parts change (numbers_at k old) (numbers_at k new)) some d)
 
   -- what is found in each is right
   pub column_right : (parts : List (List Span)) → AreAllParts change es options lines old new parts → All (IsKept es options) (seen (map line_text lines) (record { size = length lines; pairs = new; parts = parts }))
@@ -131,36 +133,6 @@ module _ (change : Change) (es before changed : List Expression) (options : Opti
 
 -- ---- steps
 
--- the searches of the lines, and those for their parts
-module _ (change : Change) (changed es : List Expression) (options : Options) where
-  both_costs : (texts : List Text) (r s a b : ℕ) → CostOfEach (SearchCost change changed options) texts r a → CostOfEach (NewPartsCost change changed es options) texts s b → CostOfEach (ChangeCost change changed es options) texts (r + s) (a + b)
-  both_costs [] r s a b p q = (omega (arith, p.0, q.0), omega (arith, p.1, q.1))
-  both_costs (text ∷ texts) r s a b p q =
-      (q.0, p.1 + q.1, p.2 + q.2, p.3 + q.3, (q.2, q.4, p.2, (refl, p.4.1), refl), both_costs texts p.1 q.1 p.3 q.3 p.5 q.5, omega (arith, p.6, p.4.0, q.6), omega (arith, p.7, q.7))
-
-  pub chunk_steps : (texts : List Text) (begun mid ended : Steps) → SearchesEach (SearchCost change changed options) texts begun mid → SearchesEach (NewPartsCost change changed es options) texts mid ended → SearchesEach (ChangeCost change changed es options) texts begun ended
-  chunk_steps texts begun mid ended searches parts =
-      let p = searches.at_most in
-      let q = parts.at_most in
-      record { at_most = (p.0 + q.0, p.1 + q.1, both_costs texts p.0 q.0 p.1 q.1 p.2 q.2, all_both p.1 q.1 p.1 q.1 p.0 q.0 begun mid ended p.3 q.3) }
-
-  -- the same before the search for parts
-  pub chunk_begun : (texts : List Text) (begun ended : Steps) → SearchesEach (SearchCost change changed options) texts begun ended → SearchesEach (ChangeCost change changed es options) texts begun ended
-  chunk_begun texts begun ended few =
-      let C = NewPartsCost change changed es options in
-      chunk_steps texts begun ended ended few (each_front C (NewPartsCost-exists change changed es options) [] texts texts ended ended refl (each_none C ended))
-
--- so many searches of each of the lines, where all are searched
-plain_costs : (P : Text → Type 0) (many : ℕ) → ((line : Text) → P line) → (texts : List Text) → CostOfEach (CostWhere P many) texts 0 (many * length (terminated texts))
-plain_costs P many all [] = (refl, omega arith)
-plain_costs P many all (text ∷ texts) =
-    let long : length (terminated (text ∷ texts)) ≡ length text + 1 + length (terminated texts) = omega (arith, length-append text (newline ∷ terminated texts)) in
-    let bytes : many * length (terminated (text ∷ texts)) ≡ search_cost many text + many * length (terminated texts) = ap (λ k. many * k) long ∙ spread (length text + 1) (length (terminated texts)) in
-    (0, 0, search_cost many text, many * length (terminated texts), (refl, inl (all text, refl)), plain_costs P many all texts, refl, bytes)
-  where
-    spread : (a b : ℕ) → many * (a + b) ≡ many * a + many * b
-    spread a b = omega arith
-
 -- so many patterns are searched for
 sought_count : (change : Change) (es before changed : List Expression) (options : Options) (many : ℕ) → many ≡ length es → HasChanged change es before changed options → past_sought change many - first_sought change many ≡ searched_for change changed
 sought_count Rebuild es before changed options many same h = omega (arith, same, ap length h)
@@ -169,24 +141,59 @@ sought_count (Added first) es before changed options many same h = omega (arith,
 sought_count (Dropped p) es before changed options many same h = omega arith
 sought_count (Replaced p narrower) es before changed options many same h = omega arith
 
+-- all are chosen
+all_chosen : (P : Text → Type 0) (texts : List Text) → ((text : Text) → P text) → Chosen P texts texts
+all_chosen P [] all = refl
+all_chosen P (text ∷ texts) all = (text ∷ [], texts, inl (all text, refl), all_chosen P texts all, refl)
+
 -- the steps of a search of all lines, or of those that the old expression matches
 module _ (es before changed : List Expression) (options : Options) (lines : List KeptLine) (old : List (ℕ × ℕ)) (many : ℕ) (same : many ≡ length es) (begun ended : Steps) where
-  plainly : (change : Change) → HasChanged change es before changed options → ((line : Text) → IsSought change changed options line) → AddsAtMost ((past_sought change many - first_sought change many) * length (terminated (map line_text lines))) begun ended → SearchesEach (SearchCost change changed options) (map line_text lines) begun ended
+  -- the lines that were searched
+  abbrev Searched : Change → Type 0
+  Searched change = (paired : List Text) × Chosen (IsSought change changed options) (map line_text lines) paired × AddsAtMost (pairs_cost (searched_for change changed) paired) begun ended
+
+  -- what the search of a chunk took
+  abbrev pub Plain : Change → Type 0
+  Plain change = is_narrower change ≡ false → AddsAtMost ((past_sought change many - first_sought change many) * length (terminated (map line_text lines))) begun ended
+
+  abbrev pub Narrow : Change → Type 0
+  Narrow change = is_narrower change ≡ true → AddsAtMost (marked_cost (has_pair (first_sought change many) old) 1 (map line_text lines) (length lines)) begun ended
+
+  plainly : (change : Change) → HasChanged change es before changed options → ((line : Text) → IsSought change changed options line) → AddsAtMost ((past_sought change many - first_sought change many) * length (terminated (map line_text lines))) begun ended → Searched change
   plainly change h all few =
       let texts = map line_text lines in
-      let n = searched_for change changed in
-      record { at_most = (0, n * length (terminated texts), plain_costs (IsSought change changed options) n all texts, subst (λ k. AddsAtMost (k * length (terminated texts)) begun ended) (sought_count change es before changed options many same h) few) }
+      let cost = ap (λ n. n * length (terminated texts)) (sought_count change es before changed options many same h) ∙ terminated_cost (searched_for change changed) texts in
+      (texts, all_chosen (IsSought change changed options) texts all, subst (λ n. AddsAtMost n begun ended) cost few)
 
-  pub sought_steps : (change : Change) → HasChanged change es before changed options → All (WasKept change before options) lines → ((k : ℕ) → k < length lines → numbers_at k old ≡ (get_or lines k no_line).found.numbers)
-      → (is_narrower change ≡ false → AddsAtMost ((past_sought change many - first_sought change many) * length (terminated (map line_text lines))) begun ended)
-      → (is_narrower change ≡ true → (gone : List Expression) → WereMatched gone options (map line_text lines) (first_sought change many) old → SearchesEach (CostWhere (Matched gone options) 1) (map line_text lines) begun ended)
-      → SearchesEach (SearchCost change changed options) (map line_text lines) begun ended
-  sought_steps Rebuild h all own plain narrow = plainly Rebuild h (λ line. tt) (plain refl)
-  sought_steps PartsOnly h all own plain narrow = plainly PartsOnly h (λ line. tt) (plain refl)
-  sought_steps (Added first) h all own plain narrow = plainly (Added first) h (λ line. tt) (plain refl)
-  sought_steps (Dropped p) h all own plain narrow = plainly (Dropped p) h (λ line. tt) (plain refl)
-  sought_steps (Replaced p false) h all own plain narrow = plainly (Replaced p false) h (λ line. tt) (plain refl)
-  sought_steps (Replaced p true) h all own plain narrow = narrow refl (take 1 changed) (subst (λ l. WereMatched (take 1 l) options (map line_text lines) p old) (sym h.5) (were_matched before options lines old own p h.0 h.2 h.3 all))
+  searched : (change : Change) → HasChanged change es before changed options → All (WasKept change before options) lines → ((k : ℕ) → k < length lines → numbers_at k old ≡ (get_or lines k no_line).found.numbers) → Plain change → Narrow change → Searched change
+  searched Rebuild h all own plain narrow = plainly Rebuild h (λ line. tt) (plain refl)
+  searched PartsOnly h all own plain narrow = plainly PartsOnly h (λ line. tt) (plain refl)
+  searched (Added first) h all own plain narrow = plainly (Added first) h (λ line. tt) (plain refl)
+  searched (Dropped p) h all own plain narrow = plainly (Dropped p) h (λ line. tt) (plain refl)
+  searched (Replaced p false) h all own plain narrow = plainly (Replaced p false) h (λ line. tt) (plain refl)
+  searched (Replaced p true) h all own plain narrow =
+      let texts = map line_text lines in
+      let were = subst (λ l. WereMatched (take 1 l) options texts p old) (sym h.5) (were_matched before options lines old own p h.0 h.2 h.3 all) in
+      let s = marked_lines (has_pair p old) 1 texts (Matched (take 1 changed) options) were (length lines) (length-map lines line_text) in
+      (s.0, s.1, subst (λ n. AddsAtMost n begun ended) s.2 (narrow refl))
+
+  -- before the search for parts
+  pub chunk_begun : (change : Change) → HasChanged change es before changed options → All (WasKept change before options) lines → ((k : ℕ) → k < length lines → numbers_at k old ≡ (get_or lines k no_line).found.numbers) → Plain change → Narrow change
+      → SearchesEach change changed es options (map line_text lines) begun ended
+  chunk_begun change h all own plain narrow =
+      let s = searched change h all own plain narrow in
+      let rest = not_searched change changed es options (map line_text lines) ended in
+      let least : pairs_cost (searched_for change changed) s.0 ≤ pairs_cost (searched_for change changed) s.0 + pairs_cost (parting es options) rest.parted = omega arith in
+      record { paired = s.0; are_paired = s.1; parted = rest.parted; are_parted = rest.are_parted; few = adds_within _ _ _ _ begun ended least least s.2 }
+
+  -- and after it
+  pub chunk_steps : (change : Change) (new : List (ℕ × ℕ)) (last : Steps) → IsWithin change (length es) → AreMatches change (map line_text lines) options.line_regexp es old new
+      → HasChanged change es before changed options → All (WasKept change before options) lines → ((k : ℕ) → k < length lines → numbers_at k old ≡ (get_or lines k no_line).found.numbers) → Plain change → Narrow change
+      → AddsAtMost (marked_cost (is_parted change old new) (parting es options) (map line_text lines) (length lines)) ended last → SearchesEach change changed es options (map line_text lines) begun last
+  chunk_steps change new last within m h all own plain narrow few =
+      let s = searched change h all own plain narrow in
+      let t = marked_lines (is_parted change old new) (parting es options) (map line_text lines) (IsParted change changed es options) (column_decides change es before changed options lines old new within h all m own) (length lines) (length-map lines line_text) in
+      record { paired = s.0; are_paired = s.1; parted = t.0; are_parted = t.1; few = adds_both _ _ _ _ begun ended last s.2 (subst (λ n. AddsAtMost n ended last) t.2 few) }
 
 -- ---- the pairs of a chunk after a change
 

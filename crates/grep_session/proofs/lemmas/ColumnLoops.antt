@@ -1,6 +1,5 @@
 -- The lines of a chunk that an expression matches, noted one after the other.
-use Rattle.grep_session.proofs.Prelude.{AddsPairs, AddsSought, SearchesOne, CostWhere, AddsAtMost, Steps, search_cost, is_narrower, sought, true, false≢true, add-one, take-suc, drop-append_seam, ◌≡◌, ℕ, zero, suc, take, drop, length-take, length-drop, ◌+◌, ◌<◌, ◌≤◌, Bool, List, [], ◌∷◌, ◌++◌, inl, inr, length, get_or, refl, sym, ap, subst, ◌∙◌, arith, append-nil, append_assoc, if◌then◌else◌, Some, ◌⊎◌, Text, Expression, Matches, numbers_at, AreBelow, Change, Rebuild, PartsOnly, Added, Dropped, Replaced, IsWithin, AddsColumn, IsNextLine, first_sought, past_sought, AddsMatching, cases_lt, All-push, All-nil, All-append}
-use Rattle.re_meter.proofs.lemmas.Adding.{adds_none}
+use Rattle.grep_session.proofs.Prelude.{AddsPairs, AddsSought, is_narrower, sought, true, false≢true, add-one, take-suc, drop-append_seam, ◌≡◌, ℕ, zero, suc, take, drop, length-take, length-drop, ◌+◌, ◌<◌, ◌≤◌, Bool, List, [], ◌∷◌, ◌++◌, inl, inr, length, get_or, refl, sym, ap, subst, ◌∙◌, arith, append-nil, append_assoc, if◌then◌else◌, Some, ◌⊎◌, Text, Expression, Matches, numbers_at, AreBelow, Change, Rebuild, PartsOnly, Added, Dropped, Replaced, IsWithin, AddsColumn, IsNextLine, first_sought, past_sought, AddsMatching, cases_lt, All-push, All-nil, All-append}
 use Rattle.line_chunks.proofs.lemmas.PairLaws.{eq_yes, eq_no, numbers_at-append}
 use Rattle.grep_session.proofs.lemmas.FindingLemmas.{adds_one_matching, passes_one_matching, adds_none_matching, adds_more_matching}
 
@@ -154,18 +153,6 @@ module _ (change : Change) (is : is_narrower change ≡ true) where
       by_change PartsOnly off within = absurd (false≢true off)
       by_change (Added first) off within = absurd (false≢true off)
       by_change (Dropped p) off within = absurd (false≢true off)
-
--- a search of a line that is passed costs nothing, and of one that is searched as much as it took
-module _ (P : Text → Type 0) (line : Text) (begun ended : Steps) where
-  pub costs_passed : (P line → ⊥) → SearchesOne (CostWhere P 1) line begun begun
-  costs_passed unmatched = record { at_most = (0, 0, (refl, inr (unmatched, refl)), adds_none 0 0 begun) }
-
-  pub costs_searched : P line → AddsAtMost (length line + 1) begun ended → SearchesOne (CostWhere P 1) line begun ended
-  costs_searched matched few = let once : length line + 1 ≡ search_cost 1 line = omega arith in record { at_most = (0, search_cost 1 line, (refl, inl (matched, refl)), subst (λ n. AddsAtMost n begun ended) once few) }
-
--- a search of lines has a cost
-pub CostWhere-exists : (P : Text → Type 0) → ((line : Text) → Dec (P line)) → (line : Text) → (cost : ℕ) × CostWhere P 1 line 0 cost
-CostWhere-exists P d line = elim (d line) [ yes m ↦ (search_cost 1 line, (refl, inl (m, refl))) | no m ↦ (0, (refl, inr (m, refl))) ]
 
 -- the expressions that are searched for are some of all
 pub sought_within : (change : Change) (many : ℕ) → IsWithin change many → (first_sought change many ≤ past_sought change many) × (past_sought change many ≤ many)

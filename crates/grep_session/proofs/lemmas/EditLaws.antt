@@ -1,8 +1,5 @@
--- The laws of the definitions: an edit has one outcome for its inputs, and one cost if no
--- allocation fails, which is the least.
-use Rattle.grep_session.proofs.Prelude.{◌≡◌, ℕ, ◌+◌, ◌*◌, ◌<◌, ◌≤◌, Bool, true, false, List, [], ◌∷◌, length, Result, Ok, Err, MatchBool, take, get_or, length-take, refl, sym, ap, subst, ◌∙◌, arith, PatternFault, Syntax, Text, Expression, Matches, list_of, AreParts, IsReadable, Options, Chosen, searches_for, search_cost, Inputs, Matched, EditFault, NoSuchFile, FileIsMissing, OutOfRange, LineHasNewline, NoSuchPattern, Pattern, TooManyPatterns, Memory, Edit, AddFile, AddMissing, DropFile, Splice, AddPatterns, ChangePattern, DropPattern, SetFlag, SetSyntax, SetContext, Applies, Reads, IsFirstRefused, AreAlike, EditsAreDetermined, MemorySavesEditSteps, Touched, Touches, PartsSearchCost, PartsCostOf, PartsCost, Costs, CostsAs, CostsAccepted, pairs_cost, parts_alone, all_lines, get_or-take, mul-le-mul_right}
-use Rattle.re_syntax.proofs.lemmas.PartsLaws.{ArePartsFrom-unique}
-use Rattle.grep_core.proofs.lemmas.CostLaws.{refused_searches}
+-- The law of the definitions: an edit has one outcome for its inputs, and one cost.
+use Rattle.grep_session.proofs.Prelude.{◌≡◌, ℕ, ◌+◌, ◌<◌, Bool, List, [], ◌∷◌, length, Result, Ok, Err, take, get_or, length-take, refl, sym, ap, subst, ◌∙◌, arith, PatternFault, Syntax, Text, Matches, list_of, IsReadable, Chosen, Inputs, Matched, EditFault, NoSuchFile, FileIsMissing, OutOfRange, LineHasNewline, NoSuchPattern, Pattern, TooManyPatterns, Memory, Edit, AddFile, AddMissing, DropFile, Splice, AddPatterns, ChangePattern, DropPattern, SetFlag, SetSyntax, SetContext, Applies, Reads, IsFirstRefused, AreAlike, EditsAreDetermined, Touched, Touches, Costs, CostsAs, CostsAccepted, pairs_cost, parting, parts_alone, all_lines, get_or-take}
 use Rattle.grep_core.proofs.lemmas.ChooseLaws.{same_value, IfHolds-both, Chosen-determined}
 use Rattle.grep_core.proofs.lemmas.LawsHold.{means_one, IsMeant-determined}
 
@@ -81,62 +78,22 @@ Touches-once (SetContext context) old a b p q = same_value p q
 Touches-once (AddMissing name) old a b p q = same_value p q
 Touches-once (DropFile k) old a b p q = same_value p q
 
--- parts cost least if no allocation fails
-module _ (es : List Expression) (options : Options) where
-  PartsSearchCost-least : (line : Text) (refusals few most : ℕ) → PartsSearchCost es options line 0 few → PartsSearchCost es options line refusals most → few ≤ most
-  PartsSearchCost-least line refusals few most p q = by_flag options.only_matching p q
-    where
-      Cost : ℕ → Bool → ℕ → Type 0
-      Cost r asked n = MatchBool asked ((parts : List (ℕ × ℕ)) × AreParts es line options.line_regexp parts × (n ≡ searches_for r (length parts + 1) * search_cost (length es) line)) ((r ≡ 0) × (n ≡ 0))
-
-      by_flag : (asked : Bool) → Cost 0 asked few → Cost refusals asked most → few ≤ most
-      by_flag true p q =
-          let n = search_cost (length es) line in
-          let times = length p.0 + 1 in
-          let least : searches_for 0 times * n ≤ searches_for refusals times * n = mul-le-mul_right n (refused_searches refusals times) in
-          let same : most ≡ searches_for refusals times * n = q.2 ∙ ap (λ ps. searches_for refusals (length ps + 1) * n) (ArePartsFrom-unique es line options.line_regexp q.0 p.0 0 q.1 p.1) in
-          subst (λ m. few ≤ m) (sym same) (subst (λ m. m ≤ searches_for refusals times * n) (sym p.2) least)
-      by_flag false p q = omega (arith, p.1)
-
-  PartsCostOf-least : (line : Text) (refusals few most : ℕ) → PartsCostOf es options line 0 few → PartsCostOf es options line refusals most → few ≤ most
-  PartsCostOf-least line refusals few most p q = IfHolds-both p q (PartsSearchCost-least line refusals few most) (λ a b. omega (arith, a.1))
-
-  PartsCost-least : (lines : List Text) (refusals few most : ℕ) → PartsCost es options lines 0 few → PartsCost es options lines refusals most → few ≤ most
-  PartsCost-least [] refusals few most p q = omega (arith, p.1)
-  PartsCost-least (line ∷ lines) refusals few most p q =
-      let mine : p.0 ≡ 0 = omega (arith, p.6) in
-      let others : p.1 ≡ 0 = omega (arith, p.6) in
-      let own : p.2 ≤ q.2 = PartsCostOf-least line q.0 p.2 q.2 (subst (λ n. PartsCostOf es options line n p.2) mine p.4) q.4 in
-      let rest : p.3 ≤ q.3 = PartsCost-least lines q.1 p.3 q.3 (subst (λ n. PartsCost es options lines n p.3) others p.5) q.5 in
-      omega (arith, p.7, q.7, own, rest)
-
-accepted_least : (refusals : ℕ) (edit : Edit) (old new : Inputs) (few most : ℕ) → CostsAccepted 0 edit old new few → CostsAccepted refusals edit old new most → few ≤ most
-accepted_least refusals edit old new few most p q =
+accepted_once : (edit : Edit) (old new : Inputs) (a b : ℕ) → CostsAccepted edit old new a → CostsAccepted edit old new b → a ≡ b
+accepted_once edit old new a b p q =
     let es : p.es ≡ q.es = means_one new.syntax new.options new.patterns p.es q.es p.are_meant q.are_meant in
     let touched : p.touched ≡ q.touched = Touches-once edit old p.touched q.touched p.are_touched q.are_touched in
-    let mine : PartsCost q.es new.options q.touched.lines 0 p.parts = subst (λ t. PartsCost q.es new.options t.lines 0 p.parts) touched (subst (λ es. PartsCost es new.options p.touched.lines 0 p.parts) es p.are_parts) in
-    let parts : p.parts ≤ q.parts = PartsCost-least q.es new.options q.touched.lines refusals p.parts q.parts mine q.are_parts in
-    let pairs : pairs_cost p.touched.patterns p.touched.paired ≡ pairs_cost q.touched.patterns q.touched.paired = ap (λ t. pairs_cost t.patterns t.paired) touched in
-    omega (arith, p.is_sum, q.is_sum, pairs, parts)
+    let mine = subst (λ t. Chosen (Matched q.es new.options) t.lines p.parted) touched (subst (λ es. Chosen (Matched es new.options) p.touched.lines p.parted) es p.are_parted) in
+    let parted : p.parted ≡ q.parted = Chosen-determined (Matched q.es new.options) q.touched.lines p.parted q.parted mine q.are_parted in
+    p.is_sum ∙ (λ i. pairs_cost (touched i).patterns (touched i).paired + pairs_cost (parting (es i) new.options) (parted i)) ∙ sym q.is_sum
 
--- ---- laws
-
--- an edit costs least if no allocation fails
-pub memory_saves_edit_steps : MemorySavesEditSteps
-memory_saves_edit_steps edit old refusals few most p q = by_outcome p.0 q.0 (Applies-once edit old p.0 q.0 p.1 q.1) p.2 q.2
+costs_once : (edit : Edit) (old : Inputs) (a b : ℕ) → Costs edit old a → Costs edit old b → a ≡ b
+costs_once edit old a b p q = by_outcome p.0 q.0 (Applies-once edit old p.0 q.0 p.1 q.1) p.2 q.2
   where
-    by_outcome : (o r : Result Inputs EditFault) → AreAlike o r → CostsAs 0 edit old o few → CostsAs refusals edit old r most → few ≤ most
-    by_outcome (Ok m) (Ok n) same c d = accepted_least refusals edit old n few most (subst (λ x. CostsAccepted 0 edit old x few) same c) d
+    by_outcome : (o r : Result Inputs EditFault) → AreAlike o r → CostsAs edit old o a → CostsAs edit old r b → a ≡ b
+    by_outcome (Ok m) (Ok n) same c d = accepted_once edit old n a b (subst (λ x. CostsAccepted edit old x a) same c) d
     by_outcome (Ok m) (Err g) none c d = absurd none
     by_outcome (Err f) (Ok n) none c d = absurd none
-    by_outcome (Err f) (Err g) same c d = omega (arith, c.1)
-
--- so it has one cost
-costs_once : (edit : Edit) (old : Inputs) (a b : ℕ) → Costs 0 edit old a → Costs 0 edit old b → a ≡ b
-costs_once edit old a b p q =
-    let there = memory_saves_edit_steps edit old 0 a b p q in
-    let back = memory_saves_edit_steps edit old 0 b a q p in
-    omega (arith, there, back)
+    by_outcome (Err f) (Err g) same c d = same_value c d
 
 -- one outcome and one cost
 pub edits_are_determined : EditsAreDetermined

@@ -1,10 +1,7 @@
 -- What is found in a line, one matcher or one part more at a time.
-use Rattle.grep_session.proofs.Prelude.{◌≡◌, ℕ, suc, ◌+◌, ◌*◌, ◌≤◌, Bool, true, false, List, [], ◌∷◌, ◌++◌, inl, inr, length, map, MatchBool, refl, sym, ap, subst, ◌∙◌, append_assoc, append-nil, arith, map-append, length_push, length-append, length-map, Text, Expression, Matches, IsFound, IsPart, ArePartsFrom, AreParts, searches_for, Span, Steps, Adds, Options, IfHolds, Course, HasTaken, refusals, search_cost, AreMatching, AddsMatching, span_places, PartsSearchCost, SearchesOne}
+use Rattle.grep_session.proofs.Prelude.{◌≡◌, ℕ, suc, ◌+◌, ◌*◌, ◌≤◌, Bool, true, List, [], ◌∷◌, ◌++◌, inl, inr, length, map, refl, sym, ap, subst, ◌∙◌, append_assoc, append-nil, arith, map-append, Text, Expression, Matches, IsFound, IsPart, ArePartsFrom, AreParts, Span, Steps, AddsAtMost, Options, IfHolds, search_cost, parting, if◌then◌else◌, AreMatching, AddsMatching, span_places}
 use Rattle.re_syntax.proofs.lemmas.PartsLaws.{IsPart-unique}
 use Rattle.re_syntax.proofs.lemmas.PartsExist.{AreParts-exist}
-use Rattle.re_search.proofs.lemmas.CourseLaws.{few_searches}
-use Rattle.grep_core.proofs.lemmas.CostLaws.{adds_for_more, more_searches}
-use Rattle.re_meter.proofs.lemmas.Adding.{adds_none}
 
 -- ---- the numbers of the expressions that match a line
 
@@ -80,44 +77,6 @@ module _ (es : List Expression) (options : Options) (line : Text) where
   spans_done from spans s none =
       subst (AreParts es line options.line_regexp) (ap (λ l. map span_places spans ++ l) (none_left from s.left s.are_left none) ∙ append-nil (map span_places spans)) s.are_parts
 
-  -- the parts cost what the searches for them took
-  pub spans_cost : options.only_matching ≡ true → (from : ℕ) (spans : List Span) (begun after : Steps) (course : Course) (matchers : ℕ) → matchers ≡ length es → SpansSoFar from spans → HasTaken (search_cost matchers line) begun (length spans + 1) course after
-      → SearchesOne (PartsSearchCost es options) line begun after
-  spans_cost asked from spans begun after course matchers many s taken =
-      let all = map span_places spans ++ s.left in
-      let own = refusals course.known in
-      let cost = searches_for own (length all + 1) * search_cost (length es) line in
-      let enough : length spans + 1 ≤ length all + 1 = omega (arith, length-append (map span_places spans) s.left, length-map spans span_places) in
-      let is : MatchBool true ((parts : List (ℕ × ℕ)) × AreParts es line options.line_regexp parts × (cost ≡ searches_for own (length parts + 1) * search_cost (length es) line)) ((own ≡ 0) × (cost ≡ 0)) = (all, s.are_parts, refl) in
-      record {
-        at_most = (
-          own,
-          cost,
-          subst (λ b. MatchBool b ((parts : List (ℕ × ℕ)) × AreParts es line options.line_regexp parts × (cost ≡ searches_for own (length parts + 1) * search_cost (length es) line)) ((own ≡ 0) × (cost ≡ 0))) (sym asked) is,
-          subst (λ n. Adds (searches_for own (length all + 1) * search_cost n line) (searches_for own (length all + 1) * search_cost n line) own begun after) many
-              (adds_for_more _ _ (search_cost matchers line) own begun after (more_searches own (length spans + 1) (length all + 1) enough) (few_searches (search_cost matchers line) begun (length spans + 1) course after taken)),
-        );
-      }
-
-  -- one part more was asked for
-  pub spans_more : (spans pushed : List Span) (span : Span) (cost : ℕ) (begun after : Steps) (course : Course) → pushed ≡ spans ++ span ∷ [] → HasTaken cost begun (length spans + 1) course after → HasTaken cost begun (length pushed) course after
-  spans_more spans pushed span cost begun after course is taken = subst (λ n. HasTaken cost begun n course after) (sym (ap length is ∙ length_push spans span)) taken
-
-  -- where parts are not asked for they cost nothing
-  pub unasked_parts : options.only_matching ≡ false → (steps : Steps) → SearchesOne (PartsSearchCost es options) line steps steps
-  unasked_parts unasked steps = record {
-    at_most = (
-      0,
-      0,
-      subst (λ b. MatchBool b ((parts : List (ℕ × ℕ)) × AreParts es line options.line_regexp parts × (0 ≡ searches_for 0 (length parts + 1) * search_cost (length es) line)) ((◌≡◌ {A = ℕ} 0 0) × (◌≡◌ {A = ℕ} 0 0))) (sym unasked) (refl, refl),
-      adds_none 0 0 steps,
-    );
-  }
-
-  -- the search for a line's parts has a cost if no allocation fails
-  pub parts_search_exists : (own : ℕ) × PartsSearchCost es options line 0 own
-  parts_search_exists = by_flag options.only_matching
-    where
-      by_flag : (asked : Bool) → (own : ℕ) × MatchBool asked ((parts : List (ℕ × ℕ)) × AreParts es line options.line_regexp parts × (own ≡ searches_for 0 (length parts + 1) * search_cost (length es) line)) ((◌≡◌ {A = ℕ} 0 0) × (own ≡ 0))
-      by_flag true = let ps = AreParts-exist es line options.line_regexp in (searches_for 0 (length ps.0 + 1) * search_cost (length es) line, (ps.0, ps.1, refl))
-      by_flag false = (0, (refl, refl))
+  -- the cost of the search for the parts of a line, where it is asked for
+  pub asked_cost : options.only_matching ≡ true → (matchers : ℕ) (begun ended : Steps) → matchers ≡ length es → AddsAtMost (matchers * (length line + 1)) begun ended → AddsAtMost (search_cost (parting es options) line) begun ended
+  asked_cost asked matchers begun ended many few = subst (λ n. AddsAtMost (n * (length line + 1)) begun ended) (many ∙ sym (ap (λ b. if b then length es else 0) asked)) few

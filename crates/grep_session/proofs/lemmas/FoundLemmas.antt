@@ -125,13 +125,9 @@ files_by_chunk change before options (file ∷ files) all =
     by_lines None h = All-nil (All (WasKept change before options))
     by_lines (Some chunks) h = all_by_chunk (WasKept change before options) chunks h
 
--- a file that cannot be opened has no chunk and no line
-module _ (file : KeptFile) (is : file.lines ≡ None) where
-  pub no_chunks : chunks_of file ≡ []
-  no_chunks = ap (λ (ls : Option (List (List KeptLine))). unwrap_or ls []) is
-
-  pub no_lines : (kept_file file).lines ≡ []
-  no_lines = ap (λ (ls : Option (List (List KeptLine))). (file_with file.name.items (option_map all_of ls)).lines) is
+-- a file that cannot be opened has no chunk
+pub no_chunks : (file : KeptFile) → file.lines ≡ None → chunks_of file ≡ []
+no_chunks file is = ap (λ (ls : Option (List (List KeptLine))). unwrap_or ls []) is
 
 -- another has those that are kept of it
 module _ (file : KeptFile) (chunks : List (List KeptLine)) (is : file.lines ≡ Some chunks) where

@@ -1,6 +1,6 @@
 -- Patterns are added: the matchers after that, and the steps that it takes.
-use Rattle.grep_session.proofs.Prelude.{◌≡◌, ℕ, ◌+◌, ◌<◌, ◌≤◌, List, [], ◌∷◌, ◌++◌, Err, All, inl, inr, length, map, take, drop, refl, sym, ap, subst, ◌∙◌, arith, map-append, length-append, length-map, All-append, take-map, drop-map, Syntax, Text, Expression, list_of, IsMeant, Matcher, IsReadable, matched_expression, room_of, wants_whole, Steps, Options, Inputs, AreMeant, Added, EditFault, ChangeCost, IsSought, HasChanged, SearchesEach, SameMatchers, IsSession, inputs_of, Inside, AddPatterns, EditGives, with_patterns, most_patterns, AreMatchers, RefusesFirst, TakesSteps, all_lines, pairs_cost}
-use Rattle.grep_session.proofs.lemmas.StepLemmas.{CostOfEach-sum, chosen_all, takes_touched}
+use Rattle.grep_session.proofs.Prelude.{◌≡◌, ℕ, ◌+◌, ◌<◌, ◌≤◌, List, [], ◌∷◌, ◌++◌, Err, All, inl, inr, length, map, take, drop, refl, sym, ap, subst, ◌∙◌, arith, map-append, length-append, length-map, All-append, take-map, drop-map, Syntax, Text, Expression, list_of, IsMeant, Matcher, IsReadable, matched_expression, room_of, wants_whole, Steps, Options, Inputs, AreMeant, Added, EditFault, IsSought, HasChanged, SearchesEach, SameMatchers, IsSession, inputs_of, Inside, AddPatterns, EditGives, with_patterns, most_patterns, AreMatchers, RefusesFirst, TakesSteps, all_lines, pairs_cost}
+use Rattle.grep_session.proofs.lemmas.StepLemmas.{chosen_all, takes_touched}
 use Rattle.grep_core.proofs.lemmas.MatcherLemmas.{AllZip-append}
 
 -- the first elements of two lists joined, and the others
@@ -85,9 +85,7 @@ module _ (list : Text) (old : Inputs) (few : most_patterns < length old.patterns
 
   -- all lines were searched by the added patterns, and those that one of them matches for parts
   pub takes_new : (first : ℕ) (es changed : List Expression) (begun ended : Steps) → All (IsReadable old.syntax old.options.ignore_case) (list_of list) → AreMeant old.syntax old.options (old.patterns ++ list_of list) es → AreMeant old.syntax old.options (list_of list) changed
-      → length changed ≡ length (list_of list) → SearchesEach (ChangeCost (Added first) changed es old.options) (all_lines old) begun ended → TakesSteps (AddPatterns list) old begun ended
+      → length changed ≡ length (list_of list) → SearchesEach (Added first) changed es old.options (all_lines old) begun ended → TakesSteps (AddPatterns list) old begun ended
   takes_new first es changed begun ended readable meant new many s =
-      let spent = s.at_most in
-      let sum = CostOfEach-sum (Added first) changed es old.options (all_lines old) spent.0 spent.1 spent.2 in
-      takes_touched (AddPatterns list) old (with_patterns (old.patterns ++ list_of list) old) es (record { patterns = length (list_of list); paired = all_lines old; lines = sum.0 }) spent.0 spent.1 sum.1 begun ended (inr (few, inl (readable, refl))) (changed, new, sum.0, sum.2, refl) meant sum.3
-      (sum.6 ∙ ap (λ ls. pairs_cost (length changed) ls + sum.1) (chosen_all (IsSought (Added first) changed old.options) (all_lines old) sum.4 (λ line. tt) sum.5) ∙ ap (λ n. pairs_cost n (all_lines old) + sum.1) many) spent.3
+      takes_touched (AddPatterns list) old (with_patterns (old.patterns ++ list_of list) old) (Added first) changed es (all_lines old) begun ended (inr (few, inl (readable, refl))) meant s (λ paired parted p q.
+      (record { patterns = length (list_of list); paired = all_lines old; lines = parted }, (changed, new, parted, q, refl), refl, (λ i. pairs_cost (sym many i) (sym (chosen_all (IsSought (Added first) changed old.options) (all_lines old) paired (λ line. tt) p) i))))

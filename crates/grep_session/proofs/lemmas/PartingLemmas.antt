@@ -1,9 +1,7 @@
 -- The parts of the lines of a chunk, one line after the other.
-use Rattle.grep_session.proofs.Prelude.{◌≡◌, ℕ, suc, ◌+◌, ◌<◌, ◌==◌, Bool, true, false, not, ◌&&◌, MatchBool, Decides, List, [], ◌∷◌, ◌++◌, inl, inr, length, drop, get_or, nat_lt, Result, Ok, Err, IfOk, refl, sym, ap, subst, ◌∙◌, arith, length-append, append-nil, take, add-one, drop-append_seam, drop-cons, take-suc, cases_lt, nat_tests, Text, Expression, Span, Steps, Adds, Options, is_paired, numbers_at, KeptLine, no_line, Change, Added, Replaced, list_any, nat_eq, ◌||◌, Matched, PartsSearchCost, HasNewParts, NewPartsCost, SearchesOne, TakesAtMost, Grows, has_new_parts, ArePartsAgain, CostsParts}
-use Rattle.grep_core.proofs.lemmas.CostLaws.{cost_within}
+use Rattle.grep_session.proofs.Prelude.{◌≡◌, ℕ, suc, ◌+◌, ◌<◌, ◌==◌, Bool, true, false, not, ◌&&◌, List, [], ◌∷◌, ◌++◌, inl, inr, length, drop, get_or, nat_lt, Result, Ok, Err, IfOk, refl, sym, ap, subst, ◌∙◌, arith, length-append, append-nil, drop-append_seam, cases_lt, nat_tests, Expression, Span, Options, is_paired, numbers_at, KeptLine, line_text, map, no_line, search_cost, if◌then◌else◌, Steps, AddsAtMost, Change, Added, Replaced, list_any, nat_eq, ◌||◌, Grows, has_new_parts, ArePartsAgain}
+use Rattle.std.proofs.Math.ListN.{get_or-map}
 use Rattle.line_chunks.proofs.lemmas.PairLaws.{numbers_at-append}
-use Rattle.grep_session.proofs.lemmas.ColumnLemmas.{front_and_rest}
-use Rattle.grep_session.proofs.lemmas.StepLemmas.{NewPartsCost-exists}
 
 -- ---- lines that more patterns match
 
@@ -35,40 +33,24 @@ replaced_marks change p narrower size old new marks both is marked more k high =
 
 -- ---- one line
 
--- the steps for the parts of a line that are searched
-pub costs_search : (matched anew : Bool) (es : List Expression) (options : Options) (line : Text) (begun ended : Steps) → matched ≡ true → anew ≡ true → SearchesOne (PartsSearchCost es options) line begun ended → CostsParts matched anew es options line begun ended
-costs_search matched anew es options line begun ended m a s =
-    let both : matched && anew ≡ true = ap (λ b. b && anew) m ∙ a in
-    let own = s.at_most in
-    record { at_most = (own.0, own.1, subst (λ b. MatchBool b (PartsSearchCost es options line own.0 own.1) ((own.0 ≡ 0) × (own.1 ≡ 0))) (sym both) own.2, own.3) }
+-- the parts are searched
+pub costs_search : (matched anew : Bool) (cost : ℕ) (begun ended : Steps) → matched ≡ true → anew ≡ true → AddsAtMost cost begun ended → AddsAtMost (if matched && anew then cost else 0) begun ended
+costs_search matched anew cost begun ended m a few = subst (λ n. AddsAtMost n begun ended) (λ i. if sym m i && sym a i then cost else 0) few
 
 -- the parts of a line by what its marks stand for
 pub parts_by : (matched paired anew fresh : Bool) (es : List Expression) (options : Options) (line : KeptLine) (spans : List Span) → matched ≡ paired → (paired ≡ true → anew ≡ fresh) → ArePartsAgain matched anew es options line spans → ArePartsAgain paired fresh es options line spans
 parts_by matched false anew fresh es options line spans m a are = subst (λ b. ArePartsAgain b anew es options line spans) m are
 parts_by matched true anew fresh es options line spans m a are = subst (λ b. ArePartsAgain true b es options line spans) (a refl) (subst (λ b. ArePartsAgain b anew es options line spans) m are)
 
--- the steps for its parts
-pub costs_one : (change : Change) (changed es : List Expression) (options : Options) (line : Text) (matched paired anew fresh : Bool) (begun ended : Steps) → matched ≡ paired → (paired ≡ true → anew ≡ fresh) → Decides paired (Matched es options line) × Decides fresh (HasNewParts change changed options line)
-    → CostsParts matched anew es options line begun ended → SearchesOne (NewPartsCost change changed es options) line begun ended
-costs_one change changed es options line matched paired anew fresh begun ended m a d s = record { at_most = by_marks s.at_most.0 s.at_most.1 s.at_most.3 matched anew m a s.at_most.2 }
+-- the cost of its parts
+pub line_cost : (matched paired anew fresh : Bool) (many : ℕ) (lines : List KeptLine) (k : ℕ) → matched ≡ paired → (paired ≡ true → anew ≡ fresh)
+    → (if matched && anew then search_cost many (line_text (get_or lines k no_line)) else 0) ≡ (if paired && fresh then search_cost many (get_or (map line_text lines) k []) else 0)
+line_cost matched paired anew fresh many lines k m a =
+    ap (λ b. if b then search_cost many (line_text (get_or lines k no_line)) else 0) (marks paired m a) ∙ ap (λ t. if paired && fresh then search_cost many t else 0) (sym (get_or-map line_text lines k no_line))
   where
-    none : (refusals own : ℕ) → Adds own own refusals begun ended → (refusals ≡ 0) × (own ≡ 0) → TakesAtMost (NewPartsCost change changed es options line) begun ended
-    none refusals own few nothing =
-        let cost = NewPartsCost-exists change changed es options line in
-        (0, cost.0, cost.1, cost_within own cost.0 0 begun ended (omega (arith, nothing.1)) (subst (λ k. Adds own own k begun ended) nothing.0 few))
-
-    by_marks : (refusals own : ℕ) → Adds own own refusals begun ended → (b f : Bool) → b ≡ paired → (paired ≡ true → f ≡ fresh) → MatchBool (b && f) (PartsSearchCost es options line refusals own) ((refusals ≡ 0) × (own ≡ 0)) → TakesAtMost (NewPartsCost change changed es options line) begun ended
-    by_marks refusals own few false f m a nothing = none refusals own few nothing
-    by_marks refusals own few true false m a nothing = none refusals own few nothing
-    by_marks refusals own few true true m a is_own = (refusals, own, inl (d.1.0 (sym (a (sym m))), inl (d.0.0 (sym m), is_own)), few)
-
--- one more text
-pub take-suc' : (texts : List Text) (k : ℕ) (text : Text) → k < length texts → get_or texts k [] ≡ text → take (k + 1) texts ≡ take k texts ++ text ∷ []
-take-suc' texts k text h is = ap (λ n. take n texts) (add-one k) ∙ take-suc texts k [] h ∙ ap (λ t. take k texts ++ t ∷ []) is
-
--- the first texts, the next, and the rest
-pub with_next : (texts : List Text) (k : ℕ) (text : Text) → k < length texts → get_or texts k [] ≡ text → take k texts ++ (text ∷ drop (suc k) texts) ≡ texts
-with_next texts k text h is = ap (λ l. take k texts ++ l) (sym (drop-cons texts k [] h ∙ ap (λ t. t ∷ drop (suc k) texts) is)) ∙ front_and_rest k texts
+    marks : (b : Bool) → matched ≡ b → (b ≡ true → anew ≡ fresh) → (matched && anew) ≡ (b && fresh)
+    marks false m a = ap (λ b. b && anew) m
+    marks true m a = (λ i. m i && a refl i)
 
 -- the parts of one more line
 pub parts_next : (change : Change) (old new : List (ℕ × ℕ)) (es : List Expression) (options : Options) (lines : List KeptLine) (k : ℕ) (before after : List (List Span))

@@ -1,10 +1,10 @@
 -- A pattern is removed where parts are kept: the steps that this takes, and how it is put back.
-use Rattle.grep_session.proofs.Prelude.{◌≡◌, ℕ, zero, suc, ◌+◌, ◌<◌, List, [], ◌∷◌, ◌++◌, inl, inr, length, map, take, drop, get_or, refl, sym, ap, subst, ◌∙◌, arith, map-append, length-map, AllZip, remove, insert, take-map, drop-map, Expression, Matches, IsMeant, Steps, IfHolds, Chosen, Inputs, AreMeant, Matched, Matcher, matched_expression, room_of, wants_whole, Dropped, HasChanged, ChangeCost, SearchesEach, SameMatchers, DropPattern, with_patterns, TakesSteps, parts_alone, all_lines, Inside, IsSession, inputs_of}
+use Rattle.grep_session.proofs.Prelude.{◌≡◌, ℕ, zero, suc, ◌+◌, ◌<◌, List, [], ◌∷◌, ◌++◌, inl, inr, length, map, take, drop, get_or, refl, sym, ap, subst, ◌∙◌, arith, map-append, length-map, AllZip, remove, insert, take-map, drop-map, Expression, Matches, IsMeant, Steps, IfHolds, Chosen, Inputs, AreMeant, Matched, Matcher, matched_expression, room_of, wants_whole, Dropped, HasChanged, SearchesEach, SameMatchers, DropPattern, with_patterns, TakesSteps, parts_alone, all_lines, Inside, IsSession, inputs_of}
 use Rattle.std.proofs.lemmas.List.{get_or-map}
 use Rattle.re_syntax.proofs.lemmas.Decisions.{Any-first}
 use Rattle.re_syntax.proofs.lemmas.SomeOfJoined.{Any-single}
 use Rattle.grep_session.proofs.lemmas.SessionLemmas.{map-remove}
-use Rattle.grep_session.proofs.lemmas.StepLemmas.{CostOfEach-sum, pairs_cost-none, takes_touched}
+use Rattle.grep_session.proofs.lemmas.StepLemmas.{pairs_cost-none, takes_touched}
 use Rattle.grep_session.proofs.lemmas.DroppingLemmas.{AllZip-remove}
 
 -- two lists at one place
@@ -33,16 +33,15 @@ module _ (s : Inside) (p : ℕ) (old : IsSession s) (inside : p < length (inputs
 
 -- the parts of the lines that the removed pattern matched were searched
 pub takes_drop : (p : ℕ) (old : Inputs) (es before : List Expression) (e : Expression) (begun ended : Steps) → p < length old.patterns → AreMeant old.syntax old.options old.patterns before → HasChanged (Dropped p) es before (e ∷ []) old.options
-    → SearchesEach (ChangeCost (Dropped p) (e ∷ []) es old.options) (all_lines old) begun ended → TakesSteps (DropPattern p) old begun ended
+    → SearchesEach (Dropped p) (e ∷ []) es old.options (all_lines old) begun ended → TakesSteps (DropPattern p) old begun ended
 takes_drop p old es before e begun ended within meant h s =
     let same : e ≡ h.0 = ap (λ (l : List Expression). get_or l 0 e) h.4 in
     let is : e ≡ get_or before p e = subst (λ d. d ≡ get_or before p d) (sym same) h.2 in
-    let spent = s.at_most in
-    let sum = CostOfEach-sum (Dropped p) (e ∷ []) es old.options (all_lines old) spent.0 spent.1 spent.2 in
     let one = AllZip-at (λ text e. IsMeant old.syntax old.options.ignore_case text e) old.patterns before p [] e meant within in
-    let chosen = Chosen-as (Matched (e ∷ []) old.options) (λ line. Matches e line old.options.line_regexp) (λ line m. Any-single (λ e. Matches e line old.options.line_regexp) e m) (λ line m. Any-first (λ e. Matches e line old.options.line_regexp) e [] m) (all_lines old) sum.0 sum.2 in
-    takes_touched (DropPattern p) old (with_patterns (remove old.patterns p) old) es (parts_alone sum.0) spent.0 spent.1 sum.1 begun ended (inl (within, refl)) (e, subst (IsMeant old.syntax old.options.ignore_case (get_or old.patterns p [])) (sym is) one, sum.0, chosen, refl)
-    (subst (AreMeant old.syntax old.options (remove old.patterns p)) (sym h.3) (AllZip-remove (λ text e. IsMeant old.syntax old.options.ignore_case text e) old.patterns before p meant)) sum.3 (sum.6 ∙ ap (λ n. n + sum.1) (pairs_cost-none sum.4)) spent.3
+    let left = subst (AreMeant old.syntax old.options (remove old.patterns p)) (sym h.3) (AllZip-remove (λ text e. IsMeant old.syntax old.options.ignore_case text e) old.patterns before p meant) in
+    takes_touched (DropPattern p) old (with_patterns (remove old.patterns p) old) (Dropped p) (e ∷ []) es (all_lines old) begun ended (inl (within, refl)) left s (λ paired parted c d.
+    let chosen = Chosen-as (Matched (e ∷ []) old.options) (λ line. Matches e line old.options.line_regexp) (λ line m. Any-single (λ e. Matches e line old.options.line_regexp) e m) (λ line m. Any-first (λ e. Matches e line old.options.line_regexp) e [] m) (all_lines old) parted d in
+    (parts_alone parted, (e, subst (IsMeant old.syntax old.options.ignore_case (get_or old.patterns p [])) (sym is) one, parted, chosen, refl), refl, sym (pairs_cost-none paired)))
 
 -- an element that was removed is put back
 insert_first : {X : Type 0} (xs : List X) (y : X) → insert xs 0 y ≡ y ∷ xs

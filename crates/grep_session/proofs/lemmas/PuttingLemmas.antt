@@ -1,9 +1,9 @@
 -- Another pattern is put in the place of one: the matchers after that, and the steps that it takes.
-use Rattle.grep_session.proofs.Prelude.{Bool, true, false, false≢true, MatchBool, Matches, Matched, Chosen, IfHolds, IsSought, IsNarrower, Narrows, ◌≡◌, ℕ, zero, suc, ◌<◌, ◌≤◌, List, [], ◌∷◌, Ok, Err, All, All-cons, All-head, All-nil, All-set, inl, inr, length, map, get_or, refl, sym, ap, subst, ◌∙◌, arith, set, map-set, length-map, slice_set, Text, Expression, IsMeant, Matcher, IsReadable, AllAnswer, matched_expression, room_of, wants_whole, Steps, Inputs, AreMeant, Replaced, EditFault, ChangeCost, HasChanged, SearchesEach, SameMatchers, IsSession, inputs_of, Inside, Applies, ChangePattern, EditGives, with_patterns, AreMatchers, RefusesFirst, TakesSteps, KeepAtMost, all_lines}
+use Rattle.grep_session.proofs.Prelude.{Bool, true, false, false≢true, MatchBool, Matches, Matched, Chosen, IfHolds, IsSought, IsNarrower, Narrows, ◌≡◌, ℕ, zero, suc, ◌<◌, ◌≤◌, List, [], ◌∷◌, Ok, Err, All, All-cons, All-head, All-nil, All-set, inl, inr, length, map, get_or, refl, sym, ap, subst, ◌∙◌, arith, set, map-set, length-map, slice_set, Text, Expression, IsMeant, Matcher, IsReadable, AllAnswer, matched_expression, room_of, wants_whole, Steps, Inputs, AreMeant, Replaced, EditFault, HasChanged, SearchesEach, SameMatchers, IsSession, inputs_of, Inside, Applies, ChangePattern, EditGives, with_patterns, AreMatchers, RefusesFirst, TakesSteps, KeepAtMost, all_lines}
 use Rattle.std.proofs.lemmas.List.{get_or-map, length-set, set-get_or}
 use Rattle.re_syntax.proofs.lemmas.Decisions.{Any-first}
 use Rattle.re_syntax.proofs.lemmas.SomeOfJoined.{Any-single}
-use Rattle.grep_session.proofs.lemmas.StepLemmas.{CostOfEach-sum, chosen_all, takes_touched}
+use Rattle.grep_session.proofs.lemmas.StepLemmas.{chosen_all, takes_touched}
 use Rattle.grep_session.proofs.lemmas.FitLemmas.{zip-at, zip-set}
 use Rattle.grep_session.proofs.lemmas.PatternLemmas.{Chosen-as, has_matcher}
 use Rattle.grep_session.proofs.lemmas.NarrowingLemmas.{narrower_string}
@@ -65,16 +65,11 @@ module _ (s : Inside) (p : ℕ) (text : Text) (matcher : Matcher) (old : IsSessi
 
   -- these lines were searched by the new pattern, and those that it or the old one matches for parts
   pub takes_put : (narrower : Bool) (gone : Matcher) (all : List Matcher) (begun ended : Steps) → NarrowsIf narrower → gone ≡ get_or s.matchers.items p gone → all ≡ slice_set s.matchers.items p matcher → (text ≡ get_or (inputs_of s).patterns p [] → ⊥)
-      → SearchesEach (ChangeCost (Replaced p narrower) (matched_expression gone ∷ matched_expression matcher ∷ []) (map matched_expression all) s.options) (all_lines (inputs_of s)) begun ended → TakesSteps (ChangePattern p text) (inputs_of s) begun ended
+      → SearchesEach (Replaced p narrower) (matched_expression gone ∷ matched_expression matcher ∷ []) (map matched_expression all) s.options (all_lines (inputs_of s)) begun ended → TakesSteps (ChangePattern p text) (inputs_of s) begun ended
   takes_put narrower gone all begun ended narrows at put other searched =
       let inputs = inputs_of s in
-      let changed = matched_expression gone ∷ matched_expression matcher ∷ [] in
-      let es = map matched_expression all in
-      let spent = searched.at_most in
-      let sum = CostOfEach-sum (Replaced p narrower) changed es s.options (all_lines inputs) spent.0 spent.1 spent.2 in
-      let paired = put_paired narrower gone (all_lines inputs) sum.4 narrows sum.5 in
-      takes_touched (ChangePattern p text) inputs (with_patterns (slice_set inputs.patterns p text) inputs) es (record { patterns = 1; paired = sum.4; lines = sum.0 }) spent.0 spent.1 sum.1 begun ended (inl (inside, inl (new.readable, refl)))
-      (inr (other, (matched_expression gone, was_meant gone at, matched_expression matcher, new.meant.0, sum.4, paired, sum.0, sum.2, refl))) (are_put all put).meant sum.3 sum.6 spent.3
+      takes_touched (ChangePattern p text) inputs (with_patterns (slice_set inputs.patterns p text) inputs) (Replaced p narrower) (matched_expression gone ∷ matched_expression matcher ∷ []) (map matched_expression all) (all_lines inputs) begun ended (inl (inside, inl (new.readable, refl))) (are_put all put).meant searched (λ paired parted c d.
+      (record { patterns = 1; paired = paired; lines = parted }, inr (other, (matched_expression gone, was_meant gone at, matched_expression matcher, new.meant.0, paired, put_paired narrower gone (all_lines inputs) paired narrows c, parted, d, refl)), refl, refl))
 
 -- ---- the old one is put back
 

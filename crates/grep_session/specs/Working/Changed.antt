@@ -5,17 +5,16 @@ use Rattle.std.specs.List.{remove}
 use Rattle.re_syntax.specs.Bytes.{Text}
 use Rattle.re_syntax.specs.Expression.{Expression}
 use Rattle.re_syntax.specs.Holds.{Matches}
-use Rattle.grep_core.specs.Meters.{Steps, Adds}
+use Rattle.grep_core.specs.Meters.{Steps, AddsAtMost}
 use Rattle.grep_core.specs.declared.options.Options.{Options}
-use Rattle.grep_core.specs.Choose.{IfHolds}
-use Rattle.grep_core.specs.Cost.{search_cost}
+use Rattle.grep_core.specs.Choose.{Chosen}
 use Rattle.grep_core.specs.Files.{Matched}
 use Rattle.grep_session.specs.declared.change.Change.{Change}
 use Rattle.grep_session.specs.declared.change.Change.TheVariants.{Rebuild, PartsOnly, Added, Dropped}
 use Rattle.grep_session.specs.declared.change.Change.TheVariants.{Replaced}
 use Rattle.grep_session.specs.declared.kept.KeptFile.{KeptFile}
 use Rattle.line_chunks.specs.Working.Chunks.{KeptLine}
-use Rattle.grep_session.specs.Touched.{PartsCostOf}
+use Rattle.grep_session.specs.Touched.{pairs_cost, parting}
 use Rattle.grep_session.specs.Working.Kept.{AreMatching, IsKept, kept_lines}
 
 -- the first expression matches no line that the second does not match
@@ -75,16 +74,6 @@ abbrev pub IsSought : Change → List Expression → Options → Text → Type 0
 IsSought change changed options line =
     MatchBool (is_narrower change) (Matched (take 1 changed) options line) ⊤
 
--- the cost of the search of a line by so many expressions, if it is searched where this holds
-abbrev pub CostWhere : (Text → Type 0) → ℕ → Text → ℕ → ℕ → Type 0
-CostWhere Holds many line refusals cost =
-    (refusals ≡ 0) × IfHolds (Holds line) (cost ≡ search_cost many line) (cost ≡ 0)
-
--- the cost of a line's search by the new expressions
-abbrev pub SearchCost : Change → List Expression → Options → Text → ℕ → ℕ → Type 0
-SearchCost change changed options line refusals cost =
-    CostWhere (IsSought change changed options) (searched_for change changed) line refusals cost
-
 -- the parts of the line are searched: if patterns went or are new, where one of them matches
 abbrev pub HasNewParts : Change → List Expression → Options → Text → Type 0
 HasNewParts (Added first) changed options line = Matched changed options line
@@ -92,42 +81,19 @@ HasNewParts (Dropped p) changed options line = Matched changed options line
 HasNewParts (Replaced p narrower) changed options line = Matched changed options line
 HasNewParts _ changed options line = ⊤
 
--- the cost of a line's parts, where the allocation for its list of ends failed so often
-abbrev pub NewPartsCost : Change → List Expression → List Expression → Options → Text → ℕ → ℕ →
-    Type 0
-NewPartsCost change changed es options line refusals cost =
-    IfHolds (HasNewParts change changed options line) (PartsCostOf es options line refusals cost)
-    ((refusals ≡ 0) × (cost ≡ 0))
+-- some expression matches the line, and its parts are searched
+abbrev pub IsParted : Change → List Expression → List Expression → Options → Text → Type 0
+IsParted change changed es options line =
+    Matched es options line × HasNewParts change changed options line
 
--- the cost of a line: its search by the new expressions, and that for its parts
-abbrev pub ChangeCost : Change → List Expression → List Expression → Options → Text → ℕ → ℕ →
-    Type 0
-ChangeCost change changed es options line refusals cost =
-    (own : ℕ) × NewPartsCost change changed es options line refusals own
-    × (search : ℕ) × SearchCost change changed options line 0 search × (cost ≡ search + own)
-
--- the cost of a line that is searched anew
-abbrev pub CostAnew : List Expression → Options → Text → ℕ → ℕ → Type 0
-CostAnew es options line refusals cost = ChangeCost Rebuild es es options line refusals cost
-
--- the sums of the lines' refusals and costs
-abbrev pub CostOfEach : (Text → ℕ → ℕ → Type 0) → List Text → ℕ → ℕ → Type 0
-CostOfEach C [] refusals cost = (refusals ≡ 0) × (cost ≡ 0)
-CostOfEach C (line ∷ lines) refusals cost =
-    (mine : ℕ) × (others : ℕ) × (own : ℕ) × (rest : ℕ) × C line mine own ×
-    CostOfEach C lines others rest × (refusals ≡ mine + others) × (cost ≡ own + rest)
-
--- no more steps were taken, and no more bytes passed, than a cost with as many refusals as there were
-abbrev pub TakesAtMost : (ℕ → ℕ → Type 0) → Steps → Steps → Type 0
-TakesAtMost Cost begun ended =
-    (refusals : ℕ) × (cost : ℕ) × Cost refusals cost × Adds cost cost refusals begun ended
-
--- no more steps were taken than the lines cost
-pub record SearchesEach (C : Text → ℕ → ℕ → Type 0) (lines : List Text)
-    (begun ended : Steps) : Type 0 where
-  pub at_most : TakesAtMost (CostOfEach C lines) begun ended
-
--- no more steps were taken than the line costs
-pub record SearchesOne (C : Text → ℕ → ℕ → Type 0) (line : Text)
-    (begun ended : Steps) : Type 0 where
-  pub at_most : TakesAtMost (C line) begun ended
+-- no more steps were taken, and no more bytes passed, than the search of these lines costs by the
+-- new expressions, and that for their parts
+pub record SearchesEach (change : Change) (changed es : List Expression) (options : Options)
+    (lines : List Text) (begun ended : Steps) : Type 0 where
+  pub paired : List Text
+  pub are_paired : Chosen (IsSought change changed options) lines paired
+  pub parted : List Text
+  pub are_parted : Chosen (IsParted change changed es options) lines parted
+  pub few : AddsAtMost
+      (pairs_cost (searched_for change changed) paired + pairs_cost (parting es options) parted)
+      begun ended

@@ -1,5 +1,5 @@
 -- What is found in the lines of a chunk after a change of the patterns, and put in a column.
-use Rattle.std.specs.Prelude.{◌≡◌, ℕ, ◌<◌, ⊤, Bool, true, false, List, [], ◌++◌, All, length, drop, get_or, nat_eq, nat_lt, slice_range, ◌+◌, ◌≤◌, ◌&&◌, Option, Some, None, MatchBool, IsTrue, take, ◌||◌}
+use Rattle.std.specs.Prelude.{◌≡◌, ℕ, zero, suc, ◌<◌, ⊤, Bool, true, false, List, [], ◌++◌, All, length, drop, get_or, nat_eq, nat_lt, slice_range, ◌+◌, ◌≤◌, ◌&&◌, Option, Some, None, if◌then◌else◌, IsTrue, take, ◌||◌}
 use Rattle.std.specs.List.{AllZip, list_any, filter}
 use Rattle.std.specs.Bool.{Decides}
 use Rattle.re_syntax.specs.Bytes.{Text}
@@ -7,16 +7,14 @@ use Rattle.re_syntax.specs.Expression.{Expression}
 use Rattle.re_syntax.specs.Holds.{Matches}
 use Rattle.re_syntax.specs.Lines.{terminated}
 use Rattle.re_trees.specs.declared.span.Span.{Span}
-use Rattle.grep_core.specs.Meters.{Steps}
 use Rattle.grep_core.specs.declared.options.Options.{Options}
+use Rattle.grep_core.specs.Cost.{search_cost}
 use Rattle.grep_core.specs.Files.{Matched}
 use Rattle.line_chunks.specs.Working.Finds.{FoundIn, AreBelow, is_paired, numbers_at, without}
 use Rattle.line_chunks.specs.Working.Chunks.{KeptLine, no_line, FitsColumn}
 use Rattle.grep_session.specs.declared.change.Change.{Change}
 use Rattle.grep_session.specs.declared.change.Change.TheVariants.{Rebuild, Added, Dropped, Replaced}
-use Rattle.grep_session.specs.Touched.{PartsSearchCost}
-use Rattle.grep_session.specs.Working.Changed.{HasChanged, HasNewParts, TakesAtMost, WasKept}
-use Rattle.grep_session.specs.Working.Changed.{is_narrower}
+use Rattle.grep_session.specs.Working.Changed.{HasChanged, WasKept, is_narrower}
 use Rattle.grep_session.specs.Working.Found.{IsColumn}
 use Rattle.grep_session.specs.Working.Kept.{AddsMatching, ArePartsKept}
 
@@ -158,15 +156,22 @@ AreAllParts change es options lines old new parts =
     ArePartsAgain (is_paired k new) (has_new_parts change (numbers_at k old) (numbers_at k new)) es
     options (get_or lines k no_line) (get_or parts k [])
 
--- whether some expression matches each of the lines, and whether its parts are searched anew, is
--- known
-abbrev pub AreDecided : Change → List Expression → List Expression → Options → List Text →
-    List (ℕ × ℕ) → List (ℕ × ℕ) → Type 0
-AreDecided change changed es options texts old new =
-    (k : ℕ) → k < length texts →
-    Decides (is_paired k new) (Matched es options (get_or texts k [])) ×
-    Decides (has_new_parts change (numbers_at k old) (numbers_at k new))
-    (HasNewParts change changed options (get_or texts k []))
+-- ---- costs
+
+-- the cost of searching once by so many patterns those of the first `k` lines that are marked
+abbrev pub marked_cost : (ℕ → Bool) → ℕ → List Text → ℕ → ℕ
+marked_cost mark many texts zero = 0
+marked_cost mark many texts (suc k) =
+    marked_cost mark many texts k + (if mark k then search_cost many (get_or texts k []) else 0)
+
+-- a line has a pair of this number
+abbrev pub has_pair : ℕ → List (ℕ × ℕ) → ℕ → Bool
+has_pair number pairs k = has_number number (numbers_at k pairs)
+
+-- the parts of a line are searched anew
+abbrev pub is_parted : Change → List (ℕ × ℕ) → List (ℕ × ℕ) → ℕ → Bool
+is_parted change old new k =
+    is_paired k new && has_new_parts change (numbers_at k old) (numbers_at k new)
 
 -- ---- columns
 
@@ -194,12 +199,3 @@ IsNextLine e entire texts from (Some next) =
 abbrev pub next_line_cost : List Text → ℕ → Option ℕ → ℕ
 next_line_cost texts from None = length (terminated (drop from texts))
 next_line_cost texts from (Some next) = length (terminated (slice_range texts from (next + 1)))
-
--- the steps for a line's parts: those of a search if some expression matches it and its parts are
--- searched anew, and otherwise none
-pub record CostsParts (matched anew : Bool) (es : List Expression) (options : Options) (line : Text)
-    (begun ended : Steps) : Type 0 where
-  pub at_most : TakesAtMost
-      (λ refusals own.
-      MatchBool (matched && anew) (PartsSearchCost es options line refusals own)
-      ((refusals ≡ 0) × (own ≡ 0))) begun ended

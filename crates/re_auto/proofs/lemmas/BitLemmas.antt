@@ -180,93 +180,39 @@ at_word xs k b lt =
     let bit : (k * 64 + b) % 64 ≡ b = omega arith in
     (λ h. rw (word, bit) at h, λ h. rw (word, bit) h)
 
--- What S names among the numbers of one word is added, and the next word is the first one left.
-pub named_added : (A B : Type 0) (S R : ℕ → Type 0) (k word : ℕ) → ((b : ℕ) → b < 64 → S (k * 64 + b) ↔ (bit_at word b ≡ 1)) →
-    (B ↔ (A ⊎ ((b : ℕ) × (b < 64) × (bit_at word b ≡ 1) × R (k * 64 + b)))) →
-    (B ⊎ ((p : ℕ) × ((k + 1) * 64 ≤ p) × S p × R p)) ↔ (A ⊎ ((p : ℕ) × (k * 64 ≤ p) × S p × R p))
-named_added A B S R k word named add = (to, back)
+-- the members of one word are added, and the next word is the first one left
+pub word_added : (A B : Type 0) (R : ℕ → Type 0) (from : List ℕ) (k : ℕ) →
+    (B ↔ (A ⊎ ((b : ℕ) × (b < 64) × (bit_at (get_or from k 0) b ≡ 1) × R (k * 64 + b)))) →
+    (B ⊎ ((p : ℕ) × ((k + 1) * 64 ≤ p) × Has from p × R p)) ↔ (A ⊎ ((p : ℕ) × (k * 64 ≤ p) × Has from p × R p))
+word_added A B R from k add = (to, back)
   where
-    at : A ⊎ ((b : ℕ) × (b < 64) × (bit_at word b ≡ 1) × R (k * 64 + b)) → A ⊎ ((p : ℕ) × (k * 64 ≤ p) × S p × R p)
+    at : A ⊎ ((b : ℕ) × (b < 64) × (bit_at (get_or from k 0) b ≡ 1) × R (k * 64 + b)) → A ⊎ ((p : ℕ) × (k * 64 ≤ p) × Has from p × R p)
     at (inl a) = inl a
-    at (inr (b, lt, h, r)) = inr (k * 64 + b, omega arith, (named b lt).1 h, r)
+    at (inr (b, lt, h, r)) = inr (k * 64 + b, omega arith, (at_word from k b lt).1 h, r)
 
-    to : B ⊎ ((p : ℕ) × ((k + 1) * 64 ≤ p) × S p × R p) → A ⊎ ((p : ℕ) × (k * 64 ≤ p) × S p × R p)
+    to : B ⊎ ((p : ℕ) × ((k + 1) * 64 ≤ p) × Has from p × R p) → A ⊎ ((p : ℕ) × (k * 64 ≤ p) × Has from p × R p)
     to (inl b) = at (add.0 b)
     to (inr (p, le, h, r)) = inr (p, omega arith, h, r)
 
-    here : (p : ℕ) → k * 64 ≤ p → p < (k + 1) * 64 → S p → R p → B
+    here : (p : ℕ) → k * 64 ≤ p → p < (k + 1) * 64 → Has from p → R p → B
     here p low high h r =
         let lt : p - k * 64 < 64 = omega arith in
         let same : p ≡ k * 64 + (p - k * 64) = omega arith in
-        add.1 (inr (p - k * 64, lt, (named (p - k * 64) lt).0 (subst S same h), subst R same r))
+        add.1 (inr (p - k * 64, lt, (at_word from k (p - k * 64) lt).0 (subst (Has from) same h), subst R same r))
 
-    back : A ⊎ ((p : ℕ) × (k * 64 ≤ p) × S p × R p) → B ⊎ ((p : ℕ) × ((k + 1) * 64 ≤ p) × S p × R p)
+    back : A ⊎ ((p : ℕ) × (k * 64 ≤ p) × Has from p × R p) → B ⊎ ((p : ℕ) × ((k + 1) * 64 ≤ p) × Has from p × R p)
     back (inl a) = inl (add.1 (inl a))
     back (inr (p, low, h, r)) =
         elim (cases_lt p ((k + 1) * 64)) [ inl high ↦ inl (here p low high h r) | inr high ↦ inr (p, high, h, r) ]
 
--- nothing is left where S names no number
-pub all_named : (A B : Type 0) (S R : ℕ → Type 0) (k : ℕ) → ((p : ℕ) → k * 64 ≤ p → S p → ⊥) →
-    ((B ⊎ ((p : ℕ) × (k * 64 ≤ p) × S p × R p)) ↔ (A ⊎ ((p : ℕ) × S p × R p))) → B ↔ (A ⊎ ((p : ℕ) × S p × R p))
-all_named A B S R k none add = (λ b. add.0 (inl b), λ a. here (add.1 a))
-  where
-    here : B ⊎ ((p : ℕ) × (k * 64 ≤ p) × S p × R p) → B
-    here (inl b) = b
-    here (inr (p, low, h, r)) = absurd (none p low h)
-
--- what is added for the one member q
-pub same_named : (A B : Type 0) (S T : ℕ → Type 0) (R : Type 0) (q : ℕ) → (B ↔ (A ⊎ ((p : ℕ) × (S p × T p) × ((q ≡ p) × R)))) → B ↔ (A ⊎ (S q × T q × R))
-same_named A B S T R q add = (λ b. to (add.0 b), λ a. add.1 (back a))
-  where
-    to : A ⊎ ((p : ℕ) × (S p × T p) × ((q ≡ p) × R)) → A ⊎ (S q × T q × R)
-    to (inl a) = inl a
-    to (inr (p, both, (same, r))) = inr (subst S (sym same) both.0, subst T (sym same) both.1, r)
-
-    back : A ⊎ (S q × T q × R) → A ⊎ ((p : ℕ) × (S p × T p) × ((q ≡ p) × R))
-    back (inl a) = inl a
-    back (inr (s, t, r)) = inr (q, (s, t), (refl, r))
-
--- what is added to nothing
-pub without_none : (B : Type 0) (S T R : ℕ → Type 0) → (B ↔ (⊥ ⊎ ((p : ℕ) × (S p × T p) × R p))) → B ↔ ((p : ℕ) × S p × T p × R p)
-without_none B S T R add = (λ b. to (add.0 b), λ (p, s, t, r). add.1 (inr (p, (s, t), r)))
-  where
-    to : ⊥ ⊎ ((p : ℕ) × (S p × T p) × R p) → (p : ℕ) × S p × T p × R p
-    to (inl none) = absurd none
-    to (inr (p, both, r)) = (p, both.0, both.1, r)
-
--- no number of the set is after its last word
-pub none_past : (xs : List ℕ) (k : ℕ) → length xs ≤ k → (p : ℕ) → k * 64 ≤ p → Has xs p → ⊥
-none_past xs k le p low h = let lt = within xs p h in omega (arith, lt)
-
--- the same for the members of a set, which its word names
-pub word_added : (A B : Type 0) (R : ℕ → Type 0) (from : List ℕ) (k : ℕ) →
-    (B ↔ (A ⊎ ((b : ℕ) × (b < 64) × (bit_at (get_or from k 0) b ≡ 1) × R (k * 64 + b)))) →
-    (B ⊎ ((p : ℕ) × ((k + 1) * 64 ≤ p) × Has from p × R p)) ↔ (A ⊎ ((p : ℕ) × (k * 64 ≤ p) × Has from p × R p))
-word_added A B R from k = named_added A B (Has from) R k (get_or from k 0) (at_word from k)
-
--- the same where no member is after the last word
+-- nothing is left after the last word
 pub all_added : (A B : Type 0) (R : ℕ → Type 0) (from : List ℕ) (k : ℕ) → length from ≤ k →
     ((B ⊎ ((p : ℕ) × (k * 64 ≤ p) × Has from p × R p)) ↔ (A ⊎ ((p : ℕ) × Has from p × R p))) → B ↔ (A ⊎ ((p : ℕ) × Has from p × R p))
-all_added A B R from k le = all_named A B (Has from) R k (none_past from k le)
-
--- a number that both sets have is a bit that both words have
-pub both_at_word : (xs ys : List ℕ) (k b : ℕ) → b < 64 → (Has xs (k * 64 + b) × Has ys (k * 64 + b)) ↔ (bit_at (bit_and (get_or xs k 0) (get_or ys k 0)) b ≡ 1)
-both_at_word xs ys k b lt = (λ (h, i). to ((at_word xs k b lt).0 h) ((at_word ys k b lt).0 i), λ h. ((at_word xs k b lt).1 (first h), (at_word ys k b lt).1 (second h)))
+all_added A B R from k le add = (λ b. add.0 (inl b), λ a. here (add.1 a))
   where
-    x : ℕ
-    x = get_or xs k 0
-
-    y : ℕ
-    y = get_or ys k 0
-
-    to : bit_at x b ≡ 1 → bit_at y b ≡ 1 → bit_at (bit_and x y) b ≡ 1
-    to h i = omega (arith, bit_at_and x y b)
-
-    first : bit_at (bit_and x y) b ≡ 1 → bit_at x b ≡ 1
-    first h = omega (arith, bit_at_and x y b, bit_at-lt x b)
-
-    second : bit_at (bit_and x y) b ≡ 1 → bit_at y b ≡ 1
-    second h = omega (arith, bit_at_and x y b, bit_at-lt y b)
+    here : B ⊎ ((p : ℕ) × (k * 64 ≤ p) × Has from p × R p) → B
+    here (inl b) = b
+    here (inr (p, low, h, r)) = absurd (let lt = within from p h in omega (arith, low, lt, le))
 
 pub chained : {A B C : Type 0} → A ↔ B → B ↔ C → A ↔ C
 chained f g = (λ a. g.0 (f.0 a), λ c. f.1 (g.1 c))

@@ -1,5 +1,6 @@
 -- Where a part's chains of positions can run, and how one part's chains become another's.
-use Rattle.re_auto.proofs.Prelude.{◌≡◌, ℕ, zero, suc, ◌<◌, ◌≤◌, Bool, false, inl, inr, ◌++◌, length, slice_index, refl, subst, arith, ne_eqb, length-append, get_or_append_left, Text, Part, is_begin, is_end, ByteAt, Reaches}
+use Rattle.re_auto.proofs.Prelude.{◌≡◌, ℕ, zero, suc, ◌<◌, ◌≤◌, Bool, false, inl, inr, ◌++◌, length, slice_index, refl, sym, subst, arith, ne_eqb, length-append, get_or_append_left, Text, Part, is_begin, is_end, ByteAt, Reaches}
+use Rattle.re_trees.proofs.lemmas.BestStretches.{next_or_before}
 
 -- a place after the first is not the first
 pub not_at_begin : (k : ℕ) → 0 < k → is_begin k ≡ false
@@ -37,6 +38,22 @@ pub widen : (f h : Part) (line : Text) → ((b : Bool) (q : ℕ) → f.first b q
     Reaches f line i j q → Reaches h line i j q
 widen f h line first follow takes i j q r =
     graft f h line i i follow takes (λ q start t. (t, inl (refl, first (is_begin i) q start))) j q r
+
+-- a chain passes each place on its way, and a position takes each of its bytes
+pub passes : (part : Part) (line : Text) (i j k q : ℕ) → i < j → j ≤ k → Reaches part line i k q → (p : ℕ) × Reaches part line i j p
+passes part line i j zero q lt le r = absurd r
+passes part line i j (suc k) q lt le (t, before) = elim (next_or_before j k le) [
+  | inl e ↦ (q, subst (λ j. Reaches part line i j q) (sym e) (t, before))
+  | inr small ↦ elim before [
+    | inl (same, f) ↦ absurd (omega (arith, same, lt, small))
+    | inr (p, r, w) ↦ passes part line i j k p lt small r
+  ]
+]
+
+pub takes_each : (part : Part) (line : Text) (i j k q : ℕ) → i ≤ k → k < j → Reaches part line i j q → (p : ℕ) × part.takes p (slice_index line k)
+takes_each part line i j k q low high r =
+    let (p, here) = passes part line i (suc k) j q (omega (arith, low)) (omega (arith, high)) r in
+    (p, here.0.1)
 
 module _ (part : Part) (w rest : Text) where
   -- a chain over a front is one on each line that begins with it

@@ -1,5 +1,6 @@
 -- The positions of an expression say where it holds.
-use Rattle.re_auto.proofs.Prelude.{◌≡◌, ℕ, zero, suc, ◌+◌, Bool, IsTrue, inl, inr, ◌↔◌, length, slice_get, slice_index, Some, refl, sym, ◌∙◌, subst, arith, eq-eqb, eqb-true, ⊤, Text, Expression, empty, one_of, none_of, begin, end, cat_none, cat_more, alt_none, alt_more, repeat, Holds, positions, is_begin, is_end, Reaches, PartHolds, without_positions, one_position, part_of, PositionsDecide, slice_get_within, slice_get-get_or, get_or_from_slice_get}
+use Rattle.re_auto.proofs.Prelude.{◌≡◌, ℕ, zero, suc, ◌+◌, ◌<◌, ◌≤◌, Bool, IsTrue, inl, inr, ◌↔◌, length, slice_get, slice_index, Some, refl, sym, ◌∙◌, subst, arith, eq-eqb, eqb-true, ⊤, Text, Expression, empty, one_of, none_of, begin, end, cat_none, cat_more, alt_none, alt_more, repeat, Holds, positions, is_begin, is_end, Reaches, PartHolds, without_positions, one_position, part_of, PositionsDecide, slice_get_within, slice_get-get_or, get_or_from_slice_get}
+use Rattle.re_auto.proofs.lemmas.Chains.{takes_each}
 use Rattle.re_auto.proofs.lemmas.Numbered.{part_numbered}
 use Rattle.re_auto.proofs.lemmas.InTurnAndEither.{cut, joint, choose, chosen}
 use Rattle.re_auto.proofs.lemmas.RepeatedByCopies.{repeated_give, repeated_need}
@@ -71,3 +72,11 @@ module _ (line : Text) where
 -- the law of positions
 pub positions_decide : PositionsDecide
 positions_decide e n line i j = reported_too line e n i j
+
+-- some position takes each byte of a stretch on which the expression holds
+pub each_byte_taken : (e : Expression) (line : Text) (i j k : ℕ) → i ≤ k → k < j → Holds line e i j → (q : ℕ) × (part_of e 0).takes q (slice_index line k)
+each_byte_taken e line i j k low high h = chain ((positions_decide e 0 line i j).0 h)
+  where
+    chain : PartHolds (part_of e 0) line i j → (q : ℕ) × (part_of e 0).takes q (slice_index line k)
+    chain (inl (same, is_empty)) = absurd (omega (arith, same, low, high))
+    chain (inr (q, r, l)) = takes_each (part_of e 0) line i j k q low high r

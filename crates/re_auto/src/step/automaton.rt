@@ -1,16 +1,17 @@
 //! The position automaton of an expression, and the steps of sets of its positions.
-ghost use Rattle.std.specs.Prelude.{◌≡◌, ℕ, suc, ◌-◌, Bool, true, false, ◌<◌, ◌≤◌, ◌↔◌, Some};
-ghost use Rattle.std.specs.Prelude.{IsTrue, IfOk, IfErr, vec_len, length, slice_get, slice_index};
+ghost use Rattle.std.specs.Prelude.{◌≡◌, ℕ, suc, ◌-◌, Bool, List, true, false, ◌<◌, ◌≤◌, ◌↔◌, Some};
+ghost use Rattle.std.specs.Prelude.{IsTrue, IfOk, IfErr, length, slice_get, slice_index};
 ghost use Rattle.re_trees.specs.Bytes.{Text};
-ghost use Rattle.re_trees.specs.Working.Trees.{expression_of};
+ghost use Rattle.re_trees.specs.Working.Trees.{expression_of, members};
 ghost use Rattle.re_trees.specs.Holds.{Holds, positions};
 ghost use Rattle.re_trees.specs.Limits.{most_positions};
 ghost use Rattle.re_auto.specs.declared.mode.Mode.TheVariants.{Search};
 ghost use Rattle.re_auto.specs.Working.Bits.{Has, Are};
 ghost use Rattle.re_meter.specs.Meters.{many_built};
 ghost use Rattle.re_auto.specs.Working.Positions.{part_of, is_begin, is_end};
+ghost use Rattle.re_auto.specs.Working.Ranges.{Covers};
 ghost use Rattle.re_auto.specs.Working.SteppedSets.{MayBegin, IsNext};
-ghost use Rattle.re_auto.specs.Working.Tables.{most_words, words_for, CanBegin, IsRefused};
+ghost use Rattle.re_auto.specs.Working.Tables.{words_for, CanBegin, IsRefused};
 ghost use Rattle.re_auto.specs.Working.StateSets.{IsMadeFor, IsNowhere, StandsAt, IsNextSet};
 ghost use Rattle.re_auto.specs.Working.StateSets.{IsAccepting, AreAlikeInClasses};
 
@@ -20,10 +21,11 @@ use crate::bits;
 use crate::build::BuildFault;
 use crate::build::fill::build_tables;
 use crate::mode::Mode;
+use crate::ranges::WordRange;
 use crate::step::state_set::StateSet;
 use crate::tables::Tables;
 use re_meter::Meter;
-use re_trees::Tree;
+use re_trees::{ByteSet, Tree};
 use std::alloc::{AllocError, Global};
 use std::marker::Model;
 
@@ -166,9 +168,8 @@ impl Automaton {
 
     /// The words of an empty set.
     pub(crate) fn blank_words(&self, alloc: Global) -> Result<Vec<u64>, AllocError>
-        ensures blank { IfOk result
+        ensures { IfOk result
             (λ words. Are words.items (λ _. ⊥) (words_for (positions (expression_of self.now)))) }
-        ensures few { IfOk result (λ words. vec_len words ≤ most_words) }
     {
         vec![in alloc; 0; self.tables.width]
     }
@@ -242,6 +243,32 @@ impl Automaton {
             (words_for (positions (expression_of self.now))) }
     {
         bits::row(&self.tables.follow, self.tables.width, p)
+    }
+
+    /// The range of the words of `following(p)` that contains its members.
+    #[inline(always)]
+    pub fn followed_words(&self, p: usize) -> WordRange
+        requires { p < positions (expression_of self.now) }
+        ensures { (row : List ℕ)
+            → Are row (λ q. (part_of (expression_of self.now) 0).follow p q)
+            (words_for (positions (expression_of self.now))) → Covers result row }
+    {
+        self.tables.ranges[p]
+    }
+
+    /// The bytes that some position takes.
+    pub fn bytes(&self) -> ByteSet
+        ensures { (c : ℕ) → c < 256 → IsTrue (members result c) ↔
+            ((q : ℕ) × (part_of (expression_of self.now) 0).takes q c) }
+    {
+        let mut bytes = ByteSet::empty();
+        'bytes: for byte in 0..256usize {
+            let taking = self.taking(byte as u8);
+            if bits::meets(taking, taking) {
+                bytes = bytes.union(ByteSet::only(byte as u8));
+            }
+        }
+        bytes
     }
 
     /// The positions that take the byte.

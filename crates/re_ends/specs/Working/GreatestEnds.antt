@@ -1,12 +1,13 @@
 -- Greatest ends: for each position, the greatest place at which a stretch can end that takes the
 -- byte at a place with it.
-use Rattle.std.specs.Prelude.{◌≡◌, ℕ, zero, suc, ◌+◌, ◌<◌, ◌≤◌, ◌↔◌, ◌⊎◌, Bool, List, length, slice_index}
+use Rattle.std.specs.Prelude.{◌≡◌, ℕ, zero, suc, ◌+◌, ◌<◌, ◌≤◌, ◌↔◌, ◌⊎◌, Bool, List, Option, Some, None, length, slice_index}
 use Rattle.re_trees.specs.Bytes.{Text}
 use Rattle.re_trees.specs.Expression.{Expression}
 use Rattle.re_trees.specs.Holds.{Holds}
 use Rattle.re_trees.specs.Parts.{IsFound}
 pub use Rattle.re_trees.specs.Working.PutEnds.{AddsEnds}
-use Rattle.re_auto.specs.Working.Positions.{Part, is_end, ByteAt}
+use Rattle.re_trees.specs.declared.span.Span.{Span}
+use Rattle.re_auto.specs.Working.Positions.{Part, part_of, is_end, ByteAt}
 
 -- A stretch that takes the byte at place p with position q can take n bytes more and end there.
 abbrev pub Leads : Part → Text → ℕ → ℕ → ℕ → Type 0
@@ -41,3 +42,18 @@ MatchesPast e line i m =
 -- some expression has a part that begins at i, wherever the search began, and ends after m
 abbrev pub FoundPast : List Expression → Text → Bool → ℕ → ℕ → Type 0
 FoundPast es line whole i m = (j : ℕ) × (m < j) × IsFound es line whole 0 i j
+
+-- no match goes over this place: it is the line's end, or no position takes the byte there
+abbrev pub IsBorder : Expression → Text → ℕ → Type 0
+IsBorder e line p =
+    (p ≡ length line)
+    ⊎ ((p < length line) × ((q : ℕ) → (part_of e 0).takes q (slice_index line p) → ⊥))
+
+-- the first matched stretch that is not empty and begins from `start` on and before `end`, the
+-- longest there
+abbrev pub FindsIn : Expression → Text → ℕ → ℕ → Option Span → Type 0
+FindsIn e line start end None = (i m : ℕ) → start ≤ i → i < end → MatchesPast e line i m → ⊥
+FindsIn e line start end (Some s) =
+    (start ≤ s.start) × (s.start < end) × (s.start < s.end)
+    × ((m : ℕ) → (m < s.end) ↔ MatchesPast e line s.start m)
+    × ((i m : ℕ) → start ≤ i → i < s.start → MatchesPast e line i m → ⊥)

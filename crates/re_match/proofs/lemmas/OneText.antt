@@ -64,8 +64,8 @@ module _ (text line : Text) where
           ]
 
   -- the occurrences of a text that is not empty are the stretches found
-  pub past_found : 0 < length text → (i m : ℕ) → i < length line → ((m < i + length text) × OccursAt line text i) ↔ FoundPast (sequence (map byte text) ∷ []) line false i m
-  past_found some i m lt = (
+  pub past_found : 0 < length text → (start i m : ℕ) → i < length line → ((m < start + (i + length text)) × OccursAt line text i) ↔ ((j : ℕ) × (m < start + j) × IsFound (sequence (map byte text) ∷ []) line false 0 i j)
+  past_found some start i m lt = (
     λ (past, o). (let same : 0 + i ≡ i = omega arith in (i + length text, past, subst (λ k. IsFound (sequence (map byte text) ∷ []) line false 0 k (k + length text)) same (occurs-found 0 i some o))),
     λ (j, past, f). (let same : i - 0 ≡ i = omega arith in let o = found-occurs 0 i j f in (omega (arith, past, o.1), subst (OccursAt line text) same o.0)),
   )

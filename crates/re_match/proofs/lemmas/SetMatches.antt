@@ -1,5 +1,5 @@
 -- What a choice of fixed strings matches: the lines that have one of them, as strings are compared.
-use Rattle.re_match.proofs.Prelude.{◌≡◌, ◌↔◌, ℕ, ◌+◌, ◌-◌, ◌<◌, ◌≤◌, inl, inr, Bool, true, false, IsTrue, List, [], ◌∷◌, ◌++◌, length, map, take, drop, Option, Some, None, refl, sym, ap, subst, ◌∙◌, arith, length-append, length-drop, is_some, Text, alt, byte, sequence, Holds, Matches, IsFound, Span, IsString, Occurs, IsBestOccurrence, EndsFirst, FoundPast, Literals, any_literal, key, keys, FindsPart, drop-append-le, take-append-drop, length-take-le, length-map, drop_of_length-le, cases_lt, false≢true}
+use Rattle.re_match.proofs.Prelude.{◌≡◌, ◌↔◌, ℕ, ◌+◌, ◌-◌, ◌<◌, ◌≤◌, inl, inr, Bool, true, false, IsTrue, List, [], ◌∷◌, ◌++◌, length, map, take, drop, Option, Some, None, refl, sym, ap, subst, ◌∙◌, arith, length-append, length-drop, is_some, Text, alt, byte, sequence, Holds, Matches, IsFound, Span, IsString, Occurs, IsBestOccurrence, EndsFirst, Literals, any_literal, key, keys, FindsPart, drop-append-le, take-append-drop, length-take-le, length-map, drop_of_length-le, cases_lt, false≢true}
 use Rattle.re_trees.proofs.lemmas.Decisions.{Any-first, Any-later, Any-cases, Any-none}
 use Rattle.re_trees.proofs.lemmas.FixedStrings.{stands-holds, holds-stands}
 use Rattle.re_trees.proofs.lemmas.HoldsDecided.{Holds-le}
@@ -53,10 +53,10 @@ module _ (l : Literals) (line : Text) where
   size = length-map line (key l.fold)
 
   -- where the choice holds there is a string in the line as it is compared
-  any_stands : (i j : ℕ) → i ≤ j → j ≤ length line → Holds line (any_literal l) i j → IsString (map (keys l.fold) l.texts) (drop i (take j (keys l.fold line)))
+  pub any_stands : (i j : ℕ) → i ≤ j → j ≤ length line → Holds line (any_literal l) i j → IsString (map (keys l.fold) l.texts) (drop i (take j (keys l.fold line)))
   any_stands i j le within h = choice_stands (keys l.fold line) i j (map (keys l.fold) l.texts) le (omega (arith, within, size)) ((choice_keys line l.fold l.texts i j).0 h)
 
-  stands_any : (i j : ℕ) → i ≤ j → j ≤ length line → IsString (map (keys l.fold) l.texts) (drop i (take j (keys l.fold line))) → Holds line (any_literal l) i j
+  pub stands_any : (i j : ℕ) → i ≤ j → j ≤ length line → IsString (map (keys l.fold) l.texts) (drop i (take j (keys l.fold line))) → Holds line (any_literal l) i j
   stands_any i j le within s = (choice_keys line l.fold l.texts i j).1 (stands_choice (keys l.fold line) i j (map (keys l.fold) l.texts) le (omega (arith, within, size)) s)
 
   -- where the empty string is one of them each line is matched
@@ -110,8 +110,8 @@ module _ (l : Literals) (line : Text) where
       record { begins = o.0; not_empty = some; on_line = within; is_whole = tt; holds = Any-first (λ e. Holds line e i j) (any_literal l) [] (stands_any i j (omega (arith, some)) within o.3) }
 
   -- the strings of the line are the stretches found
-  pub strings_found : (i m : ℕ) → i < length line → ((j : ℕ) × (m < j) × Occurs (map (keys l.fold) l.texts) 0 (keys l.fold line) i j) ↔ FoundPast (any_literal l ∷ []) line false i m
-  strings_found i m lt = (λ (j, past, o). (j, past, found_there 0 i j o), λ (j, past, f). (j, past, occurs_there 0 i j f))
+  pub strings_found : (start i m : ℕ) → i < length line → ((j : ℕ) × (m < start + j) × Occurs (map (keys l.fold) l.texts) 0 (keys l.fold line) i j) ↔ ((j : ℕ) × (m < start + j) × IsFound (any_literal l ∷ []) line false 0 i j)
+  strings_found start i m lt = (λ (j, past, o). (j, past, found_there 0 i j o), λ (j, past, f). (j, past, occurs_there 0 i j f))
 
   -- the best of the strings in the line is the part
   pub best_is_part : (from : ℕ) (best : Option Span) → IsBestOccurrence (map (keys l.fold) l.texts) from (keys l.fold line) (length line) best → FindsPart (any_literal l ∷ []) line false from best

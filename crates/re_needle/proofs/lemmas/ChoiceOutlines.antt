@@ -1,6 +1,7 @@
 -- Outlines of choices: the sets that all branches begin with, joined place by place.
-use Rattle.re_needle.proofs.Prelude.{◌≡◌, ◌≢◌, ℕ, zero, suc, ◌+◌, ◌<◌, ◌≤◌, ◌⊎◌, inl, inr, IsTrue, List, [], ◌∷◌, ◌++◌, length, map, take, get_or, slice_get, Option, None, Some, refl, sym, ap, ◌∙◌, subst, arith, append_assoc, set, get_or-set_at, get_or-set_other, map-append, take_more, Bytes, Text, nothing, Expression, alt, expression_of, Tree, OutlineItem, set_at, shown, Fits, IsOutline, AddsOutline, AddsSets, AreJoined, BeginsWith, Leads}
+use Rattle.re_needle.proofs.Prelude.{◌≡◌, ◌≢◌, ℕ, zero, suc, ◌+◌, ◌<◌, ◌≤◌, ◌⊎◌, inl, inr, IsTrue, List, [], ◌∷◌, ◌++◌, length, map, take, get_or, slice_get, Option, None, Some, refl, sym, ap, ◌∙◌, subst, arith, append_assoc, set, get_or-set_at, get_or-set_other, map-append, Bytes, Text, nothing, Expression, alt, expression_of, Tree, OutlineItem, set_at, shown, Fits, IsOutline, AddsOutline, AddsSets, AreJoined, BeginsWith, Leads}
 use Rattle.re_needle.specs.declared.outline_item.OutlineItem.TheVariants as m
+use Rattle.re_needle.proofs.lemmas.NeededLaws.{parts_grown}
 use Rattle.re_needle.proofs.lemmas.OutlineLaws.{fits_le, sets_cut}
 
 -- ---- what an outline begins with
@@ -111,8 +112,7 @@ branch_more sets (f ∷ es) e all one = λ line i j h. elim h [
 pub parts_more : (sets : List Bytes) (parts : List Tree) (i : ℕ) (part : Tree) → i < length parts → part ≡ get_or parts i part
     → BeginsWith sets (alt (map expression_of (take i parts))) → BeginsWith sets (expression_of part) → BeginsWith sets (alt (map expression_of (take (i + 1) parts)))
 parts_more sets parts i part lt is all one =
-    let grown : map expression_of (take (i + 1) parts) ≡ map expression_of (take i parts) ++ expression_of part ∷ [] =
-    ap (map expression_of) (take_more parts i part lt) ∙ map-append expression_of (take i parts) (get_or parts i part ∷ []) ∙ ap (λ x. map expression_of (take i parts) ++ expression_of x ∷ []) (sym is) in
+    let grown = parts_grown parts i part lt is in
     subst (λ es. BeginsWith sets (alt es)) (sym grown) (branch_more sets (map expression_of (take i parts)) (expression_of part) all one)
 
 -- ---- what is added to the marks

@@ -1,9 +1,9 @@
 -- Outlines of expressions, and the runs of sets that they make needed.
-use Rattle.re_needle.proofs.Prelude.{◌≡◌, ℕ, zero, suc, ◌+◌, ◌-◌, ◌<◌, ◌≤◌, IsTrue, List, [], ◌∷◌, ◌++◌, length, map, take, drop, get_or, replicate, slice_index, Option, None, Some, Result, Ok, Err, IfOk, refl, sym, ap, ◌∙◌, subst, arith, append_assoc, length-append, length-drop, take-append-drop, length-map, append-nil, map-append, take_more, replicate_more, get_or_from_slice_get, slice_get-get_or, Bytes, Text, Expression, one_of, cat, repeat, expression_of, members, Holds, Turns, ByteSet, Tree, OutlineItem, one_run, RunIsAt, All, set_at, shown, MarkFits, Fits, AreSetMarks, IsOutline, AddsOutline, AddsTurns, RunIsNeeded, RunBegins, IsJustRun}
+use Rattle.re_needle.proofs.Prelude.{◌≡◌, ℕ, zero, suc, ◌+◌, ◌-◌, ◌<◌, ◌≤◌, IsTrue, List, [], ◌∷◌, ◌++◌, length, map, take, drop, get_or, replicate, slice_index, Option, None, Some, Result, Ok, Err, IfOk, refl, sym, ap, ◌∙◌, subst, arith, append_assoc, length-append, length-drop, take-append-drop, length-map, append-nil, map-append, replicate_more, get_or_from_slice_get, slice_get-get_or, Bytes, Text, Expression, one_of, cat, repeat, expression_of, members, Holds, Turns, ByteSet, Tree, OutlineItem, one_run, RunIsAt, All, set_at, shown, MarkFits, Fits, AreSetMarks, IsOutline, AddsOutline, AddsTurns, RunIsNeeded, RunBegins, IsJustRun}
 use Rattle.re_trees.proofs.lemmas.HoldsDecided.{Holds-le, Turns-le}
 use Rattle.re_needle.specs.declared.outline_item.OutlineItem.TheVariants as m
 use Rattle.re_trees.proofs.lemmas.Decisions.{Any-first}
-use Rattle.re_needle.proofs.lemmas.NeededLaws.{cat_cut}
+use Rattle.re_needle.proofs.lemmas.NeededLaws.{cat_cut, parts_grown}
 use Rattle.re_runs.proofs.lemmas.RunLaws.{one_stands}
 
 -- ---- marks one after another
@@ -178,8 +178,7 @@ adds_turn old middle new set n (more, same, sets) added = (
 pub adds_more : (old middle new : List OutlineItem) (parts : List Tree) (i : ℕ) (part : Tree) → i < length parts → part ≡ get_or parts i part
     → AddsOutline old (cat (map expression_of (take i parts))) middle → AddsOutline middle (expression_of part) new → AddsOutline old (cat (map expression_of (take (i + 1) parts))) new
 adds_more old middle new parts i part lt is (xs, first, front) (ys, second, back) =
-    let grown : map expression_of (take (i + 1) parts) ≡ map expression_of (take i parts) ++ expression_of part ∷ [] =
-    ap (map expression_of) (take_more parts i part lt) ∙ map-append expression_of (take i parts) (get_or parts i part ∷ []) ∙ ap (λ x. map expression_of (take i parts) ++ expression_of x ∷ []) (sym is) in (
+    let grown = parts_grown parts i part lt is in (
       xs ++ ys,
       second ∙ ap (λ l. l ++ ys) first ∙ append_assoc old xs ys,
       subst (λ l. IsOutline l (cat (map expression_of (take (i + 1) parts)))) (sym (map-append shown xs ys))

@@ -1,5 +1,5 @@
 -- Strings, and choices of runs of sets, that each stretch on which an expression holds contains.
-use Rattle.std.specs.Prelude.{◌≡◌, ℕ, ◌+◌, ◌<◌, ◌≤◌, slice_index, IsTrue, IfSome, All, Any, List, Option, length, ◌⊎◌, Bool, true, false, ⊤}
+use Rattle.std.specs.Prelude.{◌≡◌, ℕ, ◌+◌, ◌≤◌, IsTrue, IfSome, All, Any, List, Option, length, ◌⊎◌, Bool, true, false, ⊤}
 use Rattle.re_trees.specs.Bytes.{Bytes, Text}
 use Rattle.re_trees.specs.Expression.{Expression, begin, cat_more, alt_more, repeat}
 use Rattle.re_trees.specs.Holds.{Holds}
@@ -37,12 +37,6 @@ pub record IsJustRun (runs : Runs) (e : Expression) : Type 0 where
 abbrev pub RunBegins : Runs → Expression → Type 0
 RunBegins runs e =
     (line : Text) (i j : ℕ) → j ≤ length line → Holds line e i j → RunStandsAt line runs i
-
--- each byte of each stretch on which the expression holds is in the set
-abbrev pub HasBytesOf : Bytes → Expression → Type 0
-HasBytesOf set e =
-    (line : Text) → ((x : ℕ) → slice_index line x < 256) → (i j : ℕ) → Holds line e i j →
-    (k : ℕ) → i ≤ k → k < j → IsTrue (set (slice_index line k))
 
 -- no `^` is in it: whether it holds doesn't depend on where the line begins
 abbrev pub HasNoBegin : Expression → Type 0

@@ -1,5 +1,5 @@
 -- What a list of one matcher says of the lines of a block.
-use Rattle.re_search.proofs.Prelude.{◌≡◌, List, [], ◌∷◌, length, map, get_or, ap, arith, ℕ, Bool, sym, subst, Option, All-head, Text, Expression, Matches, AllAnswer, SomeMatches, CountsMatched, FindsMatched, CountsMatchedByAll, Span, IsSought, FindsSought}
+use Rattle.re_search.proofs.Prelude.{◌≡◌, List, [], ◌∷◌, length, map, get_or, ap, arith, ℕ, Bool, sym, subst, Option, All-head, Text, Expression, Matches, AllAnswer, SomeMatches, CountsMatched, FindsMatched, CountsMatchedByAll, Span, Sought, IsSought, FindsSought, get_or_default}
 use Rattle.re_syntax.proofs.lemmas.Decisions.{Any-first}
 use Rattle.re_syntax.proofs.lemmas.SomeOfJoined.{Any-single}
 use Rattle.re_runs.proofs.lemmas.CountedBlocks.{counts_same}
@@ -10,6 +10,15 @@ pub only_one : {A B : Type 0} (f : A → B) (xs : List A) (x : A) → length xs 
 only_one f [] x one is = absurd (omega (arith, one))
 only_one f (y ∷ []) x one is = ap (λ z. f z ∷ []) is
 only_one f (y ∷ z ∷ xs) x one is = absurd (omega (arith, one))
+
+-- what one matcher searches for
+pub alone : {M : Type 0} (expression : M → Expression) (whole : M → Bool) (ms : List M) (d : M) (asked : Bool) → length ms ≡ 1 → AllAnswer asked (map whole ms) →
+    ◌≡◌ {A = Sought} (record { expressions = map expression ms; whole = asked }) (record { expressions = expression (get_or ms 0 d) ∷ []; whole = whole (get_or ms 0 d) })
+alone expression whole ms d asked one all =
+    let m = get_or ms 0 d in
+    let is : get_or ms 0 m ≡ m = get_or_default ms 0 m d (omega (arith, one)) in
+    let answers : whole m ≡ asked = All-head (λ w. w ≡ asked) (whole m) [] (subst (AllAnswer asked) (only_one whole ms m one is) all) in
+    λ i. record { expressions = only_one expression ms m one is i; whole = sym answers i }
 
 -- of one matcher the lines that it matches are counted
 pub counts_of_one : (es : List Expression) (wholes : List Bool) (e : Expression) (whole : Bool) → es ≡ e ∷ [] → wholes ≡ whole ∷ [] → (lines : List Text) (n : ℕ) → CountsMatched e whole lines n → CountsMatchedByAll es wholes lines n

@@ -51,10 +51,6 @@ adds_on_by n all before others end old mid new few low left a b =
     let most = mul-le-mul_left n further in
     adds_within (n * (all - before) + n * (end + 1)) (n * (all - others)) old new (omega (arith, joined, most)) (adds_both (n * (all - before)) (n * (end + 1)) old mid new a b)
 
--- matchers of the same expressions are of the same number
-pub same_length : {A B : Type 0} (f : A → B) (xs ys : List A) → map f xs ≡ map f ys → length xs ≡ length ys
-same_length f xs ys e = sym (length-map xs f) ∙ ap length e ∙ length-map ys f
-
 -- a line that a filter ruled out
 pub ruled_out : (n long : ℕ) (old new : Steps) → 1 ≤ n → AddsUpTo (long + 1) long old new → AddsAtMost (n * (long + 1)) old new
 ruled_out n long old new some a =

@@ -18,17 +18,11 @@ use re_auto::Meter;
 use re_match::{LineMatch, Stop};
 use re_runs::line_end;
 use re_syntax::Span;
-use std::alloc::Global;
 
 impl<'a, 'f, M: LineMatch> Searchers<'a, 'f, M> {
     /// These matchers, all of which give this answer to whether the whole line has to be matched. A
     /// line without the strings of the filter, if it has any, is matched by none of them.
-    pub fn new(
-        alloc: Global,
-        matchers: &'a mut [M],
-        filter: &'f Filter,
-        whole: bool,
-    ) -> Searchers<'a, 'f, M>
+    pub fn new(matchers: &'a mut [M], filter: &'f Filter, whole: bool) -> Searchers<'a, 'f, M>
         requires alike { AllAnswer whole (map M.whole matchers.old) }
         requires needed { ForSome filter.now (λ strings. AreNeeded strings (map M.expression matchers.old)) }
         ensures same_matchers { result.matchers.now ≡ matchers.old }
@@ -36,7 +30,6 @@ impl<'a, 'f, M: LineMatch> Searchers<'a, 'f, M> {
         ensures same_loan { result.matchers.ghost_name ≡ matchers.entry.ghost_name }
     {
         Searchers {
-            alloc,
             matchers,
             filter,
             whole,

@@ -1,7 +1,6 @@
 -- Places of a line at which no matched stretch ends, and the steps up to them.
 use Rattle.re_steps.proofs.Prelude.{◌≡◌, ℕ, zero, suc, ◌+◌, ◌<◌, ◌≤◌, Bool, true, false, IsTrue, ◌⊎◌, inl, inr, length, refl, sym, ◌∙◌, subst, arith, ◌↔◌, Text, Expression, Holds, Matches, Search, Whole, StateSet, PartHolds, part_of, is_begin, IsNowhere, StandsAt, EndsAt, NoneEndsBefore, false≢true}
-use Rattle.re_auto.proofs.lemmas.Chains.{not_at_begin}
-use Rattle.re_auto.proofs.lemmas.LeastStarts.{passes}
+use Rattle.re_auto.proofs.lemmas.Chains.{not_at_begin, passes}
 use Rattle.re_auto.proofs.lemmas.PositionsDecide.{positions_decide}
 
 -- what holds of no place before `next`, and not there, holds of none up to there

@@ -58,21 +58,11 @@ stepped (suc n) steps = many_built (suc n) steps
 
 stepped_more : (n : ℕ) (steps : Steps) → many_built 1 (stepped n steps) ≡ stepped (suc n) steps
 stepped_more zero steps = refl
-stepped_more (suc n) steps = ap (λ k. record { built = k; reused = steps.reused; passed = steps.passed; refused = steps.refused }) (omega arith)
+stepped_more (suc n) steps = ap (λ k. record { built = k; reused = steps.reused; passed = steps.passed }) (omega arith)
 
 stepped_is : (n : ℕ) (old new : Steps) → (0 < n → new ≡ many_built n old) → (n ≡ 0 → new ≡ old) → new ≡ stepped n old
 stepped_is zero old new counted none = none refl
 stepped_is (suc n) old new counted none = counted (omega arith)
-
--- bytes that are passed, where any are, count at most as many steps
-pub passed_adds : (place next : ℕ) (old new : Steps) → (place < next → new ≡ many_built (next - place) old) → (next ≡ place → new ≡ old) → place ≤ next → AddsUpTo (next - place) 0 old new
-passed_adds place next old new counted none le = elim (sides place next le) [
-  | inl same ↦ rw (none same) (adds_none (next - place) 0 old)
-  | inr some ↦ rw (counted some) (built_adds (next - place) 0 old)
-]
-  where
-    sides : (j n : ℕ) → j ≤ n → (n ≡ j) ⊎ (j < n)
-    sides j n le = search arith
 
 -- a cache without entries holds nothing
 pub nothing_held : (cache : Cache) (set : StateSet) (c : ℕ) → cache.entries ≡ [] → ¬ IsHeld cache set c

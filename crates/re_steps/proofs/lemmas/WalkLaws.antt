@@ -12,7 +12,7 @@ walked_none place steps = let none : place - place ≡ 0 = omega arith in ap (λ
 -- steps that were reused, and one more
 pub walked_more : (n : ℕ) (steps : Steps) → many_reused 1 (walked n steps) ≡ walked (suc n) steps
 walked_more zero steps = refl
-walked_more (suc n) steps = ap (λ k. record { built = steps.built; reused = k; passed = steps.passed; refused = steps.refused }) (omega arith)
+walked_more (suc n) steps = ap (λ k. record { built = steps.built; reused = k; passed = steps.passed }) (omega arith)
 
 -- the mode is that for whole lines, or it isn't
 pub is_whole : (mode : Mode) → true ≡ sameb the_type mode Whole → mode ≡ Whole

@@ -1,5 +1,5 @@
 -- How far a text and a line begin with the same bytes: what a window that was found before says.
-use Rattle.re_strings.proofs.Prelude.{◌≡◌, ◌↔◌, ℕ, ◌+◌, ◌-◌, ◌<◌, ◌⊎◌, inl, inr, length, sym, subst, arith, cases_lt, OccursAt, Text, AgreesUpTo, CommonLength}
+use Rattle.re_strings.proofs.Prelude.{◌≡◌, ◌↔◌, ℕ, ◌+◌, ◌<◌, ◌⊎◌, inl, inr, length, sym, subst, arith, cases_lt, OccursAt, Text, CommonLength}
 
 module _ (text line : Text) where
   -- the text stands where the length is its own
@@ -20,9 +20,9 @@ module _ (text line : Text) where
   )
 
 -- one more place is put, if the text stands there
-pub one_place_put : (text line : Text) (place n : ℕ) → CommonLength text line place n → (i m : ℕ)
-    → ((i < place) × (m < i + length text) × OccursAt line text i ⊎ (i ≡ place) × (n ≡ length text) × (m < place + n)) ↔ ((i < place + 1) × (m < i + length text) × OccursAt line text i)
-one_place_put text line place n c i m = (
+pub one_place_put : (start : ℕ) (text line : Text) (place n : ℕ) → CommonLength text line place n → (i m : ℕ)
+    → ((i < place) × (m < start + (i + length text)) × OccursAt line text i ⊎ (i ≡ place) × (n ≡ length text) × (m < start + (place + n))) ↔ ((i < place + 1) × (m < start + (i + length text)) × OccursAt line text i)
+one_place_put start text line place n c i m = (
   (λ h. elim h [
     | inl p ↦ let early = p.0 in (omega (arith, early), p.1, p.2)
     | inr q ↦

@@ -44,8 +44,8 @@ pub record Follows (all : Labels) (node output : ℕ) : Type 0 where
   pub some : 0 < output → (0 < length (all.label output)) × IsString all.strings (all.label output)
 
 -- the strings that the node ends with and that are longer than the output are put
-abbrev pub PutsLonger : Labels → ℕ → ℕ → ℕ → ℕ → ℕ → Type 0
-PutsLonger all node end output i m = (n : ℕ) × (m < end) × (i + n ≡ end) × (length (all.label output) < n) × EndsWith all.strings (all.label node) n
+abbrev pub PutsLonger : Labels → ℕ → ℕ → ℕ → ℕ → ℕ → ℕ → Type 0
+PutsLonger all node end top output i m = (n : ℕ) × (m < top) × (i + n ≡ end) × (length (all.label output) < n) × EndsWith all.strings (all.label node) n
 
 module _ (all : Labels) (node : ℕ) where
   -- an end of the node that is no longer than the output is an end of the output
@@ -64,8 +64,8 @@ module _ (all : Labels) (node : ℕ) where
   first_output output o = record { low = o.ends.within; is = o.is; some = output_string (all.label node) output o }
 
   -- no string that the node ends with is longer than that
-  pub none_longer : (output end : ℕ) → IsOutput all (all.label node) output → (i m : ℕ) → ¬ PutsLonger all node end output i m
-  none_longer output end o i m (n, lt, sum, longer, ends) =
+  pub none_longer : (output end top : ℕ) → IsOutput all (all.label node) output → (i m : ℕ) → ¬ PutsLonger all node end top output i m
+  none_longer output end top o i m (n, lt, sum, longer, ends) =
       let (some, fits, own) = ends in
       let most = o.ends.longest (length (all.label node) - n) (omega (arith, some, fits)) own in
       omega (arith, most, longer, fits)
@@ -103,9 +103,9 @@ module _ (all : Labels) (node : ℕ) where
         omega (arith, most, fail_length, late, some, lt)
 
     -- where the output is put, those longer than the next are
-    pub output_put : (end start : ℕ) → 0 < output → length (all.label node) ≤ end → start ≡ end - length (all.label output) → (i m : ℕ)
-        → (PutsLonger all node end output i m ⊎ (i ≡ start) × (m < end)) ↔ PutsLonger all node end next i m
-    output_put end start inside le at i m = (
+    pub output_put : (end top start : ℕ) → 0 < output → length (all.label node) ≤ end → start ≡ end - length (all.label output) → (i m : ℕ)
+        → (PutsLonger all node end top output i m ⊎ (i ≡ start) × (m < top)) ↔ PutsLonger all node end top next i m
+    output_put end top start inside le at i m = (
       (λ h. elim h [
         | inl p ↦ let longer = p.3 in (p.0, p.1, p.2, omega (arith, shorter, longer), p.4)
         | inr here ↦
@@ -135,9 +135,9 @@ module _ (all : Labels) (node : ℕ) where
     )
 
 -- at the root all are put
-pub all_put : (all : Labels) (node end output : ℕ) → length (all.label output) ≡ 0 → (i m : ℕ)
-    → PutsLonger all node end output i m ↔ ((n : ℕ) × (m < end) × (i + n ≡ end) × EndsWith all.strings (all.label node) n)
-all_put all node end output none i m = (
+pub all_put : (all : Labels) (node end top output : ℕ) → length (all.label output) ≡ 0 → (i m : ℕ)
+    → PutsLonger all node end top output i m ↔ ((n : ℕ) × (m < top) × (i + n ≡ end) × EndsWith all.strings (all.label node) n)
+all_put all node end top output none i m = (
   (λ p. (p.0, p.1, p.2, p.4)),
   (λ p. let some = p.3.0 in (p.0, p.1, p.2, omega (arith, none, some), p.3)),
 )
@@ -145,8 +145,8 @@ all_put all node end output none i m = (
 -- ---- a line's loop
 
 -- an occurrence ends at a place up to this one
-abbrev pub OccursBy : Labels → Text → ℕ → ℕ → ℕ → Type 0
-OccursBy all line place i m = (j : ℕ) × (m < j) × (j ≤ place) × Occurs all.strings 0 line i j
+abbrev pub OccursBy : Labels → ℕ → Text → ℕ → ℕ → ℕ → Type 0
+OccursBy all start line place i m = (j : ℕ) × (m < start + j) × (j ≤ place) × Occurs all.strings 0 line i j
 
 module _ (all : Labels) (line : Text) (end node : ℕ) (within : end ≤ length line) (s : StandsAtNode all 0 line end node) where
   -- the strings that the node ends with are those that end here
@@ -166,10 +166,11 @@ module _ (all : Labels) (line : Text) (end node : ℕ) (within : end ≤ length 
         let (some, fits, own) = ends in
         let size = node_length all 0 line end node within s in
         let high = s.high in
+        let low = s.low in
         let read = read_length line end within in
         let late : s.start ≤ i = omega (arith, size, fits, sum, high, read) in
         let place : i - s.start ≡ length (all.label node) - n = omega (arith, size, late, sum, fits) in (
-          omega arith,
+          omega (arith, low, late),
           omega (arith, sum, some),
           within,
           subst (IsString all.strings) (ap (λ k. drop k (all.label node)) (sym place) ∙ same_end all 0 line end node i s late) own,
@@ -177,9 +178,9 @@ module _ (all : Labels) (line : Text) (end node : ℕ) (within : end ≤ length 
   )
 
   -- one more place
-  pub one_place_more : (place : ℕ) → end ≡ place + 1 → (i m : ℕ)
-      → (OccursBy all line place i m ⊎ ((n : ℕ) × (m < end) × (i + n ≡ end) × EndsWith all.strings (all.label node) n)) ↔ OccursBy all line end i m
-  one_place_more place one i m = (
+  pub one_place_more : (start place : ℕ) → end ≡ place + 1 → (i m : ℕ)
+      → (OccursBy all start line place i m ⊎ ((n : ℕ) × (m < start + end) × (i + n ≡ end) × EndsWith all.strings (all.label node) n)) ↔ OccursBy all start line end i m
+  one_place_more start place one i m = (
     (λ h. elim h [
       | inl p ↦ let le = p.2 in (p.0, p.1, omega (arith, le, one), p.3)
       | inr q ↦ (end, q.1, omega arith, (ends_here i).1 (q.0, q.2, q.3))

@@ -1,86 +1,35 @@
-use Rattle.std.proofs.Common.{◌≡◌, ◌∙◌, ◌-◌, length, map, take, drop, refl, ap, subst, sym, arith, length-drop}
+use Rattle.std.proofs.Common.{refl, sym, arith}
 use Rattle.std.proofs.lemmas.Bool.{false≢true}
-use Rattle.std.proofs.lemmas.List.{take_rest, length-take-le}
-use Rattle.std.specs.Option.{ForSome}
-use Rattle.re_auto.specs.Searches.{SomeMatches}
-use Rattle.re_search.specs.Working.Filters.{AreNeeded}
-use Rattle.re_search.specs.Working.Sought.{Sought, IsSought}
-use Rattle.re_search.proofs.lemmas.KeptMatchers.{same_over}
-use Rattle.gaxtrel.proofs.TextLemmas.{cut_within, next_in_front, none_in_front, next_at_last, none_at_last, last_cost}
+use Rattle.std.proofs.lemmas.List.{length-take-le}
+use Rattle.re_search.proofs.lemmas.KeptMatchers.{same_sought}
+use Rattle.gaxtrel.proofs.TextLemmas.{cut_within, front_cost, last_cost, next_at_last, next_in_front, none_at_last, none_in_front, sought_is}
 use Rattle.gaxtrel.proofs.text_search.next_in_text.Goals as goal
 
+pub slice_bounds-next_matched-end : goal.slice_bounds-next_matched-end
+slice_bounds-next_matched-end g c = sym (length-take-le c.line_start-cut.result c.args.text.now (cut_within c.args.text.now c.line_start-cut.result c.line_start-cut.ensures.lines))
+
 pub returns-in-Some-clause-reported : goal.returns-in-Some-clause-reported
-returns-in-Some-clause-reported g c =
-    let e = g.M.LineMatch.expression in
-    let s : Sought = record { expressions = map e c.args.matchers.now; whole = c.args.whole } in
-    let text = c.args.text.now in
-    let cut = c.line_start-cut.result in
-    let passed = c.line_start-cut.ensures.lines in
-    next_in_front text cut passed (IsSought s) c.in-Some.at c.in-Some.ensures.reported
+returns-in-Some-clause-reported g c = next_in_front c.args.text.now c.line_start-cut.result c.line_start-cut.ensures.lines _ _ (sought_is g.M.LineMatch.expression c.new-searchers.result c.new-searchers.ensures.same_matchers c.new-searchers.ensures.same_whole) c.in-Some.at c.in-Some.ensures.reported
 
 pub returns-then-cut-text-clause-reported : goal.returns-then-cut-text-clause-reported
-returns-then-cut-text-clause-reported g c =
-    let e = g.M.LineMatch.expression in
-    let s : Sought = record { expressions = map e c.args.matchers.now; whole = c.args.whole } in
-    let text = c.args.text.now in
-    let cut = c.line_start-cut.result in
-    let passed = c.line_start-cut.ensures.lines in
-    none_in_front text cut passed (IsSought s) (omega (arith, c.if-cut-text.true)) c.in_default.ensures.reported
+returns-then-cut-text-clause-reported g c = none_in_front c.args.text.now c.line_start-cut.result c.line_start-cut.ensures.lines _ _ (sought_is g.M.LineMatch.expression c.new-searchers.result c.new-searchers.ensures.same_matchers c.new-searchers.ensures.same_whole) (omega (arith, c.if-cut-text.true)) c.in_default.ensures.reported
 
-pub returns-then-is_matched_by-clause-reported : goal.returns-then-is_matched_by-clause-reported
-returns-then-is_matched_by-clause-reported g c =
-    let e = g.M.LineMatch.expression in
-    let s : Sought = record { expressions = map e c.args.matchers.now; whole = c.args.whole } in
-    let text = c.args.text.now in
-    let cut = c.line_start-cut.result in
-    let passed = c.line_start-cut.ensures.lines in
-    let there : SomeMatches (map e c.next_in_block-found.new.matchers) (take (length text - cut) (drop cut text)) c.args.whole = c.if-is_matched_by.ensures.reported.0 refl in
-    let last : SomeMatches (map e c.next_in_block-found.new.matchers) (drop cut text) c.args.whole = subst (λ l. SomeMatches (map e c.next_in_block-found.new.matchers) l c.args.whole) (take_rest text cut) there in
-    let holds : IsSought s (drop cut text) = subst (λ es. SomeMatches es (drop cut text) c.args.whole) c.next_in_block-found.ensures.same.same_expressions last in
-    next_at_last text cut passed (IsSought s) c.line_start-cut.ensures.last (omega (arith, c.if-cut-text.false)) c.in_default.ensures.reported holds
+pub returns-then-cut-text-clause-steps : goal.returns-then-cut-text-clause-steps
+returns-then-cut-text-clause-steps g c = front_cost c.args.text.now c.line_start-cut.result c.line_start-cut.ensures.lines _ _ (sought_is g.M.LineMatch.expression c.new-searchers.result c.new-searchers.ensures.same_matchers c.new-searchers.ensures.same_whole) _ _ c.in_default.ensures.steps
+
+pub returns-then-is_matched-clause-reported : goal.returns-then-is_matched-clause-reported
+returns-then-is_matched-clause-reported g c = next_at_last c.args.text.now c.line_start-cut.result c.line_start-cut.ensures.lines _ _ (sought_is g.M.LineMatch.expression c.new-searchers.result c.new-searchers.ensures.same_matchers c.new-searchers.ensures.same_whole) _ (same_sought c.next_matched-found.ensures.same) c.line_start-cut.ensures.last (omega (arith, c.if-cut-text.false)) c.in_default.ensures.reported (c.if-is_matched.ensures.reported.0 refl)
+
+pub returns-then-is_matched-clause-steps : goal.returns-then-is_matched-clause-steps
+returns-then-is_matched-clause-steps g c = last_cost c.args.text.now c.line_start-cut.result c.line_start-cut.ensures.lines _ _ (sought_is g.M.LineMatch.expression c.new-searchers.result c.new-searchers.ensures.same_matchers c.new-searchers.ensures.same_whole) _ (same_sought c.next_matched-found.ensures.same) _ _ _ c.in_default.ensures.steps c.is_matched.ensures.steps
 
 pub returns-clause-reported : goal.returns-clause-reported
-returns-clause-reported g c =
-    let e = g.M.LineMatch.expression in
-    let s : Sought = record { expressions = map e c.args.matchers.now; whole = c.args.whole } in
-    let text = c.args.text.now in
-    let cut = c.line_start-cut.result in
-    let passed = c.line_start-cut.ensures.lines in
-    let there : SomeMatches (map e c.next_in_block-found.new.matchers) (take (length text - cut) (drop cut text)) c.args.whole → ⊥ = λ h. false≢true (c.if-is_matched_by.ensures.reported.1 h) in
-    let last : SomeMatches (map e c.next_in_block-found.new.matchers) (drop cut text) c.args.whole → ⊥ = subst (λ l. SomeMatches (map e c.next_in_block-found.new.matchers) l c.args.whole → ⊥) (take_rest text cut) there in
-    let not : IsSought s (drop cut text) → ⊥ = subst (λ es. SomeMatches es (drop cut text) c.args.whole → ⊥) c.next_in_block-found.ensures.same.same_expressions last in
-    none_at_last text cut passed (IsSought s) c.line_start-cut.ensures.last (omega (arith, c.if-cut-text.false)) c.in_default.ensures.reported not
-
-pub returns-then-is_matched_by-clause-steps : goal.returns-then-is_matched_by-clause-steps
-returns-then-is_matched_by-clause-steps g c =
-    let e = g.M.LineMatch.expression in
-    let text = c.args.text.now in
-    let cut = c.line_start-cut.result in
-    let within = cut_within text cut c.line_start-cut.ensures.lines in
-    let many : length (map e c.next_in_block-found.new.matchers) ≡ length (map e c.args.matchers.now) = ap length c.next_in_block-found.ensures.same.same_expressions in
-    let front : length (take cut text) ≡ cut = length-take-le cut text within in
-    let rest : length (take (length text - cut) (drop cut text)) ≡ length text - cut = ap length (take_rest text cut) ∙ length-drop cut text in
-    last_cost (length (map e c.args.matchers.now)) (length (map e c.next_in_block-found.new.matchers)) cut (length (take cut text)) (length (take (length text - cut) (drop cut text))) (length text) c.args.meter.now c.next_in_block-found.new.meter c.is_matched_by.new.meter many front rest within c.in_default.ensures.steps c.is_matched_by.ensures.steps
+returns-clause-reported g c = none_at_last c.args.text.now c.line_start-cut.result c.line_start-cut.ensures.lines _ _ (sought_is g.M.LineMatch.expression c.new-searchers.result c.new-searchers.ensures.same_matchers c.new-searchers.ensures.same_whole) _ (same_sought c.next_matched-found.ensures.same) c.line_start-cut.ensures.last (omega (arith, c.if-cut-text.false)) c.in_default.ensures.reported (λ holds. false≢true (c.if-is_matched.ensures.reported.1 holds))
 
 pub returns-clause-steps : goal.returns-clause-steps
-returns-clause-steps g c =
-    let e = g.M.LineMatch.expression in
-    let text = c.args.text.now in
-    let cut = c.line_start-cut.result in
-    let within = cut_within text cut c.line_start-cut.ensures.lines in
-    let many : length (map e c.next_in_block-found.new.matchers) ≡ length (map e c.args.matchers.now) = ap length c.next_in_block-found.ensures.same.same_expressions in
-    let front : length (take cut text) ≡ cut = length-take-le cut text within in
-    let rest : length (take (length text - cut) (drop cut text)) ≡ length text - cut = ap length (take_rest text cut) ∙ length-drop cut text in
-    last_cost (length (map e c.args.matchers.now)) (length (map e c.next_in_block-found.new.matchers)) cut (length (take cut text)) (length (take (length text - cut) (drop cut text))) (length text) c.args.meter.now c.next_in_block-found.new.meter c.is_matched_by.new.meter many front rest within c.in_default.ensures.steps c.is_matched_by.ensures.steps
+returns-clause-steps g c = last_cost c.args.text.now c.line_start-cut.result c.line_start-cut.ensures.lines _ _ (sought_is g.M.LineMatch.expression c.new-searchers.result c.new-searchers.ensures.same_matchers c.new-searchers.ensures.same_whole) _ (same_sought c.next_matched-found.ensures.same) _ _ _ c.in_default.ensures.steps c.is_matched.ensures.steps
 
-pub is_matched_by-requires-clause-alike : goal.is_matched_by-requires-clause-alike
-is_matched_by-requires-clause-alike g c = rw c.next_in_block-found.ensures.same.same_wholes c.requires.alike
-
-pub is_matched_by-requires-clause-needed : goal.is_matched_by-requires-clause-needed
-is_matched_by-requires-clause-needed g c = subst (λ es. ForSome c.args.needed.now (λ strings. AreNeeded strings es)) (sym c.next_in_block-found.ensures.same.same_expressions) c.requires.needed
-
-pub returns-then-is_matched_by-clause-same : goal.returns-then-is_matched_by-clause-same
-returns-then-is_matched_by-clause-same g c = same_over c.is_matched_by.ensures.same c.next_in_block-found.ensures.same
-
-pub returns-clause-same : goal.returns-clause-same
-returns-clause-same g c = same_over c.is_matched_by.ensures.same c.next_in_block-found.ensures.same
+pub returns-in-Some-clause-within : goal.returns-in-Some-clause-within
+returns-in-Some-clause-within g c =
+    let within = cut_within c.args.text.now c.line_start-cut.result c.line_start-cut.ensures.lines in
+    (c.in-Some.ensures.within.0, omega (arith, c.in-Some.ensures.within.1, within, length-take-le c.line_start-cut.result c.args.text.now within))

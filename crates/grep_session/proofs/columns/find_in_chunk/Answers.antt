@@ -1,20 +1,14 @@
 use Rattle.grep_session.proofs.Prelude.{◌≡◌, All, length, map, sym, ap, subst, ◌∙◌, length-map, AreBelow, FoundIn, line_text, seen, IsWithin, IsKept}
-use Rattle.grep_session.proofs.lemmas.ColumnLaws.{column_decides, column_right, column_same, chunk_steps, chunk_begun, sought_steps, matches_below, matches_grow}
+use Rattle.grep_session.proofs.lemmas.ColumnLaws.{column_right, column_same, chunk_steps, chunk_begun, matches_below, matches_grow}
 use Rattle.grep_session.proofs.columns.find_in_chunk.Goals as goal
 
 pub returns-in_err-new-clause-steps : goal.returns-in_err-new-clause-steps
 returns-in_err-new-clause-steps g c = λ before changed h k.
-    let es = map g.M.LineMatch.expression c.args.matchers.now in
-    let texts = map line_text c.args.chunk.now in
-    let many = sym (length-map c.args.matchers.now g.M.LineMatch.expression) in
-    chunk_begun c.args.change changed es c.args.search.now.options texts _ _ (sought_steps es before changed c.args.search.now.options c.args.chunk.now c.matches-old.result.now _ many _ _ c.args.change h k c.matches-old.ensures.at c.find_matches.ensures.steps c.find_matches.ensures.narrow)
+    chunk_begun (map g.M.LineMatch.expression c.args.matchers.now) before changed c.args.search.now.options c.args.chunk.now c.matches-old.result.now _ (sym (length-map c.args.matchers.now g.M.LineMatch.expression)) _ _ c.args.change h k c.matches-old.ensures.at c.find_matches.ensures.steps c.find_matches.ensures.narrow
 
 pub returns-then-is_same-clause-steps : goal.returns-then-is_same-clause-steps
 returns-then-is_same-clause-steps g c = λ before changed h k.
-    let es = map g.M.LineMatch.expression c.args.matchers.now in
-    let texts = map line_text c.args.chunk.now in
-    let many = sym (length-map c.args.matchers.now g.M.LineMatch.expression) in
-    chunk_begun c.args.change changed es c.args.search.now.options texts _ _ (sought_steps es before changed c.args.search.now.options c.args.chunk.now c.matches-old.result.now _ many _ _ c.args.change h k c.matches-old.ensures.at c.find_matches.ensures.steps c.find_matches.ensures.narrow)
+    chunk_begun (map g.M.LineMatch.expression c.args.matchers.now) before changed c.args.search.now.options c.args.chunk.now c.matches-old.result.now _ (sym (length-map c.args.matchers.now g.M.LineMatch.expression)) _ _ c.args.change h k c.matches-old.ensures.at c.find_matches.ensures.steps c.find_matches.ensures.narrow
 
 pub returns-then-is_same-clause-ok : goal.returns-then-is_same-clause-ok
 returns-then-is_same-clause-ok g c = λ before changed h k.
@@ -40,35 +34,23 @@ find_parts-requires-clause-grows g c =
 pub returns-in_err-parts-clause-steps : goal.returns-in_err-parts-clause-steps
 returns-in_err-parts-clause-steps g c = λ before changed h k.
     let es = map g.M.LineMatch.expression c.args.matchers.now in
-    let texts = map line_text c.args.chunk.now in
-    let options = c.args.search.now.options in
     let many = sym (length-map c.args.matchers.now g.M.LineMatch.expression) in
-    let within = subst (IsWithin c.args.change) many c.requires.within in
-    let decided = column_decides c.args.change es before changed options c.args.chunk.now c.matches-old.result.now c.in_ok-new.new within h k c.in_ok-new.ensures.ok c.matches-old.ensures.at in
-    let parts = rw c.find_matches.ensures.same_matchers.same_expressions at c.find_parts.ensures.steps in
-    chunk_steps c.args.change changed es options texts _ _ _ (sought_steps es before changed c.args.search.now.options c.args.chunk.now c.matches-old.result.now _ many _ _ c.args.change h k c.matches-old.ensures.at c.find_matches.ensures.steps c.find_matches.ensures.narrow) (parts changed decided)
+    chunk_steps es before changed c.args.search.now.options c.args.chunk.now c.matches-old.result.now _ many _ _ c.args.change c.in_ok-new.new _ (subst (IsWithin c.args.change) many c.requires.within) c.in_ok-new.ensures.ok h k c.matches-old.ensures.at c.find_matches.ensures.steps c.find_matches.ensures.narrow
+    (rw c.find_matches.ensures.same_matchers.same_expressions at c.find_parts.ensures.steps)
 
 pub returns-in_err-found-clause-steps : goal.returns-in_err-found-clause-steps
 returns-in_err-found-clause-steps g c = λ before changed h k.
     let es = map g.M.LineMatch.expression c.args.matchers.now in
-    let texts = map line_text c.args.chunk.now in
-    let options = c.args.search.now.options in
     let many = sym (length-map c.args.matchers.now g.M.LineMatch.expression) in
-    let within = subst (IsWithin c.args.change) many c.requires.within in
-    let decided = column_decides c.args.change es before changed options c.args.chunk.now c.matches-old.result.now c.in_ok-new.new within h k c.in_ok-new.ensures.ok c.matches-old.ensures.at in
-    let parts = rw c.find_matches.ensures.same_matchers.same_expressions at c.find_parts.ensures.steps in
-    chunk_steps c.args.change changed es options texts _ _ _ (sought_steps es before changed c.args.search.now.options c.args.chunk.now c.matches-old.result.now _ many _ _ c.args.change h k c.matches-old.ensures.at c.find_matches.ensures.steps c.find_matches.ensures.narrow) (parts changed decided)
+    chunk_steps es before changed c.args.search.now.options c.args.chunk.now c.matches-old.result.now _ many _ _ c.args.change c.in_ok-new.new _ (subst (IsWithin c.args.change) many c.requires.within) c.in_ok-new.ensures.ok h k c.matches-old.ensures.at c.find_matches.ensures.steps c.find_matches.ensures.narrow
+    (rw c.find_matches.ensures.same_matchers.same_expressions at c.find_parts.ensures.steps)
 
 pub returns-clause-steps : goal.returns-clause-steps
 returns-clause-steps g c = λ before changed h k.
     let es = map g.M.LineMatch.expression c.args.matchers.now in
-    let texts = map line_text c.args.chunk.now in
-    let options = c.args.search.now.options in
     let many = sym (length-map c.args.matchers.now g.M.LineMatch.expression) in
-    let within = subst (IsWithin c.args.change) many c.requires.within in
-    let decided = column_decides c.args.change es before changed options c.args.chunk.now c.matches-old.result.now c.in_ok-new.new within h k c.in_ok-new.ensures.ok c.matches-old.ensures.at in
-    let parts = rw c.find_matches.ensures.same_matchers.same_expressions at c.find_parts.ensures.steps in
-    chunk_steps c.args.change changed es options texts _ _ _ (sought_steps es before changed c.args.search.now.options c.args.chunk.now c.matches-old.result.now _ many _ _ c.args.change h k c.matches-old.ensures.at c.find_matches.ensures.steps c.find_matches.ensures.narrow) (parts changed decided)
+    chunk_steps es before changed c.args.search.now.options c.args.chunk.now c.matches-old.result.now _ many _ _ c.args.change c.in_ok-new.new _ (subst (IsWithin c.args.change) many c.requires.within) c.in_ok-new.ensures.ok h k c.matches-old.ensures.at c.find_matches.ensures.steps c.find_matches.ensures.narrow
+    (rw c.find_matches.ensures.same_matchers.same_expressions at c.find_parts.ensures.steps)
 
 pub returns-clause-ok : goal.returns-clause-ok
 returns-clause-ok g c = λ before changed h k.

@@ -1,15 +1,15 @@
-use Rattle.grep_session.proofs.Prelude.{◌≡◌, ◌<◌, ◌≤◌, [], ◌∷◌, ◌++◌, All, length, map, take, get_or, sym, ap, subst, ◌∙◌, arith, take_all, AllAnswer, most_patterns, all_of, line_text, ChangeCost, IsWithin, SearchesEach, WasKept, AddsColumns}
+use Rattle.grep_session.proofs.Prelude.{◌≡◌, ◌<◌, ◌≤◌, [], ◌∷◌, ◌++◌, All, length, map, take, get_or, sym, ap, subst, ◌∙◌, arith, take_all, AllAnswer, most_patterns, all_of, line_text, IsWithin, SearchesEach, WasKept, AddsColumns}
 use Rattle.grep_core.proofs.lemmas.CostLaws.{same_length}
 use Rattle.grep_session.proofs.lemmas.FoundLemmas.{adds_no_column, adds_columns, adds_column, all_by_chunk, chunks_next, texts_next, texts_rest}
 use Rattle.re_search.proofs.lemmas.KeptMatchers.{none_asked, same_over}
-use Rattle.grep_session.proofs.lemmas.StepLemmas.{ChangeCost-exists, each_none, each_both, each_front}
+use Rattle.grep_session.proofs.lemmas.StepLemmas.{not_searched, each_both, each_front}
 use Rattle.grep_session.proofs.columns.find_in_lines.Goals as goal
 
 pub loop-i-init : goal.loop-i-init
 loop-i-init g c = record {
   found = adds_no_column _ _ _ _;
   same_matchers = none_asked;
-  steps = λ before changed h k. each_none _ _;
+  steps = λ before changed h k. not_searched _ _ _ _ _ _;
 }
 
 pub find_in_chunk-requires-clause-whole : goal.find_in_chunk-requires-clause-whole
@@ -28,11 +28,10 @@ returns-in_err-one-clause-steps g c = λ before changed h k.
     let chunks = c.args.lines.now in
     let inside : i < length chunks = omega (arith, c.loop-i-test.true, c.chunk_count-i-end.ensures) in
     let chunk : c.chunk.result.now ≡ get_or chunks i [] = c.chunk.ensures in
-    let C = ChangeCost c.args.change changed (map g.M.LineMatch.expression c.args.matchers.now) c.args.search.now.options in
     let spent = rw s.same_matchers.same_expressions at c.find_in_chunk.ensures.steps in
     let kept : All (WasKept c.args.change before c.args.search.now.options) c.chunk.result.now = subst (All (WasKept c.args.change before c.args.search.now.options)) (sym chunk) (all_by_chunk (WasKept c.args.change before c.args.search.now.options) chunks k i [] inside) in
     let both = texts_next chunks i inside ∙ ap (λ ls. map line_text (all_of (take i chunks)) ++ map line_text ls) (sym chunk) in
-    each_front C (ChangeCost-exists c.args.change changed _ c.args.search.now.options) _ _ _ _ _ (texts_rest chunks i inside) (each_both C _ _ _ _ _ _ both (s.steps before changed h k) (spent before changed h kept))
+    each_front _ _ _ _ _ _ _ _ _ (texts_rest chunks i inside) (each_both _ _ _ _ _ _ _ _ _ _ both (s.steps before changed h k) (spent before changed h kept))
 
 pub returns-in_err-push-clause-steps : goal.returns-in_err-push-clause-steps
 returns-in_err-push-clause-steps g c = λ before changed h k.
@@ -41,11 +40,10 @@ returns-in_err-push-clause-steps g c = λ before changed h k.
     let chunks = c.args.lines.now in
     let inside : i < length chunks = omega (arith, c.loop-i-test.true, c.chunk_count-i-end.ensures) in
     let chunk : c.chunk.result.now ≡ get_or chunks i [] = c.chunk.ensures in
-    let C = ChangeCost c.args.change changed (map g.M.LineMatch.expression c.args.matchers.now) c.args.search.now.options in
     let spent = rw s.same_matchers.same_expressions at c.find_in_chunk.ensures.steps in
     let kept : All (WasKept c.args.change before c.args.search.now.options) c.chunk.result.now = subst (All (WasKept c.args.change before c.args.search.now.options)) (sym chunk) (all_by_chunk (WasKept c.args.change before c.args.search.now.options) chunks k i [] inside) in
     let both = texts_next chunks i inside ∙ ap (λ ls. map line_text (all_of (take i chunks)) ++ map line_text ls) (sym chunk) in
-    each_front C (ChangeCost-exists c.args.change changed _ c.args.search.now.options) _ _ _ _ _ (texts_rest chunks i inside) (each_both C _ _ _ _ _ _ both (s.steps before changed h k) (spent before changed h kept))
+    each_front _ _ _ _ _ _ _ _ _ (texts_rest chunks i inside) (each_both _ _ _ _ _ _ _ _ _ _ both (s.steps before changed h k) (spent before changed h kept))
 
 pub loop-i-preserved : goal.loop-i-preserved
 loop-i-preserved g c =
@@ -66,7 +64,7 @@ loop-i-preserved g c =
       steps = λ before changed h k.
           let kept : All (WasKept c.args.change before options) c.chunk.result.now = subst (All (WasKept c.args.change before options)) (sym chunk) (all_by_chunk (WasKept c.args.change before options) chunks k i [] inside) in
           let both = texts_next chunks i inside ∙ ap (λ ls. map line_text (all_of (take i chunks)) ++ map line_text ls) (sym chunk) in
-          each_both (ChangeCost c.args.change changed es options) _ _ _ _ _ _ both (s.steps before changed h k) (spent before changed h kept);
+          each_both _ _ _ _ _ _ _ _ _ _ both (s.steps before changed h k) (spent before changed h kept);
     }
 
 pub returns-clause-ok : goal.returns-clause-ok
@@ -77,4 +75,4 @@ returns-clause-ok g c =
 pub returns-clause-steps : goal.returns-clause-steps
 returns-clause-steps g c = λ before changed h k.
     let all : take c.loop-i.i c.args.lines.now ≡ c.args.lines.now = take_all _ _ (omega (arith, c.loop-i-test.false, c.chunk_count-i-end.ensures)) in
-    subst (λ cs. SearchesEach (ChangeCost c.args.change changed (map g.M.LineMatch.expression c.args.matchers.now) c.args.search.now.options) (map line_text (all_of cs)) c.args.meter.now c.loop-i.meter) all (c.loop-i.invariant.steps before changed h k)
+    subst (λ cs. SearchesEach c.args.change changed (map g.M.LineMatch.expression c.args.matchers.now) c.args.search.now.options (map line_text (all_of cs)) c.args.meter.now c.loop-i.meter) all (c.loop-i.invariant.steps before changed h k)

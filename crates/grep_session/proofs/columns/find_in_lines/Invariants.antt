@@ -1,4 +1,4 @@
-use Rattle.grep_session.proofs.Prelude.{map, take, All, List, Expression, all_of, line_text, SameMatchers, HasChanged, ChangeCost, SearchesEach, WasKept, AddsColumns}
+use Rattle.grep_session.proofs.Prelude.{map, take, All, List, Expression, all_of, line_text, SameMatchers, HasChanged, SearchesEach, WasKept, AddsColumns}
 use Rattle.grep_session.proofs.columns.find_in_lines.Given as goal
 
 -- the first chunks were searched
@@ -7,5 +7,5 @@ invariant-loop-i g l = record {
   found : AddsColumns l.fn.change (map g.M.LineMatch.expression l.fn.matchers) l.search.options (take l.i l.lines) l.fn.found.items l.found.items;
   same_matchers : SameMatchers g.M.LineMatch.expression g.M.LineMatch.whole g.M.LineMatch.room l.fn.matchers l.matchers;
   steps : (before changed : List Expression) → HasChanged l.fn.change (map g.M.LineMatch.expression l.fn.matchers) before changed l.search.options → All (WasKept l.fn.change before l.search.options) (all_of l.lines)
-      → SearchesEach (ChangeCost l.fn.change changed (map g.M.LineMatch.expression l.fn.matchers) l.search.options) (map line_text (all_of (take l.i l.lines))) l.fn.meter l.meter;
+      → SearchesEach l.fn.change changed (map g.M.LineMatch.expression l.fn.matchers) l.search.options (map line_text (all_of (take l.i l.lines))) l.fn.meter l.meter;
 }

@@ -1,14 +1,14 @@
-use Rattle.grep_session.proofs.Prelude.{true, refl, IsAmong, IsWithin, WereMatched, is_narrower, ◌≡◌, ◌+◌, ◌-◌, ◌*◌, ◌<◌, ◌≤◌, length, map, take, drop, get_or, sym, ap, subst, ◌∙◌, length-take, arith, ◌∷◌, [], length-map, drop_all, terminated, AddsAtMost, line_text, AddsColumn, AddsLater, AreLeft, first_sought, past_sought}
+use Rattle.grep_session.proofs.Prelude.{true, refl, IsAmong, IsWithin, is_narrower, ◌≡◌, ◌+◌, ◌-◌, ◌*◌, ◌<◌, ◌≤◌, length, map, take, drop, get_or, sym, ap, subst, ◌∙◌, length-take, arith, ◌∷◌, [], length-map, drop_all, terminated, AddsAtMost, line_text, AddsColumn, AddsLater, AreLeft, first_sought, past_sought}
 use Rattle.re_search.proofs.lemmas.KeptMatchers.{none_asked, one_asked}
 use Rattle.re_search.proofs.lemmas.OneMatcherMore.{one_more, value_at, within}
 use Rattle.re_meter.proofs.lemmas.Adding.{adds_none}
 use Rattle.grep_core.proofs.lemmas.CostLaws.{adds_for_more, adds_once_more}
 use Rattle.grep_session.proofs.lemmas.ColumnLoops.{columns_none, columns_next, sought_within, added_sought, narrower_within}
-use Rattle.grep_session.proofs.lemmas.NarrowLoops.{narrow_sought, none_searched}
+use Rattle.grep_session.proofs.lemmas.NarrowLoops.{narrow_sought}
 use Rattle.grep_session.proofs.line_matches.find_matches.Goals as goal
 
 pub returns-in_err-matches-clause-narrow : goal.returns-in_err-matches-clause-narrow
-returns-in_err-matches-clause-narrow g c = λ on es were. none_searched es c.args.search.now.options (map line_text c.args.chunk.now) _ c.args.old.now were c.args.meter.now
+returns-in_err-matches-clause-narrow g c = λ on. adds_none _ _ _
 
 pub returns-then-is_narrower-clause-ok : goal.returns-then-is_narrower-clause-ok
 returns-then-is_narrower-clause-ok g c =
@@ -42,7 +42,7 @@ pub returns-then-is_narrower-clause-same_matchers : goal.returns-then-is_narrowe
 returns-then-is_narrower-clause-same_matchers g c = one_asked none_asked c.first_sought-first.result c.index-matchers-first.result c.narrow_column.new.matcher c.narrow_column.ensures.same_expression c.narrow_column.ensures.same_whole c.narrow_column.ensures.same_room
 
 pub returns-then-is_narrower-clause-narrow : goal.returns-then-is_narrower-clause-narrow
-returns-then-is_narrower-clause-narrow g c = λ on es were. c.narrow_column.ensures.steps es (subst (λ n. WereMatched es c.args.search.now.options (map line_text c.args.chunk.now) n c.args.old.now) (sym c.first_sought-first.ensures) were)
+returns-then-is_narrower-clause-narrow g c = λ on. rw c.first_sought-first.ensures at c.narrow_column.ensures.steps
 
 pub loop-number-init : goal.loop-number-init
 loop-number-init g c =
@@ -105,7 +105,7 @@ returns-in_err-add_column-clause-steps g c = λ plain.
     let many = length c.args.matchers.now in
     let more : k - first + 1 ≤ past_sought c.args.change many - first_sought c.args.change many = omega (arith, s.low, c.loop-number-test.true, c.first_sought-first.ensures, c.past_sought-past.ensures) in
     let bytes = length (terminated (map line_text c.args.chunk.now)) in
-    adds_for_more (k - first + 1) (past_sought c.args.change many - first_sought c.args.change many) bytes 0 _ _ more (adds_once_more (k - first) bytes _ _ _ s.steps c.add_column.ensures.steps)
+    adds_for_more (k - first + 1) (past_sought c.args.change many - first_sought c.args.change many) bytes _ _ more (adds_once_more (k - first) bytes _ _ _ s.steps c.add_column.ensures.steps)
 
 pub returns-clause-ok : goal.returns-clause-ok
 returns-clause-ok g c =
@@ -148,10 +148,10 @@ pub returns-in_err-narrow_column-clause-same_matchers : goal.returns-in_err-narr
 returns-in_err-narrow_column-clause-same_matchers g c = one_asked none_asked c.first_sought-first.result c.index-matchers-first.result c.narrow_column.new.matcher c.narrow_column.ensures.same_expression c.narrow_column.ensures.same_whole c.narrow_column.ensures.same_room
 
 pub returns-in_err-narrow_column-clause-narrow : goal.returns-in_err-narrow_column-clause-narrow
-returns-in_err-narrow_column-clause-narrow g c = λ on es were. c.narrow_column.ensures.steps es (subst (λ n. WereMatched es c.args.search.now.options (map line_text c.args.chunk.now) n c.args.old.now) (sym c.first_sought-first.ensures) were)
+returns-in_err-narrow_column-clause-narrow g c = λ on. rw c.first_sought-first.ensures at c.narrow_column.ensures.steps
 
 pub returns-in_err-add_later-clause-same_matchers : goal.returns-in_err-add_later-clause-same_matchers
 returns-in_err-add_later-clause-same_matchers g c = one_asked none_asked c.first_sought-first.result c.index-matchers-first.result c.narrow_column.new.matcher c.narrow_column.ensures.same_expression c.narrow_column.ensures.same_whole c.narrow_column.ensures.same_room
 
 pub returns-in_err-add_later-clause-narrow : goal.returns-in_err-add_later-clause-narrow
-returns-in_err-add_later-clause-narrow g c = λ on es were. c.narrow_column.ensures.steps es (subst (λ n. WereMatched es c.args.search.now.options (map line_text c.args.chunk.now) n c.args.old.now) (sym c.first_sought-first.ensures) were)
+returns-in_err-add_later-clause-narrow g c = λ on. rw c.first_sought-first.ensures at c.narrow_column.ensures.steps

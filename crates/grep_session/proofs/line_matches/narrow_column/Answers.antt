@@ -1,12 +1,13 @@
-use Rattle.grep_session.proofs.Prelude.{◌≡◌, ◌+◌, ◌<◌, ◌↔◌, true, false, IsTrue, [], length, map, take, get_or, get_or_default, nil_from_length, refl, sym, subst, ◌∙◌, arith, take_all, length-map, false≢true, Some, Matched, Matches, AddsAtMost, CostWhere, IsNextLine, SearchesEach, has_number, line_text, no_line, numbers_at}
+use Rattle.grep_session.proofs.Prelude.{◌≡◌, ◌+◌, ◌<◌, ◌↔◌, true, false, IsTrue, [], length, map, get_or, get_or_default, nil_from_length, refl, sym, subst, ◌∙◌, arith, length-map, false≢true, Some, Matches, AddsAtMost, IsNextLine, has_number, has_pair, line_text, no_line, numbers_at}
 use Rattle.std.proofs.Math.ListN.{get_or-map}
-use Rattle.grep_session.proofs.lemmas.StepLemmas.{each_none}
+use Rattle.re_meter.proofs.lemmas.Adding.{adds_none}
 use Rattle.grep_session.proofs.lemmas.ColumnLoops.{column_done, column_next, column_none, column_pass, pairs_next, pairs_none}
-use Rattle.grep_session.proofs.lemmas.NarrowLoops.{none_among, none_searched, pass_unpaired, passed_steps, searched_last, searched_steps}
+use Rattle.grep_session.proofs.lemmas.MarkedLemmas.{marked_front, searched_next}
+use Rattle.grep_session.proofs.lemmas.NarrowLoops.{none_among, pass_unpaired}
 use Rattle.grep_session.proofs.line_matches.narrow_column.Goals as goal
 
 pub returns-in_err-marks-clause-steps : goal.returns-in_err-marks-clause-steps
-returns-in_err-marks-clause-steps g c = λ es were. none_searched es c.args.search.now.options (map line_text c.args.chunk.now) c.args.number c.args.old.now were c.args.meter.now
+returns-in_err-marks-clause-steps g c = adds_none _ _ _
 
 pub returns-then-len-eq0-clause-ok : goal.returns-then-len-eq0-clause-ok
 returns-then-len-eq0-clause-ok g c = λ among.
@@ -14,16 +15,17 @@ returns-then-len-eq0-clause-ok g c = λ among.
     none_among (g.M.LineMatch.expression c.args.matcher.now) (g.M.LineMatch.whole c.args.matcher.now) (map line_text c.args.chunk.now) c.args.number c.args.old.now c.args.matches.now none among
 
 pub returns-then-len-eq0-clause-steps : goal.returns-then-len-eq0-clause-steps
-returns-then-len-eq0-clause-steps g c = λ es were. none_searched es c.args.search.now.options (map line_text c.args.chunk.now) c.args.number c.args.old.now were c.args.meter.now
+returns-then-len-eq0-clause-steps g c = adds_none _ _ _
 
 pub loop-k-init : goal.loop-k-init
 loop-k-init g c = record {
+  high = omega arith;
   pairs = pairs_none _ _;
   column = λ among. column_none _ _ _ _ _;
   same_expression = refl;
   same_whole = refl;
   same_room = refl;
-  steps = λ es were. each_none _ _;
+  steps = adds_none _ _ _;
 }
 
 pub loop-k-preserved-then-not-index : goal.loop-k-preserved-then-not-index
@@ -43,12 +45,13 @@ loop-k-preserved-then-not-index g c =
     let is : was ≡ has_number number (numbers_at k kept) = c.index.ensures ∙ get_or_default marks k was false (omega (arith, here, c.in_ok-marks.ensures.size)) ∙ c.in_ok-marks.ensures.marks k here in
     let off : has_number number (numbers_at k kept) ≡ false = sym is ∙ c.if-not-index.true in
     record {
+      high = omega (arith, inside);
       pairs = s.pairs;
       column = λ among. pass_unpaired (g.M.LineMatch.expression c.args.matcher.now) (g.M.LineMatch.whole c.args.matcher.now) texts number kept k c.args.matches.now c.loop-k.matches off among (s.column among);
       same_expression = s.same_expression;
       same_whole = s.same_whole;
       same_room = s.same_room;
-      steps = λ es were. passed_steps es c.args.search.now.options texts number kept were k (line_text (get_or lines k no_line)) one text c.args.meter.now c.loop-k.meter off (s.steps es were);
+      steps = marked_front (has_pair number kept) 1 texts k (k + 1) _ _ (omega arith) s.steps;
     }
 
 pub loop-k-preserved-then-not-is_match : goal.loop-k-preserved-then-not-is_match
@@ -74,12 +77,13 @@ loop-k-preserved-then-not-is_match g c =
     (subst (λ t. IsTrue c.is_match.result ↔ Matches (g.M.LineMatch.expression m) t (g.M.LineMatch.whole m)) (c.line.ensures.line ∙ sym text) c.is_match.ensures.reported)) in
     let spent = subst (λ t. AddsAtMost (length t + 1) c.loop-k.meter c.is_match.new.meter) c.line.ensures.line c.is_match.ensures.steps in
     record {
+      high = omega (arith, inside);
       pairs = s.pairs;
       column = λ among. column_pass e whole number texts k c.args.matches.now c.loop-k.matches (λ h matched. false≢true (sym c.if-not-is_match.true ∙ reported.1 matched)) (s.column among);
       same_expression = c.is_match.ensures.same.same_expression ∙ s.same_expression;
       same_whole = c.is_match.ensures.same.same_whole ∙ s.same_whole;
       same_room = c.is_match.ensures.same.same_room ∙ s.same_room;
-      steps = λ es were. searched_steps es c.args.search.now.options texts number kept were k (line_text (get_or lines k no_line)) one text c.args.meter.now c.loop-k.meter c.is_match.new.meter on (s.steps es were) spent;
+      steps = searched_next (has_pair number kept) texts k _ _ _ _ on text s.steps spent;
     }
 
 pub loop-k-preserved : goal.loop-k-preserved
@@ -106,16 +110,17 @@ loop-k-preserved g c =
     let spent = subst (λ t. AddsAtMost (length t + 1) c.loop-k.meter c.is_match.new.meter) c.line.ensures.line c.is_match.ensures.steps in
     let next : IsNextLine e whole texts k (Some k) = (omega arith, one, reported.0 c.if-not-is_match.false, λ j low high. absurd (let wrong : ⊥ = omega (arith, low, high) in wrong)) in
     record {
+      high = omega (arith, inside);
       pairs = pairs_next (length texts) k number c.args.matches.now c.loop-k.matches _ one c.in_ok-note.ensures.ok s.pairs;
       column = λ among. column_next e whole number texts k k c.args.matches.now c.loop-k.matches _ next c.in_ok-note.ensures.ok (s.column among);
       same_expression = c.is_match.ensures.same.same_expression ∙ s.same_expression;
       same_whole = c.is_match.ensures.same.same_whole ∙ s.same_whole;
       same_room = c.is_match.ensures.same.same_room ∙ s.same_room;
-      steps = λ es were. searched_steps es c.args.search.now.options texts number kept were k (line_text (get_or lines k no_line)) one text c.args.meter.now c.loop-k.meter c.is_match.new.meter on (s.steps es were) spent;
+      steps = searched_next (has_pair number kept) texts k _ _ _ _ on text s.steps spent;
     }
 
 pub returns-in_err-note-clause-steps : goal.returns-in_err-note-clause-steps
-returns-in_err-note-clause-steps g c = λ es were.
+returns-in_err-note-clause-steps g c =
     let s = c.loop-k.invariant in
     let k = c.loop-k.k in
     let lines = c.args.chunk.now in
@@ -131,7 +136,7 @@ returns-in_err-note-clause-steps g c = λ es were.
     let is : was ≡ has_number number (numbers_at k kept) = c.index.ensures ∙ get_or_default marks k was false (omega (arith, here, c.in_ok-marks.ensures.size)) ∙ c.in_ok-marks.ensures.marks k here in
     let on : has_number number (numbers_at k kept) ≡ true = sym is ∙ c.if-not-index.false in
     let spent = subst (λ t. AddsAtMost (length t + 1) c.loop-k.meter c.is_match.new.meter) c.line.ensures.line c.is_match.ensures.steps in
-    searched_last es c.args.search.now.options texts number kept were k (line_text (get_or lines k no_line)) one text c.args.meter.now c.loop-k.meter c.is_match.new.meter on (s.steps es were) spent
+    marked_front (has_pair number kept) 1 texts (k + 1) (length lines) _ _ (omega (arith, inside)) (searched_next (has_pair number kept) texts k _ _ _ _ on text s.steps spent)
 
 pub returns-clause-ok : goal.returns-clause-ok
 returns-clause-ok g c = λ among.
@@ -139,7 +144,4 @@ returns-clause-ok g c = λ among.
     (λ j low high. absurd (let wrong : ⊥ = omega (arith, low, high, length-map c.args.chunk.now line_text, c.loop-k-test.false, c.len-k-end.ensures) in wrong)) (c.loop-k.invariant.column among)
 
 pub returns-clause-steps : goal.returns-clause-steps
-returns-clause-steps g c = λ es were.
-    let texts = map line_text c.args.chunk.now in
-    let all : take c.loop-k.k texts ≡ texts = take_all _ _ (omega (arith, c.loop-k-test.false, c.len-k-end.ensures, length-map c.args.chunk.now line_text)) in
-    subst (λ ls. SearchesEach (CostWhere (Matched es c.args.search.now.options) 1) ls c.args.meter.now c.loop-k.meter) all (c.loop-k.invariant.steps es were)
+returns-clause-steps g c = marked_front (has_pair c.args.number c.args.old.now) 1 (map line_text c.args.chunk.now) c.loop-k.k _ _ _ c.loop-k.invariant.high c.loop-k.invariant.steps

@@ -1,4 +1,4 @@
-use Rattle.grep_session.proofs.Prelude.{◌-◌, map, length, SameMatchers, HasTaken, IsCourseOf, search_cost}
+use Rattle.grep_session.proofs.Prelude.{◌-◌, ◌*◌, ◌≤◌, map, length, AddsAtMost, ArePartsOf, SameMatchers, spent}
 use Rattle.grep_session.proofs.lemmas.FindingLemmas.{SpansSoFar}
 use Rattle.grep_session.proofs.search.parts_of.Given as goal
 
@@ -6,8 +6,9 @@ use Rattle.grep_session.proofs.search.parts_of.Given as goal
 abbrev pub invariant-loop-part : goal.invariant-loop-part
 invariant-loop-part g l = record {
   parts : SpansSoFar (map g.M.LineMatch.expression l.fn.matchers) l.search.options l.line l.from l.spans.items;
-  steps : HasTaken (search_cost (length l.fn.matchers) l.line) l.fn.meter (length l.spans.items) l.course l.meter;
-  right : IsCourseOf (record { expressions = map g.M.LineMatch.expression l.fn.matchers; whole = l.search.options.line_regexp }) l.line l.course;
+  room : length l.line ≤ l.line_parts.room;
+  right : ArePartsOf (record { expressions = map g.M.LineMatch.expression l.fn.matchers; whole = l.search.options.line_regexp }) l.line l.from l.line_parts;
+  steps : AddsAtMost (length l.fn.matchers * spent l.line_parts.seen) l.fn.meter l.meter;
   same_matchers : SameMatchers g.M.LineMatch.expression g.M.LineMatch.whole g.M.LineMatch.room l.fn.matchers l.matchers;
 }
 

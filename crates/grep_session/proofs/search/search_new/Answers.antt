@@ -1,17 +1,21 @@
-use Rattle.grep_session.proofs.Prelude.{◌≡◌, ◌++◌, [], All, List, length, map, sym, ap, subst, refl, ◌∙◌, arith, into_iter_items, Text, matched_expression, all_of, line_text, with_columns, FitColumns, CostAnew, SearchesEach, IsKept}
+use Rattle.grep_session.proofs.Prelude.{◌≡◌, ◌++◌, [], All, List, length, map, sym, ap, subst, refl, ◌∙◌, arith, into_iter_items, Text, matched_expression, all_of, line_text, with_columns, FitColumns, Rebuild, SearchesEach, IsKept}
 use Rattle.grep_session.proofs.lemmas.EditLemmas.{empty_map}
 use Rattle.grep_session.proofs.lemmas.FoundLemmas.{fit_all, right_all, texts_with_columns, all_anew, all_anew_chunks}
+use Rattle.grep_session.proofs.lemmas.StepLemmas.{not_searched}
 use Rattle.grep_session.proofs.search.search_new.Goals as goal
+
+pub returns-then-len-eq0-clause-steps : goal.returns-then-len-eq0-clause-steps
+returns-then-len-eq0-clause-steps c = not_searched _ _ _ _ _ _
 
 pub returns-in_err-find_in_lines-clause-steps : goal.returns-in_err-find_in_lines-clause-steps
 returns-in_err-find_in_lines-clause-steps c =
     let steps = rw c.deref_mut.ensures.value at c.find_in_lines.ensures.steps in
-    subst (λ (ls : List Text). SearchesEach (CostAnew (map matched_expression c.args.matchers.now.items) c.args.options.now) ls c.args.meter.now c.find_in_lines.new.meter) c.kept_of-lines.ensures.same (steps [] _ refl (all_anew [] c.args.options.now (all_of c.kept_of-lines.result)))
+    subst (λ (ls : List Text). SearchesEach Rebuild (map matched_expression c.args.matchers.now.items) (map matched_expression c.args.matchers.now.items) c.args.options.now ls c.args.meter.now c.find_in_lines.new.meter) c.kept_of-lines.ensures.same (steps [] _ refl (all_anew [] c.args.options.now (all_of c.kept_of-lines.result)))
 
 pub returns-clause-steps : goal.returns-clause-steps
 returns-clause-steps c =
     let steps = rw c.deref_mut.ensures.value at c.find_in_lines.ensures.steps in
-    subst (λ (ls : List Text). SearchesEach (CostAnew (map matched_expression c.args.matchers.now.items) c.args.options.now) ls c.args.meter.now c.find_in_lines.new.meter) c.kept_of-lines.ensures.same (steps [] _ refl (all_anew [] c.args.options.now (all_of c.kept_of-lines.result)))
+    subst (λ (ls : List Text). SearchesEach Rebuild (map matched_expression c.args.matchers.now.items) (map matched_expression c.args.matchers.now.items) c.args.options.now ls c.args.meter.now c.find_in_lines.new.meter) c.kept_of-lines.ensures.same (steps [] _ refl (all_anew [] c.args.options.now (all_of c.kept_of-lines.result)))
 
 pub returns-in_err-find_in_lines-clause-memory : goal.returns-in_err-find_in_lines-clause-memory
 returns-in_err-find_in_lines-clause-memory c = λ e.

@@ -1,6 +1,6 @@
 use Rattle.re_needle.proofs.Prelude.{map, take, ap, ◌∙◌, subst, sym, alt, cat, expression_of, HasNoBegin}
 use Rattle.re_trees.proofs.lemmas.ExpressionLaws.{expression-Repeat}
-use Rattle.re_needle.proofs.lemmas.ByteLaws.{parts_grown}
+use Rattle.re_needle.proofs.lemmas.NeededLaws.{parts_grown}
 use Rattle.re_needle.proofs.lemmas.LaterStarts.{no_begin_cat, no_begin_alt}
 use Rattle.re_needle.proofs.anchors.+begin.Goals as goal
 

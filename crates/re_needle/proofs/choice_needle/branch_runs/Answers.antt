@@ -1,6 +1,7 @@
-use Rattle.re_needle.proofs.Prelude.{◌≡◌, ◌+◌, ◌++◌, [], ◌∷◌, ◌&&◌, IsTrue, AllZip, Expression, length, map, take, get_or, sym, ap, ◌∙◌, subst, arith, eqb-true, false≢true, map-append, take_more, length-map, expression_of, members, sets_of_each, IsRunOf}
+use Rattle.re_needle.proofs.Prelude.{◌≡◌, ◌++◌, [], ◌∷◌, ◌&&◌, IsTrue, AllZip, Expression, length, map, take, sym, ap, ◌∙◌, subst, arith, eqb-true, false≢true, map-append, length-map, expression_of, members, sets_of_each, IsRunOf}
 use Rattle.re_runs.specs.Working.Runs.{longest_of}
 use Rattle.re_needle.proofs.lemmas.BranchLaws.{branch_more, front_of_branch}
+use Rattle.re_needle.proofs.lemmas.NeededLaws.{parts_grown}
 use Rattle.re_needle.proofs.choice_needle.branch_runs.Goals.{then-needle, else-needle}
 use Rattle.re_needle.proofs.choice_needle.branch_runs.Goals as goal
 
@@ -17,9 +18,7 @@ branches-preserved c =
       | then-needle w ↦ (w.if-needle.true, omega (arith, eqb-true w.len.result w.longest.result (sym w.found-is ∙ reported), w.len.ensures, w.longest.ensures, length-map c.in_ok-run.run'.items members, ap longest_of one))
       | else-needle w ↦ absurd (false≢true (sym w.if-needle.false ∙ sym w.found-is ∙ reported))
     ] in
-    let grown : map expression_of (take (place + 1) branches) ≡ map expression_of (take place branches) ++ e ∷ [] =
-    ap (map expression_of) (take_more branches place c.index-branches-place.result c.branches-test.true) ∙ map-append expression_of (take place branches) (get_or branches place c.index-branches-place.result ∷ [])
-    ∙ ap (λ x. map expression_of (take place branches) ++ expression_of x ∷ []) (sym c.index-branches-place.is) in
+    let grown = parts_grown branches place c.index-branches-place.result c.branches-test.true c.index-branches-place.is in
     let more : sets_of_each c.push.new.self.items ≡ sets_of_each c.branches.found.runs.items ++ front ∷ [] =
     ap sets_of_each c.in_ok-push.ensures.items ∙ map-append (λ r. map members r.items) c.branches.found.runs.items (c.in_ok-run.run' ∷ []) in
     let first = c.branches.found.are_first && needle.is_first in

@@ -7,20 +7,22 @@ pub places-preserved : goal.places-preserved
 places-preserved c =
     let text = c.args.text.now in
     let line = c.args.line.now in
+    let start = c.args.start in
     let place = c.places.place in
     let n = c.common_length-length.result in
     let had = c.places.invariant.added in
     record {
       window = c.common_length-length.ensures.window;
       begun = search rules;
-      added = adds_more_ends (λ i m. (i < place) × (m < i + length text) × OccursAt line text i) (λ i m. (i ≡ place) × (n ≡ length text) × (m < place + n)) (λ i m. (i < place + 1) × (m < i + length text) × OccursAt line text i)
+      added = adds_more_ends (λ i m. (i < place) × (m < start + (i + length text)) × OccursAt line text i) (λ i m. (i ≡ place) × (n ≡ length text) × (m < start + (place + n))) (λ i m. (i < place + 1) × (m < start + (i + length text)) × OccursAt line text i)
           line c.places.ends c.args.ends.now c.places.ends c.put_whole.new.ends had.0 had c.put_whole.ensures
-          (λ i m lt. one_place_put text line place n c.common_length-length.ensures.right i m);
+          (λ i m lt. one_place_put start text line place n c.common_length-length.ensures.right i m);
     }
 
 pub returns-clause-added : goal.returns-clause-added
 returns-clause-added c =
     let text = c.args.text.now in
     let line = c.args.line.now in
-    same_ends_added (λ i m. (i < c.places.place) × (m < i + length text) × OccursAt line text i) (λ i m. (m < i + length text) × OccursAt line text i) line c.args.ends.now c.places.ends c.places.invariant.added
+    let start = c.args.start in
+    same_ends_added (λ i m. (i < c.places.place) × (m < start + (i + length text)) × OccursAt line text i) (λ i m. (m < start + (i + length text)) × OccursAt line text i) line c.args.ends.now c.places.ends c.places.invariant.added
     (λ i m lt. ((λ p. (p.1, p.2)), (λ p. (omega (arith, lt, c.places-test.false), p.0, p.1))))

@@ -18,7 +18,7 @@ use Rattle.gaxtrel.proofs.PatternsSend as patterns_send
 use Rattle.gaxtrel.specs.Held.{held_owns}
 use Rattle.gaxtrel.specs.contracts.handle.Handle.{the_row, the_type}
 
-held_keyless : (alloc : (global_heap.the_row).Denot) (at : Ptr) (held : Option Kept) → Keyless (held_owns alloc at held)
+held_keyless : (alloc : (global_heap.the_row).Denot) (at : Ptr) (held : Option Kept) → Keyless (held_owns patterns.the_row alloc at held)
 held_keyless alloc at (Some m) = (lies patterns.the_row patterns_send.patterns at m, frees.frees alloc (raw (lone (patterns.the_row).mir)) at)
 held_keyless alloc at None = tt
 

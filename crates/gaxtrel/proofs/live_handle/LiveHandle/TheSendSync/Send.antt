@@ -15,10 +15,10 @@ use Rattle.std.proofs.alloc.Global.TheSendSync as global
 use Rattle.gaxtrel.specs.Live.{LiveKept}
 use Rattle.gaxtrel.specs.contracts.live.Live as live
 use Rattle.gaxtrel.proofs.LiveSend as live_send
-use Rattle.gaxtrel.specs.LiveHeld.{held_owns}
+use Rattle.gaxtrel.specs.Held.{held_owns}
 use Rattle.gaxtrel.specs.contracts.live_handle.LiveHandle.{the_row, the_type}
 
-held_keyless : (alloc : (global_heap.the_row).Denot) (at : Ptr) (held : Option LiveKept) → Keyless (held_owns alloc at held)
+held_keyless : (alloc : (global_heap.the_row).Denot) (at : Ptr) (held : Option LiveKept) → Keyless (held_owns live.the_row alloc at held)
 held_keyless alloc at (Some m) = (lies live.the_row live_send.live at m, frees.frees alloc (raw (lone (live.the_row).mir)) at)
 held_keyless alloc at None = tt
 

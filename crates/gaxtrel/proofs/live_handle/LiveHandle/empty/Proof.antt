@@ -21,7 +21,7 @@ use Rattle.core.proofs.alloc.Calls.{handle_tells}
 use Rattle.std.proofs.raw_atomic.Walks.{proved_at, leaves}
 use Rattle.gaxtrel.specs.Live.{LiveKept}
 use Rattle.gaxtrel.proofs.Values.{both}
-use Rattle.gaxtrel.proofs.LiveValues.{Z, al, handle_good, handle_in}
+use Rattle.gaxtrel.proofs.HandleValues.{Z, al, handle_good, live_in as handle_in}
 use Rattle.gaxtrel.specs.contracts.live_handle.LiveHandle.empty.{ended, clauses}
 use Rattle.gaxtrel.specs.contracts.live_handle.LiveHandle.empty.Key.{name as #self}
 use Rattle.gaxtrel.proofs.live_handle.LiveHandle.empty.Statement.{statement}

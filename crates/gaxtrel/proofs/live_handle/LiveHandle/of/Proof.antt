@@ -20,7 +20,7 @@ use denote.Triple.Walked.{Stays, stay_dropped, walk_of}
 use Rattle.core.proofs.alloc.Calls.{Goes-blank}
 use Rattle.std.proofs.raw_atomic.Walks.{proved_at, leaves}
 use Rattle.gaxtrel.proofs.Values.{both, loose_good, loose_out}
-use Rattle.gaxtrel.proofs.LiveValues.{R, Z, L, g, Loose, handle_in}
+use Rattle.gaxtrel.proofs.HandleValues.{Live as R, Z, L, g, LiveLoose as Loose, live_in as handle_in}
 use Rattle.gaxtrel.specs.contracts.live_handle.LiveHandle.of.{ended, clauses}
 use Rattle.gaxtrel.specs.contracts.live_handle.LiveHandle.of.Key.{name as #self}
 use Rattle.gaxtrel.proofs.live_handle.LiveHandle.of.Statement.{statement}

@@ -1,5 +1,5 @@
-use Rattle.gaxtrel.proofs.KeptLemmas.{still_alike, still_needed}
+use Rattle.gaxtrel.proofs.KeptLemmas.{still_right}
 use Rattle.gaxtrel.proofs.patterns.Patterns.parts.Goals as goal
 
 pub invariant_of-self : goal.invariant_of-self
-invariant_of-self c = (still_alike _ _ _ c.put_line_parts.ensures.same c.self.invariant.0, still_needed _ _ _ c.put_line_parts.ensures.same c.self.invariant.1)
+invariant_of-self c = still_right _ _ _ _ _ c.put_parts.ensures.same c.deref_mut.ensures.value c.deref_mut.ensures.len c.self.invariant

@@ -13,7 +13,7 @@ returns-in-Ok-Some-Edit-clause-answers g c =
     λ reader handed h.
     let done = does_alone g.R.CountedRead.remaining g.R.CountedRead.failures reader handed c.args.lines.now.lines.line c.args.lines.now c.args.meter.now c.make_edit.new.meter (state_of c.args.session.now c.args.has_text.now) (state_of c.make_edit.new.session c.args.has_text.now) g.W.CountedWrite.contents g.W.CountedWrite.failures c.args.out.now c.args.out.now c.reply_to_edit.new.out flushed
     (does edit) (reply_to c.make_edit.result ∷ []) h (rw is (refl, refl))
-    (c.make_edit.result, record { gives = c.make_edit.ensures.gives; same_states = c.make_edit.ensures.same_states; marks = c.make_edit.ensures.marks; named = λ none. not_for_memory c.make_edit.result (c.make_edit.ensures.memory none) }, refl, refl) c.make_edit.ensures.steps.most c.make_edit.ensures.steps.refusals c.make_edit.ensures.steps.is_most c.make_edit.ensures.steps.few in
+    (c.make_edit.result, record { gives = c.make_edit.ensures.gives; same_states = c.make_edit.ensures.same_states; marks = c.make_edit.ensures.marks; named = λ none. not_for_memory c.make_edit.result (c.make_edit.ensures.memory none) }, refl, refl) c.make_edit.ensures.steps.most c.make_edit.ensures.steps.is_most c.make_edit.ensures.steps.few in
     answers_step g.R.CountedRead.remaining g.R.CountedRead.failures reader handed c.args.lines.now.lines.line c.args.lines.now c.args.meter.now c.make_edit.new.meter (state_of c.args.session.now c.args.has_text.now) (state_of c.make_edit.new.session c.args.has_text.now) g.W.CountedWrite.contents g.W.CountedWrite.failures c.args.out.now c.args.out.now c.reply_to_edit.new.out flushed
     (reply_to c.make_edit.result ∷ []) (answer_for c.make_edit.result) c.reply_to_edit.result done (refused_as c.make_edit.result) (answered_in_time c.make_edit.result) c.reply_to_edit.ensures
 
@@ -24,7 +24,7 @@ returns-in-Ok-Some-Show-clause-answers g c =
     let s = c.reply_to_show.ensures in
     λ reader handed h.
     let done = does_alone g.R.CountedRead.remaining g.R.CountedRead.failures reader handed c.args.lines.now.lines.line c.args.lines.now c.args.meter.now c.args.meter.now (state_of c.args.session.now c.args.has_text.now) (state_of c.args.session.now c.args.has_text.now) g.W.CountedWrite.contents g.W.CountedWrite.failures c.args.out.now c.args.out.now c.reply_to_show.new.out flushed
-    reports s.0 h (rw is (refl, refl)) (s.1, refl) 0 0 (refl, refl) (adds_none 0 0 c.args.meter.now) in
+    reports s.0 h (rw is (refl, refl)) (s.1, refl) 0 refl (adds_none 0 0 c.args.meter.now) in
     answers_step g.R.CountedRead.remaining g.R.CountedRead.failures reader handed c.args.lines.now.lines.line c.args.lines.now c.args.meter.now c.args.meter.now (state_of c.args.session.now c.args.has_text.now) (state_of c.args.session.now c.args.has_text.now) g.W.CountedWrite.contents g.W.CountedWrite.failures c.args.out.now c.args.out.now c.reply_to_show.new.out flushed
     s.0 Accepted c.reply_to_show.result done (shown_is_no_refusal c.args.session.now.inputs s.0 s.1) (λ e. let no : ⊥ = cc in no) s.2
 
@@ -34,7 +34,7 @@ returns-in-Ok-None-clause-answers g c =
     let flushed = goes_nowhere g.W.CountedWrite.contents g.W.CountedWrite.failures c.args.out.now in
     λ reader handed h.
     let done = does_alone g.R.CountedRead.remaining g.R.CountedRead.failures reader handed c.args.lines.now.lines.line c.args.lines.now c.args.meter.now c.args.meter.now (state_of c.args.session.now c.args.has_text.now) (state_of c.args.session.now c.args.has_text.now) g.W.CountedWrite.contents g.W.CountedWrite.failures c.args.out.now c.args.out.now c.reply_with.new.out flushed
-    is_bad (bad_command ∷ []) h (rw is (refl, refl)) (refl, refl) 0 0 (refl, refl) (adds_none 0 0 c.args.meter.now) in
+    is_bad (bad_command ∷ []) h (rw is (refl, refl)) (refl, refl) 0 refl (adds_none 0 0 c.args.meter.now) in
     answers_step g.R.CountedRead.remaining g.R.CountedRead.failures reader handed c.args.lines.now.lines.line c.args.lines.now c.args.meter.now c.args.meter.now (state_of c.args.session.now c.args.has_text.now) (state_of c.args.session.now c.args.has_text.now) g.W.CountedWrite.contents g.W.CountedWrite.failures c.args.out.now c.args.out.now c.reply_with.new.out flushed
     (bad_command ∷ []) Refused c.reply_with.result done refl (λ e. let no : ⊥ = cc in no) c.reply_with.ensures
 
@@ -45,7 +45,7 @@ returns-in-Ok-Some-Changes-clause-answers g c =
     let t = c.reply_to_changes.ensures in
     λ reader handed h.
     let done = does_alone g.R.CountedRead.remaining g.R.CountedRead.failures reader handed c.args.lines.now.lines.line c.args.lines.now c.args.meter.now c.args.meter.now (state_of c.args.session.now c.args.has_text.now) (state_of t.1 c.args.has_text.now) g.W.CountedWrite.contents g.W.CountedWrite.failures c.args.out.now c.args.out.now c.reply_to_changes.new.out flushed
-    reports_changes t.0 h (rw is (refl, refl)) (t.2, refl) 0 0 (refl, refl) (adds_none 0 0 c.args.meter.now) in
+    reports_changes t.0 h (rw is (refl, refl)) (t.2, refl) 0 refl (adds_none 0 0 c.args.meter.now) in
     answers_changes g.R.CountedRead.remaining g.R.CountedRead.failures reader handed c.args.lines.now.lines.line c.args.lines.now c.args.meter.now c.args.meter.now (state_of c.args.session.now c.args.has_text.now) (state_of c.reply_to_changes.new.session c.args.has_text.now) g.W.CountedWrite.contents g.W.CountedWrite.failures c.args.out.now c.args.out.now c.reply_to_changes.new.out flushed
     t.0 t.1 c.reply_to_changes.result done (changes_is_no_refusal c.args.has_text.now c.args.session.now t.1 t.0 t.2)
     (report_done c.args.session.now c.reply_to_changes.new.session t.1 c.reply_to_changes.result t.4) (report_left c.args.session.now c.reply_to_changes.new.session t.1 c.args.has_text.now c.reply_to_changes.result t.2.leaves t.4) t.3
@@ -59,7 +59,7 @@ returns-in-Ok-Some-Page-clause-answers g c =
     let t = c.reply_to_page.ensures in
     λ reader handed h.
     let done = does_alone g.R.CountedRead.remaining g.R.CountedRead.failures reader handed c.args.lines.now.lines.line c.args.lines.now c.args.meter.now c.args.meter.now (state_of c.args.session.now c.args.has_text.now) (state_of c.args.session.now c.args.has_text.now) g.W.CountedWrite.contents g.W.CountedWrite.failures c.args.out.now c.args.out.now c.reply_to_page.new.out flushed
-    (reports_page first count) t.0 h (rw is (refl, refl)) (t.1, refl) 0 0 (refl, refl) (adds_none 0 0 c.args.meter.now) in
+    (reports_page first count) t.0 h (rw is (refl, refl)) (t.1, refl) 0 refl (adds_none 0 0 c.args.meter.now) in
     answers_step g.R.CountedRead.remaining g.R.CountedRead.failures reader handed c.args.lines.now.lines.line c.args.lines.now c.args.meter.now c.args.meter.now (state_of c.args.session.now c.args.has_text.now) (state_of c.args.session.now c.args.has_text.now) g.W.CountedWrite.contents g.W.CountedWrite.failures c.args.out.now c.args.out.now c.reply_to_page.new.out flushed
     t.0 Accepted c.reply_to_page.result done (page_is_no_refusal c.args.has_text.now c.args.session.now.inputs first count t.0 t.1) (λ e. let no : ⊥ = cc in no) t.2
 
@@ -69,7 +69,7 @@ returns-in-Ok-Some-Version-clause-answers g c =
     let flushed = goes_nowhere g.W.CountedWrite.contents g.W.CountedWrite.failures c.args.out.now in
     λ reader handed h.
     let done = does_alone g.R.CountedRead.remaining g.R.CountedRead.failures reader handed c.args.lines.now.lines.line c.args.lines.now c.args.meter.now c.args.meter.now (state_of c.args.session.now c.args.has_text.now) (state_of c.args.session.now c.args.has_text.now) g.W.CountedWrite.contents g.W.CountedWrite.failures c.args.out.now c.args.out.now c.reply_to_version.new.out flushed
-    tells_version (version_line ∷ []) h (rw is (refl, refl)) (refl, refl) 0 0 (refl, refl) (adds_none 0 0 c.args.meter.now) in
+    tells_version (version_line ∷ []) h (rw is (refl, refl)) (refl, refl) 0 refl (adds_none 0 0 c.args.meter.now) in
     answers_step g.R.CountedRead.remaining g.R.CountedRead.failures reader handed c.args.lines.now.lines.line c.args.lines.now c.args.meter.now c.args.meter.now (state_of c.args.session.now c.args.has_text.now) (state_of c.args.session.now c.args.has_text.now) g.W.CountedWrite.contents g.W.CountedWrite.failures c.args.out.now c.args.out.now c.reply_to_version.new.out flushed
     (version_line ∷ []) Accepted c.reply_to_version.result done refl (λ e. let no : ⊥ = cc in no) c.reply_to_version.ensures
 
@@ -89,6 +89,6 @@ returns-in-Ok-Some-Text-clause-answers g c =
     let set : after ≡ record before { texts = on } = ap (state_of c.args.session.now) c.reply_to_text.ensures.set in
     λ reader handed h.
     let done = does_alone g.R.CountedRead.remaining g.R.CountedRead.failures reader handed c.args.lines.now.lines.line c.args.lines.now c.args.meter.now c.args.meter.now before after g.W.CountedWrite.contents g.W.CountedWrite.failures c.args.out.now c.args.out.now c.reply_to_text.new.out flushed
-    (sets_text on) (codes "ok" ∷ []) h (rw is (refl, refl)) (refl, set) 0 0 (refl, refl) (adds_none 0 0 c.args.meter.now) in
+    (sets_text on) (codes "ok" ∷ []) h (rw is (refl, refl)) (refl, set) 0 refl (adds_none 0 0 c.args.meter.now) in
     answers_step g.R.CountedRead.remaining g.R.CountedRead.failures reader handed c.args.lines.now.lines.line c.args.lines.now c.args.meter.now c.args.meter.now before after g.W.CountedWrite.contents g.W.CountedWrite.failures c.args.out.now c.args.out.now c.reply_to_text.new.out flushed
     (codes "ok" ∷ []) Accepted c.reply_to_text.result done refl (λ e. let no : ⊥ = cc in no) c.reply_to_text.ensures.replied

@@ -37,7 +37,6 @@ returns-in-Add-clause-answers g c =
       is_step = rw is (t.0, ap does (sym meant));
       replies_to = (answer, record { gives = c.add_file.ensures.gives; same_states = c.add_file.ensures.same_states; marks = c.add_file.ensures.marks; named = λ none. not_for_memory answer (c.add_file.ensures.memory none) }, refl, refl);
       most = steps.most;
-      refusals = steps.refusals;
       is_most = steps.is_most;
       few = steps.few;
     })
@@ -62,7 +61,6 @@ returns-in-Splice-clause-answers g c =
       is_step = rw is (t.0, ap does (sym meant));
       replies_to = (answer, record { gives = c.splice.ensures.gives; same_states = c.splice.ensures.same_states; marks = c.splice.ensures.marks; named = λ none. not_for_memory answer (c.splice.ensures.memory none) }, refl, refl);
       most = steps.most;
-      refusals = steps.refusals;
       is_most = steps.is_most;
       few = steps.few;
     })

@@ -31,7 +31,6 @@ returns-in-Ok-clause-answers g c =
       is_step = rw is (t.0, refl);
       replies_to = (c.in-Ok.answer, record { gives = c.in-Ok.ensures.gives; same_states = c.in-Ok.ensures.same_states; marks = c.in-Ok.ensures.marks; named = λ none. not_for_memory c.in-Ok.answer (c.in-Ok.ensures.memory none) }, refl, refl);
       most = c.in-Ok.ensures.steps.most;
-      refusals = c.in-Ok.ensures.steps.refusals;
       is_most = c.in-Ok.ensures.steps.is_most;
       few = c.in-Ok.ensures.steps.few;
     })

@@ -18,7 +18,7 @@ at_selected : (g : given.Over) (c : In-Some g)
     → (mid : Numbered g.row.R.Denot) × (s : FollowedOn c.lines.invariant.so_far mid (writer g.W.CountedWrite.contents g.W.CountedWrite.failures c.lines.out) c.lines.meter c.lines.selected c.wait.new.surroundings.progress c.wait.new.surroundings.recent.lines)
     × (c.lines.invariant.so_far.lines ++ c.next_held-stretch.ensures.divided.1 ≡ s.lines ++ c.in-Some.text.now ∷ [])
     × HasHanded g.R.CountedRead.remaining g.R.CountedRead.failures c.args.lines.now.lines.reader (passed_state c.next_held-stretch.ensures.divided.3 c.next_held-stretch.ensures.divided.2.free) (s.lines ++ c.in-Some.text.now ∷ [])
-    × SearchesLines (map g.M.LineMatch.expression c.args.searchers.now.matchers.now) c.args.request.now.options (length (map g.M.LineMatch.expression c.args.searchers.now.matchers.now)) (s.lines ++ c.in-Some.text.now ∷ []) c.args.meter.now c.next_held-stretch.new.meter
+    × SearchesLines c.args.request.now.options (length (map g.M.LineMatch.expression c.args.searchers.now.matchers.now)) (s.lines ++ c.in-Some.text.now ∷ []) c.args.meter.now c.next_held-stretch.new.meter
     × Decides true (Selected (map g.M.LineMatch.expression c.args.searchers.now.matchers.now) c.args.request.now.options c.in-Some.text.now) × (1 ≤ c.next_held-stretch.result.count)
 at_selected g c =
     let w = c.args.request.now in
@@ -27,7 +27,7 @@ at_selected g c =
     let i = c.lines.invariant in
     let held = c.next_held-stretch.ensures in
     let (before, all, d, n) = held.divided in
-    let spent = searched_bytes es w.options (length es) all c.lines.meter c.next_held-stretch.new.meter (stretch_spent es _ _ _ i.same.same_matchers.same_expressions d held.steps) in
+    let spent = searched_bytes w.options (length es) all c.lines.meter c.next_held-stretch.new.meter (stretch_spent es _ _ _ i.same.same_matchers.same_expressions d held.steps) in
     let count = c.next_held-stretch.result.count in
     let forward = asked_forward c.lines.surroundings.progress.left w.options.invert_match count held.none in
     let kept = divided_kept (sym (same_sought i.same)) d in
@@ -38,9 +38,9 @@ at_selected g c =
     let some : 1 ≤ count = omega (arith, d.counted, ap length is, length-append before (line ∷ [])) in
     let reported = decided_yes (selected_matched es w.options c.args.searchers.now.whole c.requires.whole (plain_if w.options.invert_match count forward some) line holds) in
     let first = next_first c.lines.lines before (line ∷ []) (subst (IsNextOf c.lines.lines) is n) in
-    let (s, are) = followed_waiting i.limit i.so_far (handed_with first (before_free d) i.so_far.handed) unselected waits (unsearched_lines es w.options (length es) before c.lines.meter) in
+    let (s, are) = followed_waiting i.limit i.so_far (handed_with first (before_free d) i.so_far.handed) unselected waits (unsearched_lines w.options (length es) before c.lines.meter) in
     let same : i.so_far.lines ++ all ≡ s.lines ++ line ∷ [] = ap (λ ls. i.so_far.lines ++ ls) is ∙ sym (append_assoc i.so_far.lines before (line ∷ [])) ∙ ap (λ ls. ls ++ line ∷ []) (sym are) in
-    let all_spent = subst (λ ls. SearchesLines es w.options (length es) ls c.args.meter.now c.next_held-stretch.new.meter) same (searched_more_lines es w.options (length es) i.so_far.lines all c.args.meter.now c.lines.meter c.next_held-stretch.new.meter i.so_far.steps spent) in
+    let all_spent = subst (λ ls. SearchesLines w.options (length es) ls c.args.meter.now c.next_held-stretch.new.meter) same (searched_more_lines w.options (length es) i.so_far.lines all c.args.meter.now c.lines.meter c.next_held-stretch.new.meter i.so_far.steps spent) in
     let next = subst (λ ls. HasHanded g.R.CountedRead.remaining g.R.CountedRead.failures reader (passed_state n d.free) ls) same (handed_with n d.free i.so_far.handed) in
     (passed_state first (before_free d), s, same, next, all_spent, reported, some)
 
@@ -53,7 +53,7 @@ held_searched g c =
     let i = c.lines.invariant in
     let held = c.next_held-stretch.ensures in
     let (before, all, d, n) = held.divided in
-    let spent = searched_bytes es w.options (length es) all c.lines.meter c.next_held-stretch.new.meter (stretch_spent es _ _ _ i.same.same_matchers.same_expressions d held.steps) in
+    let spent = searched_bytes w.options (length es) all c.lines.meter c.next_held-stretch.new.meter (stretch_spent es _ _ _ i.same.same_matchers.same_expressions d held.steps) in
     let count = c.next_held-stretch.result.count in
     let forward = asked_forward c.lines.surroundings.progress.left w.options.invert_match count held.none in
     let kept = divided_kept (sym (same_sought i.same)) d in
@@ -62,7 +62,7 @@ held_searched g c =
     let is : all ≡ before = rw c.in_default.is at d.next in
     let now = c.pass-in-lines.new.self in
     let passed = subst (λ ls. HasHanded g.R.CountedRead.remaining g.R.CountedRead.failures reader now (i.so_far.lines ++ ls)) is (handed_passed n d.free i.so_far.handed d.width c.pass-in-lines.ensures.passed) in
-    (followed_waiting i.limit i.so_far passed unselected waits (subst (λ ls. SearchesLines es w.options (length es) ls c.lines.meter c.next_held-stretch.new.meter) is spent)).0
+    (followed_waiting i.limit i.so_far passed unselected waits (subst (λ ls. SearchesLines w.options (length es) ls c.lines.meter c.next_held-stretch.new.meter) is spent)).0
 
 -- buffered output was sent, and one more line was handed out
 next_line : (g : given.Over) (c : In-Ok-None g) (line : Text) → line ≡ c.take_next.new.lines.lines.line
@@ -73,7 +73,7 @@ next_line g c line is =
     let p = held_searched g (goal.at.In-Ok-None g c).After-pass-in-lines in
     let taken = rw c.in-Ok-None.field-0-is at c.in-Ok-None.ensures in
     let s = followed_sent p (TakesAll-written g.W.CountedWrite.contents g.W.CountedWrite.failures c.lines.out c.take_next.new.out [] (taken reader p.lines p.handed).2) in
-    let (next, few, went) = taken reader s.lines s.handed in
+    let (next, few, went, before) = taken reader s.lines s.handed in
     (s, subst (λ l. HasHanded g.R.CountedRead.remaining g.R.CountedRead.failures reader c.take_next.new.lines (s.lines ++ l ∷ [])) (sym is) next, few)
 
 pub lines-init : goal.lines-init
@@ -106,8 +106,8 @@ returns-then-is_err-clause-given g c =
     let i = c.lines.invariant in
     let held = c.next_held-stretch.ensures in
     let (before, all, d, n) = held.divided in
-    let spent = searched_bytes es c.args.request.now.options (length es) all c.lines.meter c.next_held-stretch.new.meter (stretch_spent es _ _ _ i.same.same_matchers.same_expressions d held.steps) in
-    followed_unkept i.so_far refl i.few_held (handed_with n d.free i.so_far.handed) spent (sym c.number.ensures)
+    let spent = searched_bytes c.args.request.now.options (length es) all c.lines.meter c.next_held-stretch.new.meter (stretch_spent es _ _ _ i.same.same_matchers.same_expressions d held.steps) in
+    followed_unkept i.so_far all refl i.few_held (handed_with n d.free i.so_far.handed) spent (sym c.number.ensures)
 
 pub show_line-requires : goal.show_line-requires
 show_line-requires g c =
@@ -179,8 +179,8 @@ returns-in_err-show_line-2-clause-given g c =
     let held = c.next_held-stretch.ensures in
     let same = (asked_over held.same i.same).same_matchers.same_expressions in
     let reported = rw same at c.is_selected-found.ensures.reported in
-    let once = searched_once es c.args.request.now.options line (length es) _ _ (rw same at c.is_selected-found.ensures.steps) in
-    let all_spent = searched_one_line es c.args.request.now.options (length es) s.lines line _ _ _ s.steps once in
+    let once = searched_once c.args.request.now.options (length es) line _ _ (rw same at c.is_selected-found.ensures.steps) in
+    let all_spent = searched_one_line c.args.request.now.options (length es) s.lines line _ _ _ s.steps once in
     followed_stops s line next c.number-number.ensures reported all_spent
     few _ c.wait.new.surroundings.recent refl c.in_err-show_line-2.field-0.0 c.in_err-show_line-2.ensures c.from_residual-in_err-show_line-2.result c.from_residual-in_err-show_line-2.ensures.1
 
@@ -206,8 +206,8 @@ lines-preserved g c =
     let held = c.next_held-stretch.ensures in
     let same = (asked_over held.same i.same).same_matchers.same_expressions in
     let reported = rw same at c.is_selected-found.ensures.reported in
-    let once = searched_once es c.args.request.now.options line (length es) _ _ (rw same at c.is_selected-found.ensures.steps) in
-    let all_spent = searched_one_line es c.args.request.now.options (length es) s.lines line _ _ _ s.steps once in
+    let once = searched_once c.args.request.now.options (length es) line _ _ (rw same at c.is_selected-found.ensures.steps) in
+    let all_spent = searched_one_line c.args.request.now.options (length es) s.lines line _ _ _ s.steps once in
     let shown = c.in_ok-show_line-2.ensures in
     let (before, all, d, n) = held.divided in
     let waits = subst (λ ls. Waits ls c.lines.surroundings.progress c.wait.new.surroundings.progress c.lines.surroundings.recent c.wait.new.surroundings.recent) (before_lines d) (if_kept c.wait.result c.is_err.result c.is_err.ensures.value c.if-is_err.false c.wait.ensures) in

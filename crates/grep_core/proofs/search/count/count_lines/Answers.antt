@@ -1,10 +1,12 @@
-use Rattle.grep_core.proofs.Prelude.{◌∙◌, [], false, map, refl, arith, lines_of, sought_by, IsSought, writer}
+use Rattle.grep_core.proofs.Prelude.{◌∙◌, [], false, length, map, refl, arith, lines_of, sought_by, IsSought, writer}
 use Rattle.re_search.proofs.lemmas.KeptMatchers.{unasked, asked_over}
 use Rattle.grep_core.proofs.lemmas.WrittenLemmas.{TakesAll-written}
 use Rattle.grep_core.proofs.lemmas.FileOutput.{rows_none}
+use Rattle.grep_core.proofs.lemmas.CostLaws.{searched_once}
+use Rattle.grep_core.proofs.lemmas.OneLineLemmas.{line_only_counted}
 use Rattle.grep_core.proofs.lemmas.CountedLines.{many_within}
-use Rattle.grep_core.proofs.lemmas.LinesLemmas.{SearchedOn, counts_plain, counts_late, written_plain, searched_none, searched_counted, counted_further, searched_sent, may_count, fewer_left, searched_line, breaks_at}
-use Rattle.grep_core.proofs.lemmas.EndLemmas.{breaks_with, ends_as, stops_as}
+use Rattle.grep_core.proofs.lemmas.LinesLemmas.{SearchedOn, counts_plain, counts_late, written_plain, searched_none, searched_counted, counted_further, searched_sent, may_count, fewer_left, searched_line}
+use Rattle.grep_core.proofs.lemmas.EndLemmas.{ends_as, stops_as}
 use Rattle.grep_core.proofs.search.count.count_lines.Given as given
 use Rattle.grep_core.proofs.search.count.count_lines.Goals as goal
 use Rattle.grep_core.proofs.search.count.count_lines.Goals.{After-saturating_add-selected, In-Ok-None}
@@ -33,16 +35,18 @@ lines-init g c = record {
 pub lines-preserved : goal.lines-preserved
 lines-preserved g c =
     let w = c.args.request.now in
+    let es = map g.M.LineMatch.expression c.args.searchers.now.matchers.now in
     let i = c.lines.invariant in
     let taken = rw c.in-Ok-None.field-0-is at c.in-Ok-None.ensures in
     let s = sent g (goal.at.lines-preserved g c).In-Ok-None (counted g (goal.at.lines-preserved g c).After-saturating_add-selected) in
     let kept = asked_over c.count_matched-matched.ensures.same i.same in
-    let took = rw kept.same_matchers.same_expressions at c.in_ok-found.ensures.ok in
-    let spent = rw kept.same_matchers.same_expressions at c.in_ok-found.ensures.steps in
+    let reported = rw kept.same_matchers.same_expressions at c.is_selected-found.ensures.reported in
+    let spent = searched_once w.options (length es) c.line.result.now _ _ (rw kept.same_matchers.same_expressions at c.is_selected-found.ensures.steps) in
     record {
       so_far =
-          searched_line s (taken c.args.lines.now.lines.reader s.lines s.handed).0 c.line.ensures c.number-count.ensures (counts_plain w.options c.requires.is_asked) took spent c.count_found-selected.ensures (λ early. absurd (counts_late w.options c.requires.is_asked early));
-      same = asked_over c.in_ok-found.ensures.same kept;
+          searched_line s (taken c.args.lines.now.lines.reader s.lines s.handed).0 c.line.ensures refl (counts_plain w.options c.requires.is_asked) (line_only_counted es w.options w.many w.name.now _ c.line.result.now _ c.requires.is_asked c.is_selected-found.result reported) spent c.count_found-selected.ensures
+          (λ early. absurd (counts_late w.options c.requires.is_asked early));
+      same = asked_over c.is_selected-found.ensures.same kept;
     }
 
 pub count_found-selected-requires : goal.count_found-selected-requires
@@ -58,19 +62,6 @@ lines-smaller g c =
     let s = sent g (goal.at.lines-smaller g c).In-Ok-None (counted g (goal.at.lines-smaller g c).After-saturating_add-selected) in
     let further = counted_further c.ready_lines-block.ensures c.pass.ensures.passed i.so_far in
     omega (arith, further, fewer_left s (taken c.args.lines.now.lines.reader s.lines s.handed).0)
-
-pub returns-in_err-found-clause-given : goal.returns-in_err-found-clause-given
-returns-in_err-found-clause-given g c =
-    let w = c.args.request.now in
-    let es = map g.M.LineMatch.expression c.args.searchers.now.matchers.now in
-    let i = c.lines.invariant in
-    let taken = rw c.in-Ok-None.field-0-is at c.in-Ok-None.ensures in
-    let s = sent g (goal.at.returns-in_err-found-clause-given g c).In-Ok-None (counted g (goal.at.returns-in_err-found-clause-given g c).After-saturating_add-selected) in
-    let kept = asked_over c.count_matched-matched.ensures.same i.same in
-    let broke = rw kept.same_matchers.same_expressions at c.in_err-found.ensures.err in
-    let spent = rw kept.same_matchers.same_expressions at c.in_err-found.ensures.steps in
-    breaks_with g.R.CountedRead.remaining g.R.CountedRead.failures g.W.CountedWrite.contents g.W.CountedWrite.failures es w.options w.many false w.name.now c.args.lines.now.lines.reader c.take_next.new.lines _ c.search_line.new.out _ _ c.from_residual.result c.from_residual.ensures.1
-    (breaks_at s (taken c.args.lines.now.lines.reader s.lines s.handed).0 c.line.ensures c.number-count.ensures (counts_plain w.options c.requires.is_asked) broke spent)
 
 pub returns-in-Ok-Some-clause-given : goal.returns-in-Ok-Some-clause-given
 returns-in-Ok-Some-clause-given g c =
@@ -99,14 +90,11 @@ count_selected-requires g c =
     let within = many_within (IsSought (sought_by g.M.LineMatch.expression c.lines.searchers)) (lines_of c.ready_lines-block.result.bytes.now) c.count_matched-matched.result c.count_matched-matched.ensures.reported in
     omega (arith, within, c.ready_lines-block.ensures.counted)
 
-pub search_line-requires : goal.search_line-requires
-search_line-requires g c = record { whole = c.count_matched-matched.ensures.same.same_whole ∙ c.lines.invariant.same.same_whole ∙ c.requires.whole }
+pub is_selected-found-requires : goal.is_selected-found-requires
+is_selected-found-requires g c = record { whole = c.count_matched-matched.ensures.same.same_whole ∙ c.lines.invariant.same.same_whole ∙ c.requires.whole }
 
 pub returns-in-Ok-Some-clause-same : goal.returns-in-Ok-Some-clause-same
 returns-in-Ok-Some-clause-same g c = asked_over c.count_matched-matched.ensures.same c.lines.invariant.same
 
 pub returns-in-Err-clause-same : goal.returns-in-Err-clause-same
 returns-in-Err-clause-same g c = asked_over c.count_matched-matched.ensures.same c.lines.invariant.same
-
-pub returns-in_err-found-clause-same : goal.returns-in_err-found-clause-same
-returns-in_err-found-clause-same g c = asked_over c.in_err-found.ensures.same (asked_over c.count_matched-matched.ensures.same c.lines.invariant.same)

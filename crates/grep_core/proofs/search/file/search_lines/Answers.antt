@@ -1,11 +1,12 @@
-use Rattle.grep_core.proofs.Prelude.{◌∙◌, [], false, map, refl, sym, arith, writer, leaves_early}
+use Rattle.grep_core.proofs.Prelude.{◌∙◌, [], false, map, take, refl, sym, subst, arith, writer, IsOneLineAndFew, leaves_early}
+use Rattle.grep_io.proofs.lemmas.WindowLemmas.{none_in_nothing, few_after}
 use Rattle.re_search.proofs.lemmas.KeptMatchers.{unasked, asked_over, same_sought}
 use Rattle.grep_core.proofs.lemmas.WrittenLemmas.{TakesAll-written}
 use Rattle.grep_core.proofs.lemmas.FileOutput.{rows_none}
 use Rattle.grep_core.proofs.lemmas.PassedLines.{are_ahead, handed_with, handed_passed}
 use Rattle.grep_core.proofs.lemmas.SearchedBlockLemmas.{bare_if, divided_kept, stretch_spent, line_within}
-use Rattle.grep_core.proofs.lemmas.LinesLemmas.{SearchedOn, written_plain, searched_none, searched_among, leaves_among, breaks_in_lines, numbers_further, numbers_on, searched_sent, may_count, fewer_left, searched_line, goes_on, goes_on_with, leaves_with, leaves_at, breaks_at}
-use Rattle.grep_core.proofs.lemmas.EndLemmas.{breaks_with, ends_as, stops_as}
+use Rattle.grep_core.proofs.lemmas.LinesLemmas.{SearchedOn, written_plain, searched_none, searched_among, leaves_among, stops_in_lines, stops_at, is_next, numbers_further, numbers_on, searched_sent, may_count, fewer_left, searched_line, goes_on, goes_on_with, leaves_with, leaves_at}
+use Rattle.grep_core.proofs.lemmas.EndLemmas.{given_up, ends_as, stops_as}
 use Rattle.grep_core.proofs.search.file.search_lines.Given as given
 use Rattle.grep_core.proofs.search.file.search_lines.Goals as goal
 use Rattle.grep_core.proofs.search.file.search_lines.Goals.{Else-found-early, In-Ok-None}
@@ -21,7 +22,7 @@ among g c =
     let later = divided_kept (same_sought held.same) d in
     let few = stretch_spent (map g.M.LineMatch.expression c.next_held-stretch.new.searchers.matchers.now) _ c.lines.meter c.next_held-stretch.new.meter (sym held.same.same_matchers.same_expressions) d held.steps in
     let spent = rw kept.same_matchers.same_expressions at (c.write_searched.ensures.steps before all later c.lines.meter few) in
-    let took = rw (kept.same_matchers.same_expressions, c.number.ensures) at (c.in_ok-found.ensures.ok before all later) in
+    let took = rw (kept.same_matchers.same_expressions, c.number-done.ensures) at (c.in_ok-found.ensures.ok before all later) in
     let next = handed_passed n d.free i.so_far.handed d.width c.pass.ensures.passed in
     let none = goes_on_with c.in_ok-found.found c.leaves_early-early.result (leaves_early w.options) i.is_early c.if-found-early.false in
     searched_among i.so_far all next c.requires.plain spent took c.saturating_add-selected.ensures none
@@ -38,6 +39,7 @@ pub lines-init : goal.lines-init
 lines-init g c = record {
   so_far = searched_none (written_plain _ _ _ _ _ _ c.requires.plain [] [] (rows_none _ _ _ _ _)) refl c.requires.none_ahead c.requires.still_open c.requires.none_numbered;
   same = unasked;
+  few_held = subst IsOneLineAndFew (sym c.requires.none_ahead) none_in_nothing;
   is_early = c.leaves_early-early.ensures;
 }
 
@@ -48,7 +50,7 @@ write_searched-requires g c =
     record {
       whole = held.same.same_whole ∙ c.lines.invariant.same.same_whole ∙ c.requires.whole;
       bare = bare_if c.args.request.now.options.invert_match c.writes_bare_lines.result held.none c.writes_bare_lines.ensures;
-      few = omega (arith, n.few, d.counted, c.number.ensures);
+      few = omega (arith, n.few, d.counted, c.number-done.ensures);
     }
 
 pub pass-requires : goal.pass-requires
@@ -68,10 +70,10 @@ returns-in_err-found-clause-given g c =
     let later = divided_kept (same_sought held.same) d in
     let few = stretch_spent (map g.M.LineMatch.expression c.next_held-stretch.new.searchers.matchers.now) _ c.lines.meter c.next_held-stretch.new.meter (sym held.same.same_matchers.same_expressions) d held.steps in
     let spent = rw kept.same_matchers.same_expressions at (c.write_searched.ensures.steps before all later c.lines.meter few) in
-    let broke = rw (kept.same_matchers.same_expressions, c.number.ensures) at (c.in_err-found.ensures.err before all later) in
+    let broke = rw (kept.same_matchers.same_expressions, c.number-done.ensures) at (c.in_err-found.ensures.err before all later) in
     let next = handed_with n d.free i.so_far.handed in
-    breaks_with g.R.CountedRead.remaining g.R.CountedRead.failures g.W.CountedWrite.contents g.W.CountedWrite.failures es w.options w.many false w.name.now reader c.lines.lines _ c.write_searched.new.out _ _ c.from_residual.result c.from_residual.ensures.1
-    (breaks_in_lines i.so_far all next c.requires.plain spent broke)
+    given_up g.R.CountedRead.remaining g.R.CountedRead.failures g.W.CountedWrite.contents g.W.CountedWrite.failures es w.options w.many false w.name.now reader c.lines.lines _ c.write_searched.new.out _ _ _ c.from_residual.result c.from_residual.ensures.1
+    (stops_in_lines i.so_far all next c.requires.plain spent refl i.few_held _ _ broke)
 
 pub returns-then-found-early-clause-given : goal.returns-then-found-early-clause-given
 returns-then-found-early-clause-given g c =
@@ -82,7 +84,7 @@ returns-then-found-early-clause-given g c =
     let later = divided_kept (same_sought held.same) d in
     let few = stretch_spent (map g.M.LineMatch.expression c.next_held-stretch.new.searchers.matchers.now) _ c.lines.meter c.next_held-stretch.new.meter (sym held.same.same_matchers.same_expressions) d held.steps in
     let spent = rw kept.same_matchers.same_expressions at (c.write_searched.ensures.steps before all later c.lines.meter few) in
-    let took = rw (kept.same_matchers.same_expressions, c.number.ensures) at (c.in_ok-found.ensures.ok before all later) in
+    let took = rw (kept.same_matchers.same_expressions, c.number-done.ensures) at (c.in_ok-found.ensures.ok before all later) in
     let next = handed_passed n d.free i.so_far.handed d.width c.pass.ensures.passed in
     let (some, early) = leaves_with c.in_ok-found.found c.leaves_early-early.result c.if-found-early.true in
     leaves_among i.so_far all next c.requires.plain spent took c.saturating_add-selected.ensures some (sym i.is_early ∙ early)
@@ -93,7 +95,12 @@ lines-preserved-then-goes_on g c =
     let held = c.next_held-stretch.ensures in
     let kept = asked_over held.same i.same in
     let p = among g (goal.at.lines-preserved-then-goes_on g c).Else-found-early in
-    record { so_far = p; same = asked_over c.write_searched.ensures.same kept; is_early = i.is_early }
+    record {
+      so_far = p;
+      same = asked_over c.write_searched.ensures.same kept;
+      few_held = few_after (take c.next_held-stretch.result.bytes c.lines.lines.lines.ahead) c.pass.new.self.lines.ahead (subst IsOneLineAndFew c.pass.ensures.ahead i.few_held);
+      is_early = i.is_early;
+    }
 
 pub lines-smaller-then-goes_on : goal.lines-smaller-then-goes_on
 lines-smaller-then-goes_on g c =
@@ -107,8 +114,14 @@ lines-smaller-then-goes_on g c =
 
 pub search_line-requires : goal.search_line-requires
 search_line-requires g c =
+    let reader = c.args.lines.now.lines.reader in
     let held = c.next_held-stretch.ensures in
-    record { whole = c.write_searched.ensures.same.same_whole ∙ held.same.same_whole ∙ c.lines.invariant.same.same_whole ∙ c.requires.whole }
+    let taken = rw c.in-Ok-None.field-0-is at c.in-Ok-None.ensures in
+    let s = sent g (goal.at.search_line-requires g c).In-Ok-None (among g (goal.at.search_line-requires g c).Else-found-early) in
+    record {
+      whole = c.write_searched.ensures.same.same_whole ∙ held.same.same_whole ∙ c.lines.invariant.same.same_whole ∙ c.requires.whole;
+      first = omega (arith, c.number-number.ensures, is_next s (taken reader s.lines s.handed).0);
+    }
 
 pub count_found-selected-requires : goal.count_found-selected-requires
 count_found-selected-requires g c =
@@ -143,8 +156,9 @@ lines-preserved g c =
     let found = c.in_ok-found-2.found in
     record {
       so_far =
-          searched_line s (taken reader s.lines s.handed).0 c.line.ensures c.number-count.ensures c.requires.plain took_line spent_line c.count_found-selected.ensures (goes_on found _ _ i.is_early c.if-found-early-2.false);
+          searched_line s (taken reader s.lines s.handed).0 c.line-line.ensures c.number-number.ensures c.requires.plain took_line spent_line c.count_found-selected.ensures (goes_on found _ _ i.is_early c.if-found-early-2.false);
       same = asked_over c.in_ok-found-2.ensures.same asked;
+      few_held = (taken reader s.lines s.handed).1;
       is_early = i.is_early;
     }
 
@@ -159,7 +173,7 @@ returns-then-found-early-2-clause-given g c =
     let asked = asked_over c.write_searched.ensures.same kept in
     let took_line = rw asked.same_matchers.same_expressions at c.in_ok-found-2.ensures.ok in
     let spent_line = rw asked.same_matchers.same_expressions at c.in_ok-found-2.ensures.steps in
-    leaves_at s (taken reader s.lines s.handed).0 c.line.ensures c.number-count.ensures c.requires.plain took_line spent_line c.count_found-selected.ensures i.is_early c.if-found-early-2.true
+    leaves_at s (taken reader s.lines s.handed).0 c.line-line.ensures c.number-number.ensures c.requires.plain took_line spent_line c.count_found-selected.ensures i.is_early c.if-found-early-2.true
 
 pub returns-in_err-found-2-clause-given : goal.returns-in_err-found-2-clause-given
 returns-in_err-found-2-clause-given g c =
@@ -174,8 +188,9 @@ returns-in_err-found-2-clause-given g c =
     let asked = asked_over c.write_searched.ensures.same kept in
     let broke_line = rw asked.same_matchers.same_expressions at c.in_err-found-2.ensures.err in
     let spent_line = rw asked.same_matchers.same_expressions at c.in_err-found-2.ensures.steps in
-    breaks_with g.R.CountedRead.remaining g.R.CountedRead.failures g.W.CountedWrite.contents g.W.CountedWrite.failures es w.options w.many false w.name.now reader c.take_next.new.lines _ c.search_line.new.out _ _ c.from_residual-in_err-found-2.result c.from_residual-in_err-found-2.ensures.1
-    (breaks_at s (taken reader s.lines s.handed).0 c.line.ensures c.number-count.ensures c.requires.plain broke_line spent_line)
+    let (next, few, went, before) = taken reader s.lines s.handed in
+    given_up g.R.CountedRead.remaining g.R.CountedRead.failures g.W.CountedWrite.contents g.W.CountedWrite.failures es w.options w.many false w.name.now reader c.take_next.new.lines _ c.search_line.new.out _ _ _ c.from_residual-in_err-found-2.result c.from_residual-in_err-found-2.ensures.1
+    (stops_at s next c.line-line.ensures c.number-number.ensures c.requires.plain (before w.name.now) _ _ broke_line spent_line)
 
 pub returns-in-Ok-Some-clause-given : goal.returns-in-Ok-Some-clause-given
 returns-in-Ok-Some-clause-given g c =

@@ -1,7 +1,8 @@
-use Rattle.grep_core.proofs.Prelude.{◌∙◌, length, map}
+use Rattle.grep_core.proofs.Prelude.{◌∙◌, length, map, StopsLine}
 use Rattle.re_search.proofs.lemmas.KeptMatchers.{asked_over}
 use Rattle.grep_core.proofs.lemmas.CostLaws.{line_asked, searched_once}
-use Rattle.grep_core.proofs.lemmas.OneLineLemmas.{err_with, line_broken, line_passed, line_selected}
+use Rattle.grep_core.proofs.lemmas.OneLineLemmas.{unwritten, line_broken, line_passed, line_selected}
+use Rattle.grep_core.proofs.lemmas.WaitingRows.{if_kept}
 use Rattle.grep_core.proofs.search.line.search_line.Goals as goal
 
 pub returns-then-not-is_selected-clause-ok : goal.returns-then-not-is_selected-clause-ok
@@ -11,7 +12,7 @@ returns-then-not-is_selected-clause-ok g c =
 
 pub returns-then-not-is_selected-clause-steps : goal.returns-then-not-is_selected-clause-steps
 returns-then-not-is_selected-clause-steps g c =
-    searched_once (map g.M.LineMatch.expression c.args.searchers.now.matchers.now) c.args.request.now.options c.args.line.now (length (map g.M.LineMatch.expression c.args.searchers.now.matchers.now)) _ _ c.is_selected.ensures.steps
+    searched_once c.args.request.now.options (length (map g.M.LineMatch.expression c.args.searchers.now.matchers.now)) c.args.line.now _ _ c.is_selected.ensures.steps
 
 pub returns-clause-ok : goal.returns-clause-ok
 returns-clause-ok g c =
@@ -22,7 +23,8 @@ returns-clause-ok g c =
 pub returns-in_err-write_selected-clause-err : goal.returns-in_err-write_selected-clause-err
 returns-in_err-write_selected-clause-err g c =
     let w = c.args.request.now in
-    err_with c.from_residual.result
+    let es = map g.M.LineMatch.expression c.args.searchers.now.matchers.now in
+    unwritten (StopsLine es w.options w.many w.name.now c.args.number c.args.line.now _ _) c.from_residual.result c.from_residual.ensures.1
     (line_broken (map g.M.LineMatch.expression c.args.searchers.now.matchers.now) _ w.options w.many w.name.now c.args.number c.args.line.now _ _ c.is_selected.result c.if-not-is_selected.false c.is_selected.ensures.reported
     c.is_selected.ensures.same.same_matchers.same_expressions c.in_err-write_selected.ensures.err)
 
@@ -43,4 +45,8 @@ returns-in_err-write_selected-clause-steps g c =
     c.is_selected.ensures.same.same_matchers.same_expressions c.is_selected.ensures.steps c.write_selected.ensures.steps
 
 pub write_selected-requires : goal.write_selected-requires
-write_selected-requires g c = c.is_selected.ensures.same.same_whole ∙ c.requires.whole
+write_selected-requires g c = record { whole = c.is_selected.ensures.same.same_whole ∙ c.requires.whole; room = if_kept c.make_room.result c.is_err.result c.is_err.ensures.value c.if-is_err.false c.make_room.ensures }
+
+pub returns-then-is_err-clause-steps : goal.returns-then-is_err-clause-steps
+returns-then-is_err-clause-steps g c =
+    searched_once c.args.request.now.options (length (map g.M.LineMatch.expression c.args.searchers.now.matchers.now)) c.args.line.now _ _ c.is_selected.ensures.steps

@@ -1,15 +1,23 @@
-use Rattle.grep_core.proofs.Prelude.{◌≡◌, ◌∙◌, length, map, arith, asks_whole}
+use Rattle.grep_core.proofs.Prelude.{◌≡◌, ◌∙◌, map, arith, asks_whole}
+use Rattle.re_meter.proofs.lemmas.Adding.{adds_none}
+use Rattle.re_search.proofs.lemmas.LinePartsLaws.{all_parts}
 use Rattle.re_search.proofs.lemmas.KeptMatchers.{unasked, asked_over, same_sought}
 use Rattle.grep_core.proofs.lemmas.OneLineLemmas.{err_with}
 use Rattle.grep_core.proofs.lemmas.PassLemmas.{TakesAll-line, TakesFront-line}
-use Rattle.grep_core.proofs.lemmas.PartsLemmas.{parts_none, parts_next, parts_done, parts_broken, parts_asked}
+use Rattle.grep_core.proofs.lemmas.PartsLemmas.{parts_none, parts_next, parts_done, parts_broken}
 use Rattle.grep_core.proofs.search.line.write_parts.Goals as goal
 
 pub loop-part-init : goal.loop-part-init
-loop-part-init g c = record { parts = parts_none _ _ _ _ _ _ _ _ _ _ (omega arith) c.course-course.ensures.steps; right = c.course-course.ensures.right; same = unasked }
+loop-part-init g c = record {
+  parts = parts_none _ _ _ _ _ _ _ (omega arith);
+  room = rw c.begin.ensures.room c.requires.room;
+  right = c.begin.ensures.right _ _ 0;
+  steps = adds_none _ _ _;
+  same = unasked;
+}
 
 pub next_part-requires-clause-within : goal.next_part-requires-clause-within
-next_part-requires-clause-within g c = c.loop-part.invariant.parts.0.on_line
+next_part-requires-clause-within g c = c.loop-part.invariant.parts.on_line
 
 pub next_part-requires-clause-right : goal.next_part-requires-clause-right
 next_part-requires-clause-right g c = rw (same_sought c.loop-part.invariant.same) c.loop-part.invariant.right
@@ -33,7 +41,7 @@ returns-in_err-write_part-clause-err g c =
     let part = c.in-Some.part in
     let reported = rw (whole, same.same_matchers.same_expressions) at c.in-Some.ensures.reported in
     let out = c.in_err-write_part.ensures in
-    err_with c.from_residual.result (parts_broken es w.options w.many w.name.now c.args.number c.args.line.now c.requires.asked c.loop-part.from part.start part.end _ _ _ c.loop-part.invariant.parts.0 reported
+    err_with c.from_residual.result (parts_broken es w.options w.many w.name.now c.args.number c.args.line.now c.requires.asked c.loop-part.from part.start part.end _ _ _ c.loop-part.invariant.parts reported
     (TakesFront-line g.W.CountedWrite.contents g.W.CountedWrite.failures c.loop-part.out c.write_part.new.out _ out)
     out.counted)
 
@@ -48,10 +56,11 @@ loop-part-preserved g c =
     let steps = rw same.same_matchers.same_expressions at c.in-Some.ensures.steps in
     record {
       parts =
-          parts_next es w.options w.many w.name.now c.args.number c.args.line.now c.loop-part.from part.start part.end _ _ _ c.args.meter.now c.loop-part.meter c.next_part.new.meter c.loop-part.course c.next_part.new.course _ c.loop-part.invariant.parts.0 c.loop-part.invariant.parts.1 reported
-          (TakesAll-line g.W.CountedWrite.contents g.W.CountedWrite.failures c.loop-part.out c.write_part.new.out _ c.in_ok-write_part.ensures)
-          (λ times taken. steps c.args.meter.now times taken);
+          parts_next es w.options w.many w.name.now c.args.number c.args.line.now c.loop-part.from part.start part.end _ _ _ c.loop-part.invariant.parts reported
+          (TakesAll-line g.W.CountedWrite.contents g.W.CountedWrite.failures c.loop-part.out c.write_part.new.out _ c.in_ok-write_part.ensures);
+      room = rw c.in-Some.ensures.room c.loop-part.invariant.room;
       right = rw (same_sought same) at c.in-Some.ensures.right;
+      steps = steps c.args.meter.now c.loop-part.invariant.steps;
       same = asked_over c.in-Some.ensures.same same;
     }
 
@@ -62,7 +71,7 @@ returns-clause-ok g c =
     let same = c.loop-part.invariant.same in
     let whole : asks_whole c.loop-part.searchers ≡ w.options.line_regexp = same.same_whole ∙ c.requires.whole in
     let reported = rw (whole, same.same_matchers.same_expressions) at c.in_default.ensures.reported in
-    parts_done es w.options w.many w.name.now c.args.number c.args.line.now c.requires.asked c.loop-part.from _ _ c.loop-part.invariant.parts.0 reported
+    parts_done es w.options w.many w.name.now c.args.number c.args.line.now c.requires.asked c.loop-part.from _ _ c.loop-part.invariant.parts reported
 
 pub returns-in_err-write_part-clause-same : goal.returns-in_err-write_part-clause-same
 returns-in_err-write_part-clause-same g c = asked_over c.in-Some.ensures.same c.loop-part.invariant.same
@@ -72,16 +81,12 @@ returns-clause-same g c = asked_over c.in_default.ensures.same c.loop-part.invar
 
 pub returns-in_err-write_part-clause-steps : goal.returns-in_err-write_part-clause-steps
 returns-in_err-write_part-clause-steps g c =
-    let w = c.args.request.now in
-    let es = map g.M.LineMatch.expression c.args.searchers.now.matchers.now in
-    let s = c.loop-part.invariant.parts in
-    let steps = rw c.loop-part.invariant.same.same_matchers.same_expressions at c.in-Some.ensures.steps in
-    parts_asked es w.options w.many w.name.now c.args.number c.args.line.now c.requires.asked c.loop-part.from _ _ c.args.meter.now c.next_part.new.meter c.next_part.new.course _ s.0 (steps c.args.meter.now (length s.0.done) s.1)
+    let i = c.loop-part.invariant in
+    let steps = rw i.same.same_matchers.same_expressions at c.in-Some.ensures.steps in
+    all_parts _ _ _ c.args.meter.now c.next_part.new.meter c.in-Some.ensures.seen (steps c.args.meter.now i.steps)
 
 pub returns-clause-steps : goal.returns-clause-steps
 returns-clause-steps g c =
-    let w = c.args.request.now in
-    let es = map g.M.LineMatch.expression c.args.searchers.now.matchers.now in
-    let s = c.loop-part.invariant.parts in
-    let steps = rw c.loop-part.invariant.same.same_matchers.same_expressions at c.in_default.ensures.steps in
-    parts_asked es w.options w.many w.name.now c.args.number c.args.line.now c.requires.asked c.loop-part.from _ _ c.args.meter.now c.next_part.new.meter c.next_part.new.course _ s.0 (steps c.args.meter.now (length s.0.done) s.1)
+    let i = c.loop-part.invariant in
+    let steps = rw i.same.same_matchers.same_expressions at c.in_default.ensures.steps in
+    all_parts _ _ _ c.args.meter.now c.next_part.new.meter c.in_default.ensures.seen (steps c.args.meter.now i.steps)

@@ -1,4 +1,5 @@
-use Rattle.grep_core.proofs.Prelude.{map, sym}
+use Rattle.grep_core.proofs.Prelude.{map, length, sym}
+use Rattle.grep_core.proofs.lemmas.CostLaws.{parts_searched}
 use Rattle.grep_core.proofs.lemmas.OneLineLemmas.{row_written, row_broken}
 use Rattle.grep_core.proofs.search.line.write_selected.Goals as goal
 
@@ -13,3 +14,7 @@ returns-in-Lines-clause-err g c =
     let w = c.args.request.now in
     row_broken g.W.CountedWrite.contents g.W.CountedWrite.failures (map g.M.LineMatch.expression c.args.searchers.now.matchers.now) w.options w.many w.name.now c.args.number c.args.line.now c.args.out.now c.write_text.new.out
     (sym c.in-Lines.ensures) c.write_text.result c.write_text.ensures
+
+pub returns-in-Parts-clause-steps : goal.returns-in-Parts-clause-steps
+returns-in-Parts-clause-steps g c =
+    parts_searched c.args.request.now.options (length (map g.M.LineMatch.expression c.args.searchers.now.matchers.now)) c.args.line.now c.args.meter.now c.write_parts.new.meter c.in-Parts.ensures c.write_parts.ensures.steps

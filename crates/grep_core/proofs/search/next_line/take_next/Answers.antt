@@ -4,7 +4,8 @@ use Rattle.grep_core.proofs.search.next_line.take_next.Goals as goal
 pub returns-in-Ok-true : goal.returns-in-Ok-true
 returns-in-Ok-true g c = λ reader handed h.
     let next = rw c.in-Ok-true.field-0-test at c.in-Ok-true.ensures.next in
-    (next reader handed h, c.in-Ok-true.ensures.held, c.in_ok-send_before_read.ensures)
+    let before = rw c.in-Ok-true.field-0-test at c.in-Ok-true.ensures.before in
+    (next reader handed h, c.in-Ok-true.ensures.held, c.in_ok-send_before_read.ensures, before reader handed h)
 
 pub returns-in-Ok-false : goal.returns-in-Ok-false
 returns-in-Ok-false g c = λ reader handed h.

@@ -1,11 +1,77 @@
-use Rattle.re_match.proofs.Prelude.{expression_of}
-use Rattle.re_match.proofs.lemmas.LaterParts.{later_part}
+use Rattle.re_match.proofs.Prelude.{false, ◌-◌, ◌∙◌, length, sym, subst, arith, expression_of, BeginsLater, past}
+use Rattle.re_match.proofs.lemmas.StepSums.{adds_on, adds_within}
+use Rattle.re_match.proofs.lemmas.WindowLaws.{border_within, first_part, later_on, none_on, part_on}
 use Rattle.re_match.proofs.cached.Cached.part.Goals as goal
 
-pub returns-in-Known-clause-reported : goal.returns-in-Known-clause-reported
-returns-in-Known-clause-reported c = rw (← c.self.view_is) c.in-Known.ensures.0
+pub windows-preserved : goal.windows-preserved
+windows-preserved c =
+    let e = expression_of c.args.self.now.tree in
+    let line = c.args.line.now in
+    let from = c.args.from in
+    let place = c.windows.place in
+    let held = c.windows.invariant in
+    let window = c.in-In.window in
+    let said = rw held.same at c.in-In.ensures in
+    let within = border_within e line window.end said.0.1.1 in
+    let low = held.later.0 in
+    let next = said.0.0.0 in
+    record {
+      high = omega (arith, c.place_after-place.ensures);
+      same = c.find_in.ensures.same ∙ held.same;
+      later = subst (BeginsLater e line false from) (sym c.place_after-place.ensures) (later_on e line from place window.start window.end held.later said.0.0 said.0.1.1 (rw held.same at c.in_default.ensures.found) said.0.1.0 within);
+      steps = adds_on (window.start - from) (window.end - window.start) (past line window.end - from) 0 _ _ _ _ _ (omega (arith, c.place_after-place.ensures, within, said.0.1.0, low, next)) (omega (arith, c.place_after-place.ensures))
+          (adds_on (place - from) (window.start - place) (place - from) (past line window.end - place) (window.start - from) (past line window.end - from) _ _ _ (omega (arith, low, next)) (omega (arith, low, next, within, said.0.1.0, held.high)) held.steps said.1)
+          c.find_in.ensures.steps;
+    }
 
-pub returns-in-Later-clause-reported : goal.returns-in-Later-clause-reported
-returns-in-Later-clause-reported c =
-    rw (← c.self.view_is)
-    (later_part (expression_of c.self.inside.automaton) c.args.line.now c.args.from c.in-Later.start c.find.result c.in-Later.ensures.0 c.find.ensures.reported)
+pub returns-in-Part-clause-reported : goal.returns-in-Part-clause-reported
+returns-in-Part-clause-reported c =
+    let held = c.windows.invariant in
+    part_on (expression_of c.args.self.now.tree) c.args.line.now c.args.from c.windows.place c.in-Part.part held.later (rw held.same at c.in-Part.ensures.0)
+
+pub returns-in-Part-clause-steps : goal.returns-in-Part-clause-steps
+returns-in-Part-clause-steps c =
+    let held = c.windows.invariant in
+    let low = held.later.0 in
+    let on = c.in-Part.ensures.0.found.on_line in
+    let some = c.in-Part.ensures.0.found.not_empty in
+    let begins = c.in-Part.ensures.0.found.begins in
+    adds_on (c.windows.place - c.args.from) 0 (c.windows.place - c.args.from) (c.in-Part.part.end - c.windows.place) _ _ _ _ _ (omega (arith, held.high)) (omega (arith, low, on, some, begins)) held.steps c.in-Part.ensures.1
+
+pub returns-in-Nothing-clause-reported : goal.returns-in-Nothing-clause-reported
+returns-in-Nothing-clause-reported c =
+    let held = c.windows.invariant in
+    none_on (expression_of c.args.self.now.tree) c.args.line.now c.args.from c.windows.place held.later (rw held.same at c.in-Nothing.ensures.0)
+
+pub returns-in-Nothing-clause-steps : goal.returns-in-Nothing-clause-steps
+returns-in-Nothing-clause-steps c =
+    let held = c.windows.invariant in
+    let low = held.later.0 in
+    adds_on (c.windows.place - c.args.from) 0 (c.windows.place - c.args.from) (length c.args.line.now - c.windows.place) _ _ _ _ _ (omega (arith, held.high)) (omega (arith, low, held.high)) held.steps c.in-Nothing.ensures.1
+
+pub returns-in-Some-clause-reported : goal.returns-in-Some-clause-reported
+returns-in-Some-clause-reported c =
+    let held = c.windows.invariant in
+    let window = c.in-In.window in
+    let said = rw held.same at c.in-In.ensures in
+    first_part (expression_of c.args.self.now.tree) c.args.line.now c.args.from c.windows.place window.start window.end held.later said.0.0 said.0.1.1 c.in-Some.part (rw held.same at c.in-Some.ensures.found)
+
+pub returns-in-Some-clause-steps : goal.returns-in-Some-clause-steps
+returns-in-Some-clause-steps c =
+    let from = c.args.from in
+    let place = c.windows.place in
+    let held = c.windows.invariant in
+    let window = c.in-In.window in
+    let said = rw held.same at c.in-In.ensures in
+    let within = border_within (expression_of c.args.self.now.tree) c.args.line.now window.end said.0.1.1 in
+    let low = held.later.0 in
+    let next = said.0.0.0 in
+    adds_on (window.start - from) (window.end - window.start) (past c.args.line.now window.end - from) 0 _ _ _ _ _ (omega (arith, within, said.0.1.0, low, next)) (omega arith)
+    (adds_on (place - from) (window.start - place) (place - from) (past c.args.line.now window.end - place) (window.start - from) (past c.args.line.now window.end - from) _ _ _ (omega (arith, low, next)) (omega (arith, low, next, within, said.0.1.0, held.high)) held.steps said.1)
+    c.find_in.ensures.steps
+
+pub returns-clause-reported : goal.returns-clause-reported
+returns-clause-reported c = λ i j f. let low = c.windows.invariant.later.1 i j f in let some = f.not_empty in let on = f.on_line in omega (arith, low, some, on, c.windows-test.false)
+
+pub returns-clause-steps : goal.returns-clause-steps
+returns-clause-steps c = adds_within (c.windows.place - c.args.from) (length c.args.line.now - c.args.from) _ _ (omega (arith, c.windows.invariant.high)) c.windows.invariant.steps

@@ -1,8 +1,17 @@
-use Rattle.re_match.proofs.Prelude.{[], ◌∷◌, false, expression_of, FoundPast, MatchesPast}
-use Rattle.re_ends.proofs.lemmas.FoundEnds.{adds_alike, matched_found}
+use Rattle.re_match.proofs.Prelude.{◌≡◌, ◌+◌, ◌-◌, sym, arith, length, drop, slice_range, length-take-le, length-drop, expression_of, FoundPast}
+use Rattle.re_ends.proofs.lemmas.FoundEnds.{matched_found}
+use Rattle.re_match.proofs.lemmas.AheadLaws.{walked_adds}
+use Rattle.re_match.proofs.lemmas.WindowLaws.{border_within, ends_of_window}
 use Rattle.re_match.proofs.cached.Cached.put_ends.Goals as goal
+
+pub add_ends-requires-clause-border : goal.add_ends-requires-clause-border
+add_ends-requires-clause-border c = rw (← c.self.view_is) at c.requires.window.1
 
 pub returns-clause-added : goal.returns-clause-added
 returns-clause-added c =
-    rw (← c.self.view_is) (adds_alike (MatchesPast (expression_of c.self.inside.automaton) c.args.line.now) (FoundPast (expression_of c.self.inside.automaton ∷ []) c.args.line.now false) c.args.line.now c.args.ends.now c.add_ends.new.ends
-    (λ i m lt. matched_found (expression_of c.self.inside.automaton) c.args.line.now i m) c.add_ends.ensures.added)
+    ends_of_window _ (expression_of c.args.self.now.tree) c.args.line.now c.args.window.start c.args.window.end c.requires.window c.args.ends.now c.add_ends.new.ends c.requires.room (λ i m lt. matched_found (expression_of c.args.self.now.tree) c.args.line.now (c.args.window.start + i) m) (rw (← c.self.view_is) c.add_ends.ensures.added)
+
+pub returns-clause-steps : goal.returns-clause-steps
+returns-clause-steps c =
+    let (reused, few, is) = c.add_ends.ensures.counted in
+    walked_adds (c.args.window.end - c.args.window.start) reused _ _ few is

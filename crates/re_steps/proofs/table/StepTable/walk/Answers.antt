@@ -1,4 +1,4 @@
-use Rattle.re_steps.proofs.Prelude.{arith, ◌≡◌, suc, ◌+◌, ◌-◌, ◌<◌, slice_index, refl, sym, subst, add-one, IsRow, cell_at, walked, expression_in, rows_of, IsAt}
+use Rattle.re_steps.proofs.Prelude.{arith, ◌≡◌, suc, ◌+◌, ◌-◌, ◌<◌, slice_index, sym, subst, add-one, IsRow, cell_at, walked, expression_in, rows_of, IsAt}
 use Rattle.re_steps.proofs.lemmas.WalkLaws.{comes_on, walked_more, walked_none}
 use Rattle.re_steps.proofs.table.StepTable.walk.Goals as goal
 

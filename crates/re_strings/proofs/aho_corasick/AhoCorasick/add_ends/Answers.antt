@@ -8,7 +8,8 @@ pub places-init : goal.places-init
 places-init c = record {
   in_trie = c.requires.table.trie.some;
   stands = λ all t. nothing_read all 0 (keys c.args.self.now.fold c.args.line.now) t.trie.root (omega arith);
-  added = λ all t. adds_no_ends (OccursBy all (keys c.args.self.now.fold c.args.line.now) 0) c.args.line.now c.args.ends.now c.requires.fits (λ i m lt p. let end = p.2 in let o = p.3 in let on = o.1 in omega (arith, end, on));
+  added = λ all t. adds_no_ends (OccursBy all c.args.start (keys c.args.self.now.fold c.args.line.now) 0) c.args.line.now c.args.ends.now c.requires.fits
+      (λ i m lt p. let end = p.2 in let o = p.3 in let low = o.0 in let on = o.1 in omega (arith, end, low, on));
 }
 
 pub places-preserved : goal.places-preserved
@@ -17,6 +18,7 @@ places-preserved c =
     let line = keys fold c.args.line.now in
     let size : length line ≡ length c.args.line.now = length-map c.args.line.now (key fold) in
     let place = c.places.place in
+    let start = c.args.start in
     let inside : place < length c.args.line.now = omega (arith, c.places-test.true) in
     let here : c.key_of-byte.result ≡ slice_index line place = c.key_of-byte.ensures ∙ sym (key_at fold c.args.line.now place inside) in
     let node = c.step-node.result in
@@ -31,16 +33,16 @@ places-preserved c =
       added = λ all t.
           let had = c.places.invariant.added all t in
           let size_read = node_length all 0 line (place + 1) node (omega (arith, size, inside)) (stands all t) in
-          adds_more_ends (OccursBy all line place) (λ i m. (n : ℕ) × (m < place + 1) × (i + n ≡ place + 1) × EndsWith all.strings (all.label node) n) (OccursBy all line (place + 1))
+          adds_more_ends (OccursBy all start line place) (λ i m. (n : ℕ) × (m < start + (place + 1)) × (i + n ≡ place + 1) × EndsWith all.strings (all.label node) n) (OccursBy all start line (place + 1))
           c.args.line.now c.places.ends c.args.ends.now c.places.ends c.put_outputs.new.ends had.0 had (c.put_outputs.ensures all t (omega (arith, size_read)))
-          (λ i m lt. one_place_more all line (place + 1) node (omega (arith, size, inside)) (stands all t) place refl i m);
+          (λ i m lt. one_place_more all line (place + 1) node (omega (arith, size, inside)) (stands all t) start place refl i m);
     }
 
 pub returns : goal.returns
 returns c = λ all t.
     let line = keys c.args.self.now.fold c.args.line.now in
     let size : length line ≡ length c.args.line.now = length-map c.args.line.now (key c.args.self.now.fold) in
-    same_ends_added (OccursBy all line c.places.place) (λ i m. (j : ℕ) × (m < j) × Occurs all.strings 0 line i j) c.args.line.now c.args.ends.now c.places.ends (c.places.invariant.added all t)
+    same_ends_added (OccursBy all c.args.start line c.places.place) (λ i m. (j : ℕ) × (m < c.args.start + j) × Occurs all.strings 0 line i j) c.args.line.now c.args.ends.now c.places.ends (c.places.invariant.added all t)
     (λ i m lt. (
       (λ p. (p.0, p.1, p.3)),
       (λ p. let end = p.2.2 in (p.0, p.1, omega (arith, end, size, c.places-test.false), p.2)),

@@ -6,5 +6,5 @@ abbrev pub invariant-places : goal.invariant-places
 invariant-places l = record {
   in_trie : l.node < length l.self.trie.bytes.items;
   stands : (all : Labels) → IsTableOf all l.self → StandsAtNode all 0 (keys l.self.fold l.line) l.place l.node;
-  added : (all : Labels) → IsTableOf all l.self → AddsEnds (OccursBy all (keys l.self.fold l.line) l.place) l.line l.fn.ends l.ends;
+  added : (all : Labels) → IsTableOf all l.self → AddsEnds (OccursBy all l.start (keys l.self.fold l.line) l.place) l.line l.fn.ends l.ends;
 }

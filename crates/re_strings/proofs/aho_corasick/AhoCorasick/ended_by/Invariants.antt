@@ -1,4 +1,4 @@
-use Rattle.re_strings.proofs.Prelude.{◌≡◌, ℕ, ◌<◌, ◌≤◌, ◌-◌, length, Labels, IsTableOf, Occurs, StandsSince, keys}
+use Rattle.re_strings.proofs.Prelude.{ℕ, ◌<◌, ◌≤◌, ◌-◌, length, Labels, IsTableOf, Occurs, StandsSince, keys}
 use Rattle.re_strings.proofs.aho_corasick.AhoCorasick.ended_by.Given as goal
 
 abbrev pub invariant-places : goal.invariant-places

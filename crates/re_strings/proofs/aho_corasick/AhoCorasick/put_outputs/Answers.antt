@@ -14,8 +14,8 @@ outputs-init c =
     record {
       in_trie = omega (arith, below, read, in_trie);
       follows = λ all t. first_output all node c.index.result.now (subst (IsOutput all (all.label node)) read (t.outputs node in_trie));
-      added = λ all t le. adds_no_ends (PutsLonger all node c.args.end c.index.result.now) c.args.ends.now c.args.ends.now refl
-          (λ i m lt. none_longer all node c.index.result.now c.args.end (subst (IsOutput all (all.label node)) read (t.outputs node in_trie)) i m);
+      added = λ all t le. adds_no_ends (PutsLonger all node c.args.end c.args.top c.index.result.now) c.args.ends.now c.args.ends.now refl
+          (λ i m lt. none_longer all node c.index.result.now c.args.end c.args.top (subst (IsOutput all (all.label node)) read (t.outputs node in_trie)) i m);
     }
 
 pub outputs-preserved : goal.outputs-preserved
@@ -47,18 +47,18 @@ outputs-preserved c =
       added = λ all t le.
           let had = c.outputs.invariant.added all t le in
           let long = t.depths output in_trie in
-          adds_more_ends (PutsLonger all node c.args.end output) (λ i m. (i ≡ c.saturating_sub-start.result) × (m < c.args.end)) (PutsLonger all node c.args.end next)
+          adds_more_ends (PutsLonger all node c.args.end c.args.top output) (λ i m. (i ≡ c.saturating_sub-start.result) × (m < c.args.top)) (PutsLonger all node c.args.end c.args.top next)
           c.args.ends.now c.outputs.ends c.args.ends.now c.outputs.ends c.put_end.new.ends had.0 had c.put_end.ensures
           (λ i m lt.
           output_put all node output fail next (c.outputs.invariant.follows all t)
           (subst (λ f. StandsFor all.strings (all.label f) (all.label output) 1) back (t.fails output inside (omega (arith, in_fails, in_trie))))
           (subst (IsOutput all (all.label fail)) read (t.outputs fail fail_in))
-          c.args.end c.saturating_sub-start.result inside le (omega (arith, c.saturating_sub-start.ensures, deep, long)) i m);
+          c.args.end c.args.top c.saturating_sub-start.result inside le (omega (arith, c.saturating_sub-start.ensures, deep, long)) i m);
     }
 
 pub returns : goal.returns
 returns c = λ all t le.
     let root : c.outputs.output ≡ 0 = omega (arith, c.outputs-test.false) in
     let empty : length (all.label c.outputs.output) ≡ 0 = ap (λ n. length (all.label n)) root ∙ ap length t.trie.root in
-    same_ends_added (PutsLonger all c.args.node c.args.end c.outputs.output) (λ i m. (n : ℕ) × (m < c.args.end) × (i + n ≡ c.args.end) × EndsWith all.strings (all.label c.args.node) n)
-    c.args.ends.now c.args.ends.now c.outputs.ends (c.outputs.invariant.added all t le) (λ i m lt. all_put all c.args.node c.args.end c.outputs.output empty i m)
+    same_ends_added (PutsLonger all c.args.node c.args.end c.args.top c.outputs.output) (λ i m. (n : ℕ) × (m < c.args.top) × (i + n ≡ c.args.end) × EndsWith all.strings (all.label c.args.node) n)
+    c.args.ends.now c.args.ends.now c.outputs.ends (c.outputs.invariant.added all t le) (λ i m lt. all_put all c.args.node c.args.end c.args.top c.outputs.output empty i m)

@@ -1,5 +1,6 @@
 use Rattle.grep_io.proofs.Prelude.{◌≡◌, ◌≢◌, ◌<◌, ◌∙◌, [], Err, sym, ap, arith, Ended, most_lines, Numbered}
 use Rattle.grep_io.proofs.lemmas.WindowLemmas.{none_in_nothing, one_line, one_line_and_few}
+use Rattle.grep_io.proofs.lemmas.HandedLemmas.{has_read_before}
 use Rattle.grep_io.proofs.lemmas.NumberedLemmas.{next_is_line, next_is_end, next_is_cut, next_is_past, next_is_refused}
 use Rattle.grep_io.proofs.input.lines.Lines.next_numbered.Goals as goal
 
@@ -38,13 +39,13 @@ returns-in-Err-Memory-clause-next g c = λ reader handed s.
 pub returns-in-Ok-true-clause-held : goal.returns-in-Ok-true-clause-held
 returns-in-Ok-true-clause-held g c =
     let handed_out = rw c.in-Ok-true.field-0-test at c.in-Ok-true.ensures.line in
-    one_line_and_few [] c.next_line.new.self.lines.ahead none_in_nothing handed_out.few_held
+    one_line_and_few [] c.next_line.new.self.lines.ahead none_in_nothing (omega (arith, handed_out.few_held))
 
 pub returns-in-Ok-true-2-clause-held : goal.returns-in-Ok-true-2-clause-held
 returns-in-Ok-true-2-clause-held g c =
     let reported = rw c.in-Ok-true.field-0-test at c.in-Ok-true.ensures.line in
     let handed_out = rw (← c.self.view_is) at reported in
-    one_line_and_few [] c.self.inside.window.ahead none_in_nothing handed_out.few_held
+    one_line_and_few [] c.self.inside.window.ahead none_in_nothing (omega (arith, handed_out.few_held))
 
 pub returns-in-Ok-false-clause-held : goal.returns-in-Ok-false-clause-held
 returns-in-Ok-false-clause-held g c =
@@ -60,3 +61,9 @@ pub returns-in-Err-Memory-clause-held : goal.returns-in-Err-Memory-clause-held
 returns-in-Err-Memory-clause-held g c =
     let refused = c.in-Err-Memory.ensures.memory (ap Err c.in-Err-Memory.field-0-is) in
     refused.few_held
+
+pub returns-in-Ok-true-2-clause-before : goal.returns-in-Ok-true-2-clause-before
+returns-in-Ok-true-2-clause-before g c = λ reader handed s name.
+    let reported = rw c.in-Ok-true.field-0-test at c.in-Ok-true.ensures.line in
+    let handed_out = rw (← c.self.view_is) at reported in
+    has_read_before g.R.CountedRead.remaining g.R.CountedRead.failures name reader c.args.self.now.lines _ handed s.hands handed_out

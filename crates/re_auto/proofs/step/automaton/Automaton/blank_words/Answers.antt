@@ -2,8 +2,8 @@ use Rattle.re_auto.proofs.Prelude.{ℕ, subst, sym, IfOk-weaker, replicate, expr
 use Rattle.re_auto.proofs.lemmas.BitLemmas.{zeros_are}
 use Rattle.re_auto.proofs.step.automaton.Automaton.blank_words.Goals as goal
 
-pub returns-clause-blank : goal.returns-clause-blank
-returns-clause-blank c = IfOk-weaker c.vec.result _ _ (λ words zeros. subst (λ xs. Are xs (λ _. ⊥) count) (sym (zeros (λ y h. h))) are) c.vec.ensures.items_if_clones_equal
+pub returns : goal.returns
+returns c = IfOk-weaker c.vec.result _ _ (λ words zeros. subst (λ xs. Are xs (λ _. ⊥) count) (sym (zeros (λ y h. h))) are) c.vec.ensures.items_if_clones_equal
   where
     count : ℕ
     count = words_for (positions (expression_of c.args.self.now))

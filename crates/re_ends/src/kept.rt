@@ -1,0 +1,352 @@
+//! Steps between rows of ranks, as far as they are kept.
+ghost use Rattle.std.specs.Prelude.{◌≡◌, ℕ, ◌+◌, ◌*◌, ◌^◌, ◌<◌, ◌≤◌, Bool, true, false, ◌∷◌, IsTrue};
+ghost use Rattle.std.specs.Prelude.{IfOk, IfSome, OnOk, List, length, get_or, slice_index};
+ghost use Rattle.re_trees.specs.Expression.{Expression};
+ghost use Rattle.re_trees.specs.Holds.{positions};
+ghost use Rattle.re_trees.specs.Working.Trees.{expression_of};
+ghost use Rattle.re_auto.specs.Working.Positions.{part_of};
+ghost use Rattle.re_ends.specs.Working.Ranks.{kept_in, Leaves, AreRanksFor, IsRankStep, IsRow};
+ghost use Rattle.re_ends.specs.Working.KeptSteps.{listed, unknown, no_step, cell_at, rows_of, AreLonger, AreRowsFor, AreStepsFor, IsOperation, IsRowIn};
+
+use crate::list::EndList;
+use crate::ranks::{Ranks, greatest_among};
+use re_auto::Automaton;
+use std::alloc::{AllocError, Global};
+use std::collections::HashMap;
+
+// The most steps that are kept.
+const MOST_STEPS: usize = 4096;
+
+// The most bytes that rows and their cells take.
+const MOST_BYTES: usize = 1 << 22;
+
+// The most cells.
+const MOST_CELLS: usize = 1 << 30;
+
+// From this operation on, an operation is the number of a list of ranks that stay, plus this. Below
+// it is the first rank that stays, as do all after it.
+const LISTED: u16 = 1 << 15;
+
+// No operation.
+const UNKNOWN: u16 = u16::MAX;
+
+// The operation that leaves the ends as they are.
+const ALL: u16 = 2;
+
+/// A kept step.
+#[derive(Clone, Copy, Drop)]
+pub struct Step {
+    /// Where the row of the ranks before the byte has its cells.
+    pub row: u32,
+    /// The greatest of these ranks, of positions that a stretch inside a line can begin with.
+    pub inside: u16,
+    /// What becomes of the ends.
+    pub op: u16,
+}
+
+// What a cell has whose step is not kept.
+const NO_STEP: Step = Step {
+    row: 0,
+    inside: 0,
+    op: UNKNOWN,
+};
+
+/// Rows of ranks, and for each row a cell for each class of bytes, with the step over such a byte
+/// if it is kept. The first row is that of a line's end, the second that of a place inside a line
+/// that no match goes over.
+#[derive(Drop)]
+pub struct KeptSteps {
+    classes: Vec<u8>,
+    width: usize,
+    rows: Vec<Vec<u16>>,
+    cells: Vec<Step>,
+    lists: Vec<Vec<u16>>,
+    numbers: HashMap<u64, usize>,
+    held: usize,
+}
+
+impl KeptSteps {
+    /// No steps, and rows where no position has an end.
+    pub fn new(alloc: Global, automaton: &Automaton) -> Result<KeptSteps, AllocError>
+        ensures { IfOk result (AreStepsFor (expression_of automaton.now)) }
+    {
+        let classes = Vec::from_slice(alloc, automaton.classes())?;
+        let width = count_of(&classes);
+        let mut cells = Vec::new(alloc);
+        lengthen(&mut cells, 0, 3 * width)?;
+        let mut rows = Vec::new(alloc);
+        rows.push(vec![in alloc; 0u16; automaton.size()]?)?;
+        rows.push(vec![in alloc; 0u16; automaton.size()]?)?;
+        rows.push(vec![in alloc; 0u16; automaton.size()]?)?;
+        Ok(KeptSteps {
+            classes,
+            width,
+            rows,
+            cells,
+            lists: Vec::new(alloc),
+            numbers: HashMap::new(alloc),
+            held: 0,
+        })
+    }
+
+    /// The row where no position has an end, at a line's end or inside a line.
+    pub fn first_row(&self, at_end: bool) -> usize
+        requires sound { (e : Expression) × AreStepsFor e self.now }
+        ensures { (ranks : List ℕ) × IsRowIn self.now result at_end ranks ×
+            ((q : ℕ) → slice_index ranks q ≡ 0) }
+    {
+        if at_end {
+            return 0;
+        }
+        self.width
+    }
+
+    /// Removes all steps, and all rows but the first two. Returns where the row with these ranks
+    /// begins.
+    pub fn begin_anew(&mut self, automaton: &Automaton, ranks: &[u16]) -> usize
+        requires rows { AreRowsFor (expression_of automaton.now) self.old }
+        requires row { IsRow (positions (expression_of automaton.now)) ranks.now }
+        ensures sound { AreStepsFor (expression_of automaton.now) self.new }
+        ensures row { IsRowIn self.new result false ranks.now }
+    {
+        self.rows.truncate(3);
+        self.rows[2].copy_from_slice(ranks);
+        self.cells.truncate(3 * self.width);
+        self.cells.fill(NO_STEP);
+        self.lists.clear();
+        self.numbers.clear();
+        self.held = 0;
+        2 * self.width
+    }
+
+    // Whether no more steps may be kept.
+    fn is_full(&self, size: usize) -> bool {
+        let rows = self.rows.len().saturating_mul(size.saturating_mul(2));
+        let bytes = self.cells.len().saturating_mul(8).saturating_add(rows);
+        self.held >= MOST_STEPS || bytes >= MOST_BYTES
+    }
+
+    /// The ranks of a row.
+    pub fn ranks(&self, row: usize) -> &[u16]
+        requires sound { (e : Expression) × AreStepsFor e self.now }
+        requires row { (end : Bool) × (of : List ℕ) × IsRowIn self.now row end of }
+        ensures { (end : Bool) (of : List ℕ) → IsRowIn self.now row end of →
+            result.now ≡ of }
+    {
+        &self.rows[row / self.width]
+    }
+
+    /// The step from a row over a byte.
+    #[inline(always)]
+    pub fn step(&self, row: usize, byte: u8) -> Step
+        requires sound { (e : Expression) × AreStepsFor e self.now }
+        requires row { (end : Bool) × (of : List ℕ) × IsRowIn self.now row end of }
+        ensures is { result ≡ cell_at (rows_of self.now) row byte }
+        ensures small { byte < 2 ^ 8 }
+    {
+        self.cells[row + self.classes[byte as usize] as usize]
+    }
+
+    /// Does with the ends what an operation says. `false`, and nothing is done, if there is no such
+    /// operation or no room for it.
+    #[inline(always)]
+    pub fn apply(&self, op: u16, list: &mut EndList, place: usize) -> bool
+        ensures none { result ≡ false → list.new ≡ list.old }
+        ensures moved { (kept : List ℕ) → IsOperation self.now.lists.items op kept →
+            IsTrue result → Leaves kept (place ∷ list.old.ends) list.new.ends }
+        ensures known { IsTrue result → op < unknown }
+        ensures most { list.new.most ≡ list.old.most }
+    {
+        if op == ALL {
+            return true;
+        }
+        if op < LISTED {
+            return list.cut(op, place);
+        }
+        if op == UNKNOWN {
+            return false;
+        }
+        let number = (op - LISTED) as usize;
+        if number >= self.lists.len() {
+            return false;
+        }
+        let kept = &self.lists[number];
+        if !list.holds(kept.len()) {
+            return false;
+        }
+        list.pick(kept, place);
+        true
+    }
+
+    /// Where the row with these ranks begins. It is added if there is none. `None` if there is no
+    /// room or memory for it, and then steps may be lost.
+    pub fn row_of(&mut self, alloc: Global, automaton: &Automaton, ranks: &Ranks) -> Option<usize>
+        requires sound { AreStepsFor (expression_of automaton.now) self.old }
+        requires row { IsRow (positions (expression_of automaton.now)) ranks.now.next.items }
+        ensures rows { AreRowsFor (expression_of automaton.now) self.new }
+        ensures sound { IfSome result (λ row. AreStepsFor (expression_of automaton.now) self.new ×
+            IsRowIn self.new row false ranks.now.next.items) }
+        ensures kept { (row : ℕ) (end : Bool) (of : List ℕ) → IsRowIn self.old row end of →
+            IsRowIn self.new row end of }
+    {
+        if self.is_full(ranks.next.len()) {
+            return None;
+        }
+        if let Some(row) = self.find(ranks) {
+            return Some(row);
+        }
+        match self.add(alloc, automaton, ranks) {
+            Ok(row) => Some(row),
+            Err(_) => None,
+        }
+    }
+
+    // The row with these ranks, if it is found.
+    fn find(&self, ranks: &Ranks) -> Option<usize>
+        requires { (e : Expression) × AreStepsFor e self.now }
+        ensures { IfSome result (λ row. IsRowIn self.now row false ranks.now.next.items) }
+    {
+        let Some(known) = self.numbers.get(&ranks.hash) else {
+            return None;
+        };
+        let number = *known;
+        if number == 0 {
+            return None;
+        }
+        if number >= self.rows.len() {
+            return None;
+        }
+        if self.rows[number].as_slice() != ranks.next.as_slice() {
+            return None;
+        }
+        Some(number * self.width)
+    }
+
+    // Adds a row after the others.
+    fn add(
+        &mut self,
+        alloc: Global,
+        automaton: &Automaton,
+        ranks: &Ranks,
+    ) -> Result<usize, AllocError>
+        requires sound { AreStepsFor (expression_of automaton.now) self.old }
+        requires row { IsRow (positions (expression_of automaton.now)) ranks.now.next.items }
+        ensures rows { AreRowsFor (expression_of automaton.now) self.new }
+        ensures sound { IfOk result (λ row. AreStepsFor (expression_of automaton.now) self.new ×
+            IsRowIn self.new row false ranks.now.next.items) }
+        ensures kept { (row : ℕ) (end : Bool) (of : List ℕ) → IsRowIn self.old row end of →
+            IsRowIn self.new row end of }
+    {
+        let number = self.rows.len();
+        let first = number * self.width;
+        if first > MOST_CELLS - 256 {
+            return Err(AllocError);
+        }
+        let row = Vec::from_slice(alloc, &ranks.next)?;
+        lengthen(&mut self.cells, first, self.width)?;
+        self.rows.push(row)?;
+        let _ = self.numbers.insert(ranks.hash, number);
+        Ok(first)
+    }
+
+    /// Keeps a step from a row over a byte, to the row of the ranks that it led to, if there is
+    /// memory for it.
+    pub fn put(
+        &mut self,
+        alloc: Global,
+        automaton: &Automaton,
+        from: usize,
+        byte: u8,
+        to: usize,
+        ranks: &Ranks,
+    )
+        requires sound { AreStepsFor (expression_of automaton.now) self.old }
+        requires made { AreRanksFor (expression_of automaton.now) ranks.now }
+        requires row { IsRow (positions (expression_of automaton.now)) ranks.now.next.items }
+        requires from { (end : Bool) × (of : List ℕ) × IsRowIn self.old from end of ×
+            IsRankStep (part_of (expression_of automaton.now) 0) end of byte (kept_in ranks.now)
+            ranks.now.next.items }
+        requires to { IsRowIn self.old to false ranks.now.next.items }
+        ensures sound { AreStepsFor (expression_of automaton.now) self.new }
+        ensures kept { (row : ℕ) (end : Bool) (of : List ℕ) → IsRowIn self.old row end of →
+            IsRowIn self.new row end of }
+    {
+        let Ok(op) = operation_of(alloc, &mut self.lists, ranks.kept()) else {
+            return;
+        };
+        let inside = greatest_among(&ranks.next, automaton.beginning(false), 0);
+        let at = from + self.classes[byte as usize] as usize;
+        self.cells[at] = Step {
+            row: to as u32,
+            inside,
+            op,
+        };
+        self.held = self.held.saturating_add(1);
+    }
+}
+
+// The operation that leaves these ranks. They are listed if they don't follow each other.
+fn operation_of(alloc: Global, lists: &mut Vec<Vec<u16>>, kept: &[u16]) -> Result<u16, AllocError>
+    ensures kept { AreLonger lists.old.items lists.new.items }
+    ensures op { IfOk result (λ op. (op < unknown) × IsOperation lists.new.items op kept.now) }
+{
+    let op = run_of(kept);
+    if op < LISTED {
+        return Ok(op);
+    }
+    let number = lists.len();
+    if number >= MOST_STEPS {
+        return Err(AllocError);
+    }
+    let list = Vec::from_slice(alloc, kept)?;
+    lists.push(list)?;
+    Ok(LISTED + number as u16)
+}
+
+// The first of these ranks, if they follow each other, else `LISTED`.
+fn run_of(kept: &[u16]) -> u16
+    ensures { result < listed → (0 < result) ×
+        ((k : ℕ) → k < length kept.now → slice_index kept.now k ≡ result + k) }
+{
+    if kept.is_empty() {
+        return ALL;
+    }
+    let first = kept[0];
+    if first == 0 {
+        return LISTED;
+    }
+    'ranks: for k in 0..kept.len() {
+        if kept[k] as usize != first as usize + k {
+            return LISTED;
+        }
+    }
+    first
+}
+
+// Makes the cells those before place `from`, and then `count` without steps. If an allocation
+// fails, there are only the first.
+fn lengthen(cells: &mut Vec<Step>, from: usize, count: usize) -> Result<(), AllocError>
+    requires from { from ≤ length cells.old.items }
+    requires small { from + count < 2 ^ 32 }
+    ensures same { (k : ℕ) → k < from →
+        get_or cells.new.items k no_step ≡ get_or cells.old.items k no_step }
+    ensures none { (k : ℕ) → from ≤ k → get_or cells.new.items k no_step ≡ no_step }
+    ensures least { from ≤ length cells.new.items }
+    ensures len { OnOk result (length cells.new.items ≡ from + count) }
+{
+    cells.truncate(from);
+    cells.resize(from + count, NO_STEP)?;
+    Ok(())
+}
+
+// The number of classes: all are below it.
+fn count_of(classes: &[u8]) -> usize
+    ensures few { result ≤ 256 }
+    ensures above { (c : ℕ) → c < length classes.now → slice_index classes.now c < result }
+{
+    let mut count = 0;
+    'bytes: for c in 0..classes.len() {
+        count = count.max(classes[c] as usize + 1);
+    }
+    count
+}

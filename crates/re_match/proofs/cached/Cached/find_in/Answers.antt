@@ -1,0 +1,14 @@
+use Rattle.re_match.proofs.Prelude.{◌-◌}
+use Rattle.re_match.proofs.lemmas.AheadLaws.{walked_adds}
+use Rattle.re_match.proofs.cached.Cached.find_in.Goals as goal
+
+pub find-requires-clause-border : goal.find-requires-clause-border
+find-requires-clause-border c = rw (← c.self.view_is) at c.requires.border
+
+pub returns-clause-found : goal.returns-clause-found
+returns-clause-found c = rw (← c.self.view_is) c.find.ensures.found
+
+pub returns-clause-steps : goal.returns-clause-steps
+returns-clause-steps c =
+    let (reused, few, is) = c.find.ensures.counted in
+    walked_adds (c.args.window.end - c.args.window.start) reused _ _ few is

@@ -1,0 +1,218 @@
+-- The stretch of a line in which the next match is.
+use Rattle.re_match.proofs.Prelude.{RunStandsAt, ◌≡◌, ◌∙◌, sym, false≢true, slice_index, slice_range, ℕ, ◌+◌, ◌-◌, ◌<◌, ◌≤◌, ◌↔◌, ◌⊎◌, inl, inr, subst, true, false, None, IsTrue, List, [], ◌∷◌, length, drop, Some, arith, ap, take, get_or, get_or-drop, get_or-take, get_or_append_left, length-take, length-drop, length-take-le, cases_lt, dec_le, Text, Expression, Holds, IsFound, IsPart, Span, Needle, FindsRun, IsNeedleOf, runs_of, AddsEnds, FoundPast, MatchesPast}
+use borrow.Rule.Slice.PartMut.{mid_of, put_mid}
+use Rattle.std.proofs.lemmas.List.{get_or-append_right}
+use Rattle.re_trees.specs.Working.Trees.{members}
+use Rattle.re_trees.proofs.lemmas.Decisions.{Any-first}
+use Rattle.re_trees.proofs.lemmas.SomeOfJoined.{Any-single}
+use Rattle.re_auto.specs.Working.Positions.{part_of}
+use Rattle.re_auto.proofs.lemmas.PositionsDecide.{each_byte_taken}
+use Rattle.re_runs.proofs.lemmas.RunLaws.{run_rest, run_whole}
+use Rattle.re_ends.specs.Working.GreatestEnds.{IsBorder, FindsIn}
+use Rattle.re_match.specs.declared.window.Edges.{Edges}
+use Rattle.re_match.specs.Working.Aheads.{BeginsLater, past}
+use Rattle.re_match.specs.Working.Windows.{AreEdgesFor}
+
+module _ (e : Expression) (line : Text) where
+  -- a stretch that is found from one place on is found from another on
+  moved : (from place i j : ℕ) → place ≤ i → IsFound (e ∷ []) line false from i j → IsFound (e ∷ []) line false place i j
+  moved from place i j low f = record { begins = low; not_empty = f.not_empty; on_line = f.on_line; is_whole = f.is_whole; holds = f.holds }
+
+  taken : (from i j k : ℕ) → IsFound (e ∷ []) line false from i j → i ≤ k → k < j → (q : ℕ) × (part_of e 0).takes q (slice_index line k)
+  taken from i j k f low high = each_byte_taken e line i j k low high (Any-single (λ x. Holds line x i j) e f.holds)
+
+  -- the next part from a later place on, before which none begins
+  pub part_on : (from place : ℕ) (part : Span) → BeginsLater e line false from place → IsPart (e ∷ []) line false place part.start part.end → IsPart (e ∷ []) line false from part.start part.end
+  part_on from place part later is =
+      let begins = is.found.begins in
+      record {
+        found = moved place from part.start part.end (omega (arith, later.0, begins)) is.found;
+        earliest = λ k l f. is.earliest k l (moved from place k l (later.1 k l f) f);
+        longest = λ l f. is.longest l (moved from place part.start l (later.1 part.start l f) f);
+      }
+
+  -- none from a later place on
+  pub none_on : (from place : ℕ) → BeginsLater e line false from place → ((i j : ℕ) → IsFound (e ∷ []) line false place i j → ⊥) → (i j : ℕ) → IsFound (e ∷ []) line false from i j → ⊥
+  none_on from place later none i j f = none i j (moved from place i j (later.1 i j f) f)
+
+  pub border_within : (end : ℕ) → IsBorder e line end → end ≤ length line
+  border_within end (inl same) = omega (arith, same)
+  border_within end (inr (lt, none)) = omega (arith, lt)
+
+  -- no match goes over a border
+  pub over_border : (from end i j : ℕ) → IsBorder e line end → IsFound (e ∷ []) line false from i j → i ≤ end → j ≤ end
+  over_border from end i j (inl same) f low = let on = f.on_line in omega (arith, on, same)
+  over_border from end i j (inr (lt, none)) f low = elim (cases_lt end j) [
+    | inl over ↦ let (q, t) = taken from i j end f low over in absurd (none q t)
+    | inr ge ↦ ge
+  ]
+
+  module _ (edges : Edges) (right : AreEdgesFor e edges) (small : (x : ℕ) → slice_index line x < 256) where
+    -- a byte that isn't one of those of matches is a border
+    pub border_there : (end : ℕ) → end ≤ length line → (end < length line → members edges.bytes (slice_index line end) ≡ false) → IsBorder e line end
+    border_there end within outside = elim (cases_lt end (length line)) [
+      | inl lt ↦ inr (lt, λ q t. false≢true (sym (outside lt) ∙ (right (slice_index line end) (small end)).1 (q, t)))
+      | inr ge ↦ inl (omega (arith, ge, within))
+    ]
+
+  module _ (from near : ℕ) (needle : Needle) (of : IsNeedleOf e needle) (low : from ≤ near) (within : from ≤ length line) (next : FindsRun (drop from line) (runs_of needle.finder) (Some (near - from))) where
+    -- no run is before the needle's next place
+    none_before : (k : ℕ) → from ≤ k → RunStandsAt line (runs_of needle.finder) k → near ≤ k
+    none_before k begins stands = elim (dec_le near k) [
+      | yes h ↦ h
+      | no h ↦ absurd (next.0.before (k - from) (omega arith) (omega (arith, h, begins)) (run_rest (runs_of needle.finder) line from k begins stands))
+    ]
+
+    -- the needle has a byte there
+    pub needle_inside : near < length line
+    needle_inside =
+        let (n, run, lt, at, is) = run_whole (runs_of needle.finder) line from (near - from) within next.1 in
+        let some : 1 ≤ length run = subst (λ r. 1 ≤ length r) at (of.some n run lt) in
+        omega (arith, is.fits, some, low)
+
+    -- where each match begins with the needle, none begins before that
+    pub later_by_needle : IsTrue needle.is_first → BeginsLater e line false from near
+    later_by_needle first = (low, λ i j f. none_before i f.begins (of.first first line i j f.on_line (Any-single (λ x. Holds line x i j) e f.holds)))
+
+    -- else none begins before the bytes of matches that come directly before it
+    pub later_by_bytes : (edges : Edges) → AreEdgesFor e edges → ((x : ℕ) → slice_index line x < 256) → (start : ℕ) → from ≤ start → start ≤ near → (from < start → members edges.bytes (slice_index line (start - 1)) ≡ false) → BeginsLater e line false from start
+    later_by_bytes edges right small start after high outside = (after, not_before)
+      where
+        not_before : (i j : ℕ) → IsFound (e ∷ []) line false from i j → start ≤ i
+        not_before i j f =
+            let begins : from ≤ i = f.begins in
+            let (m, at_or_after, (n, run, lt, at, (there, inside))) = of.needed line i j f.on_line (Any-single (λ x. Holds line x i j) e f.holds) in
+            let some : 1 ≤ length run = subst (λ r. 1 ≤ length r) at (of.some n run lt) in
+            let far = none_before m (omega (arith, begins, at_or_after)) (n, run, lt, at, there) in
+            elim (dec_le start i) [
+              | yes h ↦ h
+              | no h ↦ absurd (false≢true (sym (outside (omega (arith, h, begins))) ∙ (right (slice_index line (start - 1)) (small (start - 1))).1 (taken from i j (start - 1) f (omega (arith, h)) (omega (arith, far, inside, some, high, h, begins)))))
+            ]
+
+  module _ (from place start end : ℕ) (later : BeginsLater e line false from place) (next : BeginsLater e line false place start) (border : IsBorder e line end) where
+    begins_on : (i j : ℕ) → IsFound (e ∷ []) line false from i j → start ≤ i
+    begins_on i j f = next.1 i j (moved from place i j (later.1 i j f) f)
+
+    -- where none begins in the window, each begins after the byte that ends it
+    pub later_on : FindsIn e line start end None → start ≤ end → end ≤ length line → BeginsLater e line false from (past line end)
+    later_on none low within = (omega (arith, later.0, next.0, low, within), λ i j f. let beyond = after i j f in omega (arith, beyond))
+      where
+        after : (i j : ℕ) → IsFound (e ∷ []) line false from i j → end < i
+        after i j f =
+            let lt = f.not_empty in
+            let on_end : i ≤ end → j ≤ end = over_border from end i j border f in
+            elim (dec_le i end) [
+              | yes h ↦ absurd (let over = on_end h in none i 0 (begins_on i j f) (omega (arith, lt, over)) (j, omega (arith, lt), lt, f.on_line, Any-single (λ x. Holds line x i j) e f.holds))
+              | no h ↦ omega (arith, h)
+            ]
+
+    -- the first in the window is the next part
+    pub first_part : (part : Span) → FindsIn e line start end (Some part) → IsPart (e ∷ []) line false from part.start part.end
+    first_part part (low, inside, some, is, none) = found_at (at_end.0) (at_end.1) (at_end.3) (at_end.4)
+      where
+        at_end : MatchesPast e line part.start (part.end - 1)
+        at_end = (is (part.end - 1)).0 (omega (arith, some))
+
+        to_end : (l : ℕ) → part.start < l → l ≤ length line → Holds line e part.start l → l ≤ part.end
+        to_end l lt on h = let past = (is (l - 1)).1 (l, omega (arith, lt), lt, on, h) in omega (arith, past, lt)
+
+        not_before : (k l : ℕ) → IsFound (e ∷ []) line false from k l → part.start ≤ k
+        not_before k l f =
+            let lt = f.not_empty in
+            elim (dec_le part.start k) [
+              | yes h ↦ h
+              | no h ↦ absurd (none k 0 (begins_on k l f) (omega (arith, h)) (l, omega (arith, lt), lt, f.on_line, Any-single (λ x. Holds line x k l) e f.holds))
+            ]
+
+        found_at : (j : ℕ) → part.end - 1 < j → j ≤ length line → Holds line e part.start j → IsPart (e ∷ []) line false from part.start part.end
+        found_at j past on h =
+            let same : j ≡ part.end = let le = to_end j (omega (arith, past, some)) on h in omega (arith, le, past, some) in
+            record {
+              found = record {
+                begins = omega (arith, later.0, next.0, low);
+                not_empty = some;
+                on_line = omega (arith, on, same);
+                is_whole = tt;
+                holds = Any-first (λ x. Holds line x part.start part.end) e [] (subst (Holds line e part.start) same h);
+              };
+              earliest = not_before;
+              longest = λ l f. to_end l f.not_empty f.on_line (Any-single (λ x. Holds line x part.start l) e f.holds);
+            }
+
+-- a stretch of the window is found in it
+module _ (e : Expression) (line : Text) (start end : ℕ) (low : start ≤ end) (border : IsBorder e line end)
+    (shift : (i j : ℕ) → i < j → start + j ≤ end → Holds (slice_range line start end) e i j ↔ Holds line e (start + i) (start + j)) where
+  long : length (slice_range line start end) ≡ end - start
+  long = let within = border_within e line end border in length-take-le (end - start) (drop start line) (omega (arith, length-drop start line, within))
+
+  pub found_within : (i m : ℕ) → i < length (slice_range line start end) → ((j : ℕ) × (m < start + j) × IsFound (e ∷ []) (slice_range line start end) false 0 i j) ↔ FoundPast (e ∷ []) line false (start + i) m
+  found_within i m lt = (
+    (λ (j, past, f).
+        let on = f.on_line in
+        let some = f.not_empty in
+        let within = border_within e line end border in (
+          start + j,
+          past,
+          record {
+            begins = omega arith;
+            not_empty = omega (arith, some);
+            on_line = omega (arith, on, long, within, low);
+            is_whole = tt;
+            holds = Any-first (λ x. Holds line x (start + i) (start + j)) e [] ((shift i j some (omega (arith, on, long, low))).0 (Any-single (λ x. Holds (slice_range line start end) x i j) e f.holds));
+          },
+        )),
+    (λ (j, past, f).
+        let some = f.not_empty in
+        let over = over_border e line 0 end (start + i) j border f (omega (arith, lt, long)) in
+        let place : start + (j - start) ≡ j = omega (arith, some) in
+        let later : i < j - start = omega (arith, some) in
+        let fits : start + (j - start) ≤ end = omega (arith, place, over) in (
+          j - start,
+          omega (arith, past, place),
+          record {
+            begins = omega arith;
+            not_empty = later;
+            on_line = omega (arith, long, over);
+            is_whole = tt;
+            holds = Any-first (λ x. Holds (slice_range line start end) x i (j - start)) e [] ((shift i (j - start) later fits).1 (subst (Holds line e (start + i)) (sym place) (Any-single (λ x. Holds line x (start + i) j) e f.holds)));
+          },
+        )),
+  )
+
+-- a window that isn't the line has no part that is
+pub not_whole : (e : Expression) (line : Text) (start end : ℕ) → IsBorder e line end → ((start ≡ 0) × (end ≡ length line) → ⊥) → (i m : ℕ) → i < end - start → FoundPast (e ∷ []) line true (start + i) m → ⊥
+not_whole e line start end border other i m lt (j, past, f) =
+    let g : IsFound (e ∷ []) line false 0 (start + i) j = record { begins = f.begins; not_empty = f.not_empty; on_line = f.on_line; is_whole = tt; holds = f.holds } in
+    let over = over_border e line 0 end (start + i) j border g (omega (arith, lt)) in
+    let (first, last) = f.is_whole in
+    let within = border_within e line end border in
+    other (omega (arith, first), omega (arith, over, last, within))
+
+-- the ends of a window's places
+pub ends_of_window : (P : ℕ → ℕ → Type 0) (e : Expression) (line : Text) (start end : ℕ) → (start ≤ end) × IsBorder e line end → (old new : List ℕ) → length old ≡ end - start
+    → ((i m : ℕ) → i < length (slice_range line start end) → P i m ↔ FoundPast (e ∷ []) line false (start + i) m) → AddsEnds P (slice_range line start end) old new → AddsEnds (λ i m. FoundPast (e ∷ []) line false (start + i) m) old old new
+ends_of_window P e line start end window old new room alike added =
+    let within = border_within e line end window.1 in
+    let size : length (slice_range line start end) ≡ length old = omega (arith, length-take-le (end - start) (drop start line) (omega (arith, length-drop start line, within)), room) in (
+      omega (arith, added.0, size),
+      λ i m lt. (
+        λ h. elim ((added.1 i m (omega (arith, lt, size))).0 h) [ inl o ↦ inl o | inr p ↦ inr ((alike i m (omega (arith, lt, size))).0 p) ],
+        λ h. (added.1 i m (omega (arith, lt, size))).1 (elim h [ inl o ↦ inl o | inr f ↦ inr ((alike i m (omega (arith, lt, size))).1 f) ]),
+      ),
+    )
+
+-- an expression whose window is the whole line
+pub ends_of_line : (P Q : ℕ → ℕ → Type 0) (line : Text) (start : ℕ) (old new : List ℕ) → start ≡ 0 → length old ≡ length line → ((i m : ℕ) → i < length line → P i m ↔ Q i m) → AddsEnds P old old new → AddsEnds (λ i m. Q (start + i) m) old old new
+ends_of_line P Q line start old new first long alike added = (
+  added.0,
+  λ i m lt.
+      let same : start + i ≡ i = omega (arith, first) in
+      let at = alike i m (omega (arith, lt, long)) in (
+        λ h. elim ((added.1 i m lt).0 h) [ inl o ↦ inl o | inr p ↦ inr (subst (λ k. Q k m) (sym same) (at.0 p)) ],
+        λ h. (added.1 i m lt).1 (elim h [ inl o ↦ inl o | inr q ↦ inr (at.1 (subst (λ k. Q k m) same q)) ]),
+      ),
+)
+
+-- no end is put
+pub no_ends_put : (P : ℕ → ℕ → Type 0) (old : List ℕ) → ((i m : ℕ) → i < length old → P i m → ⊥) → AddsEnds P old old old
+no_ends_put P old none = (omega arith, λ i m lt. (λ h. inl h, λ h. elim h [ inl o ↦ o | inr p ↦ absurd (none i m lt p) ]))

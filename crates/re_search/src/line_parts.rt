@@ -1,0 +1,337 @@
+//! All parts of one line, from the first to the last. Each byte of the line is one step of each
+//! matcher, however many parts there are.
+ghost use Rattle.std.specs.Prelude.{◌≡◌, ℕ, ◌+◌, ◌-◌, ◌*◌, ◌^◌, ◌<◌, ◌≤◌, [], ◌∷◌, IfOk, IfSome, length};
+ghost use Rattle.std.specs.Prelude.{map, replicate, vec_capacity};
+ghost use Rattle.re_syntax.specs.Bytes.{Text};
+ghost use Rattle.re_auto.specs.Meters.{Steps};
+ghost use Rattle.re_auto.specs.Searches.{AddsAtMost, AllAnswer, FindsPart, SameMatchers};
+ghost use Rattle.re_meter.specs.Meters.{AddsUpTo};
+ghost use Rattle.re_match.specs.Working.Aheads.{IsWindowOf, past, stretch_cost};
+ghost use Rattle.re_match.specs.Working.Same.{SameMatcher};
+ghost use Rattle.re_search.specs.Working.LineParts.{AreAllEnds, AreEnds, AreEndsIn, ArePartsOf};
+ghost use Rattle.re_search.specs.Working.LineParts.{FindsBefore, spent};
+ghost use Rattle.re_search.specs.Working.Sought.{Sought};
+
+use re_auto::Meter;
+use re_match::{Ahead, LineMatch, Window};
+use re_syntax::Span;
+use std::alloc::{AllocError, Global};
+use std::marker::Model;
+
+/// The search for the parts of one line: room for an end of each place, how far the line was looked
+/// at, and the ends of the window that was looked at last.
+#[derive(Drop)]
+pub struct LineParts {
+    // The greatest end of the parts that begin at each place of the window, or 0.
+    ends: Vec<usize>,
+    // Room for what matchers work with.
+    spare: Vec<usize>,
+    room: usize,
+    // Where the window begins.
+    first: usize,
+    seen: usize,
+}
+
+impl Model for LineParts {
+    ghost use Rattle.std.specs.Prelude.{◌+◌, ◌^◌, ◌<◌, ◌≤◌, length, vec_capacity};
+    ghost use Rattle.re_search.specs.Working.LineParts.{LineEnds};
+
+    ghost Value = { LineEnds };
+
+    ghost view = { λ p.
+        record { room = p.room; seen = p.seen; first = p.first; ends = p.ends.items } };
+
+    ghost invariant = { λ p. (p.room ≤ vec_capacity p.ends) × (p.room ≤ vec_capacity p.spare)
+        × (p.first + length p.ends.items ≤ p.seen) × (p.seen < 2 ^ 64) };
+}
+
+impl LineParts {
+    /// No room.
+    pub fn new(alloc: Global) -> LineParts
+        ensures { result ≡ record { room = 0; seen = 0; first = 0; ends = [] } }
+    {
+        LineParts {
+            ends: Vec::new(alloc),
+            spare: Vec::new(alloc),
+            room: 0,
+            first: 0,
+            seen: 0,
+        }
+    }
+
+    /// Makes room for lines of at most `most` bytes, before the first part of a line.
+    ///
+    /// # Errors
+    ///
+    /// If out of memory. There is room as before.
+    pub fn make_room(&mut self, most: usize) -> Result<(), AllocError>
+        ensures ok { IfOk result (λ _. most ≤ self.new.room) }
+        ensures more { self.old.room ≤ self.new.room }
+    {
+        if most <= self.room {
+            return Ok(());
+        }
+        self.pass(0);
+        self.spare.clear();
+        self.spare.try_reserve(most)?;
+        self.ends.try_reserve(most)?;
+        self.room = most;
+        Ok(())
+    }
+
+    /// Before the first part of a line.
+    pub fn begin(&mut self)
+        ensures room { self.new.room ≡ self.old.room }
+        ensures seen { self.new.seen ≡ 0 }
+        ensures right { (sought : Sought) (line : Text) (from : ℕ) →
+            ArePartsOf sought line from self.new }
+    {
+        self.pass(0);
+    }
+
+    // No part begins from here on up to `seen`.
+    fn pass(&mut self, seen: usize)
+        ensures { self.new ≡ record { room = self.old.room; seen = seen; first = 0; ends = [] } }
+    {
+        self.ends.clear();
+        self.first = 0;
+        self.seen = seen;
+    }
+
+    // How many places were looked at.
+    fn seen(&self) -> usize
+        ensures { result ≡ self.now.seen }
+    {
+        self.seen
+    }
+
+    // The first part from a place on, if it begins where the line was looked at.
+    fn known_part(&self, from: usize) -> Option<Span>
+        ensures { (sought : Sought) (line : Text) → ArePartsOf sought line from self.now →
+            FindsBefore sought line from self.now.seen result }
+    {
+        part_from(&self.ends, self.first, from)
+    }
+
+    // Zeros for the places of a window, which matchers are asked for next.
+    fn open(&mut self, line: &[u8], window: Window)
+        requires low { window.start ≤ window.end }
+        requires high { window.end ≤ length line.now }
+        requires room { window.end - window.start ≤ self.old.room }
+        ensures { self.new ≡ record {
+          room = self.old.room;
+          seen = past line.now window.end;
+          first = window.start;
+          ends = replicate (window.end - window.start) 0;
+        } }
+    {
+        fill(&mut self.ends, window.end - window.start);
+        self.first = window.start;
+        self.seen = (window.end + 1).min(line.len());
+    }
+
+    // Looks at a window of the line.
+    fn look_at<M: LineMatch>(
+        &mut self,
+        matcher: &mut M,
+        line: &[u8],
+        window: Window,
+        meter: &mut Meter,
+    )
+        requires window { IsWindowOf (M.expression matcher.old) line.now window }
+        requires high { window.end ≤ length line.now }
+        requires room { length line.now ≤ self.old.room }
+        ensures right { AreEndsIn
+            (record { expressions = M.expression matcher.old ∷ []; whole = M.whole matcher.old })
+            line.now window.start window.end self.new }
+        ensures seen { self.new.seen ≡ past line.now window.end }
+        ensures room { self.new.room ≡ self.old.room }
+        ensures same { SameMatcher M.expression M.whole M.room matcher.old matcher.new }
+        ensures steps { AddsUpTo (stretch_cost window.start window.end) 0 meter.old meter.new }
+    {
+        self.open(line, window);
+        fill(&mut self.spare, window.end - window.start);
+        matcher.add_ends(line, window, &mut self.ends, &mut self.spare, meter);
+    }
+
+    // Looks at the whole line.
+    fn look_over<M: LineMatch>(
+        &mut self,
+        matchers: &mut [M],
+        whole: bool,
+        line: &[u8],
+        meter: &mut Meter,
+    )
+        requires alike { AllAnswer whole (map M.whole matchers.old) }
+        requires room { length line.now ≤ self.old.room }
+        ensures right { (from : ℕ) → ArePartsOf
+            (record { expressions = map M.expression matchers.old; whole = whole }) line.now from
+            self.new }
+        ensures seen { self.new.seen ≡ length line.now }
+        ensures room { self.new.room ≡ self.old.room }
+        ensures same_matchers { SameMatchers M.expression M.whole M.room matchers.old matchers.new }
+        ensures steps { AddsAtMost (length matchers.old * (length line.now + 1)) meter.old meter.new }
+    {
+        self.open(line, whole_of(line));
+        fill(&mut self.spare, line.len());
+        put_ends(
+            matchers,
+            whole,
+            line,
+            &mut self.ends,
+            &mut self.spare,
+            meter,
+        );
+    }
+}
+
+/// The next part of the line, by matchers that all give this answer to whether the whole line has
+/// to be matched: like [`crate::Searchers::next_part`].
+pub fn next_part<M: LineMatch>(
+    matchers: &mut [M],
+    whole: bool,
+    line: &[u8],
+    from: usize,
+    parts: &mut LineParts,
+    meter: &mut Meter,
+) -> Option<Span>
+    requires within { from ≤ length line.now }
+    requires alike { AllAnswer whole (map M.whole matchers.old) }
+    requires room { length line.now ≤ parts.old.room }
+    requires right { ArePartsOf
+        (record { expressions = map M.expression matchers.old; whole = whole }) line.now from
+        parts.old }
+    ensures reported { FindsPart (map M.expression matchers.old) line.now whole from result }
+    ensures same_matchers { SameMatchers M.expression M.whole M.room matchers.old matchers.new }
+    ensures right { IfSome result
+        (λ part. ArePartsOf
+        (record { expressions = map M.expression matchers.old; whole = whole }) line.now part.end
+        parts.new) }
+    ensures room { parts.new.room ≡ parts.old.room }
+    ensures seen { parts.new.seen ≤ length line.now }
+    ensures steps { (first : Steps) →
+        AddsAtMost (length matchers.old * spent parts.old.seen) first meter.old
+        → AddsAtMost (length matchers.old * spent parts.new.seen) first meter.new }
+{
+    if matchers.len() == 1 {
+        return next_of_one(&mut matchers[0], line, from, parts, meter);
+    }
+    if parts.seen() == line.len() {
+        return parts.known_part(from);
+    }
+    parts.look_over(matchers, whole, line, meter);
+    parts.known_part(from)
+}
+
+// The next part of the line, by one matcher, which looks at the line window by window.
+fn next_of_one<M: LineMatch>(
+    matcher: &mut M,
+    line: &[u8],
+    from: usize,
+    parts: &mut LineParts,
+    meter: &mut Meter,
+) -> Option<Span>
+    requires within { from ≤ length line.now }
+    requires room { length line.now ≤ parts.old.room }
+    requires right { ArePartsOf
+        (record { expressions = M.expression matcher.old ∷ []; whole = M.whole matcher.old })
+        line.now from parts.old }
+    ensures reported { FindsPart (M.expression matcher.old ∷ []) line.now (M.whole matcher.old) from
+        result }
+    ensures same { SameMatcher M.expression M.whole M.room matcher.old matcher.new }
+    ensures right { IfSome result
+        (λ part. ArePartsOf
+        (record { expressions = M.expression matcher.old ∷ []; whole = M.whole matcher.old })
+        line.now part.end parts.new) }
+    ensures room { parts.new.room ≡ parts.old.room }
+    ensures seen { parts.new.seen ≤ length line.now }
+    ensures steps { (first : Steps) → AddsAtMost (spent parts.old.seen) first meter.old
+        → AddsAtMost (spent parts.new.seen) first meter.new }
+{
+    let mut at = from;
+    'stretches: loop {
+        if let Some(part) = parts.known_part(at) {
+            return Some(part);
+        }
+        at = at.max(parts.seen());
+        if at == line.len() {
+            return None;
+        }
+        match matcher.next_window(line, at, meter) {
+            Ahead::Part(part) => {
+                parts.pass(part.end);
+                return Some(part);
+            }
+            Ahead::In(window) => parts.look_at(matcher, line, window, meter),
+            Ahead::Nothing => {
+                parts.pass(line.len());
+                return None;
+            }
+        }
+    }
+}
+
+// The first part from `from` on, by the greatest ends of the parts that begin at each place of the
+// window that begins at `first`.
+#[inline(never)]
+fn part_from(ends: &[usize], first: usize, from: usize) -> Option<Span>
+    requires { first + length ends.now < 2 ^ 64 }
+    ensures { (sought : Sought) (line : Text) (seen : ℕ) → first + length ends.now ≤ seen →
+        AreEnds sought line from seen first ends.now → FindsBefore sought line from seen result }
+{
+    let mut place = from.saturating_sub(first);
+    'places: while place < ends.len() {
+        if ends[place] > 0 {
+            return Some(Span {
+                start: first + place,
+                end: ends[place],
+            });
+        }
+        place += 1;
+    }
+    None
+}
+
+// So many zeros, for which there is room.
+fn fill(list: &mut Vec<usize>, count: usize)
+    requires { count ≤ vec_capacity list.old }
+    ensures zeros { list.new.items ≡ replicate count 0 }
+    ensures capacity { vec_capacity list.old ≤ vec_capacity list.new }
+{
+    list.clear();
+    let _ = list.resize(count, 0);
+}
+
+// Gives each place of the line the greatest end of the parts that begin there.
+fn put_ends<M: LineMatch>(
+    matchers: &mut [M],
+    whole: bool,
+    line: &[u8],
+    ends: &mut [usize],
+    spare: &mut [usize],
+    meter: &mut Meter,
+)
+    requires alike { AllAnswer whole (map M.whole matchers.old) }
+    requires zeros { ends.old ≡ replicate (length line.now) 0 }
+    requires spare { length spare.old ≡ length line.now }
+    ensures right { AreAllEnds
+        (record { expressions = map M.expression matchers.old; whole = whole }) line.now ends.new }
+    ensures same_matchers { SameMatchers M.expression M.whole M.room matchers.old matchers.new }
+    ensures room { length ends.new ≡ length ends.old }
+    ensures spare { length spare.new ≡ length spare.old }
+    ensures steps { AddsAtMost (length matchers.old * (length line.now + 1)) meter.old meter.new }
+{
+    for matcher in matchers.iter_mut() {
+        matcher.add_ends(line, whole_of(line), ends, spare, meter);
+    }
+}
+
+// The window that is the whole line.
+fn whole_of(line: &[u8]) -> Window
+    ensures { result ≡ record { start = 0; end = length line.now } }
+{
+    Window {
+        start: 0,
+        end: line.len(),
+    }
+}

@@ -1,0 +1,19 @@
+use Rattle.std.proofs.Common.{false, ◌≤◌, ◌-◌, length, map}
+use Rattle.re_search.specs.Searches.{AllAnswer}
+use Rattle.re_search.specs.Working.Matchers.{matched_expression, wants_whole}
+use Rattle.re_search.specs.Working.Searchers.{sought_by}
+use Rattle.re_search.specs.Working.LineParts.{ArePartsOf}
+use Rattle.re_tests.proofs.line_parts.count_parts.Given as goal
+
+-- what is known of the line is right
+abbrev pub invariant-loop-part : goal.invariant-loop-part
+invariant-loop-part g l = record {
+  within : l.from ≤ length l.line;
+  few : l.count ≤ l.from;
+  room : length l.line ≤ l.line_parts.room;
+  right : ArePartsOf (sought_by matched_expression l.searchers) l.line l.from l.line_parts;
+  others : AllAnswer false (map wants_whole l.others);
+}
+
+abbrev pub decreases-loop-part : goal.decreases-loop-part
+decreases-loop-part g l = length l.line - l.from
