@@ -13,8 +13,8 @@
 
 ;; `live-occur' lists the lines of the current buffer, or of its region, that
 ;; match a pattern, as `occur' does, while the pattern is typed; other commands
-;; take the buffers of a project, of a mode, or with a name, marked files of
-;; Dired, and what isearch looks for.  The list is kept right while the buffers
+;; take the files of a project, buffers by name or mode, marked files of Dired,
+;; and what isearch looks for.  The list is kept right while the buffers
 ;; are edited, and its rows can be edited themselves.  C-h m in it describes the
 ;; keys.
 ;;
@@ -29,7 +29,11 @@
 (require 'subr-x)
 
 (declare-function dired-get-marked-files "dired")
-(declare-function project-buffers "project")
+(declare-function org-fold-core-get-regions "org-fold-core")
+(declare-function org-fold-core-region "org-fold-core")
+(declare-function org-fold-show-set-visibility "org-fold")
+(declare-function project-files "project")
+(declare-function project-root "project")
 
 ;;;; Options
 
@@ -63,6 +67,12 @@ In a list it has the flags that are on."
               (const :tag "v: list the lines that are not matched" ?v)
               (const :tag "x: match whole lines alone" ?x)))
 
+(defcustom live-occur-characters t
+  "Whether patterns speak of characters, and not of the bytes of UTF-8.
+They speak of bytes where a buffer that is searched is unibyte, too.  Classes,
+as [:alpha:], have characters of ASCII alone."
+  :type 'boolean)
+
 (defcustom live-occur-smart-case nil
   "Whether both cases match unless a pattern has an upper-case letter.
 Flag i follows the patterns then.  A letter after a backslash isn't counted,
@@ -92,9 +102,23 @@ It is nil for lists that wait until the pattern is entered."
 shown, and leaves the mark where point was."
   :type 'boolean)
 
+(defcustom live-occur-narrowed nil
+  "Whether the list of one buffer that is narrowed has what is accessible alone.
+It is then the list of a region, and `live-occur' makes a new one."
+  :type 'boolean)
+
+(defcustom live-occur-update-hook nil
+  "Functions that are called in a list after its hits have changed.
+`live-occur-hits' answers them, and `live-occur-done-p' whether all have come."
+  :type 'hook)
+
+(defcustom live-occur-visit-hook nil
+  "Functions that are called at a line after it was visited from its row."
+  :type 'hook)
+
 (defcustom live-occur-idle-rows 10000
   "How many rows of a list are made while Emacs is idle, at most.
-A row that is not made yet is empty where the list is searched or copied."
+The others are made when they are seen, copied, edited, or searched by isearch."
   :type 'natnum)
 
 (defcustom live-occur-max-columns 1000
@@ -112,7 +136,7 @@ The whole line is searched."
   "Face for the matched parts of a row.")
 
 (defface live-occur-changed '((t :inherit warning))
-  "Face for name and number of a row whose line was changed and isn't saved.")
+  "Face for name and number of a row that was changed, while rows are edited.")
 
 (defface live-occur-preview '((t :inherit highlight))
   "Face for the hit that is shown while a pattern is typed, and for its row.")
@@ -127,12 +151,15 @@ The whole line is searched."
 ;;;; A list
 
 (defvar-local live-occur--process nil "The program of this list.")
-(defvar-local live-occur--script 1
-  "The version of the script that the program reads.
-The second one has several edits in one report, and patterns in their place.")
 (defvar-local live-occur--fault nil "What made this list wrong, or nil.")
 (defvar-local live-occur--sources nil "The sources, in their order.")
+(defvar-local live-occur--visited nil "The sources that have buffers.")
+(defvar-local live-occur--files nil
+  "The sources that are files, by their names, or nil where there are none.")
 (defvar-local live-occur--patterns nil "The patterns, in their order.")
+(defvar-local live-occur--sent nil
+  "The syntax that the program has, and its patterns.")
+(defvar-local live-occur--flags-sent nil "The flags that the program has on.")
 (defvar-local live-occur--asked nil "Whether changes of hits are on their way.")
 (defvar-local live-occur--due nil "Whether to ask for changes of hits.")
 (defvar-local live-occur--slice nil
@@ -141,8 +168,6 @@ The second one has several edits in one report, and patterns in their place.")
 (defvar-local live-occur--held nil "Whether the list gets no other rows now.")
 (defvar-local live-occur--kept nil
   "Whether rows stay until a program that was started again has reported all.")
-(defvar-local live-occur--own-settings nil
-  "The `live-occur--settings' before isearch gave this list others, or nil.")
 (defvar-local live-occur--trying nil
   "Whether patterns wait for a reply, or what is wanted after that.")
 (defvar-local live-occur--previewing nil "Whether a pattern is being typed.")
@@ -157,13 +182,17 @@ Each look has another one.")
   "Where the hits are not shown, how many to tell of, and where to go back to.")
 (defvar-local live-occur--made 0 "How many rows were made while idle.")
 (defvar-local live-occur--idle-timer nil "The timer that looks for edits.")
-(defvar-local live-occur--touched nil "The buffers that rows have changed.")
-(defvar-local live-occur--edited nil
-  "The lines that this edit of rows has changed, the last one first.")
+(defvar-local live-occur--touched nil
+  "The buffers that rows have changed, each with its state and its text's hash.
+The hash is nil where the buffer was modified before.")
 (defvar-local live-occur--timer nil "The timer that does so once, or nil.")
 
 (defvar live-occur--sending nil "Whether edits are being sent.")
+(defvar live-occur--typing nil
+  "Whether settings count for a pattern that is typed, and isn't sent yet.")
 (defvar live-occur-edit-mode)
+(defvar live-occur-mode-map)
+(defvar live-occur-preview-map)
 
 (defmacro live-occur--in (buffer &rest body)
   "Run BODY in BUFFER, if it is alive."
@@ -216,7 +245,7 @@ list of a line that says what comes, and of the rows in `live-occur--piece's.
 A program that has ended gives no reply, and one that can't be written to is
 ended; its sentinel reports either."
   (let ((inhibit-quit t))
-    (cl-callf append (process-get live-occur--process 'unsent)
+    (cl-callf nconc (process-get live-occur--process 'unsent)
       (list (cons text function)))
     (live-occur--write live-occur--process)))
 
@@ -227,7 +256,7 @@ ended; its sentinel reports either."
               (live-occur--fits-p
                process (length (caar (process-get process 'unsent)))))
     (pcase-let ((`(,text . ,function) (pop (process-get process 'unsent))))
-      (cl-callf append (process-get process 'waiting)
+      (cl-callf nconc (process-get process 'waiting)
         (list (cons (length text) function)))
       (if (length< text (1+ live-occur--flight))
           (live-occur--write-text process text)
@@ -399,19 +428,11 @@ After a fault replies are out of step with what waits for them."
   (process-put live-occur--process 'list (current-buffer))
   (setq live-occur--fault nil live-occur--asked nil live-occur--due nil
         live-occur--slice nil live-occur--more nil live-occur--trying nil
-        live-occur--script 1
-        live-occur-flags (live-occur--flags-for live-occur--patterns))
-  (live-occur--send "version\n"
-                    (lambda (reply _)
-                      (pcase (split-string reply " ")
-                        (`("occur" ,_ "script" ,number)
-                         (setq live-occur--script (string-to-number number))))))
-  (live-occur--order (format "syntax %s\n" live-occur-syntax))
-  (dolist (letter (cons ?o live-occur-flags))
-    (live-occur--order (format "flag %c on\n" letter)))
+        live-occur--sent '(basic) live-occur--flags-sent nil)
+  (live-occur--order "flag o on\n")
+  (mapc #'live-occur--open live-occur--sources)
   (when live-occur--patterns
-    (live-occur--order (live-occur--patterns-command live-occur--patterns)))
-  (mapc #'live-occur--open live-occur--sources))
+    (live-occur--want live-occur--patterns #'ignore)))
 
 (defun live-occur--command (words count lines)
   "A command of WORDS with COUNT lines that are in the text LINES.
@@ -446,14 +467,12 @@ It is bytes, or still a text where it is long."
 ;; little.
 
 (cl-defstruct (live-occur--hunks
-               (:constructor live-occur--hunks (gap &optional most))
+               (:constructor live-occur--hunks (gap))
                (:copier nil))
   "Where a text differs from an older one."
   before after
   (shift 0)                             ; what to add to where those after begin
-  (number 0)                            ; how many hunks there are
   gap                         ; more lines than this are between two hunks
-  most                                  ; with more hunks it becomes greater
   index)                                ; a vector of them, or nil
 
 (defun live-occur--note (hunks start old new)
@@ -465,8 +484,7 @@ It is bytes, or still a text where it is long."
     (cl-flet ((join (at was is)
                 (setq low (min low at)
                       high (max high (+ at is))
-                      more (+ more (- was is)))
-                (cl-decf (live-occur--hunks-number hunks))))
+                      more (+ more (- was is)))))
       (while (pcase (car (live-occur--hunks-before hunks))
                ((and `(,at ,was ,is) (guard (<= (- low at is) gap)))
                 (pop (live-occur--hunks-before hunks))
@@ -478,39 +496,27 @@ It is bytes, or still a text where it is long."
     (push (list low (+ (- high low) more) (+ (- high low) (- new old)))
           (live-occur--hunks-before hunks))
     (cl-incf (live-occur--hunks-shift hunks) (- new old))
-    (setf (live-occur--hunks-index hunks) nil)
-    (when (and (> (cl-incf (live-occur--hunks-number hunks))
-                  (or (live-occur--hunks-most hunks) most-positive-fixnum)))
-      (live-occur--widen hunks))))
-
-(defun live-occur--widen (hunks)
-  "Let more lines be between HUNKS, and so fewer of them."
-  (let ((all (live-occur--in-order hunks)))
-    (setf (live-occur--hunks-after hunks) nil
-          (live-occur--hunks-number hunks) 0)
-    (cl-callf * (live-occur--hunks-gap hunks) 4)
-    (dolist (hunk all)
-      (apply #'live-occur--note hunks hunk))))
+    (setf (live-occur--hunks-index hunks) nil)))
 
 (defun live-occur--in-order (hunks)
-  "All of HUNKS in a list."
-  (pcase-let (((cl-struct live-occur--hunks before after shift) hunks))
-    (unless (and (null before) (= shift 0))
-      (setf (live-occur--hunks-before hunks) nil
-            (live-occur--hunks-shift hunks) 0
-            (live-occur--hunks-after hunks)
-            (append (reverse before)
-                    (cl-loop for (at . counts) in after
-                             collect `(,(+ at shift) . ,counts)))))
-    (live-occur--hunks-after hunks)))
+  "All of HUNKS in a list; nil has none."
+  (when hunks
+    (pcase-let (((cl-struct live-occur--hunks before after shift) hunks))
+      (unless (and (null before) (= shift 0))
+        (setf (live-occur--hunks-before hunks) nil
+              (live-occur--hunks-shift hunks) 0
+              (live-occur--hunks-after hunks)
+              (append (reverse before)
+                      (cl-loop for (at . counts) in after
+                               collect `(,(+ at shift) . ,counts)))))
+      (live-occur--hunks-after hunks))))
 
 (defun live-occur--cut-first (hunks new old)
   "Take NEW lines of the first of HUNKS out of it, and OLD ones."
   (pcase-let ((`((,at ,was ,is) . ,others) (live-occur--in-order hunks)))
     (unless (and (= was old) (= is new))
       (push (list (+ at new) (- was old) (- is new)) others))
-    (setf (live-occur--hunks-after hunks) others
-          (live-occur--hunks-number hunks) (length others))))
+    (setf (live-occur--hunks-after hunks) others)))
 
 (defun live-occur--split (hunks new old)
   "Let HUNKS say how lines moved since those before line NEW were sent.
@@ -536,7 +542,6 @@ lines moved by that, in a list."
     (unless (= next old (- new shift))
       (push (list new (- next old) (- (+ next shift) new)) tail))
     (setf (live-occur--hunks-after hunks) tail
-          (live-occur--hunks-number hunks) (length tail)
           (live-occur--hunks-index hunks) nil)
     (nreverse head)))
 
@@ -562,7 +567,7 @@ lines moved by that, in a list."
 (defun live-occur--hunk-of (line hunks)
   "The last of HUNKS that begins at LINE of an old text or before, or nil.
 Where it begins in that text is in front of it."
-  (let* ((index (live-occur--index hunks))
+  (let* ((index (if hunks (live-occur--index hunks) []))
          (low 0) (high (length index)))
     (while (< low high)
       (let ((middle (/ (+ low high) 2)))
@@ -611,21 +616,25 @@ Where it begins in that text is in front of it."
   span                                  ; how many lines it touches, nil for one
   whole                                 ; whether they are whole lines
   touched                               ; see `live-occur--stayed-p'
-  (rest most-positive-fixnum)
-  (number 0))                           ; of changes that are not counted yet
+  (rest most-positive-fixnum))
 
 (cl-defstruct (live-occur--source (:conc-name live-occur--) (:copier nil))
-  "A buffer that is searched, and which of its lines the program has."
-  buffer
+  "A buffer or a file that is searched, and which of its lines the program has."
+  buffer                                ; nil for a file that isn't open
   list                                  ; the buffer with the rows
+  file                                  ; its name, or nil for a buffer alone
+  state                                 ; that of the file when it was read
+  why                                   ; why it was left out, or nil
+  unread                                ; whether the file is to be read
+  opened                                ; whether the program has the source
   from to              ; markers of a region, or nil: see `live-occur--limit'
   (lines 0)                             ; how many lines the program holds
-  (edits (live-occur--hunks 50 32))     ; what changed since
-  (moves (live-occur--hunks 0))         ; how lines moved since
-  (sent (live-occur--hunks 0))   ; how they moved before, but since the hits
+  edits                                 ; what changed since, or nil
+  moves                                 ; how lines moved since
+  sent                           ; how they moved before, but since the hits
   pieces                                ; the hits, in `live-occur--piece's
   tick            ; the buffer's tick when its edits were known, or nil if lost
-  (trace (make-live-occur--trace))      ; what is known of changes
+  trace                                 ; what is known of changes
   stop)                ; a tick and a size, and where a line was then, and which
 
 (defvar-local live-occur--sources-here nil
@@ -637,11 +646,11 @@ Where it begins in that text is in front of it."
 (put 'live-occur--after 'permanent-local-hook t)
 
 (defmacro live-occur--in-text (source &rest body)
-  "Run BODY in the whole buffer of SOURCE, if it is alive, and stay there.
+  "Run BODY in the whole text of SOURCE, if its buffer is alive, and stay there.
 A cache of newlines would make it slower to walk over many lines.  A line goes
 on where a field ends."
   (declare (indent 1) (debug t))
-  `(live-occur--in (live-occur--buffer ,source)
+  `(live-occur--in (live-occur--text-buffer ,source)
      (save-excursion
        (save-restriction
          (widen)
@@ -669,7 +678,6 @@ on where a field ends."
       (with-current-buffer buffer
         (unless (cl-callf2 remq source live-occur--sources-here)
           (kill-local-variable 'live-occur--sources-here)
-          (kill-local-variable 'live-occur--burst)
           (remove-hook 'before-change-functions #'live-occur--before t)
           (remove-hook 'after-change-functions #'live-occur--after t))))))
 
@@ -686,7 +694,8 @@ on where a field ends."
   (pcase-let* ((now (cons (buffer-chars-modified-tick) (buffer-size)))
                (stop (live-occur--stop source))
                (`(,place . ,at) (cond ((equal now (car stop)) (cdr stop))
-                                      ((live-occur--known-p source)
+                                      ((and (live-occur--buffer source)
+                                            (live-occur--known-p source))
                                        (live-occur--anchor source))
                                       (t '(1 . 0)))))
     (goto-char place)
@@ -704,9 +713,7 @@ on where a field ends."
 ;;
 ;; A command may make many changes.  Those that are near one another and have
 ;; no newline cost little: the text that they touched is kept, from `touched'
-;; to `rest' characters before the end, and its lines are counted later.  After
-;; many of them it is a burst: until the next look at the text what is reported
-;; before changes is not needed, and Emacs is spared the work to report it.
+;; to `rest' characters before the end, and its lines are counted later.
 
 (defun live-occur--known-p (source)
   "Whether all edits of SOURCE are known, and none is lost."
@@ -723,10 +730,11 @@ on where a field ends."
 (defun live-occur--lose (source)
   "Forget the edits of SOURCE: all of its text is to be sent."
   (setf (live-occur--tick source) nil
-        (live-occur--edits source) (live-occur--hunks 50 32)
+        (live-occur--edits source) (live-occur--hunks 50)
         (live-occur--moves source) (live-occur--hunks 0)
         (live-occur--trace source) (make-live-occur--trace))
-  (live-occur--in (live-occur--list source) (live-occur--lose-lines source)))
+  (unless (live-occur--sent source)
+    (setf (live-occur--sent source) (live-occur--hunks 0))))
 
 (defmacro live-occur--in-hook (&rest body)
   "Run BODY where a change is reported, and tell of an error in it.
@@ -752,56 +760,15 @@ A copy of a buffer has its local variables, and another text."
        (widen)
        ,@body)))
 
-(defvar-local live-occur--burst nil
-  "How many newlines this buffer had before a burst of changes, or nil.")
-(put 'live-occur--burst 'permanent-local t)
-
-(defconst live-occur--many 200 "After how many changes a burst begins.")
-
-(defun live-occur--begin-burst ()
-  "Ask for reports after edits alone, if that is enough for all sources."
-  (when (cl-every (lambda (source)
-                    (and (eq (live-occur--buffer source) (current-buffer))
-                         (live-occur--known-p source)
-                         (live-occur--trace-touched
-                          (live-occur--trace source))))
-                  live-occur--sources-here)
-    (setq live-occur--burst (live-occur--newlines))
-    (remove-hook 'before-change-functions #'live-occur--before t)))
-
 (defun live-occur--newlines ()
   "How many newlines this buffer has."
   (save-restriction
     (widen)
     (1- (line-number-at-pos (point-max)))))
 
-(defun live-occur--end-burst ()
-  "Note what was touched in a burst, and get all reports again."
-  (let ((more (- (live-occur--newlines)
-                 (cl-shiftf live-occur--burst nil))))
-    (add-hook 'before-change-functions #'live-occur--before nil t)
-    (dolist (source live-occur--sources-here)
-      (when (eq (live-occur--buffer source) (current-buffer))
-        (live-occur--note-touched source more)))))
-
-(defun live-occur--go-on (source start end removed)
-  "Gather that START to END replace REMOVED characters in a burst of SOURCE."
-  (let ((trace (live-occur--trace source))
-        (size (buffer-size)))
-    (cond ((not (and (live-occur--tick source)
-                     (eq (live-occur--buffer source) (current-buffer)))))
-          ((= size (+ (live-occur--trace-size trace) (- end start removed)))
-           (setf (live-occur--trace-touched trace)
-                 (min start (live-occur--trace-touched trace))
-                 (live-occur--trace-rest trace)
-                 (min (- size end) (live-occur--trace-rest trace)))
-           (live-occur--know source))
-          (t (live-occur--lose source)))))
-
 (defun live-occur--before (start end)
   "Take note of the text from START to END, which is about to change."
   (live-occur--in-hook
-    (when live-occur--burst (live-occur--end-burst))
     (dolist (source live-occur--sources-here)
       (unless (live-occur--near-p source start end)
         (live-occur--gather source
@@ -862,17 +829,12 @@ A search would lose the match data of the command that makes a change."
   (live-occur--in-hook
     (dolist (source live-occur--sources-here)
       (live-occur--look-later (live-occur--list source) live-occur-delay)
-      (cond (live-occur--burst (live-occur--go-on source start end removed))
-            ((live-occur--stayed-p source start end removed)
-             (when (> (cl-incf (live-occur--trace-number
-                                (live-occur--trace source)))
-                      live-occur--many)
-               (live-occur--begin-burst)))
-            (t (live-occur--gather source
-                 (if (live-occur--expected-p (live-occur--trace source)
-                                             start end removed)
-                     (live-occur--took source)
-                   (live-occur--lose source))))))))
+      (unless (live-occur--stayed-p source start end removed)
+        (live-occur--gather source
+          (if (live-occur--expected-p (live-occur--trace source)
+                                      start end removed)
+              (live-occur--took source)
+            (live-occur--lose source)))))))
 
 (defun live-occur--expected-p (trace start end removed)
   "Whether TRACE expects that START to END replace REMOVED characters."
@@ -905,32 +867,19 @@ later in which such changes are, from `touched' to `rest' before the end."
 
 (defun live-occur--settle (source)
   "Note the lines of SOURCE that were touched."
-  (cond ((buffer-local-value 'live-occur--burst (live-occur--buffer source))
-         (with-current-buffer (live-occur--buffer source)
-           (live-occur--end-burst)))
-        ((live-occur--trace-touched (live-occur--trace source))
-         (live-occur--in-text source
-           (live-occur--note-touched source 0)))))
-
-(defun live-occur--note-touched (source more)
-  "Note the lines of SOURCE that were touched, of which MORE are new."
-  (let ((trace (live-occur--trace source)))
-    (when-let* ((start (live-occur--trace-touched trace))
-                (end (- (buffer-size) (live-occur--trace-rest trace))))
+  (let* ((trace (live-occur--trace source))
+         (start (live-occur--trace-touched trace)))
+    (when (and start (live-occur--buffer source))
       (live-occur--in-text source
-        (let ((line (if (< start (live-occur--trace-place trace))
+        (let ((end (- (buffer-size) (live-occur--trace-rest trace)))
+              (line (if (< start (live-occur--trace-place trace))
                         (live-occur--count-newlines 1 start)
-                      (live-occur--line-at trace start)))
-              (count (1+ (live-occur--count-newlines start end))))
-          (live-occur--note (live-occur--edits source)
-                            line (- count more) count)
-          (unless (= more 0)
-            (live-occur--note (live-occur--moves source)
-                              line (- count more) count))
+                      (live-occur--line-at trace start))))
+          (let ((count (1+ (live-occur--count-newlines start end))))
+            (live-occur--note (live-occur--edits source) line count count))
           (setf (live-occur--trace-place trace) start
-                (live-occur--trace-line trace) line))))
-    (setf (live-occur--trace-touched trace) nil
-          (live-occur--trace-number trace) 0)))
+                (live-occur--trace-line trace) line)))
+      (setf (live-occur--trace-touched trace) nil))))
 
 (defun live-occur--line-at (trace position)
   "The line of POSITION, where nothing before that of TRACE has changed since."
@@ -976,6 +925,115 @@ later in which such changes are, from `touched' to `rest' before the end."
   (let ((trace (live-occur--trace source)))
     (cons (live-occur--trace-place trace) (live-occur--trace-line trace))))
 
+;;;; Files
+
+;; A file that isn't open is read into a buffer for its text when it is sent,
+;; and when its lines are shown.  It has no edits, since nobody edits it there.
+
+(defvar-local live-occur--text-of nil "The source whose file this buffer has.")
+
+(defun live-occur--text-buffer (source &optional name)
+  "The buffer of SOURCE, or one of NAME that has the text of its file."
+  (or (live-occur--buffer source)
+      (with-current-buffer (get-buffer-create (or name " *live-occur text*") t)
+        (unless (eq source (cl-shiftf live-occur--text-of source))
+          (live-occur--insert-file source)
+          (set-buffer-modified-p nil))
+        (current-buffer))))
+
+(defun live-occur--file-state (file)
+  "What is another value once FILE was written: nil where it isn't there."
+  (when-let* ((attributes (file-attributes file)))
+    (list (file-attribute-modification-time attributes)
+          (file-attribute-size attributes)
+          (file-attribute-type attributes))))
+
+(defun live-occur--insert-file (source)
+  "Put the text of the file of SOURCE here, or answer why there is none.
+It is the text that a buffer would have.  No archive is unpacked, and nothing is
+asked for."
+  (let* ((file (live-occur--file source))
+         (file-name-handler-alist (and (file-remote-p file)
+                                       file-name-handler-alist))
+         (inhibit-modification-hooks t)
+         (state (live-occur--file-state file)))
+    (setq buffer-undo-list t)
+    (erase-buffer)
+    (setf (live-occur--stop source) nil)
+    (cond ((nth 2 state) "no file")
+          ((> (or (nth 1 state) 0)
+              (or large-file-warning-threshold most-positive-fixnum))
+           "too large")
+          ((not (ignore-errors (insert-file-contents file))) "unreadable")
+          ((search-forward "\0" nil t)
+           (erase-buffer)
+           "no text"))))
+
+(defun live-occur--read-file (source)
+  "Read the file of SOURCE if it has changed, and note that it is to be sent."
+  (setf (live-occur--unread source) nil)
+  (let ((state (live-occur--file-state (live-occur--file source))))
+    (unless (and state (equal state (live-occur--state source)))
+      (setf (live-occur--state source) state)
+      (with-current-buffer (get-buffer-create " *live-occur text*" t)
+        (setq live-occur--text-of source)
+        (setf (live-occur--why source) (live-occur--insert-file source)))
+      (live-occur--lose source)
+      (let ((lines (live-occur--lines source))
+            (now (live-occur--in-text source (line-number-at-pos (point-max)))))
+        (live-occur--note (live-occur--edits source) 0 lines now)
+        (live-occur--note (live-occur--moves source) 0 lines now)))))
+
+(defun live-occur--visited-buffer (source)
+  "The buffer of SOURCE, whose file is visited if it isn't yet."
+  (or (live-occur--buffer source)
+      (let ((file (live-occur--file source)))
+        (unless (file-exists-p file) (user-error "%s is gone" file))
+        (live-occur--attach source (find-file-noselect file)))))
+
+(defun live-occur--attach (source buffer)
+  "Search SOURCE in BUFFER, which visits its file, and answer that.
+The program has its text already if the file is the same as when it was read."
+  (let ((same (and (not (buffer-modified-p buffer))
+                   (live-occur--opened source)
+                   (not (live-occur--to-send-p source))
+                   (equal (live-occur--state source)
+                          (live-occur--file-state
+                           (live-occur--file source))))))
+    (setf (live-occur--buffer source) buffer
+          (live-occur--stop source) nil
+          (live-occur--unread source) nil
+          (live-occur--why source) nil)
+    (with-current-buffer (live-occur--list source)
+      (push source live-occur--visited))
+    (live-occur--track source)
+    (live-occur--lose source)
+    (with-current-buffer buffer
+      (when same (live-occur--know source)))
+    buffer))
+
+(defun live-occur--attach-visited ()
+  "Search those files of this list in buffers that are visited by now."
+  (when live-occur--files
+    (dolist (buffer (buffer-list))
+      (when-let* ((file (buffer-file-name buffer))
+                  (source (or (gethash file live-occur--files)
+                              (gethash (buffer-local-value
+                                        'buffer-file-truename buffer)
+                                       live-occur--files))))
+        (unless (live-occur--buffer source)
+          (live-occur--attach source buffer))))))
+
+(defun live-occur--left-out ()
+  "How many files of this list are left out, and why, for the header."
+  (when-let* ((reasons (and live-occur--files
+                            (delq nil (mapcar #'live-occur--why
+                                              live-occur--sources)))))
+    (format "  %d left out (%s)" (length reasons)
+            (mapconcat (pcase-lambda (`(,why . ,all))
+                         (format "%d %s" (length all) why))
+                       (seq-group-by #'identity reasons) ", "))))
+
 ;;;; Sending lines
 
 ;; A large text is sent block by block, and each block once few are on their
@@ -986,20 +1044,26 @@ later in which such changes are, from `touched' to `rest' before the end."
 (defvar live-occur--block 20000 "How many bytes of a text are sent at once.")
 (defvar live-occur--slice-lines 20000
   "After how many lines to ask what changed of the hits.")
+(defconst live-occur--longest 0.03
+  "For how many seconds files are read until Emacs does what else there is.")
 
 (defun live-occur--step ()
   "Send some of what changed, and ask what changed of the hits.
 It goes on when replies come.  To be broken off between, or begun again, would
 leave the program out of step."
   (unless (or live-occur--sending live-occur--fault live-occur--held
-              live-occur-edit-mode)
+              live-occur--asked live-occur-edit-mode)
     (let ((inhibit-quit t) (live-occur--sending t))
       (when (live-occur--close-killed) (setq live-occur--due t))
-      (mapc #'live-occur--take-stock live-occur--sources)
-      (while (and (not live-occur--asked)
-                  (not (process-get live-occur--process 'unsent))
-                  (live-occur--fits-p live-occur--process live-occur--block)
-                  (live-occur--send-next))))))
+      (mapc #'live-occur--take-stock live-occur--visited)
+      (let ((end (+ (float-time) live-occur--longest)))
+        (while (and (not live-occur--asked)
+                    (not (process-get live-occur--process 'unsent))
+                    (live-occur--fits-p live-occur--process live-occur--block)
+                    (or (< (float-time) end)
+                        (ignore (run-with-timer 0 nil #'live-occur--look
+                                                (current-buffer))))
+                    (live-occur--send-next)))))))
 
 (defun live-occur--take-stock (source)
   "Note all that changed in SOURCE.
@@ -1015,37 +1079,51 @@ Where it isn't known, hooks may have been taken away."
         (live-occur--know source))))
   (live-occur--settle source))
 
+(defun live-occur--to-send-p (source)
+  "Whether something of SOURCE is to be sent."
+  (or (live-occur--unread source)
+      (not (live-occur--opened source))
+      (live-occur--first-edit source)))
+
 (defun live-occur--edited-p ()
   "Whether lines of this list are to be sent."
-  (and (cl-some #'live-occur--first-edit live-occur--sources) t))
+  (and (cl-some #'live-occur--to-send-p live-occur--sources) t))
 
 (defun live-occur--send-next ()
   "Send the next block of a slice, or what ends or begins one, if any is due.
-The slice is a list of how many lines are left in it, the line at which the next
-block has to begin, or nil, and the sources whose turn is to come.  By the first
-version of the script it has one edit of each: lines between edits that are far
-apart would come again."
-  (pcase-let* ((`(,left ,at . ,sources) live-occur--slice)
-               (source (car sources))
-               (several (> live-occur--script 1)))
+The slice is a list of how many lines are left in it, the number of a source,
+and that and the sources whose turn comes later.  So the program gets them in
+order, and those that it has come first.  To read a file counts as some lines.
+The first slice is short, so that some hits come early."
+  (pcase-let* ((`(,left ,file . ,sources) live-occur--slice)
+               (source (car sources)))
     (cond ((not live-occur--slice)
            (when (or (live-occur--edited-p)
                      (and live-occur--due (not live-occur--previewing)))
              (setq live-occur--slice
-                   `(,live-occur--slice-lines nil . ,live-occur--sources))))
+                   `(,(if live-occur--more live-occur--slice-lines
+                        (max 1 (/ live-occur--slice-lines 10)))
+                     0 . ,live-occur--sources))))
           ((or (not source) (<= left 0))
            (setq live-occur--slice nil)
            (live-occur--end-slice)
            t)
-          (t
-           (pcase-let* ((`(,start . ,_) (live-occur--first-edit source))
-                        (`(,count . ,end)
-                         (and start (memq at (list nil start))
-                              (live-occur--send-block source left))))
-             (unless (and start (or end several)) (pop sources))
-             (setq live-occur--slice
-                   `(,(- left (or count 0)) ,(and (not several) end)
-                     . ,sources)))))))
+          ((not (live-occur--opened source))
+           (live-occur--order "file buffer 0\n")
+           (setf (live-occur--opened source) t))
+          ((live-occur--unread source)
+           (live-occur--read-file source)
+           (cl-decf (car live-occur--slice) 50))
+          ((live-occur--first-edit source)
+           (cl-decf (car live-occur--slice)
+                    (live-occur--send-block source file left)))
+          (t (while (progn
+                      (pop (cddr live-occur--slice))
+                      (cl-incf (cadr live-occur--slice))
+                      (and (cddr live-occur--slice)
+                           (not (live-occur--to-send-p
+                                 (caddr live-occur--slice))))))
+             t))))
 
 (defun live-occur--first-edit (source)
   "The first of the edits of SOURCE that are to be sent."
@@ -1056,9 +1134,9 @@ apart would come again."
   (cond ((not live-occur--previewing) (live-occur--ask-for-changes))
         ((not live-occur--trying) (live-occur--ask-for-page))))
 
-(defun live-occur--send-block (source most)
+(defun live-occur--send-block (source file most)
   "Send the first of the lines of SOURCE that changed, at most MOST of them.
-Answer how many they are, and where the next are if that was not all."
+The program knows it by the number FILE.  Answer how many they are."
   (pcase-let* ((`(,at ,was ,is) (live-occur--first-edit source))
                (`(,count ,added . ,text)
                 (live-occur--in-text source
@@ -1074,9 +1152,7 @@ Answer how many they are, and where the next are if that was not all."
     (unless (= added removed 0)
       (live-occur--order
        (live-occur--command
-        (format "splice %d %d %d" (seq-position live-occur--sources source #'eq)
-                at removed)
-        added text)))
+        (format "splice %d %d %d" file at removed) added text)))
     (cl-incf (live-occur--lines source) (- added removed))
     (live-occur--cut-first (live-occur--edits source) count old)
     (pcase-dolist (`(,at ,was ,is)
@@ -1084,7 +1160,7 @@ Answer how many they are, and where the next are if that was not all."
                                       (+ at count) (+ at old)))
       (live-occur--note (live-occur--sent source) at was is))
     (when more (live-occur--tell-more))
-    (cons count (and more (+ at count)))))
+    count))
 
 (defun live-occur--block-here (most)
   "How many lines are after point in a block, at most MOST, and what they are.
@@ -1245,8 +1321,6 @@ It is where it begins and ends, and then where the next is told of."
 (defun live-occur--line-of (hit)
   "The line at which HIT is now."
   (let ((source (live-occur--hit-source hit)))
-    (when (buffer-local-value 'live-occur--burst (live-occur--buffer source))
-      (live-occur--settle source))
     (live-occur--moved (live-occur--moved (live-occur--hit-place hit)
                                           (live-occur--sent source))
                        (live-occur--moves source))))
@@ -1265,7 +1339,7 @@ It is where it begins and ends, and then where the next is told of."
   "Bring LIST up to date if anything has changed, and make some rows."
   (live-occur--in list
     (setq live-occur--timer nil)
-    (live-occur--forget-saved)
+    (live-occur--attach-visited)
     (if live-occur-edit-mode
         (live-occur--follow-lines)
       (live-occur--step)
@@ -1290,10 +1364,20 @@ If nothing has changed ask for none, but with ALWAYS non-nil."
        t))
 
 (defun live-occur--close-killed ()
-  "Close the sources of this list whose buffers were killed, and answer them."
-  (mapc #'live-occur--close
-        (cl-remove-if #'buffer-live-p live-occur--sources
-                      :key #'live-occur--buffer)))
+  "Close the sources of this list whose buffers were killed, and answer them.
+Those of files are read from there again."
+  (let (killed)
+    (dolist (source live-occur--visited)
+      (unless (buffer-live-p (live-occur--buffer source))
+        (push source killed)))
+    (dolist (source killed killed)
+      (cl-callf2 remq source live-occur--visited)
+      (if (not (live-occur--file source))
+          (live-occur--close source)
+        (setf (live-occur--buffer source) nil
+              (live-occur--state source) nil
+              (live-occur--unread source) t)
+        (live-occur--lose source)))))
 
 (defun live-occur--ask-for-changes ()
   "Ask for what changed of the hits, and apply it when it comes."
@@ -1309,14 +1393,18 @@ If nothing has changed ask for none, but with ALWAYS non-nil."
 BOUNDS are what was listed of the first one at the question, or nil."
   (setq live-occur--asked nil)
   (live-occur--tell-more)
-  (let (spots last (shift 0))
+  (let ((rest sources) (number 0) (row 0) spots (last -1) (shift 0))
     (pcase-dolist (`(,words . ,pieces) blocks)
-      (pcase-let* ((`(,_ ,file ,front ,removed ,added ,_)
-                    (mapcar #'string-to-number (split-string words " ")))
-                   (source (nth file sources)))
-        (unless (eq source (cl-shiftf last source)) (setq shift 0))
-        (when (memq source live-occur--sources)
-          (let ((new (live-occur--apply source front removed added pieces)))
+      (pcase-let ((`(,_ ,file ,front ,removed ,added ,_)
+                   (mapcar #'string-to-number (split-string words " "))))
+        (while (< number file)
+          (cl-incf row (live-occur--count (live-occur--pieces (pop rest))))
+          (cl-incf number))
+        (unless (= file (cl-shiftf last file)) (setq shift 0))
+        (when (and (or pieces (live-occur--pieces (car rest)))
+                   (memq (car rest) live-occur--sources))
+          (let ((new (live-occur--apply (car rest) row
+                                        front removed added pieces)))
             (pcase-dolist (`(,spot . ,_) new)
               (when (live-occur--hit-p spot)
                 (cl-decf (live-occur--hit-place spot) shift)))
@@ -1325,21 +1413,22 @@ BOUNDS are what was listed of the first one at the question, or nil."
     (live-occur--clip bounds)
     (live-occur--go-to-spots spots t))
   (dolist (source sources)
-    (live-occur--move-lines source)
-    (setf (live-occur--sent source) (live-occur--hunks 0)))
+    (when (live-occur--in-order (live-occur--sent source))
+      (setf (live-occur--sent source) (live-occur--hunks 0))))
   (when (and live-occur--page (not (and live-occur--kept live-occur--more)))
     (live-occur--show-hits))
   (live-occur--go-to-wanted)
+  (when blocks (run-hooks 'live-occur-update-hook))
   (force-mode-line-update))
 
-(defun live-occur--apply (source front removed added new)
+(defun live-occur--apply (source row front removed added new)
   "Put the hits NEW in the place of those among REMOVED lines of SOURCE.
-They are among the ADDED lines from FRONT on.  Answer the spots there."
+They are among the ADDED lines from FRONT on, and its first row is ROW.  Answer
+the spots there."
   (pcase-let* ((`(,head . ,rest)
                 (live-occur--cut (live-occur--pieces source) front))
                (`(,gone . ,tail) (live-occur--cut rest (+ front removed)))
-               (row (+ (live-occur--row-of-source source)
-                       (live-occur--count head)))
+               (row (+ row (live-occur--count head)))
                (less (live-occur--count gone))
                (more (live-occur--count new))
                (spots (unless live-occur--page (live-occur--spots row less))))
@@ -1360,9 +1449,21 @@ They are among the ADDED lines from FRONT on.  Answer the spots there."
   `(save-excursion
      (save-restriction
        (widen)
-       (goto-char (point-min))
-       (forward-line ,row)
+       (live-occur--go-to-row ,row)
        ,@body)))
+
+(defvar-local live-occur--row-stop nil
+  "A tick of the list, and the row and the place to which rows were put then.")
+
+(defun live-occur--go-to-row (row)
+  "Move to ROW of the whole list, from a row that is known."
+  (pcase live-occur--row-stop
+    ((and `(,tick ,at . ,place)
+          (guard (and (= tick (buffer-chars-modified-tick)) (<= at row))))
+     (goto-char place)
+     (forward-line (- row at)))
+    (_ (goto-char (point-min))
+       (forward-line row))))
 
 (defmacro live-occur--at-row-start (position &rest body)
   "Run BODY at the beginning of the row at POSITION, in the whole list."
@@ -1384,7 +1485,9 @@ They are among the ADDED lines from FRONT on.  Answer the spots there."
     (with-silent-modifications
       (live-occur--at-row row
         (delete-region (point) (line-beginning-position (1+ removed)))
-        (insert-char ?\n added)))
+        (insert-char ?\n added)
+        (setq live-occur--row-stop
+              `(,(buffer-chars-modified-tick) ,(+ row added) . ,(point)))))
     (when live-occur-edit-mode (setq buffer-undo-list nil))
     (cl-callf min live-occur--made row)))
 
@@ -1446,6 +1549,27 @@ With NEW non-nil hits were reported since: places are others than before."
     (with-silent-modifications
       (live-occur--map-rows #'live-occur--make-row first count))))
 
+(defun live-occur--make-all-rows ()
+  "Make all rows of this list, which can be quit."
+  (unless (or live-occur--page live-occur-edit-mode
+              (>= live-occur--made (live-occur--total)))
+    (with-local-quit
+      (live-occur--in-steps "Making rows..." (live-occur--total)
+                            #'live-occur--make-rows)
+      (setq live-occur--made (live-occur--total)))))
+
+(defun live-occur--copy (start end &optional delete)
+  "The text from START to END, whose rows are made, to copy it.
+With DELETE it is taken out, too."
+  (let ((start (copy-marker start)) (end (copy-marker end)))
+    (unless (or delete live-occur-edit-mode)
+      (let ((first (live-occur--row-at start)))
+        (live-occur--in-steps "Making rows..."
+                              (- (live-occur--row-at end) first -1)
+                              (lambda (row count)
+                                (live-occur--make-rows (+ first row) count)))))
+    (buffer-substring--filter start end delete)))
+
 (defun live-occur--map-rows (function first count)
   "Call FUNCTION with each hit of COUNT rows from FIRST on, at its row."
   (live-occur--at-row first
@@ -1479,7 +1603,11 @@ With NEW non-nil hits were reported since: places are others than before."
 
 (defun live-occur--source-name (source)
   "What rows call SOURCE."
-  (or (buffer-name (live-occur--buffer source)) "no buffer"))
+  (if-let* ((file (live-occur--file source)))
+      (if (string-prefix-p default-directory file)
+          (substring file (length default-directory))
+        (abbreviate-file-name file))
+    (or (buffer-name (live-occur--buffer source)) "no buffer")))
 
 (defun live-occur--shown-name (source)
   "What rows of this list call SOURCE, or nil where it has no other one."
@@ -1512,6 +1640,7 @@ Where NAME is nil the head has none."
          (cut (length> text most))
          (from (point)))
     (when cut (setq text (substring text 0 most)))
+    (when (= start 0) (live-occur--colour text hit))
     (pcase-dolist (`(,start . ,end)
                    (live-occur--in-characters
                     bytes
@@ -1519,13 +1648,29 @@ Where NAME is nil the head has none."
                                                  hit (+ start (length bytes)))
                              collect (cons (- from start) (- to start)))))
       (when (< start most)
-        (put-text-property start (min end most) 'face 'live-occur-match text)))
+        (add-face-text-property start (min end most) 'live-occur-match nil
+                                text)))
     (when (> start 0) (live-occur--insert-mark))
     (insert (propertize text
                         'mouse-face 'highlight 'help-echo live-occur--mouse))
     (when cut (live-occur--insert-mark))
     (when (or cut (> start 0))
       (put-text-property from (point) 'live-occur-short t))))
+
+(defun live-occur--colour (text hit)
+  "Give TEXT, which begins the line of HIT, the faces that it has there."
+  (let ((buffer (live-occur--buffer (live-occur--hit-source hit))))
+    (when (and (buffer-live-p buffer)
+               (buffer-local-value 'font-lock-mode buffer))
+      (live-occur--at-line-of hit
+        (let* ((start (point)) (at start)
+               (end (min (point-max) (+ start (length text)))))
+          (when (equal text (buffer-substring-no-properties start end))
+            (while (< at end)
+              (let ((next (next-single-property-change at 'face nil end)))
+                (put-text-property (- at start) (- next start) 'face
+                                   (get-text-property at 'face) text)
+                (setq at next)))))))))
 
 (defun live-occur--insert-mark ()
   "Insert what stands for a part of a line that is not shown."
@@ -1578,15 +1723,13 @@ A character of which only some bytes are in a place is in it."
 It may be moved to its point then, so rows there are made, too.  Nothing is done
 where all is as it was at the last time."
   (live-occur--close-killed)
-  (live-occur--forget-saved)
   (unless (equal (window-parameter window 'live-occur-seen)
                  (live-occur--seen window))
     (dolist (position (list (window-start window) (window-point window)))
       (let* ((height (window-body-height window))
              (first (max 0 (- (live-occur--row-at position) height))))
         (live-occur--make-rows first (* 3 height))
-        (live-occur--show-around first (* 3 height))
-        (live-occur--mark-changed first (* 3 height))))
+        (live-occur--show-around first (* 3 height))))
     (set-window-parameter window 'live-occur-seen (live-occur--seen window))))
 
 (defun live-occur--seen (window)
@@ -1594,11 +1737,47 @@ where all is as it was at the last time."
   (list (current-buffer) (buffer-chars-modified-tick)
         (window-start window) (window-point window) (window-body-height window)
         live-occur-context live-occur--page live-occur-max-columns
-        (cl-loop for source in live-occur--sources
+        (cl-loop for source in live-occur--visited
                  for buffer = (live-occur--buffer source)
-                 collect (buffer-name buffer)
-                 collect (buffer-chars-modified-tick buffer)
-                 collect (buffer-size buffer))))
+                 collect (list (buffer-name buffer)
+                               (buffer-chars-modified-tick buffer)
+                               (buffer-size buffer)))))
+
+;;;; Hits for others' programs
+
+(defun live-occur-hits (&optional first count)
+  "The hits of this list from number FIRST on, COUNT of them, or all.
+Each is a list: its buffer, or the name of its file where that isn't open; the
+number of its line, from 1; its text; and its matched parts, pairs of places in
+that, from 0.  `live-occur' makes a list for a pattern and buffers."
+  (let (hits)
+    (live-occur--map-hits
+     (lambda (hit)
+       (let ((source (live-occur--hit-source hit))
+             (bytes (live-occur--hit-bytes hit)))
+         (push (list (or (live-occur--buffer source) (live-occur--file source))
+                     (1+ (live-occur--line-of hit))
+                     (live-occur--text bytes)
+                     (live-occur--in-characters bytes
+                                                (live-occur--hit-parts hit)))
+               hits)))
+     (or first 0) (or count most-positive-fixnum))
+    (nreverse hits)))
+
+(defun live-occur-done-p ()
+  "Whether this list has the hits in all that was there at the last update.
+`live-occur-refresh' begins another one."
+  (not (or live-occur--fault (live-occur--busy-p) (live-occur--edited-p))))
+
+(defun live-occur--imenu ()
+  "An index for imenu: where the rows of each buffer begin."
+  (let ((row 0))
+    (cl-loop for source in live-occur--sources
+             for count = (live-occur--count (live-occur--pieces source))
+             unless (= count 0)
+             collect (cons (live-occur--source-name source)
+                           (live-occur--at-row row (point-marker)))
+             do (cl-incf row count))))
 
 ;;;; Lines around
 
@@ -1664,13 +1843,14 @@ The list keeps its window."
   (when (mouse-event-p event) (posn-set-point (event-end event)))
   (let* ((hit (or (live-occur--hit (live-occur--row-at (point)))
                   (user-error "There is no row here")))
+         (buffer (live-occur--visited-buffer (live-occur--hit-source hit)))
          (column (live-occur--first-column hit))
          (position (live-occur--at-line-of hit
                      (min (line-end-position) (+ (point) column)))))
     (unless position (user-error "The buffer of this row is gone"))
     (live-occur--check-line hit)
     (setq next-error-last-buffer (current-buffer))
-    (pop-to-buffer (live-occur--buffer (live-occur--hit-source hit))
+    (pop-to-buffer buffer
                    (unless (eq (window-buffer) (current-buffer))
                      '((display-buffer-reuse-window
                         display-buffer-same-window))))
@@ -1679,7 +1859,38 @@ The list keeps its window."
         (user-error "The line is outside of the narrowed part of %s"
                     (buffer-name)))
       (widen))
-    (goto-char position)))
+    (goto-char position)
+    (live-occur--unfold t)
+    (run-hooks 'live-occur-visit-hook)))
+
+(defun live-occur--unfold (&optional for-good)
+  "Show the line at point where it is folded, FOR-GOOD or for a while.
+Answer a function that folds it again."
+  (if (and (derived-mode-p 'org-mode) (fboundp 'org-fold-core-get-regions))
+      (let ((folds (org-fold-core-get-regions
+                    :with-markers t :from (point-min) :to (point-max))))
+        (org-fold-show-set-visibility 'canonical)
+        (lambda ()
+          (pcase-dolist (`(,from ,to ,kind) (delq nil folds))
+            (org-fold-core-region from to t kind))))
+    (let ((closers
+           (cl-loop
+            for fold in (overlays-in (line-beginning-position)
+                                     (line-end-position))
+            for open = (overlay-get fold 'isearch-open-invisible)
+            when (and open (invisible-p (overlay-get fold 'invisible)))
+            collect (if for-good (funcall open fold)
+                      (live-occur--open-fold fold)))))
+      (lambda () (mapc #'funcall closers)))))
+
+(defun live-occur--open-fold (fold)
+  "Open the overlay FOLD for a while, and answer a function that closes it."
+  (if-let* ((open (overlay-get fold 'isearch-open-invisible-temporary)))
+      (progn (funcall open fold nil)
+             (apply-partially open fold t))
+    (prog1 (apply-partially #'overlay-put fold 'invisible
+                            (overlay-get fold 'invisible))
+      (overlay-put fold 'invisible nil))))
 
 (defun live-occur--check-line (hit)
   "Signal an error where the line of HIT isn't found, and look at its buffer.
@@ -1733,74 +1944,386 @@ This is the `next-error-function' of lists."
 
 ;;;; Patterns
 
-(defun live-occur--fault-in (reply text first)
-  "The kind and the place of the fault in TEXT that REPLY reports, or nil.
-TEXT has the patterns from number FIRST on, one a line.  Where something else
-is refused the kind is REPLY itself."
-  (pcase (split-string reply " ")
-    ('("ok") nil)
-    (`("refused" "Pattern" ,number ,kind ,at)
-     (let* ((bytes (live-occur--bytes (concat text "\n")))
-            (at (+ (live-occur--after-rows
-                    bytes 0 (- (string-to-number number) first))
-                   (string-to-number at))))
-       (list kind (caar (live-occur--in-characters
-                         bytes `((,at . ,(1+ at))))))))
-    (_ (list reply 0))))
+;; What a list searches for are its patterns, its syntax, flags, and whether the
+;; case is smart.  The program has what these are in its own terms: see
+;; `live-occur--sent'.
+
+(defun live-occur--for-program (patterns flags)
+  "A syntax for the program, and PATTERNS in pieces, where FLAGS are in force."
+  (let* ((fold (memq ?i flags))
+         (characters (live-occur--characters-p))
+         (quoted (and characters fold (eq live-occur-syntax 'fixed)
+                      (string-match-p "[[:nonascii:]]"
+                                      (apply #'concat patterns))))
+         (syntax (if quoted 'basic live-occur-syntax)))
+    (cons syntax
+          (mapcar (lambda (pattern)
+                    (if (or (not characters) (eq syntax 'fixed))
+                        (live-occur--in-pieces pattern)
+                      (live-occur--translated pattern quoted syntax fold)))
+                  patterns))))
 
 (defun live-occur--want (patterns report)
-  "Make PATTERNS those of this list, once the program has answered.
-Call REPORT with the reply.  Of several wishes the last one is kept."
+  "Search in this list for PATTERNS, by its settings, if the program takes them.
+Call REPORT with the fault, or nil.  Of several wishes the last one is kept."
   (if live-occur--trying
       (setq live-occur--trying (list patterns report))
     (setq live-occur--trying t)
-    (let ((place (live-occur--place-to-change patterns)))
-      (cond ((or (null patterns) (equal patterns live-occur--patterns))
-             (live-occur--got patterns nil report "ok"))
-            (place
-             (live-occur--send
-              (format "pattern %d\n%s\n" place
-                      (live-occur--bytes (nth place patterns)))
-              (lambda (reply _)
-                (live-occur--got
-                 patterns t report
-                 (string-replace "Pattern 0" (format "Pattern %d" place)
-                                 reply)))))
-            (t (live-occur--send
-                (live-occur--patterns-command patterns)
-                (apply-partially #'live-occur--got patterns nil report)))))))
+    (pcase-let* ((flags (live-occur--flags-for patterns))
+                 (`(,syntax . ,pieces)
+                  (live-occur--for-program patterns flags))
+                 (texts (mapcar #'live-occur--joined pieces))
+                 (before live-occur--sent)
+                 (other (not (eq syntax (car before))))
+                 (place (unless other
+                          (live-occur--place-to-change texts (cdr before)))))
+      (cl-flet ((got (in-place reply)
+                  (let ((fault (live-occur--fault-in reply pieces)))
+                    (if fault
+                        (when other (live-occur--put-syntax-back before))
+                      (live-occur--take-wish patterns flags (cons syntax texts)
+                                             in-place))
+                    (live-occur--end-wish fault report other))))
+        (cond ((or (null texts) (equal texts (and (not other) (cdr before))))
+               (got texts "ok"))
+              (place
+               (live-occur--send
+                (format "pattern %d\n%s\n" place (nth place texts))
+                (lambda (reply _)
+                  (got t (string-replace
+                          "Pattern 0" (format "Pattern %d" place) reply)))))
+              (t (when other (live-occur--begin-syntax syntax))
+                 (live-occur--send (live-occur--patterns-command texts)
+                                   (lambda (reply _) (got nil reply)))))))))
 
-(defun live-occur--place-to-change (patterns)
-  "The number of the one pattern that differs from that of PATTERNS, or nil.
-It is nil, too, where the program can't put one in the place of another."
-  (when (and (> live-occur--script 1)
-             (length= patterns (length live-occur--patterns)))
-    (pcase (cl-loop for new in patterns for old in live-occur--patterns
+(defun live-occur--begin-syntax (syntax)
+  "Let the program have SYNTAX, and no patterns, which it might refuse by that."
+  (dolist (_ (cdr live-occur--sent)) (live-occur--order "drop 0\n"))
+  (live-occur--order (format "syntax %s\n" syntax))
+  (setq live-occur--sent (list syntax)))
+
+(defun live-occur--place-to-change (texts others)
+  "The number of the only one of TEXTS that differs from OTHERS, or nil."
+  (when (length= texts (length others))
+    (pcase (cl-loop for new in texts for old in others
                     for place from 0
                     unless (equal new old) collect place)
       (`(,place) place))))
 
-(defun live-occur--got (patterns in-place report reply &optional _)
-  "Take REPLY to the wish for PATTERNS, and call REPORT with it.
-Where they are not IN-PLACE already the others are dropped."
-  (when (and (equal reply "ok") (not (equal patterns live-occur--patterns)))
-    (unless in-place
-      (dolist (_ live-occur--patterns) (live-occur--order "drop 0\n")))
-    (setq live-occur--patterns patterns)
-    (live-occur--follow-patterns))
-  (funcall report reply)
+(defun live-occur--put-syntax-back (before)
+  "Let the program have BEFORE again, a syntax and patterns."
+  (live-occur--begin-syntax (car before))
+  (when (cdr before)
+    (live-occur--order (live-occur--patterns-command (cdr before))))
+  (setq live-occur--sent before))
+
+(defun live-occur--take-wish (patterns flags sent in-place)
+  "Let this list have PATTERNS and FLAGS, by which the program has SENT.
+It drops its older ones unless SENT are IN-PLACE.  The patterns are other ones,
+also where they are equal, if hits may be others."
+  (unless in-place
+    (dolist (_ (cdr live-occur--sent)) (live-occur--order "drop 0\n")))
+  (setq live-occur-flags flags)
+  (unless (and (equal sent live-occur--sent)
+               (equal flags live-occur--flags-sent)
+               (equal patterns live-occur--patterns))
+    (setq live-occur--patterns (copy-sequence patterns)
+          live-occur--sent sent)
+    (live-occur--send-flags)))
+
+(defun live-occur--end-wish (fault report again)
+  "Call REPORT with FAULT, and go on with the wish that came meanwhile, if any.
+With AGAIN the hits may be others where there is a fault, too: some were perhaps
+reported while the program had no patterns."
+  (funcall report fault)
   (let ((wanted (cl-shiftf live-occur--trying nil)))
     (cond ((consp wanted) (apply #'live-occur--want wanted))
-          ((not (equal reply "ok")))
+          ((and fault (not again)))
           (live-occur--previewing (live-occur--ask-for-page))
           (t (live-occur--update t)))))
 
+(defun live-occur--send-flags ()
+  "Let the program have the flags of this list."
+  (dolist (letter '(?i ?v ?x))
+    (let ((on (memq letter live-occur-flags)))
+      (unless (eq (null on) (null (memq letter live-occur--flags-sent)))
+        (live-occur--order (format "flag %c %s\n" letter (if on "on" "off"))))))
+  (setq live-occur--flags-sent live-occur-flags))
+
+(defun live-occur--fault-in (reply pieces)
+  "The fault that REPLY reports in patterns sent as PIECES, or nil.
+It is a list of a kind, the number of a pattern and the place in it.  Where
+something else is refused the kind is REPLY itself."
+  (pcase (split-string reply " ")
+    ('("ok") nil)
+    (`("refused" "Pattern" ,number ,kind ,at)
+     (let ((number (string-to-number number)))
+       (list kind number (live-occur--place-back (nth number pieces)
+                                                 (string-to-number at)))))
+    (_ (list reply 0 0))))
+
+(defun live-occur--fault-in-text (fault text first)
+  "The kind of FAULT, and its place in TEXT, or nil.
+TEXT has the patterns from number FIRST on, one a line."
+  (pcase fault
+    (`(,kind ,number ,place)
+     (list kind (min (length text)
+                     (cl-loop for line in (split-string text "\n")
+                              repeat (- number first)
+                              sum (1+ (length line)) into before
+                              finally return (+ before place)))))))
+
 (defun live-occur--put (patterns)
-  "Make PATTERNS those of this list, wait until they are, and answer the reply."
+  "Let this list search for PATTERNS, wait until it does, and answer the fault."
   (live-occur--check)
   (let (answer)
-    (live-occur--want patterns (lambda (reply) (setq answer reply)))
-    (live-occur--wait-for (lambda () answer))))
+    (live-occur--want patterns (lambda (fault) (setq answer (list fault))))
+    (car (live-occur--wait-for (lambda () answer)))))
+
+;;;; Characters
+
+;; The program takes each byte as a character.  So what a pattern says of
+;; characters beyond ASCII is said of their bytes in UTF-8.  What is sent is
+;; kept in pieces, pairs of a place in the pattern and bytes, by which the place
+;; of a fault is found in the pattern.
+
+(defun live-occur--characters-p ()
+  "Whether patterns of this list speak of characters, and not of bytes."
+  (and live-occur-characters
+       (cl-every (lambda (source)
+                   (let ((buffer (live-occur--buffer source)))
+                     (or (not (buffer-live-p buffer))
+                         (buffer-local-value 'enable-multibyte-characters
+                                             buffer))))
+                 live-occur--sources)))
+
+(defun live-occur--in-pieces (pattern)
+  "PATTERN as it is, in pieces."
+  (append (cl-loop for character across pattern for place from 0
+                   collect (cons place
+                                 (live-occur--bytes (string character))))
+          (list (list (length pattern)))))
+
+(defun live-occur--joined (pieces)
+  "The bytes of PIECES."
+  (mapconcat #'cdr pieces ""))
+
+(defun live-occur--place-back (pieces at)
+  "The place in a pattern of which PIECES have byte AT."
+  (cl-loop for (place . bytes) in pieces
+           while (>= at (length bytes))
+           do (cl-decf at (length bytes))
+           finally return place))
+
+(defun live-occur--translated (pattern fixed syntax fold)
+  "PATTERN, read by SYNTAX, or FIXED, in pieces that speak of its bytes.
+With FOLD both cases match."
+  (with-temp-buffer
+    (insert pattern)
+    (goto-char (point-min))
+    (append (cl-loop until (eobp)
+                     nconc (if fixed
+                               (live-occur--next-fixed syntax fold)
+                             (live-occur--next-pieces syntax fold)))
+            (list (list (length pattern))))))
+
+(defun live-occur--next-fixed (syntax fold)
+  "Pieces by SYNTAX of the character at point of a fixed string; move over it.
+FOLD is as in `live-occur--translated'."
+  (if (looking-at "[][\\.*^$]")
+      (live-occur--as-it-is (1+ (point)) "\\")
+    (live-occur--next-pieces syntax fold)))
+
+(defun live-occur--next-pieces (syntax fold)
+  "Pieces of what is at point of a pattern, which is of SYNTAX; move over it.
+FOLD is as in `live-occur--translated'."
+  (let ((place (1- (point))))
+    (cond ((looking-at "\\\\[[:ascii:]]\\|\\.\\*\\|[[:ascii:]]")
+           (pcase (char-after)
+             ((and ?. (guard (= 1 (- (match-end 0) (point)))))
+              (forward-char)
+              (live-occur--choice
+               place syntax
+               (live-occur--alternatives t nil '((#x80 . #x10ffff)))))
+             (?\[ (live-occur--next-set syntax fold))
+             (_ (live-occur--as-it-is (match-end 0)))))
+          (t (skip-chars-forward "\\\\")
+             (forward-char)
+             (live-occur--choice
+              place syntax (mapcar (lambda (one)
+                                     (live-occur--bytes (string one)))
+                                   (live-occur--cases (char-before) fold)))))))
+
+(defun live-occur--as-it-is (end &optional before)
+  "Pieces of the text from point to END, with BEFORE in front; move over it."
+  (cl-loop while (< (point) end)
+           collect (cons (1- (point))
+                         (live-occur--bytes
+                          (concat before (string (char-after)))))
+           do (forward-char)))
+
+(defun live-occur--choice (place syntax texts)
+  "Pieces for PLACE of a pattern of SYNTAX, before point: one of TEXTS."
+  (pcase-let ((`(,open ,bar ,close ,many)
+               (if (eq syntax 'extended)
+                   '("(" "|" ")" "[*+?{]")
+                 '("\\(" "\\|" "\\)" "\\*\\|\\\\[+?{]"))))
+    (list (cons place
+                (if (or (cdr texts) (looking-at-p many))
+                    (concat open (string-join texts bar) close)
+                  (car texts))))))
+
+(defun live-occur--cases (character fold)
+  "CHARACTER, and with FOLD those beyond ASCII that differ from it by case."
+  (let ((same (char-table-extra-slot (standard-case-table) 2)))
+    (cons character
+          (cl-loop for other = (and fold (aref same character))
+                   then (aref same other)
+                   until (memq other (list nil character))
+                   unless (< other #x80) collect other))))
+
+(defun live-occur--next-set (syntax fold)
+  "Pieces of the bracket expression at point, read by SYNTAX; move over it.
+FOLD is as in `live-occur--translated'.  One with a fault goes as it is, with
+all that follows, but a descending range of characters as one of letters."
+  (let ((start (point)))
+    (pcase (catch 'fault (live-occur--read-set))
+      (`(,complement ,texts ,ranges)
+       (if (not (or complement ranges))
+           (let ((end (point)))
+             (goto-char start)
+             (live-occur--as-it-is end))
+         (live-occur--choice
+          (1- start) syntax
+          (live-occur--alternatives
+           complement texts
+           (let ((all (live-occur--with-cases ranges fold)))
+             (if complement (live-occur--other-ranges all) all))))))
+      (dash
+       (goto-char start)
+       (if (not dash)
+           (live-occur--as-it-is (point-max))
+         (goto-char (point-max))
+         `((,(1- start) . "[b") (,(1- dash) . "-a]")))))))
+
+(defun live-occur--read-set ()
+  "Move over the bracket expression at point, and answer its elements.
+It is whether it is a complement, its elements in ASCII as texts, and the ranges
+of others.  Throw nil to `fault', or where a range beyond ASCII descends."
+  (let (texts ranges (complement (looking-at "\\[\\^")) (first t))
+    (forward-char (if complement 2 1))
+    (while (or (cl-shiftf first nil) (not (eq (char-after) ?\])))
+      (if (looking-at
+           (rx "[:" (or "alnum" "alpha" "blank" "cntrl" "digit" "graph" "lower"
+                        "print" "punct" "space" "upper" "xdigit")
+               ":]"))
+          (progn (push (match-string 0) texts)
+                 (goto-char (match-end 0)))
+        (let* ((single (looking-at-p "\\[="))
+               (from (live-occur--read-point))
+               (dash (and (not single) (looking-at-p "-[^]]") (point)))
+               (to (if (not dash) from
+                     (forward-char)
+                     (live-occur--read-point))))
+          (when (< to from)
+            (throw 'fault (and (>= from #x80) dash)))
+          (when (< from #x80)
+            (push (live-occur--range-text from (min to #x7f)) texts))
+          (when (>= to #x80)
+            (push (cons (max from #x80) to) ranges)))))
+    (forward-char)
+    (list complement (nreverse texts) (nreverse ranges))))
+
+(defun live-occur--read-point ()
+  "Move over the character at point of a bracket expression, and answer it."
+  (cond ((looking-at "\\[\\([.=]\\)\\(.\\)\\1]")
+         (goto-char (match-end 0))
+         (string-to-char (match-string 2)))
+        ((or (eobp) (looking-at-p "\\[[.=:]")) (throw 'fault nil))
+        (t (forward-char)
+           (char-before))))
+
+(defun live-occur--range-text (from to)
+  "The element of a bracket expression for the characters FROM to TO."
+  (cl-flet ((text (character)
+              (format (if (memq character '(?\[ ?\] ?^ ?-)) "[.%c.]" "%c")
+                      character)))
+    (if (= from to) (text from) (concat (text from) "-" (text to)))))
+
+(defun live-occur--with-cases (ranges fold)
+  "RANGES, and with FOLD what differs by case from those that aren't long."
+  (append ranges
+          (when fold
+            (cl-loop for (from . to) in ranges
+                     when (< (- to from) 2000)
+                     nconc (cl-loop
+                            for one from from to to
+                            nconc (mapcar (lambda (other) (cons other other))
+                                          (cdr (live-occur--cases one t))))))))
+
+(defun live-occur--other-ranges (ranges)
+  "The ranges of characters beyond ASCII that are in none of RANGES."
+  (let ((next #x80) others)
+    (pcase-dolist (`(,from . ,to) (sort (copy-sequence ranges)
+                                        #'car-less-than-car))
+      (when (< next from) (push (cons next (1- from)) others))
+      (setq next (max next (1+ to))))
+    (nreverse (if (<= next #x10ffff)
+                  (cons (cons next #x10ffff) others)
+                others))))
+
+(defun live-occur--alternatives (complement texts ranges)
+  "What matches a character of a set, as expressions for bytes.
+It has the elements TEXTS, or with COMPLEMENT others of ASCII, and RANGES."
+  (append (cond (complement (list (concat "[^" (string-join texts)
+                                          "\200-\377]")))
+                (texts (list (concat "[" (string-join texts) "]"))))
+          (cl-loop
+           for (from . to) in ranges
+           nconc (cl-loop
+                  for (low . high) in '((#x80 . #x7ff) (#x800 . #xffff)
+                                        (#x10000 . #x3fffff))
+                  for first = (max low from) for last = (min high to)
+                  when (<= first last)
+                  nconc (mapcar #'live-occur--byte-text
+                                (live-occur--byte-ranges
+                                 (append (live-occur--bytes (string first)) nil)
+                                 (append (live-occur--bytes (string last))
+                                         nil)))))))
+
+(defun live-occur--byte-ranges (from to)
+  "Lists of ranges, each for a byte, that have all bytes between FROM and TO.
+FROM and TO are the bytes of characters that have equally many."
+  (pcase-let* ((`(,first . ,from-rest) from) (`(,last . ,to-rest) to)
+               (lowest (make-list (length from-rest) #x80))
+               (highest (make-list (length from-rest) #xbf)))
+    (cond ((null from) '(()))
+          ((= first last)
+           (mapcar (lambda (rest) `((,first . ,last) . ,rest))
+                   (live-occur--byte-ranges from-rest to-rest)))
+          ((not (equal from-rest lowest))
+           (append (live-occur--byte-ranges from (cons first highest))
+                   (live-occur--byte-ranges (cons (1+ first) lowest) to)))
+          ((not (equal to-rest highest))
+           (append (live-occur--byte-ranges from (cons (1- last) highest))
+                   (live-occur--byte-ranges (cons last lowest) to)))
+          (t `(((,first . ,last) . ,(cl-mapcar #'cons lowest highest)))))))
+
+(defun live-occur--byte-text (ranges)
+  "The expression for bytes that are each in one of RANGES."
+  (mapconcat (pcase-lambda (`(,low . ,high))
+               (if (= low high) (unibyte-string low)
+                 (unibyte-string ?\[ low ?- high ?\])))
+             ranges ""))
+
+;;;; The prompt
+
+(defvar-local live-occur--typing-list nil
+  "The list for which a pattern is typed in this minibuffer.")
+(defvar-local live-occur--typing-what nil "What that is, unless the list's use.")
+(defvar-local live-occur--try-now nil
+  "A function that lets the list follow what is typed in this minibuffer.
+Unless its argument is t it does so where that has changed.")
 
 (defun live-occur--show-fault (fault)
   "Show FAULT in this minibuffer, or that there is none where it is nil."
@@ -1820,17 +2343,26 @@ Where they are not IN-PLACE already the others are dropped."
 
 (defun live-occur--follow-typing (list before after)
   "Let LIST follow what is typed in this minibuffer, between BEFORE and AFTER."
-  (let ((text (minibuffer-contents-no-properties))
-        (timer (timer-create)))
+  (let ((tried (minibuffer-contents-no-properties))
+        (seen (minibuffer-contents-no-properties))
+        (timer (timer-create))
+        (minibuffer (current-buffer)))
+    (setq live-occur--try-now
+          (lambda (&optional always)
+            (cancel-timer timer)
+            (live-occur--in minibuffer
+              (let ((text (minibuffer-contents-no-properties)))
+                (when (or always (not (equal tried text)))
+                  (setq tried text)
+                  (live-occur--try list minibuffer text before after))))))
     (add-hook 'minibuffer-exit-hook (lambda () (cancel-timer timer)) nil t)
     (add-hook 'post-command-hook
               (lambda ()
                 (unless (equal
-                         text (setq text (minibuffer-contents-no-properties)))
+                         seen (setq seen (minibuffer-contents-no-properties)))
                   (cancel-timer timer)
-                  (setq timer (run-with-timer
-                               live-occur-typing-delay nil #'live-occur--try
-                               list (current-buffer) text before after))))
+                  (setq timer (run-with-timer live-occur-typing-delay nil
+                                              live-occur--try-now))))
               nil t)))
 
 (defun live-occur--try (list minibuffer text before after)
@@ -1843,11 +2375,11 @@ Where they are not IN-PLACE already the others are dropped."
        (append before
                (unless (string-empty-p text) (split-string text "\n"))
                after)
-       (lambda (reply)
+       (lambda (fault)
          (live-occur--in minibuffer
            (when (equal text (minibuffer-contents-no-properties))
              (live-occur--show-fault
-              (live-occur--fault-in reply text (length before))))))))))
+              (live-occur--fault-in-text fault text (length before))))))))))
 
 (defun live-occur--symbol-at-point (syntax)
   "The symbol at point as a pattern in SYNTAX that matches it, or nil."
@@ -1858,9 +2390,9 @@ Where they are not IN-PLACE already the others are dropped."
       (_ (replace-regexp-in-string "[][\\.*^$+?(){}|]" "\\\\\\&" symbol)))))
 
 (defun live-occur--prompt (list what)
-  "A prompt of WHAT, with the syntax and the flags of LIST."
+  "A prompt of WHAT, or of the use of LIST, with its syntax and flags."
   (with-current-buffer list
-    (format "%s (%s): " what
+    (format "%s (%s): " (or what (live-occur--purpose list))
             (string-join
              `(,(symbol-name live-occur-syntax)
                ,@(cond (live-occur-smart-case '("smart case"))
@@ -1868,28 +2400,51 @@ Where they are not IN-PLACE already the others are dropped."
                ,@(and (memq ?x live-occur-flags) '("whole lines")))
              ", "))))
 
+(defun live-occur-preview-set ()
+  "While a pattern is typed, do what the last key does in the list.
+It changes a flag or the syntax; the prompt has those in force."
+  (interactive)
+  (let ((command (lookup-key live-occur-mode-map
+                             (vector last-command-event))))
+    (live-occur--in live-occur--typing-list
+      (let ((live-occur--typing t)) (call-interactively command)))
+    (remove-overlays (point-min) (minibuffer-prompt-end) 'live-occur-prompt t)
+    (let ((prompt (make-overlay (point-min) (minibuffer-prompt-end))))
+      (overlay-put prompt 'live-occur-prompt t)
+      (overlay-put prompt 'display
+                   (propertize (live-occur--prompt live-occur--typing-list
+                                                   live-occur--typing-what)
+                               'face 'minibuffer-prompt)))
+    (when live-occur--try-now (funcall live-occur--try-now t))))
+
 (defun live-occur--ask (list what &optional text before after)
   "Read patterns in a prompt of WHAT, with TEXT at first, until LIST takes them.
-They go between the patterns BEFORE and AFTER."
+WHAT is nil for the use of the list.  They go between the patterns BEFORE and
+AFTER."
   (let ((offered (live-occur--symbol-at-point
                   (buffer-local-value 'live-occur-syntax list)))
-        (old (buffer-local-value 'live-occur--patterns list)) fault done)
+        (old (with-current-buffer list
+               (cons live-occur--patterns (live-occur--settings))))
+        fault done)
     (live-occur--begin-showing list (selected-window))
     (unwind-protect
         (while (not done)
           (minibuffer-with-setup-hook
               (lambda ()
                 (live-occur--show-fault fault)
+                (setq live-occur--typing-list list
+                      live-occur--typing-what what)
                 (when live-occur-typing-delay
                   (live-occur--follow-typing list before after))
-                (live-occur--bind-preview-keys list))
+                (use-local-map (make-composed-keymap live-occur-preview-map
+                                                     (current-local-map))))
             (setq text (read-from-minibuffer
                         (concat (and fault (apply #'format "%s at %d; " fault))
                                 (live-occur--prompt list what))
                         (if fault (cons text (1+ (nth 1 fault))) text)
                         nil nil 'live-occur-history offered)))
           (with-current-buffer list
-            (setq fault (live-occur--fault-in
+            (setq fault (live-occur--fault-in-text
                          (live-occur--put
                           (append before (split-string text "\n") after))
                          text (length before))
@@ -1897,7 +2452,9 @@ They go between the patterns BEFORE and AFTER."
       (live-occur--in list
         (unwind-protect
             (live-occur--end-showing done)
-          (live-occur--end-preview (if done live-occur--patterns old)))))))
+          (unless done (apply #'live-occur--use (cdr old)))
+          (live-occur--end-preview
+           (if done live-occur--patterns (car old))))))))
 
 (defun live-occur--end-preview (patterns)
   "Keep PATTERNS, and show again what the list had where they are the old ones."
@@ -1943,43 +2500,29 @@ They go between the patterns BEFORE and AFTER."
 ;; While a pattern is typed the list shows a page: the first hits, and the
 ;; number of all.  The hits that the program reported before are kept.
 
-(defun live-occur--ask-for-page ()
-  "Ask for the hits that are in view, and show them when they come."
-  (if (live-occur--region)
-      (live-occur--ask-for-region-page)
-    (let ((sources live-occur--sources))
-      (live-occur--send (format "page 0 %d\n" (live-occur--page-size))
-                        (lambda (_ blocks)
-                          (when live-occur--previewing
-                            (live-occur--tell-more)
-                            (live-occur--take-page (car blocks) sources)))))))
-
 (defun live-occur--hits-in (block)
   "How many hits there are, by the first line of BLOCK, which is a page."
   (string-to-number (substring (car block) (length "hits "))))
 
-(defun live-occur--hit-on-page (piece sources)
-  "The hit of SOURCES in PIECE, which is a row of a page."
+(defun live-occur--hit-on-page (piece)
+  "The hit in PIECE, which is a row of a page."
   (let ((row (live-occur--piece-rows piece)))
-    (live-occur--hit-in (nth (live-occur--place-in row 0) sources)
+    (live-occur--hit-in (nth (live-occur--place-in row 0) live-occur--sources)
                         row (1- (string-search " " row 2)) 0)))
 
 (defun live-occur--page-size ()
   "How many hits a page has."
   (max 50 (frame-height)))
 
-(defun live-occur--show-page (block sources &optional total)
-  "Show the hits of SOURCES in BLOCK, which is a page, instead of the rows.
-There are TOTAL hits, or as many as the program says."
+(defun live-occur--show-page (block total)
+  "Show the hits in BLOCK, which is a page, instead of the rows, of TOTAL ones."
   (setq live-occur--kept nil
-        live-occur--page
-        (cons (or total (live-occur--hits-in block))
-              (or (cdr live-occur--page)
-                  (live-occur--spots 0 (buffer-size)))))
+        live-occur--page (cons total (or (cdr live-occur--page)
+                                         (live-occur--spots 0 (buffer-size)))))
   (with-silent-modifications
     (erase-buffer)
     (dolist (piece (cdr block))
-      (let ((hit (live-occur--hit-on-page piece sources)))
+      (let ((hit (live-occur--hit-on-page piece)))
         (live-occur--insert-row hit (live-occur--hit-place hit))
         (insert "\n"))))
   (goto-char (point-min))
@@ -1990,56 +2533,57 @@ There are TOTAL hits, or as many as the program says."
 ;;;; A hit that is shown while a pattern is typed
 
 ;; It is the first one at point or after it, in the window in which the pattern
-;; was asked for.  Its number is found by halving: the program is asked for
-;; pages of one hit.
+;; was asked for; keys go through those of all buffers.  Its number is found by
+;; halving: the program is asked for pages of one hit.
 
 (cl-defstruct (live-occur--preview (:copier nil))
   "A window in which hits are shown."
   window
-  source                                ; the one that the window shows
-  point                                 ; where the window was before
+  buffer                                ; what the window showed before
+  point
   start
-  line                                  ; that of this point
+  source                                ; that of this buffer, or nil
+  (line 0)                              ; that of this point
   patterns                              ; for which a hit was looked for
   keyed                                 ; for which keys moved to a hit
-  number                                ; that of the hit, or nil
-  sought                                ; that of the one asked for by keys
-  position                              ; where the hit is
+  number                                ; that of the hit shown, or asked for
+  after                                 ; whether it is at this point or after it
+  hit                                   ; that is shown, or nil
   (page 0)                              ; the number of the first row shown
-  low high                              ; those of the hits that are listed
+  (low 0) (high 0)                      ; those of the hits that are listed
   mark                                  ; overlays over the hit and its row
-  row)
-
-(defvar live-occur--typing-list nil
-  "The list for which a pattern is typed in this minibuffer.")
+  row
+  (fold #'ignore))                      ; folds again what is unfolded
 
 (defvar live-occur-preview-map
   (let ((map (make-sparse-keymap)))
     (define-key map (kbd "C-n") #'live-occur-preview-next)
     (define-key map (kbd "C-p") #'live-occur-preview-previous)
+    (dolist (key '("i" "v" "x" "B" "E" "F"))
+      (define-key map (kbd (concat "M-s " key)) #'live-occur-preview-set))
     map)
-  "Keys while a pattern is typed and hits are shown.")
+  "Keys while a pattern is typed.")
 
 (defun live-occur--begin-showing (list window)
-  "Show hits of LIST in WINDOW from now on, if that is wanted, and it has any."
+  "Show hits of LIST in WINDOW from now on, if that is wanted.
+Where that shows the list itself it is another one that shows a source."
   (with-current-buffer list
     (setq live-occur--wanted nil live-occur--looking nil)
-    (when-let* ((source (and live-occur-preview live-occur-typing-delay
-                             (live-occur--source-of (window-buffer window))))
-                (point (window-point window)))
-      (setq live-occur--preview
-            (make-live-occur--preview
-             :window window :source source :point point
-             :start (window-start window)
-             :line (live-occur--in-text source
-                     (1- (line-number-at-pos point))))))))
-
-(defun live-occur--bind-preview-keys (list)
-  "Let keys of this minibuffer move through hits of LIST, if any are shown."
-  (when (buffer-local-value 'live-occur--preview list)
-    (setq-local live-occur--typing-list list)
-    (use-local-map (make-composed-keymap live-occur-preview-map
-                                         (current-local-map)))))
+    (when (eq (window-buffer window) list)
+      (setq window (cl-some (lambda (source)
+                              (when-let* ((buffer (live-occur--buffer source)))
+                                (get-buffer-window buffer)))
+                            live-occur--sources)))
+    (when (and window live-occur-preview live-occur-typing-delay)
+      (let* ((source (live-occur--source-of (window-buffer window)))
+             (point (window-point window)))
+        (setq live-occur--preview
+              (make-live-occur--preview
+               :window window :buffer (window-buffer window) :source source
+               :point point :start (window-start window)
+               :line (if (not source) 0
+                       (live-occur--in-text source
+                         (1- (line-number-at-pos point))))))))))
 
 (defun live-occur--ask-about-hits (preview first count function &optional bare)
   "Ask for a page of COUNT hits from number FIRST on, for PREVIEW.
@@ -2047,27 +2591,37 @@ Call FUNCTION with its block, unless it isn't wanted any more then.  With BARE
 it needs no text of lines, which may be long."
   (let ((patterns live-occur--patterns)
         (looking live-occur--looking)
-        (bare (and bare (> live-occur--script 1))))
+        (sources live-occur--sources))
     (when bare (live-occur--order "text off\n"))
     (live-occur--send (format "page %d %d\n" first count)
                       (lambda (_ blocks)
                         (when (and (eq preview live-occur--preview)
                                    (eq patterns live-occur--patterns)
-                                   (eq looking live-occur--looking))
+                                   (eq looking live-occur--looking)
+                                   (eq sources live-occur--sources))
                           (funcall function (car blocks)))))
     (when bare (live-occur--order "text on\n"))))
 
-(defun live-occur--take-page (block sources)
-  "Show the hits of SOURCES in BLOCK, a page, and look for the one after point.
-Where that is on its way already, or done, tell only how many hits there are."
-  (if (and live-occur--page (live-occur--stays-p))
-      (let ((total (live-occur--hits-in block)))
-        (setcar live-occur--page total)
-        (when live-occur--preview
-          (setf (live-occur--preview-high live-occur--preview) total)))
-    (live-occur--show-page block sources)
-    (live-occur--look-for-hit))
-  (force-mode-line-update))
+(defun live-occur--ask-for-page ()
+  "Ask how many hits there are, and for some, while a pattern is typed.
+What is looked for or shown stays if it can."
+  (let ((preview live-occur--preview)
+        (stays (and live-occur--page (live-occur--stays-p))))
+    (unless stays (live-occur--begin-look))
+    (live-occur--with-part
+     preview
+     (lambda (low high)
+       (live-occur--tell-more)
+       (cond ((not live-occur--previewing))
+             (stays (setcar live-occur--page (- high low))
+                    (when preview
+                      (setf (live-occur--preview-high preview) high))
+                    (force-mode-line-update))
+             (t (live-occur--ask-about-hits
+                 preview low (min (live-occur--page-size) (- high low))
+                 (lambda (block)
+                   (live-occur--show-page block (- high low))
+                   (live-occur--look-between preview low high)))))))))
 
 (defun live-occur--begin-look ()
   "Begin a look for a hit, and give up the one before."
@@ -2086,40 +2640,39 @@ after it change nothing."
 (defun live-occur--shows-p (patterns)
   "Whether a hit of PATTERNS is shown that is after point, or was moved to."
   (pcase live-occur--preview
-    ((and preview (cl-struct live-occur--preview point keyed position))
-     (and position
+    ((and preview (cl-struct live-occur--preview keyed after hit))
+     (and hit
           (eq patterns (live-occur--preview-patterns preview))
-          (or (eq patterns keyed) (>= position point))))))
+          (or (eq patterns keyed) after)))))
 
 (defun live-occur--look-for-hit ()
-  "Show the first hit at point or after it, or else the first of its buffer."
-  (when-let* ((preview live-occur--preview)
-              (source (live-occur--preview-source preview))
-              (file (seq-position live-occur--sources source #'eq)))
+  "Show the first hit at point or after it, or else the first of all."
+  (when-let* ((preview live-occur--preview))
     (live-occur--begin-look)
-    (setf (live-occur--preview-sought preview) nil)
-    (unless (eq live-occur--patterns (live-occur--preview-patterns preview))
-      (setf (live-occur--preview-number preview) nil))
     (live-occur--with-part
-     preview
-     (lambda (low high)
-       (setf (live-occur--preview-page preview) low
-             (live-occur--preview-low preview) low
-             (live-occur--preview-high preview) high)
-       (live-occur--find-hit
-        preview file (live-occur--look-from preview)
-        (lambda ()
-          (live-occur--find-hit
-           preview file 0 (lambda () (live-occur--show-no-hit preview)))))))))
+     preview (apply-partially #'live-occur--look-between preview))))
 
-(defun live-occur--look-from (preview)
-  "The line from which on a hit is looked for, for PREVIEW.
-Once keys have moved it stays where it is, while more lines are searched."
-  (pcase-let (((cl-struct live-occur--preview source line position keyed)
-               preview))
-    (if (and position (eq keyed live-occur--patterns))
-        (live-occur--in-text source (1- (line-number-at-pos position)))
-      line)))
+(defun live-occur--look-between (preview low high)
+  "Show in PREVIEW, unless it is nil, a hit from number LOW on and below HIGH.
+Once keys have moved it is the one of the same number: what comes later has
+greater ones."
+  (pcase preview
+    ('nil (setcdr live-occur--looking nil))
+    ((cl-struct live-occur--preview source line keyed number)
+     (setf (live-occur--preview-page preview) low
+           (live-occur--preview-low preview) low
+           (live-occur--preview-high preview) high)
+     (cond ((= low high) (live-occur--show-no-hit preview))
+           ((and number (eq keyed live-occur--patterns))
+            (live-occur--show-number preview (min number (1- high))))
+           (t (live-occur--find-number
+               preview (or (seq-position live-occur--sources source #'eq) 0)
+               line low high
+               (lambda (number)
+                 (let ((after (< number high)))
+                   (setf (live-occur--preview-after preview) after)
+                   (live-occur--show-number preview
+                                            (if after number low))))))))))
 
 (defun live-occur--with-part (preview function)
   "Call FUNCTION with which hits are listed, for PREVIEW.
@@ -2139,15 +2692,8 @@ It is the number of the first one, and that of the first after them."
                 preview 0 to low total
                 (lambda (high) (funcall function low high))))))))))))
 
-(defun live-occur--find-hit (preview file line otherwise)
-  "Show in PREVIEW the first hit of FILE from LINE on, or call OTHERWISE."
-  (live-occur--find-number
-   preview file line
-   (live-occur--preview-low preview) (live-occur--preview-high preview)
-   (lambda (number) (live-occur--show-number preview number otherwise))))
-
 (defun live-occur--find-number (preview file line low high function)
-  "Call FUNCTION with the number of the first hit of FILE from LINE on.
+  "Call FUNCTION with the number of the first hit from LINE of FILE on.
 It is known that hits before number LOW come before it, and none from HIGH on.
 It is asked for as long as PREVIEW is there."
   (if (= low high)
@@ -2172,27 +2718,19 @@ It is asked for as long as PREVIEW is there."
              (< (live-occur--place-in row (1- (string-search " " row 2)))
                 line)))))
 
-(defun live-occur--show-number (preview number otherwise)
-  "Show the hit of NUMBER in PREVIEW, or call OTHERWISE where it has none."
+(defun live-occur--show-number (preview number)
+  "Show the hit of NUMBER in PREVIEW."
   (pcase-let* (((cl-struct live-occur--preview low high) preview)
                (size (live-occur--page-size))
                (first (if (< (- number low) size) low (- number (/ size 2)))))
-    (if (not (< -1 (- number low) (- high low)))
-        (funcall otherwise)
-      (live-occur--ask-about-hits
-       preview first (min size (- high first))
-       (lambda (block)
-         (let* ((piece (nth (1+ (- number first)) block))
-                (hit (and piece (live-occur--hit-on-page
-                                 piece live-occur--sources))))
-           (if (not (and hit (eq (live-occur--hit-source hit)
-                                 (live-occur--preview-source preview))))
-               (funcall otherwise)
-             (setf (live-occur--preview-number preview) number
-                   (live-occur--preview-sought preview) nil
-                   (cdr live-occur--looking) nil)
-             (live-occur--show-found preview hit)
-             (live-occur--show-row preview block first))))))))
+    (setf (live-occur--preview-number preview) number)
+    (live-occur--ask-about-hits
+     preview first (min size (- high first))
+     (lambda (block)
+       (let ((piece (nth (1+ (- number first)) block)))
+         (live-occur--show-found
+          preview (and piece (live-occur--hit-on-page piece)))
+         (live-occur--show-row preview block first))))))
 
 (defun live-occur--show-no-hit (preview)
   "Show in the window of PREVIEW what it showed before."
@@ -2201,33 +2739,61 @@ It is asked for as long as PREVIEW is there."
         (cdr live-occur--looking) nil)
   (live-occur--go-back preview))
 
+(defun live-occur--show-in (preview buffer point start)
+  "Let the window of PREVIEW show BUFFER from START on, if it can.
+Move its POINT there, and answer whether it could."
+  (let ((window (live-occur--preview-window preview)))
+    (when (and (window-live-p window)
+               (buffer-live-p buffer)
+               (or (eq (window-buffer window) buffer)
+                   (not (window-dedicated-p window))))
+      (unless (eq (window-buffer window) buffer)
+        (set-window-buffer window buffer))
+      (when start (set-window-start window start t))
+      (set-window-point window point)
+      t)))
+
 (defun live-occur--go-back (preview)
   "Let the window of PREVIEW be as it was."
-  (pcase-let (((cl-struct live-occur--preview
-                          window source point start mark row)
+  (pcase-let (((cl-struct live-occur--preview buffer point start mark row)
                preview))
-    (setf (live-occur--preview-position preview) nil)
+    (setf (live-occur--preview-hit preview) nil)
+    (live-occur--fold-again preview)
     (dolist (overlay (list mark row)) (when overlay (delete-overlay overlay)))
-    (when (and (window-live-p window)
-               (eq (window-buffer window) (live-occur--buffer source)))
-      (set-window-point window point)
-      (set-window-start window start t))))
+    (live-occur--show-in preview buffer point start)))
+
+(defun live-occur--fold-again (preview)
+  "Fold what PREVIEW has unfolded."
+  (funcall (live-occur--preview-fold preview))
+  (setf (live-occur--preview-fold preview) #'ignore))
 
 (defun live-occur--show-found (preview hit)
   "Show HIT in the window of PREVIEW, if it is not outside of what is narrowed."
-  (setf (live-occur--preview-patterns preview) live-occur--patterns)
-  (pcase-let* (((cl-struct live-occur--preview window source mark) preview)
-               (`(,place . ,end) (live-occur--place-of source hit)))
-    (live-occur--in (live-occur--buffer source)
-      (if (not (and (<= (point-min) place end (point-max))
-                    (window-live-p window)
-                    (eq (window-buffer window) (current-buffer))))
-          (live-occur--go-back preview)
-        (set-window-point window place)
-        (setq mark (live-occur--overlay mark place end))
-        (overlay-put mark 'window window)
-        (setf (live-occur--preview-mark preview) mark
-              (live-occur--preview-position preview) place)))))
+  (setf (live-occur--preview-patterns preview) live-occur--patterns
+        (cdr live-occur--looking) nil)
+  (live-occur--fold-again preview)
+  (let* ((source (and hit (live-occur--hit-source hit)))
+         (buffer (and source (live-occur--text-buffer
+                              source " *live-occur preview*"))))
+    (unless (live-occur--in buffer
+              (pcase-let ((`(,place . ,end)
+                           (live-occur--place-of source hit)))
+                (when (and (<= (point-min) place end (point-max))
+                           (live-occur--show-in preview buffer place nil))
+                  (live-occur--mark-found preview hit place end))))
+      (live-occur--go-back preview))))
+
+(defun live-occur--mark-found (preview hit place end)
+  "Mark HIT of PREVIEW, which is from PLACE to END of this buffer."
+  (save-excursion
+    (goto-char place)
+    (setf (live-occur--preview-fold preview) (live-occur--unfold)
+          (live-occur--preview-hit preview) hit
+          (live-occur--preview-mark preview)
+          (live-occur--overlay (live-occur--preview-mark preview) place end))
+    (overlay-put (live-occur--preview-mark preview)
+                 'window (live-occur--preview-window preview))
+    t))
 
 (defun live-occur--place-of (source hit)
   "Where in SOURCE the first part of HIT begins and ends, or else its line."
@@ -2255,7 +2821,7 @@ It is asked for as long as PREVIEW is there."
 The page BLOCK begins with hit number FIRST."
   (when live-occur--previewing
     (unless (= first (live-occur--preview-page preview))
-      (live-occur--show-page block live-occur--sources
+      (live-occur--show-page block
                              (- (live-occur--preview-high preview)
                                 (live-occur--preview-low preview)))
       (setf (live-occur--preview-page preview) first))
@@ -2268,21 +2834,20 @@ The page BLOCK begins with hit number FIRST."
       (set-window-point window (point)))))
 
 (defun live-occur-preview-next (&optional count)
-  "While a pattern is typed, show the hit that is COUNT hits on."
+  "While a pattern is typed, show the hit that is COUNT hits on.
+It is waited for the one from which this counts."
   (interactive "p")
+  (when live-occur--try-now (funcall live-occur--try-now))
   (live-occur--in live-occur--typing-list
-    (when-let* ((preview live-occur--preview)
-                (number (or (live-occur--preview-sought preview)
-                            (live-occur--preview-number preview))))
-      (cl-incf number (or count 1))
-      (setf (live-occur--preview-keyed preview) live-occur--patterns)
-      (live-occur--begin-look)
-      (setf (live-occur--preview-sought preview) number)
-      (live-occur--show-number
-       preview number (lambda ()
-                        (setcdr live-occur--looking nil)
-                        (setf (live-occur--preview-sought preview) nil)
-                        (message "No more hits in this buffer"))))))
+    (when-let* ((preview live-occur--preview))
+      (live-occur--wait-for-hit preview t)
+      (pcase-let* (((cl-struct live-occur--preview number low high) preview)
+                   (new (and number (+ number (or count 1)))))
+        (if (not (and new (<= low new (1- high))))
+            (message "There are no more hits")
+          (setf (live-occur--preview-keyed preview) live-occur--patterns)
+          (live-occur--begin-look)
+          (live-occur--show-number preview new))))))
 
 (defun live-occur-preview-previous (&optional count)
   "While a pattern is typed, show the hit that is COUNT hits back."
@@ -2292,42 +2857,55 @@ The page BLOCK begins with hit number FIRST."
 (defun live-occur--end-showing (done)
   "Show no hit any more: go to the last one if DONE is t, and else back."
   (when-let* ((preview live-occur--preview))
-    (let (position)
+    (let (hit)
       (unwind-protect
           (when (and done (not live-occur--fault))
             (live-occur--wait-for-hit preview)
-            (setq position (live-occur--preview-position preview)))
+            (setq hit (live-occur--preview-hit preview)))
         (setq live-occur--preview nil)
         (live-occur--go-back preview))
-      (when position (live-occur--go-to-shown preview position)))))
+      (when hit (live-occur--go-to-shown preview hit)))))
 
-(defun live-occur--wait-for-hit (preview)
-  "Let PREVIEW show a hit of the patterns that this list has, if it can."
-  (let ((patterns live-occur--patterns))
-    (cl-flet ((shown-p () (or (eq patterns
-                                  (live-occur--preview-patterns preview))
-                              (not (eq patterns live-occur--patterns))
-                              (not (memq (live-occur--preview-source preview)
-                                         live-occur--sources)))))
-      (unless (shown-p)
-        (live-occur--look-for-hit)
-        (live-occur--wait-for #'shown-p)))))
+(defun live-occur--wait-for-hit (preview &optional always)
+  "Let PREVIEW show a hit of the patterns that this list has, if there is one.
+With ALWAYS wait for it while more is to come."
+  (cl-flet ((shown-p ()
+              (and (not live-occur--trying)
+                   (not (cdr live-occur--looking))
+                   (or (null live-occur--patterns)
+                       (and (eq live-occur--patterns
+                                (live-occur--preview-patterns preview))
+                            (or (live-occur--preview-hit preview)
+                                (not (and always live-occur--more))))))))
+    (unless (or (shown-p) live-occur--previewing)
+      (live-occur--look-for-hit))
+    (live-occur--wait-for #'shown-p)))
 
-(defun live-occur--go-to-shown (preview position)
-  "Go to the hit of PREVIEW, at POSITION in its window, and to its row here."
-  (pcase-let (((cl-struct live-occur--preview window source) preview))
-    (setq live-occur--wanted
-          (make-live-occur--hit
-           :source source
-           :place (live-occur--in-text source
-                    (1- (line-number-at-pos position)))))
-    (unless (or live-occur--asked live-occur--due live-occur--slice
-                live-occur--previewing)
-      (live-occur--go-to-wanted))
-    (with-selected-window window
-      (unless (= (point) position)
-        (push-mark nil t)
-        (goto-char position)))))
+(defun live-occur--go-to-shown (preview hit)
+  "Go to HIT in the window of PREVIEW, and to its row here."
+  (let* ((source (live-occur--hit-source hit))
+         (buffer (live-occur--visited-buffer source))
+         (window (live-occur--preview-window preview)))
+    (when (live-occur--in buffer
+            (let ((place (car (live-occur--place-of source hit))))
+              (when (window-live-p window)
+                (with-selected-window window
+                  (unless (eq (current-buffer) buffer)
+                    (switch-to-buffer buffer nil t))
+                  (unless (= (point) place)
+                    (push-mark nil t)
+                    (goto-char place))
+                  (live-occur--unfold t)
+                  (run-hooks 'live-occur-visit-hook)
+                  t))))
+      (setq live-occur--wanted
+            (make-live-occur--hit
+             :source source
+             :place (live-occur--moved (live-occur--hit-place hit)
+                                       (live-occur--moves source))))
+      (unless (or live-occur--asked live-occur--due live-occur--slice
+                  live-occur--previewing)
+        (live-occur--go-to-wanted)))))
 
 (defun live-occur--go-to-wanted ()
   "Go to the row of the hit that is wanted here, if there is one."
@@ -2396,43 +2974,34 @@ The page BLOCK begins with hit number FIRST."
     (or (and from (< (line-beginning-position) from))
         (and to (<= to (line-end-position))))))
 
-(defun live-occur--ask-for-region-page ()
-  "Ask for the first hits of the region, and show them when they come."
-  (live-occur--tell-more)
-  (unless (live-occur--stays-p)
-    (live-occur--begin-look)
-    (live-occur--look-for-region-page live-occur--preview)))
-
-(defun live-occur--look-for-region-page (preview)
-  "Ask for the first hits of the region, for PREVIEW, and show them."
-  (live-occur--with-part
-   preview
-   (lambda (low high)
-     (live-occur--ask-about-hits
-      preview low (min (live-occur--page-size) (- high low))
-      (lambda (block)
-        (setcdr live-occur--looking nil)
-        (when live-occur--previewing
-          (live-occur--show-page block live-occur--sources (- high low))
-          (live-occur--tell-more)
-          (live-occur--look-for-hit)))))))
-
 ;;;; Syntax and flags
 
-(defun live-occur--set (variable value words)
-  "Give VARIABLE of this list VALUE if the program takes the command of WORDS."
-  (let ((text (string-join live-occur--patterns "\n")) answer)
-    (live-occur--send (concat words "\n")
-                      (lambda (reply _)
-                        (when (equal (setq answer reply) "ok")
-                          (set variable value))))
-    (live-occur--wait-for (lambda () answer))
-    (pcase (live-occur--fault-in answer text 0)
-      ('nil (live-occur--follow-patterns)
-            (live-occur--update t))
-      (`(,kind ,place)
-       (message "%s at %d: %s" kind place
-                (live-occur--underlined text place))))))
+(defun live-occur--settings ()
+  "How patterns are read here: syntax, flags, and whether the case is smart."
+  (list live-occur-syntax live-occur-flags live-occur-smart-case))
+
+(defun live-occur--use (syntax flags smart)
+  "Read patterns by SYNTAX, FLAGS, and SMART case when they are sent next."
+  (setq live-occur-syntax syntax
+        live-occur-flags flags
+        live-occur-smart-case smart))
+
+(defun live-occur--set (syntax flags smart)
+  "Read patterns by SYNTAX, FLAGS and SMART case, or tell what is refused."
+  (live-occur--check)
+  (let ((old (live-occur--settings))
+        (text (string-join live-occur--patterns "\n"))
+        done)
+    (live-occur--use syntax flags smart)
+    (unwind-protect
+        (pcase (unless live-occur--typing
+                 (live-occur--fault-in-text
+                  (live-occur--put live-occur--patterns) text 0))
+          ('nil (setq done t))
+          (`(,kind ,place)
+           (message "%s at %d: %s" kind place
+                    (live-occur--underlined text place))))
+      (unless done (apply #'live-occur--use old)))))
 
 (defun live-occur--underlined (text place)
   "TEXT with the character at PLACE underlined, or a space after it."
@@ -2440,27 +3009,31 @@ The page BLOCK begins with hit number FIRST."
     (add-face-text-property place (1+ place) 'live-occur-fault nil text)
     text))
 
+(defun live-occur--set-syntax (syntax)
+  "Read the patterns by SYNTAX."
+  (live-occur--set syntax live-occur-flags live-occur-smart-case))
+
 (defun live-occur-basic ()
   "Read the patterns as basic regular expressions."
   (interactive nil live-occur-mode)
-  (live-occur--set 'live-occur-syntax 'basic "syntax basic"))
+  (live-occur--set-syntax 'basic))
 
 (defun live-occur-extended ()
   "Read the patterns as extended regular expressions."
   (interactive nil live-occur-mode)
-  (live-occur--set 'live-occur-syntax 'extended "syntax extended"))
+  (live-occur--set-syntax 'extended))
 
 (defun live-occur-fixed ()
   "Read the patterns as fixed strings."
   (interactive nil live-occur-mode)
-  (live-occur--set 'live-occur-syntax 'fixed "syntax fixed"))
+  (live-occur--set-syntax 'fixed))
 
-(defun live-occur--toggle (letter)
-  "Turn the flag LETTER on or off."
-  (let ((flags (sort (cl-set-exclusive-or (list letter) live-occur-flags) #'<)))
-    (live-occur--set 'live-occur-flags flags
-                     (format "flag %c %s" letter
-                             (if (memq letter flags) "on" "off")))))
+(defun live-occur--toggle (letter &optional smart)
+  "Turn the flag LETTER on or off, and let the case be smart if SMART is t."
+  (live-occur--set live-occur-syntax
+                   (sort (cl-set-exclusive-or (list letter) live-occur-flags)
+                         #'<)
+                   smart))
 
 (defun live-occur--flags-for (patterns)
   "The flags of this list while it has PATTERNS."
@@ -2472,36 +3045,24 @@ The page BLOCK begins with hit number FIRST."
            (cons ?i others))
           (t others))))
 
-(defun live-occur--follow-patterns ()
-  "Turn flag i on or off as the patterns want it, if the case is smart."
-  (let ((flags (live-occur--flags-for live-occur--patterns)))
-    (unless (equal flags live-occur-flags)
-      (setq live-occur-flags flags)
-      (live-occur--send (if (memq ?i flags) "flag i on\n" "flag i off\n")
-                        (lambda (reply _)
-                          (unless (equal reply "ok")
-                            (setq live-occur-flags (remq ?i flags))))))))
-
 (defun live-occur-toggle-case (&optional smart)
   "Match both cases of letters, or no longer: flag i.
 With a prefix argument SMART let it follow the patterns from now on, as
 `live-occur-smart-case' says."
   (interactive "P" live-occur-mode)
-  (live-occur--check)
-  (cond ((setq live-occur-smart-case (and smart t))
-         (live-occur--follow-patterns)
-         (live-occur--update t))
-        (t (live-occur--toggle ?i))))
+  (if smart
+      (live-occur--set live-occur-syntax live-occur-flags t)
+    (live-occur--toggle ?i)))
 
 (defun live-occur-toggle-inverse ()
   "List the lines that are not matched, or no longer: flag v."
   (interactive nil live-occur-mode)
-  (live-occur--toggle ?v))
+  (live-occur--toggle ?v live-occur-smart-case))
 
 (defun live-occur-toggle-whole-lines ()
   "Match whole lines alone, or no longer: flag x."
   (interactive nil live-occur-mode)
-  (live-occur--toggle ?x))
+  (live-occur--toggle ?x live-occur-smart-case))
 
 (defun live-occur-set-context (before after)
   "Show BEFORE lines before each that matches, and AFTER lines after it.
@@ -2536,8 +3097,11 @@ Where both numbers are 0 no other lines are shown."
        "  " (if live-occur--fault
                 (propertize live-occur--fault 'face 'error)
               (format "%d row%s, %d %s%s" rows (if (= rows 1) "" "s")
-                      buffers (if (live-occur--region) "region" "buffer")
+                      buffers (cond ((live-occur--region) "region")
+                                    (live-occur--files "file")
+                                    ("buffer"))
                       (if (= buffers 1) "" "s")))
+       (live-occur--left-out)
        (and live-occur--more (not live-occur--fault) "  more to come")
        (and live-occur-edit-mode
             (substitute-command-keys "  \\<live-occur-edit-mode-map>\
@@ -2546,9 +3110,12 @@ rows are edited, \\[live-occur-edit-mode] ends it, \
       'help-echo "In the list: C-h m describes the keys"))))
 
 (defun live-occur-refresh (&rest _)
-  "Bring the list up to date now."
+  "Bring the list up to date now, and read files again that have changed."
   (interactive nil live-occur-mode)
   (live-occur--check)
+  (dolist (source live-occur--sources)
+    (unless (live-occur--buffer source)
+      (setf (live-occur--unread source) t)))
   (live-occur--update t))
 
 (defun live-occur-restart ()
@@ -2564,44 +3131,69 @@ rows are edited, \\[live-occur-edit-mode] ends it, \
   "Whether BUFFER is a list."
   (buffer-local-value 'live-occur--process buffer))
 
-(defun live-occur--add-source (buffer)
-  "Search BUFFER in this list as well, and gather its edits from now on."
-  (when (live-occur--list-p buffer)
-    (user-error "%s is a list itself" (buffer-name buffer)))
-  (let ((source (make-live-occur--source :buffer buffer
-                                         :list (current-buffer))))
-    (cl-callf append live-occur--sources (list source))
-    (when (length= live-occur--sources 2) (live-occur--name-rows))
-    (live-occur--track source)
-    (live-occur--open source)))
+(defun live-occur--add-sources (things)
+  "Search THINGS in this list as well, which are buffers and names of files.
+A file that is visited is searched in its buffer, whose edits are gathered from
+now on."
+  (let ((sources (mapcar #'live-occur--new-source things)))
+    (cl-callf append live-occur--sources sources)
+    (when (length= live-occur--sources (1+ (length sources)))
+      (live-occur--name-rows))
+    (mapc #'live-occur--open sources)
+    (live-occur--attach-visited)))
+
+(defun live-occur--new-source (thing)
+  "A new source of this list for THING, a buffer or the name of a file."
+  (let ((source (make-live-occur--source :list (current-buffer))))
+    (cond ((stringp thing)
+           (unless live-occur--files
+             (setq live-occur--files (make-hash-table :test #'equal)))
+           (puthash thing source live-occur--files)
+           (setf (live-occur--file source) thing))
+          ((live-occur--list-p thing)
+           (user-error "%s is a list itself" (buffer-name thing)))
+          (t (setf (live-occur--buffer source) thing)
+             (push source live-occur--visited)
+             (live-occur--track source)))
+    source))
 
 (defun live-occur--open (source)
-  "Put SOURCE after the files that the program has, without lines."
+  "Let SOURCE be one that the program doesn't have yet."
   (setf (live-occur--lines source) 0
-        (live-occur--sent source) (live-occur--hunks 0))
-  (live-occur--lose source)
-  (live-occur--order "file buffer 0\n"))
+        (live-occur--opened source) nil
+        (live-occur--state source) nil
+        (live-occur--unread source) (not (live-occur--buffer source))
+        (live-occur--sent source) nil)
+  (when (or (live-occur--buffer source) (live-occur--first-edit source))
+    (live-occur--lose source)))
 
 (defun live-occur--close (source)
   "Take SOURCE out of this list."
-  (live-occur--untrack source)
+  (when (live-occur--buffer source) (live-occur--untrack source))
+  (cl-callf2 remq source live-occur--visited)
+  (when live-occur--files
+    (remhash (live-occur--file source) live-occur--files))
   (live-occur--replace-rows (live-occur--row-of-source source)
                             (live-occur--count (live-occur--pieces source)) 0)
   (let ((file (seq-position live-occur--sources source #'eq)))
+    (setf (live-occur--pieces source) nil)
     (setq live-occur--sources (remq source live-occur--sources)
-          live-occur--slice (remq source live-occur--slice))
+          live-occur--slice nil
+          live-occur--due t)
     (when (length= live-occur--sources 1) (live-occur--name-rows))
-    (live-occur--order (format "close %d\n" file))))
+    (when (live-occur--opened source)
+      (live-occur--order (format "close %d\n" file)))))
 
 (defun live-occur--discard ()
   "End the program of this list, which is killed."
   (cancel-timer live-occur--idle-timer)
-  (mapc #'live-occur--untrack live-occur--sources)
+  (mapc #'live-occur--untrack live-occur--visited)
   (live-occur--end))
 
 (defun live-occur--source-of (buffer)
   "The source of this list that BUFFER is, or nil."
-  (cl-find (get-buffer buffer) live-occur--sources :key #'live-occur--buffer))
+  (when-let* ((buffer (get-buffer buffer)))
+    (cl-find buffer live-occur--sources :key #'live-occur--buffer)))
 
 (defun live-occur-add-buffer (buffer)
   "Search BUFFER as well."
@@ -2610,19 +3202,22 @@ rows are edited, \\[live-occur-edit-mode] ends it, \
     (user-error "%s is searched already" buffer))
   (when (live-occur--region)
     (user-error "The list of a region has no other buffers"))
-  (live-occur--add-source (get-buffer buffer))
-  (live-occur--update t))
+  (live-occur--add-sources (list (get-buffer buffer)))
+  (live-occur--want live-occur--patterns #'ignore))
 
 (defun live-occur-remove-buffer (buffer)
-  "Search BUFFER no longer."
+  "Search BUFFER no longer, which may be what rows call it."
   (interactive
    (list (completing-read
           "Leave out buffer: "
           (mapcar #'live-occur--source-name live-occur--sources) nil t))
    live-occur-mode)
-  (when-let* ((source (live-occur--source-of buffer)))
+  (when-let* ((source (or (live-occur--source-of buffer)
+                          (cl-find buffer live-occur--sources
+                                   :key #'live-occur--source-name
+                                   :test #'equal))))
     (live-occur--close source)
-    (live-occur--update t)))
+    (live-occur--want live-occur--patterns #'ignore)))
 
 (defconst live-occur--commands
   '(("RET" live-occur-visit "Go to Line")
@@ -2664,6 +3259,7 @@ rows are edited, \\[live-occur-edit-mode] ends it, \
     (define-key map (kbd "o") #'live-occur-visit)
     (define-key map [mouse-2] #'live-occur-visit)
     (define-key map [remap save-buffer] #'live-occur-save)
+    (define-key map [remap read-only-mode] #'live-occur-edit-mode)
     (pcase-dolist (`(,key ,command . ,_) live-occur--commands)
       (define-key map (kbd key) command))
     (define-key map [follow-link] 'mouse-face)
@@ -2689,6 +3285,8 @@ rows are edited, \\[live-occur-edit-mode] ends it, \
               next-error-find-buffer-function (lambda (&rest _)
                                                 (current-buffer))
               header-line-format '((:eval (live-occur--header)))
+              filter-buffer-substring-function #'live-occur--copy
+              imenu-create-index-function #'live-occur--imenu
               truncate-lines t buffer-undo-list t inhibit-field-text-motion t
               live-occur--idle-timer
               (run-with-idle-timer live-occur-delay t #'live-occur--look
@@ -2696,7 +3294,12 @@ rows are edited, \\[live-occur-edit-mode] ends it, \
   (when live-occur-follow (next-error-follow-minor-mode))
   (add-hook 'kill-buffer-hook #'live-occur--discard nil t)
   (add-hook 'change-major-mode-hook #'live-occur--discard nil t)
+  (add-hook 'isearch-mode-hook #'live-occur--make-all-rows nil t)
   (add-hook 'pre-redisplay-functions #'live-occur--make-in-view nil t))
+
+;; A copy of a list would share its program.
+(put 'live-occur-mode 'no-clone t)
+(put 'live-occur-mode 'no-clone-indirect t)
 
 ;; The keys are described in this order, and not in that of the keymap.
 (put 'live-occur-mode 'function-documentation
@@ -2726,6 +3329,7 @@ Undo works in the list, and in the buffers."
   :keymap `((,(kbd "C-c C-c") . live-occur-edit-mode)
             (,(kbd "C-c C-k") . live-occur-abort-changes)
             (,(kbd "C-c C-o") . live-occur-display)
+            ([remap read-only-mode] . live-occur-edit-mode)
             ([remap save-buffer] . live-occur-save))
   (let ((on live-occur-edit-mode))
     (setq live-occur-edit-mode (not on)
@@ -2736,10 +3340,9 @@ Undo works in the list, and in the buffers."
            (live-occur--wait-for (lambda ()
                                    (live-occur--check)
                                    (not (live-occur--busy-p))))
-           (live-occur--make-all-rows))
+           (live-occur--make-all-to-edit))
           ((not live-occur--giving-up) (live-occur--write-all-rows)))
     (setq live-occur-edit-mode on
-          live-occur--edited nil
           buffer-read-only (not on)
           buffer-undo-list (not on))
     (use-local-map (unless on live-occur-mode-map))
@@ -2747,6 +3350,7 @@ Undo works in the list, and in the buffers."
         (add-hook 'after-change-functions #'live-occur--row-changed nil t)
       (remove-hook 'after-change-functions #'live-occur--row-changed t)
       (set-buffer-modified-p nil)
+      (live-occur--unmodify)
       (live-occur--show-hits)
       (live-occur--update)
       (when (> live-occur--alone 0)
@@ -2760,7 +3364,7 @@ Undo works in the list, and in the buffers."
     ["End Edit and Save" live-occur-save]
     ["Give Changes Up" live-occur-abort-changes]))
 
-(defun live-occur--make-all-rows ()
+(defun live-occur--make-all-to-edit ()
   "Make all rows to edit them, unless they are too many for the user.
 Where that is quit the list is as before."
   (let ((total (live-occur--total)) done)
@@ -2800,14 +3404,15 @@ All of it is where its buffer is read-only, or its text is shortened."
          (head (live-occur--after-head))
          (end (line-end-position))
          (short (get-text-property head 'live-occur-short))
-         (why (cond ((buffer-local-value 'buffer-read-only buffer)
+         (text (unless short (live-occur--row-text)))
+         (why (cond ((and buffer (buffer-local-value 'buffer-read-only buffer))
                      (format "buffer %s" (buffer-name buffer)))
                     (short "a row that is shortened"))))
     (add-text-properties (point) head
                          (list 'read-only (or why "the head of a row")
                                'live-occur-hit hit
-                               'live-occur-text
-                               (unless short (live-occur--row-text))
+                               'live-occur-text text
+                               'live-occur-first text
                                'front-sticky '(read-only)
                                'rear-nonsticky (not why)))
     (put-text-property end (1+ end) 'read-only (or why "the end of a row"))
@@ -2831,7 +3436,7 @@ What came in the place of REMOVED characters becomes plain text of one line."
   "Make what changed of the rows from START to END in their lines as well."
   (live-occur--at-row-start start
     (while (progn
-             (unless (live-occur--write-row start end)
+             (unless (live-occur--write-row)
                (cl-incf live-occur--alone))
              (forward-line 1)
              (< (point) end)))))
@@ -2851,10 +3456,9 @@ What came in the place of REMOVED characters becomes plain text of one line."
 or was edited in its buffer"
           live-occur--alone (if (= live-occur--alone 1) " is" "s are")))
 
-(defun live-occur--write-row (start end)
+(defun live-occur--write-row ()
   "Make what changed of the row at point in its line as well, or tell why not.
-If that was done at once, the change is from START to END.  Answer whether the
-row and its line are the same."
+Answer whether the row and its line are the same."
   (let* ((hit (get-text-property (point) 'live-occur-hit))
          (old (get-text-property (point) 'live-occur-text))
          (text (and old (live-occur--row-text))))
@@ -2864,33 +3468,24 @@ row and its line are the same."
           (t (condition-case problem
                  (or (with-local-quit
                        (live-occur--touch hit)
-                       (live-occur--change-line
-                        hit old text
-                        (max 0 (- start (live-occur--after-head)))
-                        (max 0 (- (line-end-position) end)))
+                       (live-occur--change-line hit old text)
                        (live-occur--note-text text)
                        ;; Emacs may have asked whether to change the line, and
-                       ;; a source that isn't modified is forgotten meanwhile.
+                       ;; a buffer that isn't modified is forgotten meanwhile.
                        (live-occur--touch hit)
-                       (live-occur--note-change hit old text)
                        t)
                      (user-error "Quit"))
                (error (message "%s; the row alone is edited"
                                (error-message-string problem))
                       nil))))))
 
-(defun live-occur--note-text (text)
-  "Keep that the row at point and its line have TEXT."
-  (with-silent-modifications
-    (put-text-property (point) (live-occur--after-head) 'live-occur-text text)))
-
 (defun live-occur--row-text ()
   "The text of the row at point."
   (buffer-substring-no-properties (live-occur--after-head) (line-end-position)))
 
-(defun live-occur--change-line (hit old new front back)
-  "Put the text NEW in the place of OLD in the line of HIT, or signal an error.
-They have the first FRONT characters in common, and the last BACK ones."
+(defun live-occur--change-line (hit old new)
+  "Put the text NEW in the place of OLD in the line of HIT, or signal an error."
+  (live-occur--visited-buffer (live-occur--hit-source hit))
   (unless (live-occur--at-line-of hit
             (when buffer-read-only
               (user-error "Buffer %s is read-only" (buffer-name)))
@@ -2898,7 +3493,7 @@ They have the first FRONT characters in common, and the last BACK ones."
               (user-error "The line of this row in %s is gone, \
 or was edited there" (buffer-name)))
             (let ((inhibit-modification-hooks nil))
-              (live-occur--replace old new front back))
+              (live-occur--replace old new))
             t)
     (user-error "The buffer of this row is gone")))
 
@@ -2909,39 +3504,21 @@ or was edited there" (buffer-name)))
          (memq (char-after end) '(nil ?\n))
          (equal text (buffer-substring-no-properties (point) end)))))
 
-(defun live-occur--replace (old new front back)
+(defun live-occur--replace (old new)
   "Put the text NEW in the place of OLD, which is after point.
-They have the first FRONT characters in common, and the last BACK ones, unless
-a change before this one was not made.  What else they have in common at both
-ends stays, so that point and markers do."
-  (unless (and (<= (+ front back) (length old))
-               (string-prefix-p (substring new 0 front) old)
-               (string-suffix-p (substring new (- (length new) back)) old))
-    (setq front 0 back 0))
-  (cl-incf front (live-occur--same old new front back nil))
-  (cl-incf back (live-occur--same old new front back t))
-  (save-excursion
-    (forward-char front)
-    (delete-char (- (length old) front back))
-    (insert (substring new front (- (length new) back)))))
+What they have in common at both ends stays, so that point and markers do."
+  (let* ((front (live-occur--same old new))
+         (back (live-occur--same (reverse (substring old front))
+                                 (reverse (substring new front)))))
+    (save-excursion
+      (forward-char front)
+      (delete-char (- (length old) front back))
+      (insert (substring new front (- (length new) back))))))
 
-(defun live-occur--same (old new front back from-end)
-  "How much of OLD and NEW is the same, without FRONT characters and BACK ones.
-It is counted from the beginning, or FROM-END.  Steps double up to where they
-differ, and are halved then."
-  (let ((most (- (min (length old) (length new)) front back)) (same 0) (step 1)
-        (grows t))
-    (cl-flet* ((part (text)
-                 (let ((end (- (length text) back same)))
-                   (if from-end (list text (- end step) end)
-                     (list text (+ front same) (+ front same step)))))
-               (equal-p () (and (<= (+ same step) most)
-                                (eq t (apply #'compare-strings
-                                             (append (part old) (part new)))))))
-      (while (> step 0)
-        (if (equal-p) (cl-incf same step) (setq grows nil))
-        (setq step (if grows (* 2 step) (/ step 2)))))
-    same))
+(defun live-occur--same (old new)
+  "How many characters OLD and NEW have in common at their beginnings."
+  (let ((same (compare-strings old nil nil new nil nil)))
+    (if (eq same t) (length old) (1- (abs same)))))
 
 (defun live-occur--follow-lines ()
   "Bring rows in view up to date with their lines.
@@ -2951,12 +3528,25 @@ Rows that were edited alone, or are shortened, stay as they are."
     (live-occur--at-row-start (window-start window)
       (dotimes (_ (window-body-height window))
         (live-occur--follow-line)
+        (live-occur--follow-number)
         (forward-line 1)))))
 
+(defun live-occur--follow-number ()
+  "Show the number that the line of the row at point has now.
+The text stays, since undo knows places in it."
+  (when-let* ((hit (get-text-property (point) 'live-occur-hit))
+              (number (1+ (live-occur--line-of hit)))
+              (end (1- (live-occur--after-head))))
+    (with-silent-modifications
+      (put-text-property
+       (save-excursion (goto-char end) (skip-chars-backward "0-9") (point)) end
+       'display (unless (= number (get-text-property (point)
+                                                     'live-occur-number))
+                  (number-to-string number))))))
+
 (defun live-occur--follow-line ()
-  "Bring the row at point up to date with its line.
-Where the line has become too long it is shortened.  A row that is far too long
-itself, as it was edited so, stays as it is."
+  "Bring the row at point up to date with its line, unless that is too long now.
+A row that is far too long itself, as it was edited so, stays as it is."
   (when-let* ((hit (get-text-property (point) 'live-occur-hit))
               (old (get-text-property (point) 'live-occur-text))
               (most (max live-occur-max-columns (length old)))
@@ -2964,218 +3554,101 @@ itself, as it was edited so, stays as it is."
               (new (live-occur--at-line-of hit
                      (live-occur--text-after-point (1+ most)))))
     (when (and (not (equal old new))
+               (not (length> new most))
                (equal old (live-occur--row-text)))
-      (if (length> new most)
-          (live-occur--shorten-row hit new)
-        (let ((inhibit-modification-hooks t)
-              (inhibit-read-only t))
-          (save-excursion
-            (goto-char (live-occur--after-head))
-            (live-occur--replace old new 0 0)))
-        (live-occur--note-text new)))))
-
-(defun live-occur--shorten-row (hit text)
-  "Let the row of HIT, at point, be the beginning of TEXT, and read-only."
-  (with-silent-modifications
-    (save-excursion
-      (goto-char (live-occur--after-head))
-      (delete-region (point) (line-end-position))
-      (let ((start (point)))
-        (insert (substring text 0 live-occur-max-columns))
-        (live-occur--insert-mark)
-        (put-text-property start (point) 'live-occur-short t)))
-    (live-occur--protect-row hit))
-  (setq buffer-undo-list nil))
+      (let ((inhibit-modification-hooks t)
+            (inhibit-read-only t))
+        (save-excursion
+          (goto-char (live-occur--after-head))
+          (live-occur--replace old new)))
+      (live-occur--note-text new t))))
 
 ;;;; What edits of rows have changed
 
-;; A line that was changed in its row is known until its buffer is saved.  Its
-;; row is marked, and the buffer can be saved from the list.  The changes of an
-;; edit are kept with it as steps, so that they can be given up.
+;; Each row keeps the text that its line had before, so that its changes can be
+;; given up.  The buffers are kept until they are saved.
 
-(cl-defstruct (live-occur--touched
-               (:constructor live-occur--touched (source file hash))
-               (:copier nil))
-  "A source of which lines were changed in rows."
-  source
-  file                                  ; see `live-occur--file-state'
-  hash                              ; of the text, or nil if it was modified
-  (lines (make-hash-table)))        ; those that are not saved, by their places
-
-(cl-defstruct (live-occur--line (:copier nil))
-  "A line that was changed in its row."
-  hit
-  saved                                 ; the text when it was saved last
-  steps)                ; what this edit changed, as pairs of texts, last first
-
-(defun live-occur--touched-text (touched)
-  "The buffer that has the text of TOUCHED."
-  (live-occur--base (live-occur--buffer (live-occur--touched-source touched))))
-
-(defun live-occur--file-state ()
+(defun live-occur--visited-state ()
   "What is another value once this buffer was saved, or visits another file."
   (list buffer-file-name (visited-file-modtime) buffer-file-coding-system))
 
-(defun live-occur--touched-in (source)
-  "What is kept of SOURCE of this list, or nil."
-  (cl-find source live-occur--touched :key #'live-occur--touched-source))
-
 (defun live-occur--touch (hit)
-  "Take note of the source of HIT, whose line is about to change."
+  "Take note of the buffer of HIT, whose line is about to change."
   (live-occur--forget-saved)
-  (let ((source (live-occur--hit-source hit)))
-    (unless (live-occur--touched-in source)
-      (live-occur--in (live-occur--base (live-occur--buffer source))
-        (let ((touched (live-occur--touched
-                        source (live-occur--file-state)
-                        (unless (buffer-modified-p) (buffer-hash)))))
-          (with-current-buffer (live-occur--list source)
-            (push touched live-occur--touched)))))))
-
-(defun live-occur--saved-p (touched)
-  "Whether the buffer of TOUCHED is gone, not modified, or was saved since."
-  (not (live-occur--in (live-occur--touched-text touched)
-         (and (buffer-modified-p)
-              (equal (live-occur--touched-file touched)
-                     (live-occur--file-state))))))
+  (let* ((source (live-occur--hit-source hit))
+         (buffer (live-occur--base (live-occur--visited-buffer source))))
+    (live-occur--in buffer
+      (let ((state (live-occur--visited-state))
+            (hash (unless (buffer-modified-p) (buffer-hash))))
+        (with-current-buffer (live-occur--list source)
+          (unless (assq buffer live-occur--touched)
+            (push (list buffer state hash) live-occur--touched)))))))
 
 (defun live-occur--forget-saved ()
-  "Forget the changed lines of buffers that were saved since."
-  (when (cl-some #'live-occur--saved-p live-occur--touched)
-    (cl-callf2 cl-delete-if #'live-occur--saved-p live-occur--touched)
-    (live-occur--at-row 0
-      (remove-overlays (point) (point-max) 'live-occur-changed t))
-    (force-mode-line-update)))
+  "Forget touched buffers that are gone, not modified, or were saved since."
+  (cl-callf2 cl-remove-if-not
+      (pcase-lambda (`(,buffer ,state . ,_))
+        (live-occur--in buffer
+          (and (buffer-modified-p)
+               (equal state (live-occur--visited-state)))))
+      live-occur--touched))
 
-(defun live-occur--move-lines (source)
-  "Let the changed lines of SOURCE have their places after those that were sent.
-A line that was deleted is known no longer, and one that others replaced has no
-place."
-  (live-occur--renew-lines
-   source (lambda (place)
-            (live-occur--place-after place (live-occur--sent source)))))
+(defun live-occur--unmodify ()
+  "Mark touched buffers as not modified if their text is what it was then."
+  (pcase-dolist (`(,buffer ,state ,hash) live-occur--touched)
+    (live-occur--in buffer
+      (when (and hash
+                 (equal state (live-occur--visited-state))
+                 (verify-visited-file-modtime)
+                 (equal hash (buffer-hash)))
+        (set-buffer-modified-p nil))))
+  (live-occur--forget-saved))
 
-(defun live-occur--lose-lines (source)
-  "Let the changed lines of SOURCE have no places: how it moved isn't known."
-  (live-occur--renew-lines source #'ignore))
-
-(defun live-occur--renew-lines (source function)
-  "Give the changed lines of SOURCE the places that FUNCTION has for theirs.
-A line has none for nil, and is forgotten for `gone'."
-  (when-let* ((touched (live-occur--touched-in source))
-              (lines (live-occur--touched-lines touched)))
-    (setf (live-occur--touched-lines touched) (make-hash-table))
-    (maphash
-     (lambda (place line)
-       (let ((new (and (integerp place) (funcall function place))))
-         (when (integerp new)
-           (setf (live-occur--hit-place (live-occur--line-hit line)) new))
-         (unless (eq new 'gone)
-           (puthash (or new line) line (live-occur--touched-lines touched)))))
-     lines)))
-
-(defun live-occur--place-after (place hunks)
-  "Where the line at PLACE is after HUNKS.
-It is nil where others may have replaced the line, or `gone'."
-  (pcase (live-occur--hunk-of place hunks)
-    (`(,from ,at ,was ,is)
-     (cond ((>= (- place from) was) (+ at is (- place from was)))
-           ((= is 0) 'gone)))
-    (_ place)))
-
-(defun live-occur--note-change (hit old text)
-  "Note that OLD became TEXT in the row at point, that of HIT, and in its line."
-  (let* ((touched (live-occur--touched-in (live-occur--hit-source hit)))
-         (lines (live-occur--touched-lines touched))
-         (line (or (get-text-property (point) 'live-occur-line)
-                   (live-occur--begin-line hit lines))))
-    (unless (eq line (gethash (live-occur--hit-place hit) lines))
-      (setf (live-occur--line-saved line) old))
-    (live-occur--add-step line old text)
-    (live-occur--keep-line touched line text)))
-
-(defun live-occur--begin-line (hit lines)
-  "Let the row at point, that of HIT, have a line, and answer that.
-It is the one of LINES that an edit before this one has changed, or a new one."
-  (let ((line (or (gethash (live-occur--hit-place hit) lines)
-                  (make-live-occur--line :hit hit))))
-    (setf (live-occur--line-steps line) nil)
-    (push line live-occur--edited)
+(defun live-occur--note-text (text &optional followed)
+  "Keep that the row at point and its line have TEXT, and mark what rows changed.
+If the row FOLLOWED its line that stays where changes are given up."
+  (let* ((end (live-occur--after-head))
+         (first (get-text-property (point) 'live-occur-first))
+         (last (get-text-property (point) 'live-occur-text)))
     (with-silent-modifications
-      (put-text-property (point) (live-occur--after-head)
-                         'live-occur-line line))
-    line))
+      (put-text-property (point) end 'live-occur-text text)
+      (when followed
+        (unless (equal first last)
+          (put-text-property (point) end 'live-occur-stays t))
+        (put-text-property (point) end 'live-occur-first (setq first text))))
+    (live-occur--mark-row end (not (equal first text)))))
 
-(defun live-occur--add-step (line old new)
-  "Keep that the text OLD of LINE became NEW."
-  (let ((last (car (live-occur--line-steps line))))
-    (if (not (equal old (cdr last)))
-        (push (cons old new) (live-occur--line-steps line))
-      (setcdr last new)
-      (when (equal (car last) new) (pop (live-occur--line-steps line))))))
-
-(defun live-occur--keep-line (touched line text)
-  "Keep LINE of TOUCHED, unless its TEXT is as it was saved."
-  (let ((lines (live-occur--touched-lines touched))
-        (place (live-occur--hit-place (live-occur--line-hit line))))
-    (cond ((not (equal text (live-occur--line-saved line)))
-           (puthash place line lines))
-          (t (remhash place lines)
-             (when (hash-table-empty-p lines)
-               (live-occur--unmodify touched))))))
-
-(defun live-occur--unmodify (touched)
-  "Mark the buffer of TOUCHED as not modified if its text is what it was then."
-  (with-current-buffer (live-occur--touched-text touched)
-    (when (and (buffer-modified-p)
-               (live-occur--touched-hash touched)
-               (equal (live-occur--touched-file touched)
-                      (live-occur--file-state))
-               (verify-visited-file-modtime)
-               (equal (live-occur--touched-hash touched) (buffer-hash)))
-      (set-buffer-modified-p nil))))
-
-(defun live-occur--changed-p (hit)
-  "Whether the line of HIT was changed in its row, and is not saved since."
-  (when-let* ((touched (live-occur--touched-in (live-occur--hit-source hit)))
-              (line (gethash (live-occur--hit-place hit)
-                             (live-occur--touched-lines touched)))
-              (text (live-occur--line-saved line)))
-    (live-occur--at-line-of hit (not (live-occur--line-is-p text)))))
-
-(defun live-occur--mark-changed (first count)
-  "Mark those of COUNT rows from FIRST on whose lines were changed in rows."
-  (when live-occur--touched
-    (live-occur--forget-saved)
-    (live-occur--at-row first
-      (remove-overlays (point) (line-beginning-position (1+ count))
-                       'live-occur-changed t))
-    (unless live-occur--page
-      (live-occur--map-rows
-       (lambda (hit)
-         (when (live-occur--changed-p hit)
-           (let ((mark (make-overlay (point) (live-occur--after-head))))
-             (overlay-put mark 'live-occur-changed t)
-             (overlay-put mark 'evaporate t)
-             (overlay-put mark 'face 'live-occur-changed))))
-       first count))))
+(defun live-occur--mark-row (end changed)
+  "Mark the row at point, whose head ends at END, as CHANGED or not.
+Overlays would be slow where they are many."
+  (with-silent-modifications
+    (let ((at (point)))
+      (while (< at end)
+        (let ((next (next-single-property-change at 'face nil end))
+              (face (car (last (ensure-list (get-text-property at 'face))))))
+          (put-text-property at next 'face
+                             (if changed (list 'live-occur-changed face) face))
+          (setq at next))))))
 
 (defun live-occur-abort-changes ()
   "End the edit of rows, and give up all that it has changed.
 What was edited in the buffers themselves stays."
   (interactive nil live-occur-mode)
   (unless live-occur-edit-mode (user-error "No rows are edited"))
-  (let ((steps (live-occur--begin-step))
-        (lines live-occur--edited)
+  (let ((steps (cl-loop for (buffer) in live-occur--touched
+                        nconc (live-occur--in buffer
+                                (undo-boundary)
+                                (prepare-change-group))))
         (stay 0))
     (unwind-protect
-        (live-occur--in-steps "Giving changes up..." (length lines)
-                              (lambda (_ count)
-                                (dotimes (_ count)
-                                  (unless (live-occur--put-back (pop lines))
-                                    (cl-incf stay)))))
+        (live-occur--in-steps
+         "Giving changes up..." (live-occur--newlines)
+         (lambda (first count)
+           (live-occur--at-row first
+             (dotimes (_ count)
+               (unless (live-occur--put-back) (cl-incf stay))
+               (forward-line 1)))))
       (undo-amalgamate-change-group steps))
-    (mapc #'live-occur--unmodify live-occur--touched)
     (let ((live-occur--giving-up t))
       (live-occur-edit-mode -1))
     (message (pcase stay
@@ -3185,36 +3658,19 @@ What was edited in the buffers themselves stays."
 too"))
              stay)))
 
-(defun live-occur--begin-step ()
-  "Begin a step for undo in each buffer that this edit of rows has changed."
-  (let (buffers)
-    (dolist (line live-occur--edited)
-      (cl-pushnew (live-occur--base (live-occur--buffer
-                                     (live-occur--hit-source
-                                      (live-occur--line-hit line))))
-                  buffers))
-    (cl-loop for buffer in buffers
-             when (buffer-live-p buffer)
-             nconc (with-current-buffer buffer
-                     (undo-boundary)
-                     (prepare-change-group)))))
-
-(defun live-occur--put-back (line)
-  "Undo what this edit of rows changed of LINE, and answer whether it could."
-  (let* ((hit (live-occur--line-hit line))
-         (steps (live-occur--line-steps line))
-         (first (caar (last steps))))
-    (or (not (buffer-live-p (live-occur--buffer (live-occur--hit-source hit))))
-        (null steps)
-        (live-occur--at-line-of hit (live-occur--line-is-p first))
-        (ignore-errors
-          (live-occur--touch hit)
-          (pcase-dolist (`(,before . ,after) steps)
-            (live-occur--change-line hit after before 0 0))
-          (live-occur--keep-line (live-occur--touched-in
-                                  (live-occur--hit-source hit))
-                                 line first)
-          t))))
+(defun live-occur--put-back ()
+  "Undo what was changed in the row at point, and answer whether all of it was."
+  (let ((hit (get-text-property (point) 'live-occur-hit))
+        (first (get-text-property (point) 'live-occur-first))
+        (last (get-text-property (point) 'live-occur-text)))
+    (and (or (equal first last)
+             (not (buffer-live-p (live-occur--buffer
+                                  (live-occur--hit-source hit))))
+             (ignore-errors
+               (live-occur--change-line hit last first)
+               (live-occur--note-text first)
+               t))
+         (not (get-text-property (point) 'live-occur-stays)))))
 
 (defun live-occur-save ()
   "Save the buffers of which lines were changed in rows.
@@ -3222,37 +3678,13 @@ An edit of rows is ended before that."
   (interactive nil live-occur-mode)
   (setq live-occur--alone 0)
   (when live-occur-edit-mode (live-occur-edit-mode -1))
+  (let ((buffers (mapcar #'car live-occur--touched)))
+    (save-some-buffers t (lambda () (memq (current-buffer) buffers))))
   (live-occur--forget-saved)
-  (let ((saved 0) others)
-    (dolist (touched live-occur--touched)
-      (unless (hash-table-empty-p (live-occur--touched-lines touched))
-        (with-current-buffer (live-occur--touched-text touched)
-          (if (not buffer-file-name)
-              (push (buffer-name) others)
-            (save-buffer)
-            (cl-incf saved)))))
-    (live-occur--forget-saved)
-    (message "%s%s%s"
-             (pcase saved
-               (0 "No buffer is saved")
-               (1 "1 buffer is saved")
-               (_ (format "%d buffers are saved" saved)))
-             (if others
-                 (concat "; no file is visited by " (string-join others ", "))
-               "")
-             (if (> live-occur--alone 0)
-                 (concat "; " (live-occur--rows-alone))
-               ""))))
+  (when (> live-occur--alone 0)
+    (message "%s" (live-occur--rows-alone))))
 
 ;;;; Commands to begin a list
-
-(defun live-occur--read-buffers ()
-  "Read the names of buffers, until one is empty, and answer the buffers."
-  (cl-loop for name = (read-buffer "First buffer: " (current-buffer) t)
-           then (read-buffer "Next buffer (RET to end): " "" t)
-           until (string-empty-p name)
-           collect (get-buffer name) into buffers
-           finally return (seq-uniq buffers)))
 
 (defun live-occur--list-of (buffer)
   "The list of BUFFER alone that was used last, or nil.
@@ -3277,7 +3709,7 @@ as it was, and is killed where it is new."
           (with-current-buffer list
             (cond (buffers (live-occur-mode)
                            (live-occur--begin)
-                           (mapc #'live-occur--add-source buffers)
+                           (live-occur--add-sources buffers)
                            (when region
                              (live-occur--limit (car live-occur--sources)
                                                 (car region) (cdr region))))
@@ -3285,7 +3717,7 @@ as it was, and is killed where it is new."
             (when pattern (live-occur--search-for pattern)))
           (unless pattern
             (when live-occur-typing-delay (live-occur--show list))
-            (live-occur--ask list (live-occur--purpose list)))
+            (live-occur--ask list nil))
           (setq done t))
       (unless done
         (unless window
@@ -3310,9 +3742,11 @@ This window may have shown it before."
 
 (defun live-occur--search-for (pattern)
   "Search for PATTERN in this list, or signal an error."
-  (let ((reply (live-occur--put (split-string pattern "\n"))))
-    (unless (equal reply "ok")
-      (user-error "The program answered: %s" reply))))
+  (pcase (live-occur--fault-in-text
+          (live-occur--put (split-string pattern "\n")) pattern 0)
+    (`(,kind ,place)
+     (user-error "%s at %d: %s" kind place
+                 (live-occur--underlined pattern place)))))
 
 ;;;###autoload
 (defun live-occur (&optional pattern buffers another region)
@@ -3321,133 +3755,185 @@ The list is kept right while the buffer is edited.  Where there is a list of
 this buffer alone it is used again, but with a prefix argument ANOTHER one is
 made.  Of an active region, the pair REGION, its lines alone are listed, in
 a new list.  From Lisp, PATTERN and BUFFERS are what is searched for, and
-where; a new list is made for either, and the answer is its buffer.
+where: buffers, and full names of files.  A new list is made for either, and the
+answer is its buffer.
+
+In a list its pattern is changed.
 
 A pattern is one of POSIX grep, in the syntax that `live-occur-syntax' says,
 or several of them, one a line.  The whole text of each buffer is searched,
-whatever it is narrowed to."
+whatever it is narrowed to, unless `live-occur-narrowed' says otherwise."
   (interactive (list nil nil current-prefix-arg
                      (and (use-region-p)
+                          (not (live-occur--list-p (current-buffer)))
                           (cons (region-beginning) (region-end)))))
+  (when (and live-occur-narrowed (buffer-narrowed-p) (not buffers))
+    (cl-callf or region (cons (point-min) (point-max))))
+  (if (and (live-occur--list-p (current-buffer)) (not (or pattern buffers)))
+      (live-occur--change-here)
+    (live-occur--list-lines pattern buffers another region)))
+
+(defun live-occur--change-here ()
+  "Ask for another pattern in the place of one that this list has."
+  (when live-occur-edit-mode (user-error "End the edit of rows first"))
+  (call-interactively (if live-occur--patterns #'live-occur-change-pattern
+                        #'live-occur-add-pattern))
+  (current-buffer))
+
+(defun live-occur--list-lines (pattern buffers another region)
+  "List lines as `live-occur' does for PATTERN, BUFFERS, ANOTHER and REGION."
   (if-let* ((list (and (not (or pattern buffers another region))
                        (live-occur--list-of (current-buffer)))))
-      (if-let* ((settings (buffer-local-value 'live-occur--own-settings list)))
-          (prog1 (apply #'live-occur--search-again list nil settings)
-            (with-current-buffer list
-              (setq live-occur--own-settings nil)))
-        (live-occur--fill list nil nil))
+      (live-occur--fill list nil nil)
     (when region (deactivate-mark))
-    (live-occur--fill (generate-new-buffer "*Live Occur*")
-                      (or buffers (list (current-buffer)))
-                      pattern region)))
+    (let ((buffers (or buffers (list (current-buffer)))))
+      (live-occur--fill (live-occur--new-list buffers) buffers
+                        pattern region))))
+
+(defun live-occur--new-list (buffers)
+  "A new buffer for the list of BUFFERS, named by them."
+  (generate-new-buffer
+   (format "*Live Occur: %s*"
+           (cond ((cl-some #'stringp buffers)
+                  (file-name-nondirectory
+                   (directory-file-name default-directory)))
+                 ((cdr buffers) (format "%d buffers" (length buffers)))
+                 (t (buffer-name (car buffers)))))))
 
 ;;;###autoload
-(defun live-occur-in-buffers (buffers)
-  "List the lines that match in BUFFERS, whose names are asked for."
-  (interactive (list (live-occur--read-buffers)))
-  (live-occur--in-buffers buffers))
+(defun live-occur-in-buffers (names)
+  "List the lines that match in the buffers of NAMES, which are asked for.
+Each is that of a buffer, or of a major mode for its buffers, or else a regexp
+for the names of buffers."
+  (interactive
+   (list (completing-read-multiple
+          "Buffers, modes or regexps: "
+          (append (mapcar #'buffer-name (buffer-list))
+                  (seq-uniq (mapcar (lambda (buffer)
+                                      (symbol-name (buffer-local-value
+                                                    'major-mode buffer)))
+                                    (buffer-list)))))))
+  (live-occur--in-buffers (seq-uniq (mapcan #'live-occur--buffers-of names))))
+
+(defun live-occur--buffers-of (name)
+  "The buffers of NAME, as `live-occur-in-buffers' has it."
+  (if-let* ((buffer (get-buffer name)))
+      (list buffer)
+    (seq-filter (lambda (buffer)
+                  (with-current-buffer buffer
+                    (if (string-suffix-p "-mode" name)
+                        (derived-mode-p (intern name))
+                      (string-match-p name (buffer-name)))))
+                (buffer-list))))
 
 (defun live-occur--in-buffers (buffers)
-  "List lines of those of BUFFERS that may be searched."
+  "List lines of those of BUFFERS that may be searched, or are files."
   (live-occur nil (or (cl-loop for buffer in buffers
-                               unless (or (string-prefix-p
-                                           " " (buffer-name buffer))
-                                          (live-occur--list-p buffer))
+                               unless (and (bufferp buffer)
+                                           (or (string-prefix-p
+                                                " " (buffer-name buffer))
+                                               (live-occur--list-p buffer)))
                                collect buffer)
-                      (user-error "There is no such buffer"))))
+                      (user-error "There is no such buffer or file"))))
 
 ;;;###autoload
 (defun live-occur-in-project ()
-  "List the lines that match in the buffers of the current project."
+  "List the lines that match in the files of the current project.
+Those that aren't open are read from the disk while you type; that goes on in
+the list, and ends with it.  A file is visited where its row is visited or
+edited."
   (interactive)
-  (live-occur--in-buffers (project-buffers (project-current t))))
-
-;;;###autoload
-(defun live-occur-in-mode (mode)
-  "List the lines that match in the buffers of the major mode MODE."
-  (interactive
-   (list (intern (completing-read
-                  (format-prompt "Buffers of mode" major-mode)
-                  (seq-uniq (mapcar (lambda (buffer)
-                                      (buffer-local-value 'major-mode buffer))
-                                    (buffer-list)))
-                  nil t nil nil (symbol-name major-mode)))))
-  (live-occur--in-buffers
-   (seq-filter (lambda (buffer)
-                 (with-current-buffer buffer (derived-mode-p mode)))
-               (buffer-list))))
-
-;;;###autoload
-(defun live-occur-in-buffers-matching (regexp)
-  "List the lines that match in the buffers of which REGEXP matches the name."
-  (interactive (list (read-regexp "Buffers whose names match: ")))
-  (live-occur--in-buffers
-   (seq-filter (lambda (buffer) (string-match-p regexp (buffer-name buffer)))
-               (buffer-list))))
+  (let* ((project (project-current t))
+         (default-directory (expand-file-name (project-root project))))
+    (live-occur--in-buffers (project-files project))))
 
 ;;;###autoload
 (defun live-occur-in-dired ()
   "List the lines that match in the marked files of this Dired buffer."
   (interactive nil dired-mode)
   (live-occur--in-buffers
-   (mapcar #'find-file-noselect
-           (seq-filter #'file-regular-p (dired-get-marked-files)))))
+   (seq-filter #'file-regular-p (dired-get-marked-files))))
 
 ;;;###autoload
 (defun live-occur-isearch ()
   "List the lines that match what is searched for.
-A regexp is taken as a basic regular expression, and any other text as a
-fixed string."
+A regexp, and what isearch makes one of, is translated into an extended regular
+expression, and any other text is a fixed string."
   (interactive)
-  (let ((text isearch-string)
-        (syntax (if isearch-regexp 'basic 'fixed))
-        (flags (and isearch-case-fold-search '(?i)))
-        (list (live-occur--list-of (current-buffer)))
-        (settings (live-occur--settings)))
+  (pcase-let* ((fold (and isearch-case-fold-search '(?i)))
+               (list (cond ((live-occur--list-p (current-buffer))
+                            (current-buffer))
+                           ((not (and live-occur-narrowed (buffer-narrowed-p)))
+                            (live-occur--list-of (current-buffer)))))
+               (`(,syntax . ,pattern) (live-occur--from-isearch)))
     (isearch-done)
-    (if list
-        (with-current-buffer list
-          (setq settings (or live-occur--own-settings (live-occur--settings)))
-          (live-occur--search-again list text syntax flags nil))
-      (let ((live-occur-syntax syntax)
-            (live-occur-flags flags)
-            (live-occur-smart-case nil))
-        (setq list (live-occur text))))
-    (with-current-buffer list
-      (setq live-occur--own-settings settings))
-    list))
+    (if (not list)
+        (let ((live-occur-syntax syntax)
+              (live-occur-flags fold)
+              (live-occur-smart-case nil))
+          (live-occur pattern))
+      (let ((old (with-current-buffer list (live-occur--settings))) done)
+        (with-current-buffer list (live-occur--use syntax fold nil))
+        (unwind-protect
+            (setq done (live-occur--fill list nil pattern))
+          (unless done
+            (live-occur--in list (apply #'live-occur--use old))))))))
 
-(defun live-occur--settings ()
-  "How patterns are read here: syntax, flags, and whether the case is smart."
-  (list live-occur-syntax live-occur-flags live-occur-smart-case))
+(defun live-occur--from-isearch ()
+  "The syntax and the pattern for the text of isearch."
+  (when (string-search "\n" isearch-string)
+    (user-error "A list has lines, and what is searched for has several"))
+  (cond (isearch-regexp-function
+         (cons 'extended
+               (live-occur--from-regexp
+                (funcall (if (functionp isearch-regexp-function)
+                             isearch-regexp-function
+                           #'word-search-regexp)
+                         isearch-string))))
+        (isearch-regexp
+         (cons 'extended (live-occur--from-regexp isearch-string)))
+        (t (cons 'fixed isearch-string))))
 
-(defun live-occur--search-again (list pattern syntax flags smart)
-  "Search in LIST for PATTERN, read by SYNTAX, FLAGS and SMART.
-Ask for it if it is nil.  If that is broken off the list is again as it was."
-  (let ((old (with-current-buffer list
-               (cons live-occur--patterns (live-occur--settings))))
-        done)
-    (unwind-protect
-        (progn
-          (with-current-buffer list
-            (live-occur--set-all nil syntax flags smart))
-          (live-occur--fill list nil pattern)
-          (setq done list))
-      (unless done
-        (live-occur--in list (apply #'live-occur--set-all old))))))
+(defun live-occur--from-regexp (regexp)
+  "REGEXP as an extended regular expression, or signal an error.
+Of repetitions that aren't greedy the lines are the same."
+  (with-temp-buffer
+    (insert regexp)
+    (goto-char (point-min))
+    (let ((first t) all)
+      (while (not (eobp))
+        (push (live-occur--next-of-regexp first) all)
+        (setq first (member (car all) '("(" "|" "^"))))
+      (apply #'concat (nreverse all)))))
 
-(defun live-occur--set-all (patterns syntax flags smart)
-  "Give this list PATTERNS, SYNTAX and FLAGS, and smart case where SMART is t."
-  (dolist (_ live-occur--patterns) (live-occur--order "drop 0\n"))
-  (live-occur--order (format "syntax %s\n" syntax))
-  (dolist (letter '(?i ?v ?x))
-    (live-occur--order
-     (format "flag %c %s\n" letter (if (memq letter flags) "on" "off"))))
-  (when patterns
-    (live-occur--order (live-occur--patterns-command patterns)))
-  (setq live-occur-syntax syntax live-occur-flags flags
-        live-occur--patterns patterns live-occur-smart-case smart)
-  (live-occur--update t))
+(defun live-occur--next-of-regexp (first)
+  "What is at point of a regexp, for an extended expression; move over it.
+FIRST says whether an item begins there, which nothing can repeat."
+  (cl-flet ((found (regexp)
+              (when (looking-at regexp) (goto-char (match-end 0)))))
+    (cond ((found "\\\\(\\(?:\\?[0-9]*:\\)?") "(")
+          ((found "\\\\\\([|)]\\)") (match-string 1))
+          ((found "\\\\{\\([0-9,]*\\)\\\\}")
+           (format "{%s}" (match-string 1)))
+          ((found "\\\\\\([^[:alnum:]_<>`'={}]\\)")
+           (live-occur--quoted (match-string 1)))
+          ((looking-at "\\\\_?.?")
+           (user-error "%s in a regexp can't be said in a pattern of lines"
+                       (match-string 0)))
+          ((and (not first) (found "\\([*+?]\\)\\??")) (match-string 1))
+          ((found "\\[\\^?]?\\(?:\\[:[a-z]+:]\\|[^]]\\)*]")
+           (match-string 0))
+          ((and first (found "\\^")) "^")
+          ((found "\\$\\(?:\\'\\|\\(?:\\\\[|)]\\)\\)")
+           (goto-char (1+ (match-beginning 0)))
+           "$")
+          ((found "\\.") ".")
+          (t (forward-char)
+             (live-occur--quoted (string (char-before)))))))
+
+(defun live-occur--quoted (text)
+  "TEXT, which is one character, as an extended expression that matches it."
+  (replace-regexp-in-string "[][\\.*^$+?(){}|]" "\\\\\\&" text))
 
 (provide 'live-occur)
 

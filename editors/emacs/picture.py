@@ -41,9 +41,9 @@ def picture(terminal: Terminal) -> str:
     """A list over both files after an edit of one."""
     terminal.type("M-x")
     terminal.write("live-occur-in-buffers")
-    terminal.type("Enter", "Enter")
-    terminal.write("worker.log")
-    terminal.type("Enter", "Enter")
+    terminal.type("Enter")
+    terminal.write("server.log,worker.log")
+    terminal.type("Enter")
     terminal.write("error|warn")
     terminal.type("Enter", "C-x", "o", "i", "C-x", "o", "M->")
     terminal.write("09:16:20 ERROR disk full")

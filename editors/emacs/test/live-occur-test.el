@@ -132,12 +132,6 @@ All buffers and processes that it makes are taken away after it."
     (dolist (window (get-buffer-window-list nil nil t))
       (set-window-point window (point)))))
 
-;; A program that knows only the first version of the script is the one under
-;; test without the commands of the second one.
-
-(defconst live-occur-test--old-commands
-  "s/^version$/no &/; s/^text o[nf]*$/no &/; s/^pattern [0-9]*$/no &/")
-
 (defmacro live-occur-test--with-program (script &rest body)
   "Run BODY where the program is a shell SCRIPT, in which %s is the one under test."
   (declare (indent 1) (debug t))
@@ -148,13 +142,6 @@ All buffers and processes that it makes are taken away after it."
      (set-file-modes program #o700)
      (unwind-protect (progn ,@body)
        (delete-file program))))
-
-(defmacro live-occur-test--with-old-program (&rest body)
-  "Run BODY where the program knows only the first version of the script."
-  (declare (indent 0) (debug t))
-  `(live-occur-test--with-program
-       (concat "sed -u '" live-occur-test--old-commands "' | '%s' \"$@\"\n")
-     ,@body))
 
 (defmacro live-occur-test--commands (&rest body)
   "Run BODY, and list the commands that are sent meanwhile, with their lines."
@@ -171,7 +158,7 @@ All buffers and processes that it makes are taken away after it."
 (defmacro live-occur-test--in-pieces (&rest body)
   "Run BODY where texts are sent in small pieces, of a few lines."
   (declare (indent 0) (debug t))
-  `(let ((live-occur--block 60) (live-occur--slice-lines 7) (live-occur--many 3))
+  `(let ((live-occur--block 60) (live-occur--slice-lines 7))
      ,@body))
 
 ;;;; Stalls
@@ -456,8 +443,7 @@ All buffers and processes that it makes are taken away after it."
       (undo)
       (should (equal (live-occur-test--rows list) "1:o\n3:o\n")))))
 
-(defun live-occur-test--edit-far-apart (report)
-  "Make edits that are far apart; after each splice but the last REPORT is sent."
+(ert-deftest live-occur-sends-only-lines-that-changed ()
   (live-occur-test--with (list (apply #'concat (make-list 1000 "line\n")))
     (let ((list (live-occur "x")))
       (live-occur-test--rows list)
@@ -473,19 +459,14 @@ All buffers and processes that it makes are taken away after it."
                        (goto-char 2502)
                        (insert "x\n")
                        (live-occur-test--rows list))
-                     `("splice 0 0 1 1\nxline\n" ,@report
-                       "splice 0 500 0 1\nx\n" ,@report
-                       "splice 0 601 1 0\n" ,@report
-                       "splice 0 700 1 2\nlinx\ne\n" ,@report
+                     '("splice 0 0 1 1\nxline\n"
+                       "splice 0 500 0 1\nx\n"
+                       "splice 0 601 1 0\n"
+                       "splice 0 700 1 2\nlinx\ne\n"
                        "splice 0 1001 0 1\nx\n"
                        "changes\n")))
       (should (equal (live-occur-test--rows list)
                      "1:xline\n501:x\n701:linx\n1002:x\n")))))
-
-(ert-deftest live-occur-sends-only-lines-that-changed ()
-  (live-occur-test--edit-far-apart nil)
-  (live-occur-test--with-old-program
-    (live-occur-test--edit-far-apart '("changes\n"))))
 
 (ert-deftest live-occur-gets-one-report-of-several-buffers ()
   (live-occur-test--with '("a\n" "a\n")
@@ -527,9 +508,9 @@ All buffers and processes that it makes are taken away after it."
       (live-occur-test--at list 800)
       (cl-letf* ((apply (symbol-function 'live-occur--apply))
                  ((symbol-function 'live-occur--apply)
-                  (lambda (source front removed added new)
+                  (lambda (source row front removed added new)
                     (cl-incf got (live-occur--count new))
-                    (funcall apply source front removed added new))))
+                    (funcall apply source row front removed added new))))
         (goto-char (point-min))
         (insert "a1\na2\n")
         (forward-line 799)
@@ -671,10 +652,10 @@ All buffers and processes that it makes are taken away after it."
 
 (defun live-occur-test--follows (&rest changes)
   "Check that a list is right after each of CHANGES, which are called at a line.
-It is called alone, after an edit nearby, and in a burst, and an edit follows."
+It is called alone, after an edit nearby, and after many, and an edit follows."
   (dolist (change changes)
     (dolist (edits '(0 1 10))
-      (let ((live-occur--many 3))
+      (progn
         (live-occur-test--with '("one a\né b\nthree\nab\nYWIK\nsix\na\n\nbabab\na")
           (live-occur-test--in-windows
             (let ((list (live-occur "a")))
@@ -907,12 +888,11 @@ Text that comes into an empty buffer so is reported after it has come alone."
 (ert-deftest live-occur-gathers-edits-after-an-error ()
   "No error takes the hooks of a buffer away, or an edit from the list."
   (dolist (function '(live-occur--near-p live-occur--known-p live-occur--expect live-occur--settle
-                      live-occur--expected-p live-occur--took live-occur--stayed-p
-                      live-occur--begin-burst live-occur--go-on))
+                      live-occur--expected-p live-occur--took live-occur--stayed-p))
     (dolist (fault '(error quit))
       (live-occur-test--with '("ab\nb\nab\n")
         (live-occur-test--in-windows
-          (let ((list (live-occur "a")) (live-occur--many 3))
+          (let ((list (live-occur "a")))
             (live-occur-test--rows list)
             (live-occur-test--with-fault function fault
               (goto-char 4)
@@ -1005,8 +985,8 @@ Text that comes into an empty buffer so is reported after it has come alone."
   (dotimes (_ 300)
     (let* ((held (number-sequence 0 (random 400)))
            (now (copy-sequence held))
-           (edits (live-occur--hunks 50 32))
-           (few (live-occur--hunks 1 4))
+           (edits (live-occur--hunks 50))
+           (few (live-occur--hunks 1))
            (moves (live-occur--hunks 0)))
       (dotimes (_ (1+ (random 40)))
         (let* ((start (random (1+ (length now))))
@@ -1016,10 +996,7 @@ Text that comes into an empty buffer so is reported after it has come alone."
                             (seq-drop now (+ start old))))
           (dolist (hunks (list edits few moves))
             (live-occur--note hunks start old new))))
-      (should (length< (live-occur--in-order few) 5))
       (dolist (hunks (list edits few moves))
-        (should (= (live-occur--hunks-number hunks)
-                   (length (live-occur--in-order hunks))))
         (should (equal (live-occur-test--follow (live-occur--in-order hunks) held now) now)))
       (dolist (line held)
         (when-let* ((at (seq-position now line)))
@@ -1058,10 +1035,10 @@ Text that comes into an empty buffer so is reported after it has come alone."
 
 (ert-deftest live-occur-sends-characters-as-bytes ()
   (live-occur-test--with '("é\n€\nx\n\x3fffff\n")
-    (let ((list (live-occur "^..$")))
+    (let* ((live-occur-characters nil) (list (live-occur "^..$")))
       (should (equal (live-occur-test--rows list) "1:é\n"))
       (should (equal (live-occur-test--mark list) '((2 "é")))))
-    (let ((list (live-occur "^.$")))
+    (let* ((live-occur-characters nil) (list (live-occur "^.$")))
       (should (equal (live-occur-test--rows list) (string-to-multibyte "3:x\n4:\377\n"))))
     (let ((list (live-occur "€\né")))
       (should (equal (live-occur-test--rows list) "1:é\n2:€\n")))))
@@ -1158,11 +1135,13 @@ Text that comes into an empty buffer so is reported after it has come alone."
   (should (equal-including-properties
            (live-occur--underlined "ab" 2)
            #("ab " 2 3 (face live-occur-fault))))
-  (should (equal (live-occur--fault-in "refused Pattern 3 BadRange 3" "\né[z-a]" 2)
-                 '("BadRange" 3)))
-  (should (equal (live-occur--fault-in "refused Memory" "a" 0)
-                 '("refused Memory" 0)))
-  (should-not (live-occur--fault-in "ok" "a" 0)))
+  (let ((pieces (mapcar #'live-occur--in-pieces '("a" "b" "" "é[z-a]"))))
+    (cl-flet ((fault (reply first)
+                (live-occur--fault-in-text (live-occur--fault-in reply pieces) "\né[z-a]" first)))
+      (should (equal (fault "refused Pattern 3 BadRange 3" 2) '("BadRange" 3)))
+      (should (equal (fault "refused Pattern 3 UnclosedGroup 7" 2) '("UnclosedGroup" 7)))
+      (should (equal (fault "refused Memory" 0) '("refused Memory" 0)))
+      (should-not (fault "ok" 0)))))
 
 (ert-deftest live-occur-keeps-a-syntax-that-another-cannot-replace ()
   (live-occur-test--with '("a(\n")
@@ -1175,7 +1154,17 @@ Text that comes into an empty buffer so is reported after it has come alone."
             (live-occur-extended))
           (should (equal told "UnclosedGroup at 1: a(")))
         (should (eq live-occur-syntax 'basic))
-        (should (equal (live-occur-test--rows list) "1:a(\n"))))))
+        (should (equal (live-occur-test--rows list) "1:a(\n"))
+        (ert-info ("hits are reported meanwhile")
+          (cl-letf* ((begin (symbol-function 'live-occur--begin-syntax))
+                     ((symbol-function 'live-occur--begin-syntax)
+                      (lambda (syntax)
+                        (funcall begin syntax)
+                        (live-occur--update t))))
+            (live-occur-extended))
+          (live-occur-test--wait)
+          (should (= 1 (live-occur--total)))
+          (should (equal (live-occur-test--rows list) "1:a(\n")))))))
 
 (ert-deftest live-occur-tells-of-a-program-that-is-not-there ()
   (live-occur-test--with '("a\n")
@@ -1208,7 +1197,7 @@ Text that comes into an empty buffer so is reported after it has come alone."
           (signal-process live-occur--process 'KILL)
           (with-timeout (10) (while (not told) (accept-process-output nil 0.05))))
         (should (string-match-p
-                 "\\`\\*Live Occur\\*: .*occur was killed by signal 9; r in the list starts it again\\'"
+                 "\\`\\*Live Occur: a\\*: .*occur was killed by signal 9; r in the list starts it again\\'"
                  told))
         (should (string-search "was killed by signal 9" (live-occur--header)))
         (should-error (live-occur-refresh) :type 'user-error)
@@ -1302,6 +1291,101 @@ Text that comes into an empty buffer so is reported after it has come alone."
     (should (equal (live-occur--symbol-at-point 'extended) "a\\*b\\+c"))
     (should (equal (live-occur--symbol-at-point 'fixed) "a*b+c"))))
 
+;;;; Characters
+
+(defun live-occur-test--beside (name)
+  "The file NAME, seen from the folder of the file that is tested."
+  (expand-file-name name (file-name-directory (live-occur-test--file))))
+
+(defun live-occur-test--found (syntax flags pattern line)
+  "What PATTERN, read by SYNTAX and FLAGS, finds in LINE, as `characters.tsv' has it."
+  (live-occur-test--with (list (concat line "\n"))
+    (let* ((live-occur-syntax syntax)
+           (live-occur-flags (remq ?- (append flags nil)))
+           (list (live-occur "" buffers)))
+      (with-current-buffer list
+        (pcase (live-occur--put (list pattern))
+          (`(,kind ,_ ,place) (format "!%s %d" kind place))
+          (_ (live-occur-test--wait)
+             (or (when-let* ((hit (live-occur--hit 0))
+                             (bytes (live-occur--hit-bytes hit)))
+                   (mapconcat (pcase-lambda (`(,from . ,to))
+                                (live-occur--text (substring bytes from to)))
+                              (live-occur--hit-parts hit) ","))
+                 "none")))))))
+
+(ert-deftest live-occur-speaks-of-characters ()
+  (with-temp-buffer
+    (insert-file-contents (live-occur-test--beside "../characters.tsv"))
+    (let ((rows (cdr (split-string (buffer-string) "\n" t))))
+      (should (> (length rows) 50))
+      (dolist (row rows)
+        (pcase-let ((`(,syntax ,flags ,pattern ,line ,found) (split-string row "\t")))
+          (ert-info (row)
+            (should (equal (live-occur-test--found (intern syntax) flags pattern line)
+                           found))))))))
+
+(ert-deftest live-occur-speaks-of-bytes-where-that-is-wanted ()
+  (let ((live-occur-characters nil))
+    (should (equal (live-occur-test--found 'basic "-" "^..$" "é") "é"))
+    (should (equal (live-occur-test--found 'basic "i" "é" "É") "none")))
+  (live-occur-test--with '("")
+    (set-buffer-multibyte nil)
+    (insert "\303\251\n")
+    (should (equal (live-occur-test--rows (live-occur "^..$")) "1:é\n"))
+    (ert-info ("while such a buffer is in the list")
+      (let ((other (get-buffer-create "live-occur-b")))
+        (with-current-buffer other (insert "éé\nzz\n"))
+        (let ((list (live-occur "^..$" (list other))))
+          (should (equal (live-occur-test--rows list) "1:éé\n2:zz\n"))
+          (with-current-buffer list (live-occur-add-buffer a))
+          (should (equal (live-occur-test--rows list) "live-occur-b:2:zz\na:1:é\n"))
+          (with-current-buffer list (live-occur-remove-buffer a))
+          (should (equal (live-occur-test--rows list) "1:éé\n2:zz\n")))))))
+
+(defun live-occur-test--random-regexp (depth)
+  "A random extended expression and the same as a regexp of Emacs, a pair."
+  (cl-flet ((one () (nth (random 9) '("a" "é" "É" "日" "ж" "Ж" "b" "ü" "😀")))
+            (more () (live-occur-test--random-regexp (1- depth))))
+    (pcase (random (if (> depth 0) 8 5))
+      (0 (cons "." "."))
+      (1 (let ((set (concat (nth (random 2) '("[" "[^"))
+                            (one) (nth (random 4) '("" "à-ü" "a-é" "б-я")) (one) "]")))
+           (cons set set)))
+      ((or 2 3 4) (let ((one (one))) (cons one one)))
+      (5 (pcase-let ((`(,a . ,b) (more)) (`(,c . ,d) (more)))
+           (cons (concat a c) (concat b d))))
+      (6 (pcase-let ((`(,a . ,b) (more)) (`(,c . ,d) (more)))
+           (cons (format "(%s|%s)" a c) (format "\\(?:%s\\|%s\\)" b d))))
+      (_ (pcase-let ((`(,a . ,b) (more)) (many (nth (random 3) '("*" "+" "?"))))
+           (cons (format "(%s)%s" a many) (format "\\(?:%s\\)%s" b many)))))))
+
+(ert-deftest live-occur-finds-the-characters-that-emacs-finds ()
+  (random "live-occur characters")
+  (live-occur-test--with
+      (list (apply #'concat
+                   (cl-loop repeat 150
+                            collect (concat (cl-loop repeat (random 5) concat
+                                                     (nth (random 11) '("a" "é" "É" "日" "ж" "Ж" "b"
+                                                                        "ü" "😀" "ÿ" "я")))
+                                            "\n"))))
+    (let* ((live-occur-syntax 'extended) (list (live-occur "x")) (found 0))
+      (dotimes (turn 150)
+        (pcase-let ((`(,pattern . ,regexp) (live-occur-test--random-regexp 3))
+                    (case-fold-search (cl-evenp turn)))
+          (with-current-buffer list
+            (setq live-occur-flags (if case-fold-search '(?i ?x) '(?x)))
+            (should-not (live-occur--put (list pattern))))
+          (let ((wanted (cl-loop for line in (split-string (buffer-string) "\n")
+                                 for number from 1
+                                 when (and (< number 151)
+                                           (string-match-p (format "\\`\\(?:%s\\)\\'" regexp) line))
+                                 concat (format "%d:%s\n" number line))))
+            (cl-incf found (length wanted))
+            (ert-info ((format "%s %s" pattern case-fold-search))
+              (should (equal (live-occur-test--rows list) wanted))))))
+      (should (> found 2000)))))
+
 (ert-deftest live-occur-searches-no-list ()
   (live-occur-test--with '("a\n")
     (with-current-buffer (live-occur "a")
@@ -1333,7 +1417,7 @@ It is the text there, that of the list, and what is said of a fault."
          (setup (lambda ()
                   (setq-local live-occur-test--list
                               (cl-find-if (lambda (buffer)
-                                            (string-prefix-p "*Live Occur*" (buffer-name buffer)))
+                                            (string-prefix-p "*Live Occur" (buffer-name buffer)))
                                           (buffer-list)))
                   (add-hook 'post-command-hook look 90 t))))
     (define-key map (kbd "C-c t") #'live-occur)
@@ -1364,7 +1448,7 @@ It is the text there, that of the list, and what is said of a fault."
                        ("o\\" "1:one\n2:two(\n" "[TrailingBackslash]")
                        ("o" "1:one\n2:two(\n" nil)
                        ("on" "1:one\n" nil))))
-      (let ((list (get-buffer "*Live Occur*")))
+      (let ((list (get-buffer "*Live Occur: a*")))
         (should (equal (live-occur-test--rows list) "1:one\n"))
         (with-selected-window (get-buffer-window list)
           (live-occur-toggle-inverse)
@@ -1392,6 +1476,51 @@ It is the text there, that of the list, and what is said of a fault."
           (should (bobp))
           (should (equal live-occur--patterns '("tw"))))))))
 
+(ert-deftest live-occur-changes-settings-while-a-pattern-is-typed ()
+  (live-occur-test--with '("One\no+\no\n")
+    (live-occur-test--in-windows
+      (set-window-buffer nil a)
+      (cl-flet ((prompts (keys)
+                  (let (seen)
+                    (cl-letf* ((set (symbol-function 'live-occur-preview-set))
+                               ((symbol-function 'live-occur-preview-set)
+                                (lambda ()
+                                  (interactive)
+                                  (funcall set)
+                                  (push (get-char-property (point-min) 'display) seen))))
+                      (list (mapcar (lambda (row) (seq-take row 2))
+                                    (live-occur-test--type keys))
+                            (mapcar #'substring-no-properties (nreverse seen)))))))
+        (should (equal (prompts "C-c t o M-s i M-s x M-s x M-s i RET")
+                       '((("o" "2:o+\n3:o\n") ("o" "1:One\n2:o+\n3:o\n") ("o" "3:o\n")
+                          ("o" "1:One\n2:o+\n3:o\n") ("o" "2:o+\n3:o\n"))
+                         ("List lines that match (basic, both cases): "
+                          "List lines that match (basic, both cases, whole lines): "
+                          "List lines that match (basic, both cases): "
+                          "List lines that match (basic): "))))
+        (with-selected-window (get-buffer-window "*Live Occur: a*")
+          (should (equal (cadr (prompts "C-c a x M-s v C-g"))
+                         '("Add pattern (basic): "))))
+        (should (equal (cadr (prompts "C-c t x M-s v C-g"))
+                       '("List lines that don't match (basic): ")))
+        (ert-info ("a syntax that refuses what is typed counts all the same")
+          (should (equal (live-occur-test--type "C-c t + M-s E DEL M-s F + RET")
+                         '(("+" "2:o+\n" nil)
+                           ("+" "2:o+\n" "[NothingToRepeat]")
+                           ("" "" nil)
+                           ("" "" nil)
+                           ("+" "2:o+\n" nil)))))
+        (cl-flet ((settings () (with-current-buffer "*Live Occur: a*"
+                                 (live-occur--settings))))
+          (should (equal (settings) '(fixed nil nil)))
+          (ert-info ("C-g puts them back")
+            (live-occur-test--type "C-c t o M-s E M-s i M-s v C-u M-s i C-g")
+            (should (equal (settings) '(fixed nil nil)))
+            (should (equal (live-occur-test--rows "*Live Occur: a*") "2:o+\n"))
+            (live-occur-test--type "C-c t O C-u M-s i RET")
+            (should (equal (live-occur-test--rows "*Live Occur: a*") "1:One\n"))
+            (should (equal (settings) '(fixed nil t)))))))))
+
 (defun live-occur-test--type-and-list-commands ()
   "Type a pattern and change it, and list the commands that have to do with it."
   (live-occur-test--with '("one\ntwo\nthree\nt\n")
@@ -1401,7 +1530,7 @@ It is the text there, that of the list, and what is said of a fault."
        (lambda (command) (string-match-p "\\`\\(pattern\\|drop\\)" command))
        (live-occur-test--commands
          (live-occur-test--type "C-c t t h RET")
-         (with-selected-window (get-buffer-window "*Live Occur*")
+         (with-selected-window (get-buffer-window "*Live Occur: a*")
            (should (equal (live-occur-test--type "C-c a x \\ ( DEL DEL w RET")
                           '(("x" "3:three\n" nil)
                             ("x\\" "3:three\n" "[TrailingBackslash]")
@@ -1412,7 +1541,7 @@ It is the text there, that of the list, and what is said of a fault."
            (cl-letf (((symbol-function 'completing-read) (lambda (&rest _) "th")))
              (live-occur-test--type "C-c c DEL RET"))
            (should (equal live-occur--patterns '("t" "xw")))
-           (should (equal (live-occur-test--rows "*Live Occur*")
+           (should (equal (live-occur-test--rows "*Live Occur: a*")
                           "2:two\n3:three\n4:t\n"))))))))
 
 (ert-deftest live-occur-puts-a-pattern-in-its-place ()
@@ -1421,11 +1550,6 @@ It is the text there, that of the list, and what is said of a fault."
                    "patterns 2\nth\nx\n" "drop 0\n"
                    "pattern 1\nx\\\n" "pattern 1\nx\\(\n" "pattern 1\nx\\\n"
                    "pattern 1\nxw\n" "pattern 0\nt\n"))))
-
-(ert-deftest live-occur-adds-and-drops-patterns-of-an-old-program ()
-  (live-occur-test--with-old-program
-    (should-not (cl-some (lambda (command) (string-prefix-p "pattern " command))
-                         (live-occur-test--type-and-list-commands)))))
 
 (defun live-occur-test--commands-of-a-look ()
   "Type a pattern, and list the commands by which the hit after point is found."
@@ -1445,10 +1569,7 @@ It is the text there, that of the list, and what is said of a fault."
     (while sent
       (should (equal (pop sent) "text off\n"))
       (should (string-prefix-p "page " (pop sent)))
-      (should (equal (pop sent) "text on\n"))))
-  (live-occur-test--with-old-program
-    (should-not (cl-some (lambda (command) (string-prefix-p "text" command))
-                         (live-occur-test--commands-of-a-look)))))
+      (should (equal (pop sent) "text on\n")))))
 
 (ert-deftest live-occur-goes-away-by-quitting ()
   (live-occur-test--with '("one\n")
@@ -1456,7 +1577,7 @@ It is the text there, that of the list, and what is said of a fault."
       (set-window-buffer nil a)
       (let ((processes (process-list)))
         (should (equal (live-occur-test--type "C-c t o C-g") '(("o" "1:one\n" nil))))
-        (should-not (get-buffer "*Live Occur*"))
+        (should-not (get-buffer "*Live Occur: a*"))
         (should (equal (process-list) processes))
         (should (= (count-windows) 1))))))
 
@@ -1466,7 +1587,7 @@ It is the text there, that of the list, and what is said of a fault."
       (set-window-buffer nil a)
       (let ((seen (live-occur-test--type "C-c t a RET")))
         (should (= (length (split-string (nth 1 (car seen)) "\n" t)) 50)))
-      (should (= (length (split-string (live-occur-test--rows "*Live Occur*") "\n" t)) 5000)))))
+      (should (= (length (split-string (live-occur-test--rows "*Live Occur: a*") "\n" t)) 5000)))))
 
 ;;;; A hit that is shown while a pattern is typed
 
@@ -1520,8 +1641,8 @@ It is the line at its point, and the row at that of the list."
           (should (looking-at "our$"))
           (should (= (mark t) 9))
           (should-not (overlays-in (point-min) (point-max)))
-          (live-occur-test--rows "*Live Occur*")
-          (with-selected-window (get-buffer-window "*Live Occur*")
+          (live-occur-test--rows "*Live Occur: a*")
+          (with-selected-window (get-buffer-window "*Live Occur: a*")
             (should (looking-at "5:four$")))
           (previous-error)
           (should (looking-at "o é two$")))
@@ -1543,7 +1664,7 @@ It is the line at its point, and the row at that of the list."
                      (lambda (&rest _) (kill-buffer a) "o")))
             (with-timeout (10 (error "It is waited for a hit"))
               (call-interactively #'live-occur)))
-          (should (equal (live-occur-test--rows "*Live Occur*") "")))))))
+          (should (equal (live-occur-test--rows "*Live Occur: a*") "")))))))
 
 (ert-deftest live-occur-shows-hits-of-the-buffer-in-which-it-was-asked ()
   (live-occur-test--with '("one\n" "two\nso\nfoo\n" "four\n")
@@ -1556,23 +1677,52 @@ It is the line at its point, and the row at that of the list."
           (live-occur-test--wait))
         (cl-letf (((symbol-function 'live-occur)
                    (lambda () (interactive) (live-occur--fill list nil nil))))
-          (should (equal (live-occur-test--shown "C-c t o C-n C-n C-n C-p C-p C-p C-p C-g")
-                         '(("two" "b:1:two" ("o"))
-                           ("so" "b:2:so" ("o"))
-                           ("foo" "b:3:foo" ("o"))
+          (should (equal (live-occur-test--shown "C-c t o C-p C-p C-p C-p C-p C-n C-g")
+                         '(("four" "c:1:four" ("o"))
                            ("foo" "b:3:foo" ("o"))
                            ("so" "b:2:so" ("o"))
                            ("two" "b:1:two" ("o"))
-                           ("two" "b:1:two" ("o"))
-                           ("two" "b:1:two" ("o"))))))
-        (should (eobp))
-        (ert-info ("it is not searched: nothing is shown")
-          (with-current-buffer list
-            (live-occur-remove-buffer b))
-          (cl-letf (((symbol-function 'live-occur)
-                     (lambda () (interactive) (live-occur--fill list nil nil))))
-            (live-occur-test--shown "C-c t f C-g"))
-          (should (eobp)))))))
+                           ("one" "a:1:one" ("o"))
+                           ("one" "a:1:one" ("o"))
+                           ("two" "b:1:two" ("o")))))
+          (should (eq (window-buffer) b))
+          (should (eobp))
+          (ert-info ("RET goes to one of another buffer, and `next-error' goes on from there")
+            (live-occur-test--shown "C-c t o C-p C-p C-p C-p RET")
+            (should (eq (window-buffer) a))
+            (should (looking-at "one$"))
+            (live-occur-test--rows list)
+            (next-error)
+            (should (eq (window-buffer) b))
+            (should (with-current-buffer b (looking-at "o$")))
+            (set-buffer b))
+          (ert-info ("the buffer of the window is not searched: the first hit of all")
+            (with-current-buffer list
+              (live-occur-remove-buffer b))
+            (goto-char (point-max))
+            (should (equal (live-occur-test--shown "C-c t o C-n C-g")
+                           '(("one" "a:1:one" ("o")) ("four" "c:1:four" ("o")))))
+            (should (eq (window-buffer) b))
+            (should (eobp))))))))
+
+(ert-deftest live-occur-keeps-keys-until-a-hit-is-there ()
+  (live-occur-test--with (list (apply #'concat (cl-loop for n below 40
+                                                        collect (format "%d TODO\n" n))))
+    (live-occur-test--in-windows
+      (set-window-buffer nil a)
+      (goto-char (point-min))
+      (let ((map (make-sparse-keymap)))
+        (define-key map (kbd "C-c t") #'live-occur)
+        (unwind-protect
+            (progn
+              (use-global-map (make-composed-keymap map (current-global-map)))
+              (execute-kbd-macro (kbd "C-c t T O D O C-n C-n C-p C-n RET"))
+              (should (looking-at "TODO$"))
+              (should (= 3 (line-number-at-pos)))
+              (ert-info ("and none, where there is no hit, or no pattern")
+                (execute-kbd-macro (kbd "C-c t C-n z C-n \\ ( C-n C-g")))
+              (should (= 3 (line-number-at-pos))))
+          (use-global-map global-map))))))
 
 (ert-deftest live-occur-shows-a-hit-far-down ()
   (live-occur-test--with (list (mapconcat #'number-to-string (number-sequence 1 3000) "\n"))
@@ -1615,7 +1765,7 @@ It is the line at its point, and the row at that of the list."
               (dotimes (_ 2)
                 (live-occur-test--wait)
                 (should (looking-at-p (format "%d:two" (1+ (cdr place)))))
-                (should (= wanted (live-occur--preview-position preview)))
+                (should (= wanted (window-point (live-occur--preview-window preview))))
                 (setf (live-occur--preview-line preview) 40000)
                 (live-occur--look-for-hit)
                 (accept-process-output live-occur--process 1)
@@ -1697,7 +1847,8 @@ It is nil where the pattern is refused."
 (ert-deftest live-occur-follows-random-typing ()
   "After each key the list has what grep writes, or is as it was."
   (random "live-occur typing")
-  (let ((folder (make-temp-file "live-occur" t)) (accepted 0) (refused 0))
+  (let ((folder (make-temp-file "live-occur" t)) (accepted 0) (refused 0)
+        (live-occur-characters nil))
     (unwind-protect
         (dotimes (_ 6)
           (live-occur-test--with (list (live-occur-test--text 400))
@@ -1850,8 +2001,11 @@ Where BODY reports that it was killed, that is as it has to be."
             (signal-process live-occur--process 'STOP)
             (live-occur-test--killed-after list #'live-occur--send
               (live-occur-toggle-inverse))
-            (should-not live-occur-flags))
-          (should (equal (live-occur-test--restart list) rows)))
+            (should (equal live-occur-flags '(?v))))
+          (should-not (equal (live-occur-test--restart list) rows))
+          (with-current-buffer list
+            (live-occur-toggle-inverse))
+          (should (equal (live-occur-test--rows list) rows)))
         (ert-info ("while the rows to edit are on their way")
           (insert "o\n")
           (with-current-buffer list
@@ -1896,8 +2050,8 @@ Where BODY reports that it was killed, that is as it has to be."
 (defun live-occur-test--killed-in-new-list ()
   "Begin a list, and kill its program while its text is sent."
   (let ((buffers (buffer-list)))
-    (cl-letf* ((open (symbol-function 'live-occur--add-source))
-               ((symbol-function 'live-occur--add-source)
+    (cl-letf* ((open (symbol-function 'live-occur--add-sources))
+               ((symbol-function 'live-occur--add-sources)
                 (lambda (buffer)
                   (funcall open buffer)
                   (live-occur-test--kill (current-buffer)))))
@@ -2142,6 +2296,147 @@ Its rows are there, and can be edited."
         (should (equal (live-occur-test--rows list)
                        "1:a0\n2:a1\n4:a2!\n5:a3 a\n6:a4\n7:a5\n"))))))
 
+(ert-deftest live-occur-unfolds-lines-that-are-shown ()
+  (live-occur-test--with '("* one\nfolded\n* two\nrest\n")
+    (live-occur-test--in-windows
+      (set-window-buffer nil a)
+      (dolist (mode (list #'outline-mode #'org-mode))
+        (funcall mode)
+        (cl-flet ((hidden-p () (invisible-p (+ 2 (string-search "olded" (buffer-string))))))
+          (outline-hide-sublevels 1)
+          (goto-char (point-min))
+          (should (hidden-p))
+          (ert-info ("the preview shows it, and folds it again")
+            (let (seen)
+              (cl-letf* ((show (symbol-function 'live-occur--show-row))
+                         ((symbol-function 'live-occur--show-row)
+                          (lambda (&rest words)
+                            (push (with-current-buffer a (hidden-p)) seen)
+                            (apply show words))))
+                (live-occur-test--type "C-c t f o l C-g"))
+              (should (equal (last seen) '(nil)))
+              (should (hidden-p))))
+          (ert-info ("RET in the minibuffer goes there")
+            (live-occur-test--type "C-c t o l d RET")
+            (should (looking-at "old"))
+            (should-not (hidden-p)))
+          (ert-info ("RET in the list, too")
+            (outline-hide-sublevels 1)
+            (with-current-buffer (live-occur "folded")
+              (live-occur-test--rows (current-buffer))
+              (live-occur-test--go-to-row 0)
+              (live-occur-visit))
+            (should (looking-at "folded"))
+            (should-not (hidden-p))))))))
+
+(ert-deftest live-occur-makes-rows-to-copy-and-to-search-them ()
+  (live-occur-test--with (list (apply #'concat (cl-loop for n below 3000
+                                                        collect (format "a%d\n" n))))
+    (live-occur-test--in-windows
+      (let ((list (live-occur "a")) (live-occur-idle-rows 0))
+        (with-selected-window (get-buffer-window list)
+          (live-occur-test--wait)
+          (execute-kbd-macro (kbd "M-< C-u 1 0 0 0 C-n C-SPC C-u 5 0 0 C-n M-w"))
+          (should (equal (substring-no-properties (current-kill 0))
+                         (apply #'concat (cl-loop for n from 1000 below 1500
+                                                  collect (format "%d:a%d\n" (1+ n) n)))))
+          (execute-kbd-macro (kbd "C-x h M-w"))
+          (should (= 3000 (length (split-string (current-kill 0) "\n" t))))
+          (live-occur-restart)
+          (live-occur-test--wait)
+          (execute-kbd-macro (kbd "M-< C-s a 2 5 5 5 RET"))
+          (should (equal (buffer-substring-no-properties (line-beginning-position) (point))
+                         "2556:a2555")))))))
+
+(ert-deftest live-occur-begins-an-edit-as-other-modes-do ()
+  (live-occur-test--with '("one\ntwo\n")
+    (live-occur-test--in-windows
+      (let ((list (live-occur "o")))
+        (live-occur-test--rows list)
+        (with-selected-window (get-buffer-window list)
+          (live-occur-test--press "M-< C-x C-q C-f C-f X C-x C-q")
+          (should-not live-occur-edit-mode)
+          (should buffer-read-only))
+        (should (equal (live-occur-test--text-of a) "Xone\ntwo\n"))))))
+
+(ert-deftest live-occur-lists-what-is-accessible ()
+  (live-occur-test--with '("one\ntwo\nso\nfour\n")
+    (narrow-to-region 5 12)
+    (should (equal (live-occur-test--rows (live-occur "o")) "1:one\n2:two\n3:so\n4:four\n"))
+    (let* ((live-occur-narrowed t)
+           (list (live-occur "o")))
+      (should (equal (live-occur-test--rows list) "2:two\n3:so\n"))
+      (widen)
+      (should (equal (live-occur-test--rows list) "2:two\n3:so\n"))
+      (should (equal (live-occur-test--rows (live-occur "o"))
+                     "1:one\n2:two\n3:so\n4:four\n")))))
+
+(ert-deftest live-occur-is-not-copied ()
+  (live-occur-test--with '("one\n")
+    (with-current-buffer (live-occur "o")
+      (should-error (clone-buffer))
+      (should-error (clone-indirect-buffer nil nil)))))
+
+(ert-deftest live-occur-changes-the-pattern-of-a-list ()
+  (live-occur-test--with '("one\ntwo\n")
+    (live-occur-test--in-windows
+      (let ((list (live-occur "o")))
+        (with-selected-window (get-buffer-window list)
+          (live-occur-test--type "C-c t DEL t w RET")
+          (should (equal live-occur--patterns '("tw")))
+          (should (equal (live-occur-test--lists) '("*Live Occur: a*")))
+          (live-occur-edit-mode)
+          (should-error (live-occur-test--type "C-c t x RET") :type 'user-error)))
+      (with-current-buffer (live-occur "o" (list a (get-buffer-create "live-occur-b")))
+        (should (equal (buffer-name) "*Live Occur: 2 buffers*"))))))
+
+(ert-deftest live-occur-has-hooks-and-hits-for-others ()
+  (live-occur-test--with '("one\né twoo\n" "so\n" "none x\n")
+    (live-occur-test--in-windows
+      (let* (updates visits
+             (live-occur-update-hook (list (lambda () (push (live-occur-hits) updates))))
+             (live-occur-visit-hook (list (lambda ()
+                                            (push (list (buffer-name) (line-number-at-pos)) visits))))
+             (list (live-occur "o\\{1,2\\}" (seq-take buffers 2))))
+        (live-occur-test--rows list)
+        (with-current-buffer list
+          (should (live-occur-done-p))
+          (should (equal (live-occur-hits)
+                         (list (list a 1 "one" '((0 . 1))) (list a 2 "é twoo" '((4 . 6)))
+                               (list (nth 1 buffers) 1 "so" '((1 . 2))))))
+          (should (equal (car updates) (live-occur-hits)))
+          (should (equal (live-occur-hits 1 1) (list (list a 2 "é twoo" '((4 . 6))))))
+          (let ((rows (mapcar (pcase-lambda (`(,name . ,at)) (list name (line-number-at-pos at)))
+                              (funcall imenu-create-index-function))))
+            (should (equal rows '(("a" 1) ("b" 3))))))
+        (insert "foo\n")
+        (setq updates nil)
+        (live-occur-test--rows list)
+        (should (= 1 (length updates)))
+        (live-occur-test--at list 4)
+        (with-current-buffer list
+          (live-occur-visit))
+        (should (equal visits '(("b" 1))))))))
+
+(ert-deftest live-occur-keeps-the-colours-of-a-buffer ()
+  "In batch mode `font-lock-mode' doesn't go on."
+  (live-occur-test--with (list (concat (propertize "; one" 'face 'font-lock-comment-face)
+                                       " end\né " (propertize "two" 'face 'bold) "\n"))
+    (setq-local font-lock-mode t)
+    (let ((list (live-occur "o")))
+      (live-occur-test--rows list)
+      (with-current-buffer list
+        (cl-flet ((faces (text) (save-excursion
+                                  (goto-char (point-min))
+                                  (search-forward text)
+                                  (cl-loop for at from (match-beginning 0) below (match-end 0)
+                                           collect (get-text-property at 'face)))))
+          (should (equal (faces " on") '(font-lock-comment-face
+                                         (live-occur-match font-lock-comment-face)
+                                         font-lock-comment-face)))
+          (should (equal (faces " end") '(nil nil nil nil)))
+          (should (equal (faces "é two") '(nil nil bold bold (live-occur-match bold)))))))))
+
 (ert-deftest live-occur-stays-at-its-row ()
   (live-occur-test--with '("x1\nx2\nx3\nx4\n")
     (let ((list (live-occur "x")))
@@ -2165,13 +2460,13 @@ Its rows are there, and can be edited."
       (emacs-lisp-mode))
     (let ((live-occur-typing-delay nil))
       (cl-letf (((symbol-function 'read-from-minibuffer) (lambda (&rest _) "o")))
-        (should (equal (live-occur-test--rows (live-occur-in-buffers-matching "^live-occur-x"))
+        (should (equal (live-occur-test--rows (live-occur-in-buffers '("^live-occur-x")))
                        "live-occur-x1:1:one\nlive-occur-x2:1:one\n"))
         (should (member "live-occur-x2:1:one"
                         (split-string (live-occur-test--rows
-                                       (live-occur-in-mode 'emacs-lisp-mode))
+                                       (live-occur-in-buffers '("emacs-lisp-mode" "a")))
                                       "\n")))
-        (should-error (live-occur-in-buffers-matching "^no such name$") :type 'user-error)))))
+        (should-error (live-occur-in-buffers '("^no such name$")) :type 'user-error)))))
 
 (ert-deftest live-occur-takes-buffers-of-a-project-and-of-dired ()
   (live-occur-test--with '("")
@@ -2192,6 +2487,294 @@ Its rows are there, and can be edited."
                 (should (string-search "f2:1:two\n" rows)))))
         (delete-directory folder t)))))
 
+(defmacro live-occur-test--with-files (files &rest body)
+  "Run BODY in a folder that has FILES, a list of names and texts, as a project."
+  (declare (indent 1) (debug t))
+  `(let* ((folder (file-name-as-directory (make-temp-file "live-occur" t)))
+          (before (buffer-list))
+          (default-directory folder)
+          (live-occur-typing-delay nil)
+          (project-find-functions (list (lambda (_) (cons 'transient folder)))))
+     (unwind-protect
+         (progn
+           (pcase-dolist (`(,name . ,text) ,files)
+             (make-directory (file-name-directory (expand-file-name name)) t)
+             (let ((coding-system-for-write 'utf-8-unix))
+               (write-region text nil name nil 'quiet)))
+           ,@body)
+       (dolist (buffer (buffer-list))
+         (when (and (buffer-live-p buffer) (not (memq buffer before)))
+           (with-current-buffer buffer (set-buffer-modified-p nil))
+           (kill-buffer buffer)))
+       (delete-directory folder t))))
+
+(defun live-occur-test--project-list (pattern)
+  "The list of lines of this project that match PATTERN."
+  (cl-letf (((symbol-function 'read-from-minibuffer) (lambda (&rest _) pattern)))
+    (live-occur-in-project)))
+
+(ert-deftest live-occur-lists-files-that-are-not-open ()
+  (live-occur-test--with-files '(("a" . "one\ntwo\n") ("d/b" . "xo\né o") ("d/c" . "none\r\nso\r\n")
+                                 ("z" . "o\0o\n") ("big" . "ooooo\nooooo\nooooo\n") ("empty" . ""))
+    (live-occur-test--in-windows
+      (let* ((large-file-warning-threshold 15)
+             (inhibit-message t)
+             (list (live-occur-test--project-list "o"))
+             (sorted (lambda ()
+                       (sort (split-string (live-occur-test--rows list) "\n" t) #'string<))))
+        (should (equal (buffer-name list)
+                       (format "*Live Occur: %s*" (file-name-nondirectory
+                                                   (directory-file-name folder)))))
+        (should (equal (funcall sorted)
+                       '("a:1:one" "a:2:two" "d/b:1:xo" "d/b:2:é o" "d/c:1:none" "d/c:2:so")))
+        (should-not (cl-some #'buffer-file-name (cl-set-difference (buffer-list) before)))
+        (with-current-buffer list
+          (should (string-match-p "6 rows, 6 files  2 left out (\\(1 too large, 1 no text\\|1 no text, 1 too large\\))"
+                                  (live-occur--header))))
+        (cl-flet ((go-to (row)
+                    (with-current-buffer list
+                      (goto-char (point-min))
+                      (search-forward row)
+                      (forward-line 0))))
+          (ert-info ("a row's file is opened when it is visited, and not sent again")
+            (go-to "d/b:2:é")
+            (should-not (cl-some (lambda (command) (string-prefix-p "splice" command))
+                                 (live-occur-test--commands
+                                   (with-current-buffer list (live-occur-visit))
+                                   (funcall sorted))))
+            (should (equal (buffer-file-name (window-buffer))
+                           (expand-file-name "d/b")))
+            (should (with-current-buffer (window-buffer) (looking-at "o$")))
+            (with-current-buffer (window-buffer)
+              (goto-char (point-min))
+              (insert "new o\n"))
+            (should (equal (funcall sorted)
+                           '("a:1:one" "a:2:two" "d/b:1:new o" "d/b:2:xo" "d/b:3:é o" "d/c:1:none"
+                             "d/c:2:so"))))
+          (ert-info ("lines around come from the disk")
+            (with-current-buffer list (live-occur-set-context 0 1))
+            (with-current-buffer list
+              (live-occur--put '("one")))
+            (should (string-search "a:1:one\na-2-two\n" (live-occur-test--rows list)))
+            (with-current-buffer list
+              (live-occur-set-context 0 0)
+              (live-occur--put '("o")))
+            (funcall sorted))
+          (ert-info ("an edit of a row opens its file")
+            (with-current-buffer list
+              (live-occur-edit-mode))
+            (go-to "a:2:two")
+            (with-current-buffer list
+              (goto-char (live-occur--after-head))
+              (insert "X")
+              (should (equal (with-current-buffer (find-buffer-visiting "a") (buffer-string))
+                             "one\nXtwo\n"))
+              (live-occur-save))
+            (should (member "a:2:Xtwo" (funcall sorted)))
+            (should (equal (with-temp-buffer (insert-file-contents "a") (buffer-string))
+                           "one\nXtwo\n")))
+          (ert-info ("a killed buffer's file is read from the disk")
+            (with-current-buffer (find-buffer-visiting "d/b")
+              (set-buffer-modified-p nil)
+              (kill-buffer))
+            (with-current-buffer list (live-occur-refresh))
+            (should (equal (funcall sorted)
+                           '("a:1:one" "a:2:Xtwo" "d/b:1:xo" "d/b:2:é o" "d/c:1:none" "d/c:2:so"))))
+          (ert-info ("files that have changed are read again")
+            (write-region "only o here\n" nil "d/c" nil 'quiet)
+            (delete-file "d/b")
+            (should-not (member "d/c:1:only o here" (funcall sorted)))
+            (let ((sent (live-occur-test--commands
+                          (with-current-buffer list (live-occur-refresh))
+                          (should (equal (funcall sorted)
+                                         '("a:1:one" "a:2:Xtwo" "d/c:1:only o here"))))))
+              (should (= 2 (cl-count-if (lambda (command) (string-prefix-p "splice" command))
+                                        sent)))))
+          (ert-info ("one that is opened otherwise is searched there")
+            (with-current-buffer (find-file-noselect "d/c")
+              (insert "o\n"))
+            (with-current-buffer list (live-occur--look list))
+            (should (member "d/c:2:only o here" (funcall sorted)))
+            (should (member "d/c:1:o" (funcall sorted))))
+          (ert-info ("started again, it has all of them")
+            (with-current-buffer list (live-occur-restart))
+            (should (equal (funcall sorted)
+                           '("a:1:one" "a:2:Xtwo" "d/c:1:o" "d/c:2:only o here")))))))))
+
+(ert-deftest live-occur-reads-files-as-buffers-do ()
+  "Whatever their encoding and ends of lines, and if they have changed meanwhile."
+  (live-occur-test--with-files '(("latin" . "") ("dos" . "one\r\nso\r\n") ("bom" . "\ufeffone\n")
+                                 ("cookie" . "-*- coding: koi8-r -*-\n"))
+    (let ((coding-system-for-write 'no-conversion) (inhibit-message t))
+      (write-region "caf\351 o\n" nil "latin" nil 'quiet)
+      (write-region "-*- coding: koi8-r -*-\n\306o\n" nil "cookie" nil 'quiet))
+    (live-occur-test--in-windows
+      (let* ((names '("latin" "dos" "bom" "cookie"))
+             (list (live-occur "o" (mapcar #'expand-file-name names)))
+             (rows (live-occur-test--rows list)))
+        (should (string-search "dos:1:one\ndos:2:so\nbom:1:one\n" rows))
+        (should (string-search "cookie:2:фo\n" rows))
+        (with-current-buffer list
+          (live-occur-edit-mode)
+          (goto-char (point-min))
+          (while (not (eobp))
+            (goto-char (live-occur--after-head))
+            (insert "x")
+            (forward-line 1))
+          (live-occur-save)
+          (should (= 0 live-occur--alone)))
+        (dolist (name names)
+          (kill-buffer (find-buffer-visiting name)))
+        (should (equal (with-temp-buffer
+                         (set-buffer-multibyte nil)
+                         (dolist (name names) (insert-file-contents-literally name)
+                                 (goto-char (point-max)))
+                         (buffer-string))
+                       (concat "xcaf\351 o\nxone\r\nxso\r\n\357\273\277xone\n"
+                               "x-*- coding: koi8-r -*-\nx\306o\n")))
+        (with-current-buffer list (live-occur-refresh))
+        (live-occur-test--rows list)
+        (ert-info ("one that was written since leads to no wrong line")
+          (write-region "new\none\n" nil "bom" nil 'quiet)
+          (with-current-buffer list
+            (goto-char (point-min))
+            (search-forward "bom:1:xone")
+            (should-error (live-occur-visit) :type 'user-error)
+            (live-occur-test--rows list)
+            (goto-char (point-min))
+            (search-forward "bom:2:one")
+            (live-occur-visit))
+          (should (with-current-buffer (window-buffer) (looking-at "one"))))))))
+
+(defun live-occur-test--rows-of-files (names)
+  "The rows of lines of files NAMES that have an x, from buffers or from the disk."
+  (cl-loop
+   for name in names
+   for buffer = (find-buffer-visiting name)
+   for text = (cond (buffer (with-current-buffer buffer (buffer-string)))
+                    ((file-exists-p name) (with-temp-buffer (insert-file-contents name)
+                                                            (buffer-string)))
+                    (t ""))
+   concat (cl-loop for line in (split-string text "\n") for number from 1
+                   when (string-search "x" line)
+                   concat (format "%s:%d:%s\n" name number line))))
+
+(ert-deftest live-occur-follows-files-at-random ()
+  "They are written, removed, opened, edited in rows and in buffers, and killed."
+  (random "live-occur files")
+  (let ((names '("a" "b" "c" "d")) (rows 0) (inhibit-message t) (create-lockfiles nil)
+        (make-backup-files nil))
+    (live-occur-test--with-files (mapcar (lambda (name) (cons name "x\ny\n")) names)
+      (live-occur-test--in-windows
+        (let ((list (live-occur "x" (mapcar #'expand-file-name names))))
+          (dotimes (_ 250)
+            (let* ((name (nth (random 4) names)) (buffer (find-buffer-visiting name)))
+              (pcase (random 9)
+                ((or 0 1) (unless buffer
+                            (write-region (live-occur-test--text 3) nil name nil 'quiet)
+                            (set-file-times name (time-add nil (random 1000)))))
+                (2 (unless buffer (delete-file name)))
+                (3 (when (file-exists-p name) (find-file-noselect name)))
+                ((or 4 5) (when buffer
+                            (with-current-buffer buffer
+                              (goto-char (1+ (random (1+ (buffer-size)))))
+                              (insert (nth (random 3) '("x" "\nx" "x\ny"))))))
+                (6 (when buffer
+                     (with-current-buffer buffer
+                       (if (= (random 2) 0) (live-occur-test--save)
+                         (set-buffer-modified-p nil)
+                         (kill-buffer)))))
+                (7 (with-current-buffer list
+                     (live-occur-refresh)
+                     (live-occur-test--rows list)
+                     (when (> (live-occur--total) 0)
+                       (live-occur-test--go-to-row (random (live-occur--total)))
+                       (live-occur-visit))))
+                (8 (with-current-buffer list
+                     (live-occur-refresh)
+                     (live-occur-test--rows list)
+                     (when (> (live-occur--total) 0)
+                       (live-occur-edit-mode)
+                       (live-occur-test--go-to-row (random (live-occur--total)))
+                       (goto-char (live-occur--after-head))
+                       (insert "x")
+                       (if (= (random 3) 0)
+                           (live-occur-abort-changes)
+                         (live-occur-edit-mode -1))
+                       (should (= 0 live-occur--alone))))))
+              (with-current-buffer list
+                (live-occur--attach-visited)
+                (live-occur-refresh))
+              (let ((shown (live-occur-test--rows list)))
+                (cl-incf rows (length shown))
+                (should (equal shown (live-occur-test--rows-of-files names)))))))))
+    (should (> rows 5000))))
+
+(ert-deftest live-occur-shows-hits-in-files-that-are-not-open ()
+  (live-occur-test--with-files '(("a" . "one\ntwo\n") ("b" . "xo\nend\n"))
+    (live-occur-test--in-windows
+      (switch-to-buffer (get-buffer-create "live-occur-other"))
+      (setq default-directory folder)
+      (let ((list (live-occur "x" (list (expand-file-name "a") (expand-file-name "b")))))
+        (cl-letf (((symbol-function 'live-occur)
+                   (lambda () (interactive) (live-occur--fill list nil nil)))
+                  (live-occur-typing-delay 0))
+          (should (equal (mapcar (lambda (row) (seq-take row 2))
+                                 (live-occur-test--shown "C-c t o C-n C-n C-g"))
+                         '(("one" "a:1:one") ("two" "a:2:two") ("xo" "b:1:xo"))))
+          (should (equal (buffer-name (window-buffer)) "live-occur-other"))
+          (should-not (find-buffer-visiting "b"))
+          (live-occur-test--shown "C-c t o C-n C-n RET")
+          (should (eq (window-buffer) (find-buffer-visiting "b")))
+          (should (with-current-buffer (window-buffer) (looking-at "o$"))))))))
+
+(ert-deftest live-occur-reads-no-files-after-a-quit ()
+  (live-occur-test--with-files (cl-loop for n below 300 collect (cons (format "f%d" n) "one\ntwo\n"))
+    (live-occur-test--in-windows
+      (switch-to-buffer (get-buffer-create "live-occur-other"))
+      (setq default-directory folder)
+      (let ((processes (process-list)) (map (make-sparse-keymap)) (read 0)
+            (live-occur-typing-delay 0) (inhibit-message t))
+        (define-key map (kbd "C-c p") #'live-occur-in-project)
+        (unwind-protect
+            (cl-letf* ((insert (symbol-function 'live-occur--insert-file))
+                       ((symbol-function 'live-occur--insert-file)
+                        (lambda (source) (cl-incf read) (funcall insert source))))
+              (use-global-map (make-composed-keymap map (current-global-map)))
+              (execute-kbd-macro (kbd "C-c p o C-g"))
+              (should (equal (process-list) processes))
+              (should-not (cl-some #'live-occur--list-p (buffer-list)))
+              (let ((now read))
+                (accept-process-output nil 0.1)
+                (should (= now read))))
+          (use-global-map global-map))))))
+
+(ert-deftest live-occur-lists-many-files-in-pieces ()
+  "The first rows come early, and Emacs goes on answering."
+  :tags '(unwatched)
+  (live-occur-test--with-files
+      (cl-loop for n below (string-to-number (or (getenv "FILES") "3000"))
+               collect (cons (format "d%d/f%d.txt" (/ n 100) n)
+                             (apply #'concat (make-list 40 (format "line of file %d, and text\n" n)))))
+    (let* ((inhibit-message t)
+           (files (project-files (project-current)))
+           (start (float-time))
+           first all
+           (stall (live-occur-test--longest-stall
+                   (lambda ()
+                     (let ((list (live-occur "line" files)))
+                       (with-current-buffer list
+                         (while (= 0 (live-occur--total)) (accept-process-output nil 0.01))
+                         (setq first (- (float-time) start))
+                         (live-occur-test--until
+                          (lambda () (= (live-occur--total) (* 40 (length files)))))
+                         (live-occur-test--wait)
+                         (setq all (- (float-time) start))))))))
+      (live-occur-test--tell "%d files: the first rows after %.2f s, all after %.1f s, stall %s"
+                             (length files) first all stall)
+      (should (< first 3))
+      (should (< (car stall) live-occur-test--stall)))))
+
 (ert-deftest live-occur-takes-over-from-isearch ()
   (live-occur-test--with '("a.b\nA.B\naxb\n")
     (live-occur-test--in-windows
@@ -2203,8 +2786,8 @@ Its rows are there, and can be edited."
         (define-key map (kbd "M-s l") #'live-occur-isearch)
         (let ((isearch-mode-map map))
           (execute-kbd-macro (kbd "C-s a . b M-s l"))))
-      (should (equal (live-occur-test--rows "*Live Occur*") "1:a.b\n2:A.B\n"))
-      (with-current-buffer "*Live Occur*"
+      (should (equal (live-occur-test--rows "*Live Occur: a*") "1:a.b\n2:A.B\n"))
+      (with-current-buffer "*Live Occur: a*"
         (should (eq live-occur-syntax 'fixed))))))
 
 ;;;; One list a buffer
@@ -2220,8 +2803,8 @@ Its rows are there, and can be edited."
     (live-occur-test--in-windows
       (set-window-buffer nil a)
       (live-occur-test--type "C-c t o RET")
-      (should (equal (live-occur-test--lists) '("*Live Occur*")))
-      (let* ((list (get-buffer "*Live Occur*"))
+      (should (equal (live-occur-test--lists) '("*Live Occur: a*")))
+      (let* ((list (get-buffer "*Live Occur: a*"))
              (process (buffer-local-value 'live-occur--process list))
              sent)
         (with-current-buffer list
@@ -2265,9 +2848,9 @@ Its rows are there, and can be edited."
           (delete-other-windows))
         (ert-info ("a prefix argument makes another list")
           (live-occur-test--type "C-u C-c t w RET")
-          (should (equal (live-occur-test--lists) '("*Live Occur*" "*Live Occur*<2>")))
+          (should (equal (live-occur-test--lists) '("*Live Occur: a*" "*Live Occur: a*<2>")))
           (should (equal (live-occur-test--rows list) "3:three\n"))
-          (kill-buffer "*Live Occur*<2>"))
+          (kill-buffer "*Live Occur: a*<2>"))
         (ert-info ("a program that was killed is started again")
           (live-occur-test--kill list)
           (live-occur-test--type "C-c t w RET")
@@ -2298,33 +2881,64 @@ Its rows are there, and can be edited."
         (define-key map (kbd "M-s l") #'live-occur-isearch)
         (let ((isearch-mode-map map))
           (execute-kbd-macro (kbd "C-s a . b M-s l"))
-          (should (equal (live-occur-test--lists) '("*Live Occur*")))
+          (should (equal (live-occur-test--lists) '("*Live Occur: a*")))
           (should (equal (live-occur-test--rows list) "1:a.b\n2:A.B\n"))
           (ert-info ("what the program refuses leaves the list as it was")
             (goto-char (point-min))
             (let ((problem (should-error (execute-kbd-macro (kbd "C-M-s a \\ ( M-s l")))))
-              (should (string-search "refused Pattern" (error-message-string problem))))
+              (should (equal "UnclosedGroup at 1: a(" (error-message-string problem))))
             (should (equal (live-occur-test--rows list) "1:a.b\n2:A.B\n"))
             (with-current-buffer list
               (should (eq live-occur-syntax 'fixed))
               (should (equal live-occur-flags '(?i)))
               (should-not live-occur-smart-case)
               (should (equal live-occur--patterns '("a.b")))))
-          (ert-info ("its own settings are in force again when it is used by itself")
-            (should (equal (live-occur-test--type "C-c t a . b C-g")
-                           '(("a" "" nil) ("a." "" nil) ("a.b" "1:a.b\n2:A.B\n3:axb\n" nil))))
-            (should (equal (live-occur-test--rows list) "1:a.b\n2:A.B\n"))
-            (should (eq (buffer-local-value 'live-occur-syntax list) 'fixed))
+          (ert-info ("the settings stay")
             (live-occur-test--type "C-c t A . B RET")
-            (should (equal (live-occur-test--rows list) "2:A.B\n"))
+            (should (equal (live-occur-test--rows list) "1:a.b\n2:A.B\n"))
             (with-current-buffer list
-              (should (equal (live-occur--settings) '(basic (?x) t))))))))))
+              (should (equal (live-occur--settings) '(fixed (?i) nil))))))))))
+
+(ert-deftest live-occur-translates-regexps-of-isearch ()
+  (pcase-dolist (`(,regexp . ,wanted)
+                 '(("a" . "a")
+                   ("a\\(b\\|c\\)+?d*" . "a(b|c)+d*")
+                   ("\\(?:a\\)\\{2,3\\}\\(?1:x\\)" . "(a){2,3}(x)")
+                   ("a(b)|{2}" . "a\\(b\\)\\|\\{2\\}")
+                   ("*a^b$c" . "\\*a\\^b\\$c")
+                   ("^*a$" . "^\\*a$")
+                   ("\\(^a$\\)\\|^+$" . "(^a$)|^\\+$")
+                   ("[]^a].[[:alpha:]]\\.\\*\\\\" . "[]^a].[[:alpha:]]\\.\\*\\\\")
+                   ("\\-é" . "-é")))
+    (ert-info (regexp)
+      (should (equal (live-occur--from-regexp regexp) wanted))))
+  (dolist (regexp '("\\_<a\\_>" "\\ba" "a\\w" "\\(a\\)\\1" "\\`a" "\\s-" "\\" "\\cg"))
+    (ert-info (regexp)
+      (should-error (live-occur--from-regexp regexp) :type 'user-error)))
+  (live-occur-test--with '("foo\nfoobar\nbar\n")
+    (live-occur-test--in-windows
+      (set-window-buffer nil a)
+      (goto-char (point-min))
+      (let ((map (make-sparse-keymap)))
+        (set-keymap-parent map isearch-mode-map)
+        (define-key map (kbd "M-s l") #'live-occur-isearch)
+        (let ((isearch-mode-map map))
+          (execute-kbd-macro (kbd "C-M-s ^ \\ ( f o + \\ | b \\ ) M-s l"))
+          (should (equal (live-occur-test--rows "*Live Occur: a*") "1:foo\n2:foobar\n3:bar\n"))
+          (let ((problem (should-error (execute-kbd-macro (kbd "M-< M-s . M-s l")))))
+            (should (equal (error-message-string problem)
+                           (format-message "\\_< in a regexp can't be said in a pattern of lines"))))
+          (should-error (execute-kbd-macro (kbd "C-s f C-q C-j b M-s l")))
+          (ert-info ("in a list, for its pattern")
+            (with-selected-window (get-buffer-window "*Live Occur: a*")
+              (execute-kbd-macro (kbd "M-< C-s f o o b M-s l")))
+            (should (equal (live-occur-test--rows "*Live Occur: a*") "2:foobar\n")))
+          (should (equal (live-occur-test--lists) '("*Live Occur: a*"))))))))
 
 (ert-deftest live-occur-asks-for-buffers ()
   (live-occur-test--with '("one\n" "one\n" "one\n")
-    (let ((live-occur-typing-delay nil)
-          (names '("a" "c" "a" "")))
-      (cl-letf (((symbol-function 'read-buffer) (lambda (&rest _) (pop names)))
+    (let ((live-occur-typing-delay nil))
+      (cl-letf (((symbol-function 'completing-read-multiple) (lambda (&rest _) '("a" "c" "a")))
                 ((symbol-function 'read-from-minibuffer) (lambda (&rest _) "o")))
         (should (equal (live-occur-test--rows (call-interactively #'live-occur-in-buffers))
                        "a:1:one\nc:1:one\n"))))))
@@ -2509,7 +3123,7 @@ Its rows are there, and can be edited."
                          '((50 . "100:x100") (0 . "") (19 . "109:x109") (19 . "109:x109")))))
         (should-not (use-region-p))
         (should (equal (thing-at-point 'line) "x119\n"))
-        (let ((list (get-buffer "*Live Occur*")))
+        (let ((list (get-buffer "*Live Occur: a*")))
           (should (equal (lines (live-occur-test--rows list)) '(19 . "109:x109")))
           (with-current-buffer list
             (should (string-suffix-p "19 rows, 1 region" (live-occur--header)))))))))
@@ -2606,7 +3220,7 @@ Its rows are there, and can be edited."
                          ("F" "2:FOO bar\n" nil)
                          ("" "" nil)
                          ("f" "1:foo Bar\n2:FOO bar\n" nil))))
-        (with-current-buffer "*Live Occur*"
+        (with-current-buffer "*Live Occur: a*"
           (should (string-prefix-p " basic, smart case -i  f  2 rows" (live-occur--header)))
           (ert-info ("one pattern with an upper-case letter is enough")
             (live-occur--put '("foo" "B"))
@@ -2740,6 +3354,48 @@ Its rows are there, and can be edited."
           (live-occur-edit-mode -1))
         (should (equal (live-occur-test--rows list) "1:one\n2:3two\n"))))))
 
+(ert-deftest live-occur-corrects-numbers-while-rows-are-edited ()
+  (live-occur-test--with (list (concat "x\n" (apply #'concat (make-list 9 "o\n"))))
+    (live-occur-test--in-windows
+      (let ((list (live-occur-test--edited-list "o")))
+        (cl-flet ((numbers ()
+                    (with-current-buffer list
+                      (live-occur--look list)
+                      (save-excursion
+                        (goto-char (point-min))
+                        (cl-loop until (eobp)
+                                 collect (or (get-text-property (point) 'display)
+                                             (buffer-substring-no-properties
+                                              (point) (1- (live-occur--after-head))))
+                                 do (forward-line 1))))))
+          (should (equal (numbers) (mapcar #'number-to-string (number-sequence 2 10))))
+          (goto-char (point-min))
+          (insert "new\n")
+          (should (equal (numbers) (mapcar #'number-to-string (number-sequence 3 11))))
+          (live-occur-test--edit-row list 9 "Y")
+          (with-current-buffer list
+            (undo-boundary)
+            (let ((last-command nil)) (undo)))
+          (should (equal (live-occur-test--text-of a)
+                         (concat "new\nx\n" (apply #'concat (make-list 9 "o\n")))))
+          (goto-char (point-min))
+          (delete-region 1 5)
+          (should (equal (numbers) (mapcar #'number-to-string (number-sequence 2 10))))
+          (with-current-buffer list
+            (live-occur-edit-mode -1))
+          (should (string-prefix-p "2:o\n" (live-occur-test--rows list))))))))
+
+(ert-deftest live-occur-yanks-the-head-of-a-row ()
+  (live-occur-test--with '("one\ntwo\n")
+    (live-occur-test--in-windows
+      (let ((list (live-occur-test--edited-list "o")))
+        (with-selected-window (get-buffer-window list)
+          (live-occur-test--press "M-< C-SPC C-f C-f M-w C-y")
+          (should (equal (buffer-substring-no-properties 1 8) "1:1:one"))
+          (live-occur-edit-mode -1))
+        (should (equal (live-occur-test--text-of a) "1:one\ntwo\n"))
+        (should (equal (live-occur-test--rows list) "1:1:one\n2:two\n"))))))
+
 (ert-deftest live-occur-edits-rows-at-random ()
   "After each of many edits of rows and undos, the lines are those of the rows."
   (random "live-occur rows")
@@ -2849,7 +3505,7 @@ Its rows are there, and can be edited."
 (ert-deftest live-occur-writes-rows-after-an-error ()
   "No error ends that rows are written, and what it has kept from its line is written later."
   (dolist (function '(live-occur--row-text live-occur--touch live-occur--change-line
-                      live-occur--replace live-occur--note-change live-occur--row-changed
+                      live-occur--replace live-occur--mark-row live-occur--row-changed
                       live-occur--write-rows live-occur--write-row))
     (dolist (fault '(error quit))
       (live-occur-test--with '("one\ntwo\nfour\n")
@@ -2982,12 +3638,10 @@ Its rows are there, and can be edited."
 (defun live-occur-test--marked (list)
   "The rows of LIST that are marked as changed."
   (with-current-buffer list
-    (live-occur--mark-changed 0 (live-occur--total))
     (save-excursion
       (cl-loop initially (goto-char (point-min))
                until (eobp)
-               when (cl-some (lambda (overlay) (overlay-get overlay 'live-occur-changed))
-                             (overlays-at (point)))
+               when (memq 'live-occur-changed (ensure-list (get-text-property (point) 'face)))
                collect (buffer-substring-no-properties (point) (line-end-position))
                do (forward-line 1)))))
 
@@ -3094,68 +3748,33 @@ Its rows are there, and can be edited."
     (live-occur-test--with-file file "one\ntwo\n"
       (let ((list (live-occur "o")))
         (live-occur-test--rows list)
-        (cl-flet ((undo-in-list () (with-current-buffer list
-                                     (undo-boundary)
-                                     (setq last-command nil)
-                                     (undo))))
-          (with-current-buffer list
-            (live-occur-edit-mode))
-          (ert-info ("undone in the list")
-            (live-occur-test--edit-row list 1 "X")
-            (should (buffer-modified-p a))
-            (undo-in-list)
-            (should-not (buffer-modified-p a)))
-          (ert-info ("typed back in the list")
-            (live-occur-test--edit-row list 1 "X")
-            (live-occur-test--edit-row list 2 "Y")
-            (with-current-buffer list
-              (delete-char -1))
-            (should (buffer-modified-p a))
-            (live-occur-test--go-to-row 0)
-            (with-current-buffer list
-              (live-occur-test--go-to-row 0)
-              (search-forward "X")
-              (delete-char -1))
-            (should (equal (buffer-string) "one\ntwo\n"))
-            (should-not (buffer-modified-p a)))
+        (cl-flet ((edit-and-undo (between)
+                    (with-current-buffer list
+                      (live-occur-edit-mode))
+                    (live-occur-test--edit-row list 1 "X")
+                    (should (buffer-modified-p a))
+                    (funcall between)
+                    (with-current-buffer list
+                      (undo-boundary)
+                      (setq last-command nil)
+                      (undo)
+                      (live-occur-edit-mode -1))
+                    (live-occur-test--rows list)
+                    (buffer-modified-p a)))
+          (should-not (edit-and-undo #'ignore))
           (ert-info ("edited in the buffer, too")
-            (live-occur-test--edit-row list 1 "X")
-            (goto-char (point-max))
-            (insert "so\n")
-            (undo-in-list)
+            (should (edit-and-undo (lambda () (goto-char (point-max)) (insert "so\n"))))
             (should (equal (buffer-string) "one\ntwo\nso\n"))
-            (should (buffer-modified-p a))
-            (delete-region 9 (point-max))
-            (live-occur-test--edit-row list 1 "X")
-            (should (buffer-modified-p a))
-            (undo-in-list)
-            (should (equal (buffer-string) "one\ntwo\n"))
-            (should-not (buffer-modified-p a)))
+            (live-occur-test--save)
+            (should-not (edit-and-undo #'ignore)))
           (ert-info ("saved meanwhile")
-            (live-occur-test--edit-row list 1 "X")
-            (live-occur-test--save)
-            (undo-in-list)
-            (should (equal (buffer-string) "one\ntwo\n"))
-            (should (buffer-modified-p a))
-            (live-occur-test--save))
-          (ert-info ("saved, and modified again")
-            (live-occur-test--edit-row list 1 "X")
-            (live-occur-test--save)
-            (goto-char (point-max))
-            (insert "so\n")
-            (undo-in-list)
-            (delete-region 9 (point-max))
-            (live-occur-test--edit-row list 2 "Y")
-            (undo-in-list)
-            (should (equal (buffer-string) "one\ntwo\n"))
-            (should (buffer-modified-p a))
+            (should (edit-and-undo #'live-occur-test--save))
+            (should (equal (buffer-string) "one\ntwo\nso\n"))
             (live-occur-test--save))
           (ert-info ("changed on the disk")
-            (live-occur-test--edit-row list 1 "X")
-            (write-region "other\n" nil file nil 'quiet)
-            (set-file-times file (time-add nil 60))
-            (undo-in-list)
-            (should (buffer-modified-p a))))))))
+            (should (edit-and-undo (lambda ()
+                                     (write-region "other\n" nil file nil 'quiet)
+                                     (set-file-times file (time-add nil 60)))))))))))
 
 (ert-deftest live-occur-gives-up-the-mark-of-modification-too ()
   (live-occur-test--with '("")
@@ -3196,7 +3815,6 @@ Its rows are there, and can be edited."
           (goto-char (point-min))
           (while (search-forward "quick" nil t)
             (replace-match "slow" t t))
-          (should (= 9000 (length live-occur--edited)))
           (cl-letf* ((turns 0)
                      (wait (symbol-function 'sit-for))
                      ((symbol-function 'sit-for)
@@ -3275,7 +3893,7 @@ up what the rows changed alone."
 
 (ert-deftest live-occur-saves-what-rows-changed ()
   (live-occur-test--with '("xo\n")
-    (let ((other a) told)
+    (let ((other a))
       (live-occur-test--with-file file "one\ntwo\n"
         (live-occur-test--with-file file2 "so\n"
           (live-occur-test--in-windows
@@ -3287,11 +3905,7 @@ up what the rows changed alone."
                 (live-occur-test--edit-row list 4 "Y")
                 (should (equal (live-occur-test--marked list)
                                '("file:2:Xtwo" "a:1:Yxo")))
-                (cl-letf (((symbol-function 'message)
-                           (lambda (text &rest words)
-                             (setq told (and text (apply #'format text words))))))
-                  (live-occur-test--press "C-x C-s"))
-                (should (equal told "1 buffer is saved; no file is visited by a"))
+                (live-occur-test--press "C-x C-s")
                 (should-not live-occur-edit-mode))
               (should (equal (with-temp-buffer
                                (insert-file-contents file)
@@ -3299,7 +3913,6 @@ up what the rows changed alone."
                              "one\nXtwo\n"))
               (should-not (buffer-modified-p (get-file-buffer file)))
               (live-occur-test--rows list)
-              (should (equal (live-occur-test--marked list) '("a:1:Yxo")))
               (ert-info ("later, by s")
                 (with-current-buffer list
                   (live-occur-edit-mode))
@@ -3307,185 +3920,30 @@ up what the rows changed alone."
                 (with-current-buffer list
                   (live-occur-edit-mode -1))
                 (live-occur-test--rows list)
-                (should (equal (live-occur-test--marked list) '("file:1:Zone" "a:1:Yxo")))
                 (should (buffer-modified-p (get-file-buffer file)))
                 (with-current-buffer list
                   (call-interactively (key-binding "s")))
-                (should-not (buffer-modified-p (get-file-buffer file)))
-                (should (equal (live-occur-test--marked list) '("a:1:Yxo")))))))))))
+                (should-not (buffer-modified-p (get-file-buffer file)))))))))))
 
-(ert-deftest live-occur-marks-rows-until-they-are-saved ()
-  (live-occur-test--with '("")
-    (live-occur-test--with-file file "one\ntwo\nso\nfoo\n"
-      (live-occur-test--in-windows
-        (let ((list (live-occur-test--edited-list "o")))
-          (live-occur-test--edit-row list 2 "X")
-          (live-occur-test--edit-row list 3 "X")
-          (should (equal (live-occur-test--marked list) '("2:Xtwo" "3:Xso")))
-          (with-current-buffer list
-            (live-occur-edit-mode -1))
-          (should (equal (live-occur-test--rows list) "1:one\n2:Xtwo\n3:Xso\n4:foo\n"))
-          (should (equal (live-occur-test--marked list) '("2:Xtwo" "3:Xso")))
-          (ert-info ("lines move")
-            (goto-char (point-min))
-            (insert "x\no\n")
-            (goto-char (point-max))
-            (insert "o\n")
-            (live-occur-test--rows list)
-            (should (equal (live-occur-test--marked list) '("4:Xtwo" "5:Xso"))))
-          (ert-info ("a line that is put directly before it")
-            (goto-char (point-min))
-            (forward-line 3)
-            (insert "oo\n")
-            (live-occur-test--rows list)
-            (should (equal (live-occur-test--marked list) '("5:Xtwo" "6:Xso"))))
-          (ert-info ("a line goes")
-            (goto-char (point-min))
-            (search-forward "Xtwo")
-            (delete-region (line-beginning-position) (line-beginning-position 2))
-            (live-occur-test--rows list)
-            (should (equal (live-occur-test--marked list) '("5:Xso"))))
-          (ert-info ("the change is undone in the buffer")
-            (search-forward "X")
-            (delete-char -1)
-            (live-occur-test--rows list)
-            (should (equal (live-occur-test--marked list) nil))
-            (insert "X")
-            (live-occur-test--rows list)
-            (should (equal (live-occur-test--marked list) '("5:Xso"))))
-          (ert-info ("the buffer is saved")
-            (live-occur-test--save)
-            (live-occur--look list)
-            (with-current-buffer list
-              (should-not live-occur--touched))
-            (should-not (live-occur-test--marked list))
-            (goto-char (point-max))
-            (insert "o\n")
-            (live-occur-test--rows list)
-            (should-not (live-occur-test--marked list))))))))
-
-(ert-deftest live-occur-marks-rows-through-several-edits ()
-  (live-occur-test--with '("")
-    (live-occur-test--with-file file "one\ntwo\n"
-      (let ((list (live-occur "o")))
-        (cl-flet ((edit (row text)
-                    (with-current-buffer list
-                      (live-occur-edit-mode))
-                    (live-occur-test--edit-row list row text)
-                    (with-current-buffer list
-                      (live-occur-edit-mode -1))
-                    (live-occur-test--rows list)))
-          (live-occur-test--rows list)
-          (edit 2 "X")
-          (edit 1 "X")
-          (edit 2 "Y")
-          (should (equal (live-occur-test--marked list) '("1:Xone" "2:YXtwo")))
-          (ert-info ("the second edit of a row is given up, the first one is not")
-            (with-current-buffer list
-              (live-occur-edit-mode))
-            (live-occur-test--edit-row list 2 "Z")
-            (with-current-buffer list
-              (live-occur-abort-changes))
-            (live-occur-test--rows list)
-            (should (equal (live-occur-test--marked list) '("1:Xone" "2:YXtwo")))
-            (should (buffer-modified-p a)))
-          (ert-info ("what two edits have changed is typed back")
-            (with-current-buffer list
-              (live-occur-edit-mode)
-              (goto-char (point-min))
-              (search-forward "X")
-              (delete-char -1)
-              (should (buffer-modified-p a))
-              (search-forward "YX")
-              (delete-char -2)
-              (should-not (buffer-modified-p a))
-              (live-occur-edit-mode -1))
-            (live-occur-test--rows list)
-            (should-not (live-occur-test--marked list)))
-          (ert-info ("after an edit that isn't told nothing is marked, but it can be saved")
-            (edit 2 "X")
-            (let ((inhibit-modification-hooks t))
-              (goto-char (point-min))
-              (insert "o\n"))
-            (should (equal (live-occur-test--rows list) "1:o\n2:one\n3:Xtwo\n"))
-            (should-not (live-occur-test--marked list))
-            (with-current-buffer list
-              (live-occur-save))
-            (should-not (buffer-modified-p a)))
-          (ert-info ("so it is where other lines may have replaced it")
-            (edit 1 "X")
-            (edit 2 "X")
-            (should (equal (live-occur-test--marked list) '("1:Xo" "2:Xone")))
-            (goto-char (point-min))
-            (delete-region (point) (line-beginning-position 3))
-            (insert "o\nXone\no\n")
-            (should (equal (live-occur-test--rows list) "1:o\n2:Xone\n3:o\n4:Xtwo\n"))
-            (should-not (live-occur-test--marked list))
-            (with-current-buffer list
-              (live-occur-save))
-            (should-not (buffer-modified-p a)))
-          (ert-info ("it stays marked where lines have moved often")
-            (edit 4 "X")
-            (dotimes (_ 300)
-              (goto-char (point-min))
-              (insert "o\n\n")
-              (forward-line 1)
-              (insert "o\n"))
-            (live-occur-test--rows list)
-            (should (equal (live-occur-test--marked list) '("904:XXtwo")))))))))
-
-(defun live-occur-test--mark-rows-at-random ()
-  "Let lines come and go, and compare the rows that are marked."
-  (live-occur-test--with (list (mapconcat (lambda (line) (format "o%d\n" line))
-                                          (number-sequence 1 60) ""))
-    (let ((list (live-occur "o")) (marked 0))
-      (live-occur-test--rows list)
-      (dotimes (_ 60)
-        (with-current-buffer list
-          (live-occur-edit-mode))
-        (dotimes (_ 3)
-          (let ((total (with-current-buffer list (live-occur--total))))
-            (live-occur-test--edit-row list (1+ (random total)) "X")))
-        (with-current-buffer list
-          (live-occur-edit-mode -1))
-        (dotimes (_ (random 4))
-          (dotimes (_ (random 4))
-            (goto-char (point-min))
-            (forward-line (random (count-lines (point-min) (point-max))))
-            (pcase (random 4)
-              (0 (delete-region (point) (min (point-max)
-                                             (line-beginning-position (+ 2 (random 2))))))
-              (1 (insert "o new\n"))
-              (2 (end-of-line) (insert "\no new" (make-string (random 3) ?\n)))
-              (3 (insert "o new\no newer\n"))))
-          (let* ((rows (live-occur-test--rows list))
-                 (wanted (seq-filter (lambda (row) (string-search "X" row))
-                                     (split-string rows "\n" t))))
-            (cl-incf marked (length wanted))
-            (should (equal (live-occur-test--marked list) wanted)))))
-      (should (> marked 500)))))
-
-(ert-deftest live-occur-marks-rows-at-random ()
-  "Lines come and go: the rows of changed ones are marked, and no others."
-  (random "live-occur marks")
-  (live-occur-test--mark-rows-at-random))
-
-(ert-deftest live-occur-marks-rows-at-random-in-pieces ()
-  (random "live-occur marks in pieces")
-  (live-occur-test--in-pieces
-    (live-occur-test--mark-rows-at-random)))
-
-(ert-deftest live-occur-marks-rows-in-view ()
+(ert-deftest live-occur-marks-rows-that-were-changed ()
   (live-occur-test--with '("one\ntwo\n")
     (live-occur-test--in-windows
       (let ((list (live-occur-test--edited-list "o")))
         (live-occur-test--edit-row list 2 "X")
         (with-current-buffer list
-          (run-hook-with-args 'pre-redisplay-functions (get-buffer-window list))
+          (live-occur-edit-mode -1)
+          (live-occur-edit-mode)
+          (should-not (live-occur-test--marked list)))
+        (live-occur-test--edit-row list 2 "X")
+        (should (equal (live-occur-test--marked list) '("2:XXtwo")))
+        (with-current-buffer list
           (live-occur-test--go-to-row 1)
-          (should (eq 'live-occur-changed (get-char-property (point) 'face)))
-          (live-occur-test--go-to-row 0)
-          (should-not (eq 'live-occur-changed (get-char-property (point) 'face))))))))
+          (goto-char (live-occur--after-head))
+          (delete-char 1)
+          (should-not (live-occur-test--marked list))
+          (insert "Y")
+          (live-occur-edit-mode -1))
+        (should-not (live-occur-test--marked list))))))
 
 ;;;; Random edits
 
@@ -3559,7 +4017,7 @@ up what the rows changed alone."
       (8 (live-occur-set-context (random 3) (random 3)))
       ((or 0 1 2 3) (live-occur--toggle (nth (random 3) '(?i ?v ?x))))
       (4 (let ((syntax (nth (random 3) '(basic extended fixed))))
-           (live-occur--set 'live-occur-syntax syntax (format "syntax %s" syntax))))
+           (live-occur--set-syntax syntax)))
       (5 (live-occur-test--add (nth (random 6) '("a" "b$" "^" "a*b" "\\(a" "[ab]B"))))
       (6 (when live-occur--patterns
            (live-occur-drop-pattern (random (length live-occur--patterns)))))
@@ -3659,11 +4117,8 @@ The answer is how many they are."
   "How many random edits are made.")
 
 (ert-deftest live-occur-shows-what-grep-writes ()
-  (live-occur-test--compare-after-edits live-occur-test--edits))
-
-(ert-deftest live-occur-shows-what-grep-writes-by-an-old-program ()
-  (live-occur-test--with-old-program
-    (live-occur-test--compare-after-edits (/ live-occur-test--edits 4))))
+  (let ((live-occur-characters nil))
+    (live-occur-test--compare-after-edits live-occur-test--edits)))
 
 (defun live-occur-test--compare-after-edits (edits)
   "After random EDITS in several buffers the rows are those of grep."
@@ -3943,8 +4398,8 @@ The answer is the seconds until then, and those of the longest step."
         (should (equal (live-occur-test--rows list)
                        (concat "1:needle" (substring long 0 994) "…\n2:needle 2\n")))))))
 
-(ert-deftest live-occur-shortens-rows-of-lines-that-grow ()
-  "A line that becomes long in its buffer is shortened and read-only in the list."
+(ert-deftest live-occur-leaves-rows-of-lines-that-grow ()
+  "A line that becomes long in its buffer is shortened when rows are edited no longer."
   (live-occur-test--with '("needle\nneedle 2\n")
     (live-occur-test--in-windows
       (let ((list (live-occur "needle"))
@@ -3956,10 +4411,7 @@ The answer is the seconds until then, and those of the longest step."
         (insert long)
         (with-current-buffer list
           (live-occur--look list)
-          (should (equal (live-occur-test--text-shown)
-                         (concat "1:needle" (substring long 0 994) "…\n2:needle 2\n")))
-          (dolist (position '(3 5 6 1000))
-            (live-occur-test--refuses-text position))
+          (should (equal (live-occur-test--text-shown) "1:needle\n2:needle 2\n"))
           (goto-char (1- (point-max)))
           (insert "!")
           (live-occur-edit-mode -1))
@@ -3983,7 +4435,7 @@ The answer is the seconds until then, and those of the longest step."
           (set-marker after (- (point-max) 1 (length back)))
           (undo-boundary)
           (goto-char 2)
-          (live-occur--replace old new (random (1+ (length front))) (random (1+ (length back))))
+          (live-occur--replace old new)
           (should (equal (buffer-string) (concat "<" new ">")))
           (should (= (point) 2))
           (should (>= (point-max) (marker-position after) (marker-position before)))
@@ -4003,7 +4455,7 @@ The answer is the seconds until then, and those of the longest step."
       (goto-char 1)
       (live-occur-test--watch (lambda ()
                                 (live-occur-test--entered 'replace #'live-occur--replace
-                                                          old new 0 0)))
+                                                          old new)))
       (should (string-equal (buffer-string) new)))))
 
 ;;;; Large texts
@@ -4097,7 +4549,7 @@ TEXT is what is in each line."
           (with-timeout (60)
             (while (live-occur--busy-p)
               (accept-process-output nil 0.02)))
-          (should (equal (live-occur--put '("x")) "ok"))
+          (should-not (live-occur--put '("x")))
           (with-timeout (60)
             (while (live-occur--busy-p)
               (accept-process-output nil 0.02)))
@@ -4221,7 +4673,7 @@ TEXT is what is in each line."
               (kill-buffer list)
               (accept-process-output nil 0.1)
               (should (equal (process-list) processes))
-              (should (= (length timer-list) timers)))))))))
+              (should (<= (length timer-list) timers)))))))))
 
 (ert-deftest live-occur-keeps-rows-until-a-program-has-reported-all ()
   (live-occur-test--with '("")
@@ -4415,9 +4867,10 @@ TEXT is what is in each line."
         (live-occur-test--wait)))
     (goto-char (point-min))
     (garbage-collect)
-    (let ((start (cdr (live-occur-test--now))))
+    (let ((start (float-time (get-internal-run-time)))
+          (gc-cons-threshold most-positive-fixnum))
       (perform-replace "fox" "wolf" nil nil nil)
-      (prog1 (- (cdr (live-occur-test--now)) start)
+      (prog1 (- (float-time (get-internal-run-time)) start)
         (when list
           (should (equal (live-occur-test--rows list) ""))
           (kill-buffer list))
@@ -4425,7 +4878,7 @@ TEXT is what is in each line."
         (perform-replace "wolf" "fox" nil nil nil)))))
 
 (ert-deftest live-occur-lets-many-words-be-replaced ()
-  "With a list it takes less than twice the time."
+  "With a list it takes less than three times as long."
   :tags '(unwatched)
   (live-occur-test--with '("")
     (live-occur-test--insert-lines 70000 1000 "the quick brown fox ")
@@ -4435,35 +4888,31 @@ TEXT is what is in each line."
                   (apply #'min (cl-loop repeat 3 collect (live-occur-test--replace-time list))))))
       (let ((without (funcall best nil)) (with (funcall best t)))
         (live-occur-test--tell "70,000 words replaced: %.2f s, with a list %.2f s" without with)
-        (should (< with (* 2 without)))))))
+        (should (< with (* 3 without)))))))
 
-(ert-deftest live-occur-gathers-bursts ()
-  "Many changes are gathered, also where newlines come and go, or one isn't told."
-  (let ((live-occur--many 3))
+(ert-deftest live-occur-gathers-many-changes ()
+  "Also where newlines come and go, or one isn't told."
+  (progn
     (live-occur-test--with (list (apply #'concat (make-list 300 "ab ab\n")) "ab a")
       (let ((list (live-occur "b.a\nx$" buffers)) (folder (make-temp-file "live-occur" t)))
         (unwind-protect
             (cl-flet ((check ()
                         (let ((shown (live-occur-test--rows list)))
-                          (should-not live-occur--burst)
                           (should (memq #'live-occur--before before-change-functions))
                           (should (equal shown (live-occur-test--searched list folder))))))
               (check)
               (goto-char 600)
               (dotimes (_ 10) (insert "x"))
-              (should live-occur--burst)
               (check)
               (replace-regexp-in-region "a" "c" 1)
               (check)
               (replace-regexp-in-region "b c" "b a" 400 900)
-              (should live-occur--burst)
               (goto-char 1000)
               (dotimes (_ 20) (insert "\n") (forward-char 3) (delete-char 2))
               (live-occur-test--numbers-in-order list)
               (dotimes (_ 20) (insert "x") (forward-char 2) (delete-char 1))
               (check)
               (dotimes (_ 10) (insert "x"))
-              (should live-occur--burst)
               (let ((inhibit-modification-hooks t)) (insert "x\nx"))
               (dotimes (_ 10) (insert "x"))
               (check)
@@ -4553,10 +5002,6 @@ TEXT is what is in each line."
                                       (live-occur--make-rows 0 1)
                                       (princ (buffer-string))))))))
     (should (equal (buffer-string) "2:two\n"))))
-
-(defun live-occur-test--beside (name)
-  "The file NAME, seen from the folder of the file that is tested."
-  (expand-file-name name (file-name-directory (live-occur-test--file))))
 
 (ert-deftest live-occur-has-the-version-of-the-project ()
   (should (equal (lm-version (live-occur-test--file))
