@@ -1,5 +1,5 @@
 pub mod BracketRows
 pub mod BasicRows
 pub mod ExtendedRows
-pub mod ExtendedDepth
-pub mod ExtendedRefusedRows
+pub mod RefusedRows
+pub mod Depth

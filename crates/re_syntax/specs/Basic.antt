@@ -2,8 +2,10 @@
 -- undefined and GNU grep has. Each relation is between a text that begins with a part, the text
 -- after the part, and what the part means. A number is the part's height: how deep groups and
 -- duplications are nested in it.
-use Rattle.std.specs.Prelude.{◌≡◌, ℕ, suc, max, Bool, not, List, [], ◌∷◌, ◌++◌, Option, Some, None}
-use Rattle.std.specs.Prelude.{IsTrue, codes}
+use Rattle.std.specs.Prelude.{◌≡◌, ℕ, suc, max, Bool, not, ◌&&◌, List, [], ◌∷◌, ◌++◌, Option}
+use Rattle.std.specs.Prelude.{Some, None, IsTrue, codes}
+pub use Rattle.re_syntax.specs.declared.tokens.ItemPlace.{ItemPlace}
+pub use Rattle.re_syntax.specs.declared.tokens.ItemPlace.TheVariants.{First, AfterAnchor, Later}
 use Rattle.re_trees.specs.Bytes.{Text, any_but_nul}
 use Rattle.re_trees.specs.Expression.{Expression, one_of, begin, end, repeat, byte, sequence}
 use Rattle.re_trees.specs.Expression.{choice}
@@ -20,17 +22,16 @@ pub data Duplication : Text → ℕ → Option ℕ → Type 0 where
   interval : {t : Text} {least : ℕ} {most : Option ℕ} → Interval t least most →
       IsAllowed least most → Duplication (codes "\\{" ++ t ++ codes "\\}") least most
 
--- where in its branch an item is: first, directly after the anchor that is first, or after another
--- item
-pub data ItemPlace : Type 0 where
-  First AfterAnchor Later : ItemPlace
+-- the bytes that have a meaning by their place: `^` where it is first, `*` after an item (XBD
+-- 9.3.3, 9.3.8)
+abbrev pub marks : ItemPlace → Text
+marks First = codes "^"
+marks AfterAnchor = []
+marks Later = codes "*"
 
--- whether a byte stands for itself: not `[`, `.` or `\`; `^` only where it is not first; `*` only
--- first or directly after the anchor (XBD 9.3.3, 9.3.8)
+-- whether a byte stands for itself: not `[`, `.` or `\`, nor a mark of its place
 abbrev pub is_ordinary : ItemPlace → ℕ → Bool
-is_ordinary First b = not (is_in (codes "[.\\^") b)
-is_ordinary AfterAnchor b = not (is_in (codes "[.\\") b)
-is_ordinary Later b = not (is_in (codes "[.\\*") b)
+is_ordinary p b = not (is_in (codes "[.\\") b) && not (is_in (marks p) b)
 
 -- a branch ends here: the text ends, the group ends, or another branch follows
 pub data IsAtEnd : Text → Type 0 where

@@ -54,9 +54,3 @@ pub data IsBracket : Text → Text → Expression → Type 0 where
 pub record IsBracketUpTo (text : Text) (from beyond : ℕ) (e : Expression) : Type 0 where
   pub within : beyond ≤ length text
   pub stands : IsBracket (drop from text) (drop beyond text) e
-
--- every bracket expression at the first place ends at the second and has this meaning
-abbrev pub IsOnlyBracket : Text → ℕ → ℕ → Expression → Type 0
-IsOnlyBracket text from beyond e =
-    (rest : Text) (other : Expression) → IsBracket (drop from text) rest other →
-    (rest ≡ drop beyond text) × (other ≡ e)

@@ -1,9 +1,7 @@
 -- Why an interval is refused for its numbers (XBD 9.3.6 item 5, 9.4.6 item 5).
-use Rattle.std.specs.Prelude.{◌≡◌, ℕ, ◌<◌, ◌≤◌, ◌++◌, Option, Some}
+use Rattle.std.specs.Prelude.{ℕ, ◌<◌, ◌≤◌, Option, Some}
 use Rattle.re_syntax.specs.declared.fault.FaultKind.{FaultKind}
 use Rattle.re_syntax.specs.declared.fault.FaultKind.TheVariants.{BadInterval, IntervalTooLarge}
-use Rattle.re_trees.specs.Bytes.{Text}
-use Rattle.re_syntax.specs.Intervals.{ClosedInterval}
 use Rattle.re_syntax.specs.Profile.{most_repeats}
 
 -- why an interval of these numbers is refused; too large takes precedence over descending
@@ -14,13 +12,3 @@ pub data IsDisallowed : FaultKind → ℕ → Option ℕ → Type 0 where
       IsDisallowed IntervalTooLarge least (Some top)
   descending : {least top : ℕ} → top < least → least ≤ most_repeats →
       IsDisallowed BadInterval least (Some top)
-
--- the text begins with an interval between these braces that is refused for its numbers
-pub record OpensDisallowed (opening close : Text) (kind : FaultKind) (t : Text) : Type 0 where
-  pub inside : Text
-  pub rest : Text
-  pub least : ℕ
-  pub most : Option ℕ
-  pub opens : t ≡ opening ++ inside
-  pub stands : ClosedInterval close inside rest least most
-  pub disallowed : IsDisallowed kind least most

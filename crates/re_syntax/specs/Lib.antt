@@ -6,16 +6,20 @@ pub use Rattle.re_trees.specs.Parts
 pub use Rattle.re_trees.specs.Lines
 pub mod Profile
 pub mod Brackets
-pub mod Faults
 pub mod Intervals
 pub mod Escapes
 pub mod Basic
 pub mod Extended
 pub mod Spelled
+-- why a text spells nothing: its tokens, and the first place where none is
+pub mod Tokens
+pub mod BasicTokens
+pub mod ExtendedTokens
+pub mod BracketFaults
 pub mod IntervalFaults
 pub mod EscapeFaults
-pub mod BasicFaults
-pub mod ExtendedFaults
+pub mod Faults
+pub mod FirstFaults
 -- what the public laws say of the definitions
 pub mod Laws
 -- the definitions of the other contracts: of this crate as a library, and of its private functions

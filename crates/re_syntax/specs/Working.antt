@@ -5,14 +5,14 @@ pub mod IntervalSteps
 pub mod BracketSteps
 pub mod EscapeSteps
 pub mod Counted
-pub mod PieceSteps
-pub mod LevelSteps
 pub mod DuplicationSteps
 pub mod BasicSteps
-pub mod BasicLevels
-pub mod ExtendedSteps
-pub mod ExtendedLevels
--- the grammars of the standard alone, for the law that what it defines keeps its meaning
+pub mod TokenSteps
+pub mod Mirrors
+pub mod ShapeSteps
+pub mod Builds
+-- what tokens mean, and the grammars of the standard alone, for the laws
+pub mod TokenGrammar
 pub mod StandardIntervals
 pub mod StandardBasic
 pub mod StandardExtended

@@ -1,19 +1,22 @@
 //! Bracket expressions (XBD 9.3.5), read in one pass from left to right.
 ghost use Rattle.std.specs.Prelude.{◌≡◌, ◌≢◌, ℕ, ◌≤◌, ◌++◌, ◌∷◌, Some, IfSome, IfNone, IfOk, IfErr};
-ghost use Rattle.std.specs.Prelude.{OnOk, MatchOption, MatchBool, codes, slice_get};
+ghost use Rattle.std.specs.Prelude.{OnOk, MatchOption, MatchBool, codes, slice_get, drop};
 ghost use Rattle.re_trees.specs.Bytes.{Begins, class_name};
-ghost use Rattle.re_trees.specs.Working.Trees.{expression_of, members};
+ghost use Rattle.re_trees.specs.Working.Trees.{members};
 ghost use Rattle.re_syntax.specs.Brackets.{Point, Element, Rest, IsBracket, IsBracketUpTo};
-ghost use Rattle.re_syntax.specs.Brackets.{IsOnlyBracket};
-ghost use Rattle.re_syntax.specs.Working.BracketSteps.{Stands, OpensNoClass, MayGoOn, HasNoPoint};
-ghost use Rattle.re_syntax.specs.Working.BracketSteps.{HasNoRangeEnd, HasNoElement, HasNoList};
-ghost use Rattle.re_syntax.specs.Working.BracketSteps.{HasNoBracket, IsShown, PassesHyphen};
+ghost use Rattle.re_syntax.specs.BracketFaults.{PointFault, RangeFault, ElementFault, ListFault};
+ghost use Rattle.re_syntax.specs.BracketFaults.{BracketFault};
+ghost use Rattle.re_syntax.specs.Working.BracketSteps.{from_place, Fails, IsIn, IsHyphenBefore};
+ghost use Rattle.re_syntax.specs.Working.BracketSteps.{OpensNoClass, MayGoOn, PassesHyphen};
+ghost use Rattle.re_syntax.specs.Working.BracketSteps.{IsStray};
 ghost use Rattle.re_syntax.specs.Working.Cursors.{left, Passes};
-ghost use Rattle.re_syntax.specs.Faults.{IsNoBracket};
+ghost use Rattle.re_syntax.specs.Faults.{IsAt};
+ghost use Rattle.re_syntax.specs.Working.TokenSteps.{atom_expression};
 
 use crate::cursor::Cursor;
 use crate::fault::{FaultKind, PatternFault};
-use re_trees::{ByteSet, Class, Tree};
+use crate::tokens::Atom;
+use re_trees::{ByteSet, Class};
 
 /// Where an element is in the list of a bracket expression.
 #[derive(Clone, Copy, PartialEq, Eq, Debug, Drop)]
@@ -56,10 +59,11 @@ fn take_class(cursor: &mut Cursor) -> Option<Class>
 /// A byte for itself, or a collating symbol of one byte. At the text's end the bracket expression
 /// whose `[` is at `opening` is unclosed.
 fn read_point(cursor: &mut Cursor, opening: usize) -> Result<u8, PatternFault>
-    requires opened { Stands (codes "[") opening cursor.old }
+    requires opened { IsIn opening cursor.old }
     requires no_class { OpensNoClass (left cursor.old) }
     ensures read { IfOk result (Point (left cursor.old) (left cursor.new)) }
-    ensures refused { IfErr result (HasNoPoint opening cursor.old) }
+    ensures refused { IfErr result
+        (Fails (PointFault (from_place opening cursor.old) (left cursor.old)) cursor.old) }
     ensures same_text { OnOk result (cursor.new.text ≡ cursor.old.text) }
 {
     let from = cursor.place();
@@ -88,11 +92,12 @@ fn read_range_end(
     hyphen: usize,
     opening: usize,
 ) -> Result<u8, PatternFault>
-    requires opened { Stands (codes "[") opening cursor.old }
-    requires hyphen_stands { Stands (codes "-") hyphen cursor.old }
+    requires opened { IsIn opening cursor.old }
+    requires hyphen_before { IsHyphenBefore hyphen cursor.old }
     ensures read { IfOk result (Point (left cursor.old) (left cursor.new)) }
     ensures ascends { IfOk result (λ last. first ≤ last) }
-    ensures refused { IfErr result (HasNoRangeEnd opening first cursor.old) }
+    ensures refused { IfErr result
+        (Fails (RangeFault (from_place opening cursor.old) first (left cursor.old)) cursor.old) }
     ensures same_text { OnOk result (cursor.new.text ≡ cursor.old.text) }
 {
     let bad_range = PatternFault {
@@ -142,20 +147,19 @@ fn skip_hyphen(cursor: &mut Cursor) -> Option<usize>
 /// The fault of a hyphen that may not begin a range, where another follows that is not the last.
 /// Either the text ends after the two, or the second, at `hyphen`, is not allowed.
 fn stray_hyphen(cursor: &Cursor, hyphen: usize, opening: usize) -> PatternFault
-    requires opened { Stands (codes "[") opening cursor.now }
-    requires hyphen_stands { Stands (codes "-") hyphen cursor.now }
-    ensures { IsShown opening cursor.now result }
+    requires opened { IsIn opening cursor.now }
+    requires hyphen_before { IsHyphenBefore hyphen cursor.now }
+    ensures { IsStray opening cursor.now result }
 {
-    if cursor.peek().is_some() {
-        PatternFault {
+    match cursor.peek() {
+        Some(_) => PatternFault {
             kind: FaultKind::BadRange,
             at: hyphen,
-        }
-    } else {
-        PatternFault {
+        },
+        None => PatternFault {
             kind: FaultKind::UnclosedBracket,
             at: opening,
-        }
+        },
     }
 }
 
@@ -165,12 +169,13 @@ fn read_point_or_range(
     place: ListPlace,
     opening: usize,
 ) -> Result<(ByteSet, ListPlace), PatternFault>
-    requires opened { Stands (codes "[") opening cursor.old }
+    requires opened { IsIn opening cursor.old }
     requires no_class { OpensNoClass (left cursor.old) }
     requires goes_on { MayGoOn place (left cursor.old) }
     ensures read { IfOk result
         (λ found. Element place (left cursor.old) (left cursor.new) (members found.0) found.1) }
-    ensures refused { IfErr result (HasNoElement opening place cursor.old) }
+    ensures refused { IfErr result
+        (Fails (ElementFault (from_place opening cursor.old) place (left cursor.old)) cursor.old) }
     ensures same_text { OnOk result (cursor.new.text ≡ cursor.old.text) }
 {
     let may_begin = may_begin_range(cursor, place);
@@ -193,11 +198,12 @@ fn read_element(
     place: ListPlace,
     opening: usize,
 ) -> Result<(ByteSet, ListPlace), PatternFault>
-    requires opened { Stands (codes "[") opening cursor.old }
+    requires opened { IsIn opening cursor.old }
     requires goes_on { MayGoOn place (left cursor.old) }
     ensures read { IfOk result
         (λ found. Element place (left cursor.old) (left cursor.new) (members found.0) found.1) }
-    ensures refused { IfErr result (HasNoElement opening place cursor.old) }
+    ensures refused { IfErr result
+        (Fails (ElementFault (from_place opening cursor.old) place (left cursor.old)) cursor.old) }
     ensures same_text { OnOk result (cursor.new.text ≡ cursor.old.text) }
 {
     let from = cursor.place();
@@ -224,10 +230,12 @@ fn read_element(
 
 /// The bytes that the elements of a list add, up to the `]` that closes it.
 fn read_list(cursor: &mut Cursor, opening: usize) -> Result<ByteSet, PatternFault>
-    requires opened { Stands (codes "[") opening cursor.old }
+    requires opened { IsIn opening cursor.old }
     ensures read { IfOk result
         (λ set. Rest ListPlace.First (left cursor.old) (left cursor.new) (members set)) }
-    ensures refused { IfErr result (HasNoList opening cursor.old) }
+    ensures refused { IfErr result
+        (Fails (ListFault (from_place opening cursor.old) ListPlace.First (left cursor.old))
+        cursor.old) }
     ensures same_text { OnOk result (cursor.new.text ≡ cursor.old.text) }
 {
     let (mut set, mut place) = read_element(cursor, ListPlace::First, opening)?;
@@ -240,42 +248,39 @@ fn read_list(cursor: &mut Cursor, opening: usize) -> Result<ByteSet, PatternFaul
 }
 
 /// The bracket expression that comes next: a `Set` of the bytes that its list adds, or after a
-/// caret a `Not` of them. Its faults are those of `read_bracket`.
-pub fn read_next_bracket(cursor: &mut Cursor) -> Result<Tree, PatternFault>
+/// caret a `Not` of them.
+fn read_next_bracket(cursor: &mut Cursor) -> Result<Atom, PatternFault>
     requires { Begins (codes "[") (left cursor.old) }
     ensures read { IfOk result
-        (λ tree. IsBracket (left cursor.old) (left cursor.new) (expression_of tree)) }
-    ensures refused { IfErr result (HasNoBracket cursor.old) }
+        (λ atom. IsBracket (left cursor.old) (left cursor.new) (atom_expression atom)) }
+    ensures refused { IfErr result (Fails (BracketFault (left cursor.old)) cursor.old) }
     ensures same_text { OnOk result (cursor.new.text ≡ cursor.old.text) }
 {
     let opening = cursor.place();
     if cursor.skip(b"[^") {
         let set = read_list(cursor, opening)?;
-        return Ok(Tree::Not(set));
+        return Ok(Atom::Not(set));
     }
     cursor.skip(b"[");
     let set = read_list(cursor, opening)?;
-    Ok(Tree::Set(set))
+    Ok(Atom::Set(set))
 }
 
-/// The bracket expression whose `[` is at `from`, and the place after its `]`. Its tree is a `Set`,
-/// or after a caret a `Not`. Both places are offsets from the text's start.
+/// The bracket expression whose `[` is at `from`, and the place after its `]`.
 ///
 /// # Errors
 ///
-/// Where no bracket expression is there, the first fault that a reading from the left meets:
-/// `BadClass`, `BadCollatingSymbol` or `BadRange`, or `UnclosedBracket` where the text ends first.
-/// A `[:`, `[=` or `[.` that the text's end cuts off is no unclosed bracket but a bad class or
-/// collating symbol. As the end of a range, a `[:` or `[=` is a bad range.
-pub fn read_bracket(text: &[u8], from: usize) -> Result<(Tree, usize), PatternFault>
+/// Where no bracket expression is there, its fault: `BadClass`, `BadCollatingSymbol` or `BadRange`,
+/// or `UnclosedBracket` where the text ends first. A `[:`, `[=` or `[.` that the text's end cuts off
+/// is no unclosed bracket but a bad class or collating symbol. As the end of a range, a `[:` or `[=`
+/// is a bad range.
+pub fn atom_at(text: &[u8], from: usize) -> Result<(Atom, usize), PatternFault>
     requires { slice_get text.now from ≡ Some 91 }
     ensures read { IfOk result
-        (λ found. IsBracketUpTo text.now from found.1 (expression_of found.0)) }
-    ensures only { IfOk result
-        (λ found. IsOnlyBracket text.now from found.1 (expression_of found.0)) }
-    ensures refused { IfErr result (IsNoBracket text.now from) }
+        (λ found. IsBracketUpTo text.now from found.1 (atom_expression found.0)) }
+    ensures refused { IfErr result (IsAt (BracketFault (drop from text.now)) text.now) }
 {
     let mut cursor = Cursor::new(text, from);
-    let tree = read_next_bracket(&mut cursor)?;
-    Ok((tree, cursor.place()))
+    let atom = read_next_bracket(&mut cursor)?;
+    Ok((atom, cursor.place()))
 }

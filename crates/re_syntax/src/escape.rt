@@ -1,9 +1,10 @@
 //! A backslash and the byte after it (XBD 9.3.3, 9.4.3), in basic and in extended expressions.
-ghost use Rattle.std.specs.Prelude.{◌≡◌, IsTrue, IfOk, IfErr, MatchOption, codes, drop};
-ghost use Rattle.re_trees.specs.Bytes.{Begins, in_class};
+ghost use Rattle.std.specs.Prelude.{◌≡◌, IsTrue, IfOk, IfErr, MatchOption, codes, drop, ◌++◌, ◌∷◌};
+ghost use Rattle.re_trees.specs.Bytes.{Text, Begins, in_class};
+ghost use Rattle.re_syntax.specs.Faults.{IsAt};
 ghost use Rattle.re_syntax.specs.Escapes.{is_undefined};
-ghost use Rattle.re_syntax.specs.EscapeFaults.{IsRefusedEscape};
-ghost use Rattle.re_syntax.specs.Working.EscapeSteps.{EscapeStands, HasNoEscape};
+ghost use Rattle.re_syntax.specs.EscapeFaults.{EscapeFault};
+ghost use Rattle.re_syntax.specs.Working.EscapeSteps.{EscapeStands};
 
 use crate::ahead::byte_at;
 use crate::fault::{FaultKind, PatternFault};
@@ -22,7 +23,8 @@ fn is_alphanumeric(byte: u8) -> bool
 /// The fault of a byte that may not follow a backslash: a letter, a digit or one of the others.
 fn escape_fault(byte: u8, others: &[u8]) -> Option<FaultKind>
     ensures { MatchOption result (¬ IsTrue (is_undefined others.now byte))
-        (λ kind. IsRefusedEscape others.now kind byte) }
+        (λ kind. (u : Text) →
+        EscapeFault others.now (codes "\\" ++ byte ∷ u) kind (codes "\\" ++ byte ∷ u)) }
 {
     if (b'1' <= byte) & (byte <= b'9') {
         return Some(FaultKind::BackReference);
@@ -38,7 +40,8 @@ fn escape_fault(byte: u8, others: &[u8]) -> Option<FaultKind>
 pub fn read_escape(text: &[u8], at: usize, others: &[u8]) -> Result<u8, PatternFault>
     requires { Begins (codes "\\") (drop at text.now) }
     ensures read { IfOk result (EscapeStands others.now text.now at) }
-    ensures refused { IfErr result (HasNoEscape others.now text.now at) }
+    ensures refused { IfErr result
+        (IsAt (EscapeFault others.now (drop at text.now)) text.now) }
 {
     match byte_at(text, at + 1) {
         None => Err(PatternFault {

@@ -1,39 +1,34 @@
-//! Extended regular expressions (XBD 9.4), read in one pass from left to right.
-ghost use Rattle.std.specs.Prelude.{◌≡◌, ◌≤◌, ◌<◌, ◌⊎◌, ◌∷◌, ℕ, Bool, [], false, IfOk, IfErr};
-ghost use Rattle.std.specs.Prelude.{MatchOption, MatchBool, codes, length, take, drop};
+//! Extended regular expressions (XBD 9.4), and their tokens.
+ghost use Rattle.std.specs.Prelude.{◌≡◌, ◌≤◌, ◌<◌, ◌⊎◌, ◌∷◌, Bool, [], IfOk, IfErr};
+ghost use Rattle.std.specs.Prelude.{MatchOption, MatchBool, codes, length, drop, IsTrue};
+ghost use Rattle.re_syntax.specs.Escapes.{is_in};
 ghost use Rattle.re_trees.specs.Bytes.{Begins};
-ghost use Rattle.re_trees.specs.Expression.{Expression};
 ghost use Rattle.re_trees.specs.Working.Trees.{expression_of};
 ghost use Rattle.re_syntax.specs.Extended.{Duplication};
-ghost use Rattle.re_syntax.specs.declared.syntax.Syntax.TheVariants.{Extended};
-ghost use Rattle.re_syntax.specs.Profile.{most_levels};
+ghost use Rattle.re_syntax.specs.Faults.{IsAt, IsOutOfMemory};
+ghost use Rattle.re_syntax.specs.FirstFaults.{IsFirstFault};
 ghost use Rattle.re_syntax.specs.Spelled.{IsSpelled, SpellsNoOther};
-ghost use Rattle.re_syntax.specs.ExtendedFaults.{OpensDuplication, HasNothingToRepeat};
-ghost use Rattle.re_syntax.specs.ExtendedFaults.{IsShownIn, IsNoExtended};
-ghost use Rattle.re_syntax.specs.Working.PieceSteps.{IsReported, IsRefused, RunsOut};
-ghost use Rattle.re_syntax.specs.Working.ExtendedSteps.{stops, IsNoSign, DuplicationStands};
-ghost use Rattle.re_syntax.specs.Working.ExtendedSteps.{HasBadInterval, MayBegin, AtomStands};
-ghost use Rattle.re_syntax.specs.Working.ExtendedSteps.{HasNoAtom, ItemSoFar, ItemStands};
-ghost use Rattle.re_syntax.specs.Working.ExtendedSteps.{HasNoItems, IsNext, HasNoBranches};
-ghost use Rattle.re_syntax.specs.Working.ExtendedLevels.{pauses, in_group, LevelSoFar, IsFurther};
-ghost use Rattle.re_syntax.specs.Working.ExtendedLevels.{IsPaused, WholeStands};
+ghost use Rattle.re_syntax.specs.ExtendedTokens.{ExtendedTokenFault, OpensDuplication};
+ghost use Rattle.re_syntax.specs.Working.Counted.{HasPositions};
+ghost use Rattle.re_syntax.specs.Working.DuplicationSteps.{HasOne};
+ghost use Rattle.re_syntax.specs.Working.TokenSteps.{token_of, Stands, byte_token};
+ghost use Rattle.re_syntax.specs.declared.syntax.Syntax.TheVariants.{Extended};
 
-use self::groups::read_groups;
 use crate::ahead::{after, byte_at};
+use crate::bracket::atom_at;
 use crate::escape::read_escape;
 use crate::fault::{FaultKind, PatternFault};
 use crate::interval::{Counts, counts_fault, read_interval};
-use crate::pieces::{
-    Level, Piece, any_of, joined, leaf, meant_by, no_pieces, opened, read_bracket_atom, repeated,
-    with_branch,
-};
-use crate::profile::{EXTENDED_REFUSED, MOST_LEVELS};
+use crate::profile::EXTENDED_REFUSED;
+use crate::reading::{count, read};
+use crate::syntax::Syntax;
+use crate::tokens::{Atom, ItemPlace, Token, follows_item, meant_by};
 use re_trees::{ByteSet, Tree};
 use std::alloc::Global;
 
 /// How often a byte repeats the item before it, where it is a duplication alone.
 fn sign_counts(byte: u8) -> Option<Counts>
-    ensures { MatchOption result (IsNoSign byte)
+    ensures { MatchOption result (¬ IsTrue (is_in (codes "*+?") byte))
         (λ counts. Duplication (byte ∷ []) counts.least counts.most) }
 {
     match byte {
@@ -60,8 +55,10 @@ fn read_duplication(text: &[u8], at: usize) -> Result<Option<(Counts, usize)>, P
     ensures read { IfOk result
         (λ found.
         MatchOption found (¬ OpensDuplication (drop at text.now))
-        (λ d. DuplicationStands text.now at d.0 d.1)) }
-    ensures refused { IfErr result (HasBadInterval text.now at) }
+        (λ d. HasOne Duplication text.now at d.0 d.1)) }
+    ensures opens { IfErr result (λ _. OpensDuplication (drop at text.now)) }
+    ensures refused { IfErr result
+        (IsAt (ExtendedTokenFault ItemPlace.Later (drop at text.now)) text.now) }
 {
     let sign = match byte_at(text, at) {
         None => return Ok(None),
@@ -94,187 +91,96 @@ fn opens_duplication(text: &[u8], at: usize) -> bool
     }
 }
 
-/// Whether a level ends at a place or a group opens there: at the text's end, at a `(`, or in a
-/// group at its closing.
-fn pauses_at(text: &[u8], at: usize, in_group: bool) -> bool
-    ensures { result ≡ pauses in_group (drop at text.now) }
-{
-    match byte_at(text, at) {
-        None => true,
-        Some(byte) => (byte == b'(') | (in_group & (byte == b')')),
-    }
-}
-
-/// The atom at a place where no group opens, the branch goes on and neither an anchor nor a
-/// duplication begins.
-fn read_leaf(alloc: Option<Global>, text: &[u8], at: usize) -> Result<Piece, PatternFault>
-    requires within { at < length text.now }
-    requires no_group { ¬ Begins (codes "(") (drop at text.now) }
-    ensures read { IfOk result
-        (λ piece. (g : Bool) (levels : ℕ) → MayBegin g (drop at text.now) →
-        AtomStands alloc g levels text.now at piece) }
-    ensures refused { IfErr result
-        (λ fault. (g : Bool) (levels : ℕ) →
-        IsRefused alloc (HasNoAtom g levels (drop at text.now)) (IsShownIn text.now fault) fault) }
-{
-    match text[at] {
-        b'[' => read_bracket_atom(alloc, text, at),
-        b'\\' => {
-            let byte = read_escape(text, at, EXTENDED_REFUSED)?;
-            Ok(leaf(alloc, Tree::Set(ByteSet::only(byte)), 1, at + 2))
-        }
-        b'$' => Ok(leaf(alloc, Tree::End, 0, at + 1)),
-        byte => Ok(leaf(alloc, Tree::Set(meant_by(byte)), 1, at + 1)),
-    }
-}
-
-/// The atom with the duplications after it.
-pub(crate) fn with_duplications(
-    alloc: Option<Global>,
-    text: &[u8],
-    atom: Piece,
-    levels: usize,
-) -> Result<Piece, PatternFault>
-    requires within { atom.beyond ≤ length text.now }
-    requires height { atom.height ≤ levels }
-    requires few { levels ≤ most_levels }
-    ensures read { IfOk result
-        (λ item. (g : Bool) (at : ℕ) → ItemSoFar alloc g levels text.now at atom →
-        ItemStands alloc g levels text.now at item) }
-    ensures forward { IfOk result (λ item. atom.beyond ≤ item.beyond) }
-    ensures refused { IfErr result
-        (λ fault. (g : Bool) (at : ℕ) → ItemSoFar alloc g levels text.now at atom →
-        IsRefused alloc (HasNoItems g levels (drop at text.now)) (IsShownIn text.now fault) fault) }
-{
-    let mut piece = atom;
-    'duplications: while let Some((counts, beyond)) = read_duplication(text, piece.beyond)? {
-        if piece.height == levels {
-            return Err(PatternFault {
-                kind: FaultKind::TooDeep,
-                at: piece.beyond,
-            });
-        }
-        piece = repeated(alloc, piece, counts, beyond)?;
-    }
-    Ok(piece)
-}
-
-/// The anchor or the item at a place where no group opens and the branch goes on.
-fn read_next(
-    alloc: Option<Global>,
+/// The duplication at a place, if one is there and an item before it.
+fn read_times(
     text: &[u8],
     at: usize,
-    levels: usize,
-) -> Result<Piece, PatternFault>
-    requires within { at ≤ length text.now }
-    requires goes_on { stops (in_group levels) (drop at text.now) ≡ false }
-    requires no_group { ¬ Begins (codes "(") (drop at text.now) }
-    requires opens { OpensDuplication (drop at text.now) → HasNothingToRepeat (take at text.now) }
-    requires few { levels ≤ most_levels }
-    ensures read { IfOk result (IsNext alloc (in_group levels) levels text.now at) }
-    ensures refused { IfErr result
-        (λ fault.
-        IsRefused alloc (HasNoItems (in_group levels) levels (drop at text.now))
-        (IsShownIn text.now fault) fault) }
-{
-    if let Some(beyond) = after(text, at, b"^") {
-        return Ok(leaf(alloc, Tree::Begin, 0, beyond));
-    }
-    if opens_duplication(text, at) {
-        return Err(PatternFault {
-            kind: FaultKind::NothingToRepeat,
-            at,
-        });
-    }
-    let atom = read_leaf(alloc, text, at)?;
-    with_duplications(alloc, text, atom, levels)
-}
-
-/// The level with its next bar, anchor or item.
-fn read_part(
-    alloc: Option<Global>,
-    text: &[u8],
-    level: Level,
-    levels: usize,
-) -> Result<Level, PatternFault>
-    requires goes_on { pauses (in_group levels) (drop level.items.beyond text.now) ≡ false }
-    requires so_far { LevelSoFar alloc levels text.now level }
-    requires few { levels ≤ most_levels }
-    ensures read { IfOk result (IsFurther alloc levels text.now level) }
-    ensures refused { IfErr result
-        (λ fault.
-        IsRefused alloc (HasNoBranches (in_group levels) levels (drop level.from text.now))
-        (IsShownIn text.now fault) fault) }
-{
-    let Level {
-        from,
-        branches,
-        items,
-    } = level;
-    if let Some(beyond) = after(text, items.beyond, b"|") {
-        let branches = with_branch(branches, items)?;
-        return Ok(Level {
-            from,
-            branches,
-            items: no_pieces(alloc, beyond),
-        });
-    }
-    let piece = read_next(alloc, text, items.beyond, levels)?;
-    let items = joined(items, piece)?;
-    Ok(Level {
-        from,
-        branches,
-        items,
-    })
-}
-
-/// The level up to its end, or up to a group that opens in it.
-pub(crate) fn read_level(
-    alloc: Option<Global>,
-    text: &[u8],
-    level: Level,
-    levels: usize,
-) -> Result<Level, PatternFault>
-    requires so_far { LevelSoFar alloc levels text.now level }
-    requires few { levels ≤ most_levels }
-    ensures read { IfOk result (IsPaused alloc levels text.now level) }
-    ensures refused { IfErr result
-        (λ fault.
-        IsRefused alloc (HasNoBranches (in_group levels) levels (drop level.from text.now))
-        (IsShownIn text.now fault) fault) }
-{
-    let mut read = level;
-    'parts: while !pauses_at(text, read.items.beyond, levels < MOST_LEVELS) {
-        read = read_part(alloc, text, read, levels)?;
-    }
-    Ok(read)
-}
-
-/// The whole text as a level.
-fn read_text(alloc: Option<Global>, text: &[u8]) -> Result<Level, PatternFault>
-    ensures read { IfOk result (WholeStands alloc text.now) }
-    ensures refused { IfErr result
-        (λ fault.
-        IsRefused alloc (HasNoBranches false most_levels text.now) (IsShownIn text.now fault)
-        fault) }
-{
-    let level = read_level(alloc, text, opened(alloc, 0), MOST_LEVELS)?;
-    if level.items.beyond == text.len() {
-        return Ok(level);
-    }
-    read_groups(alloc, text, level)
-}
-
-/// The extended regular expression that the whole text spells.
-pub(crate) fn read_whole(alloc: Option<Global>, text: &[u8]) -> Result<Piece, PatternFault>
+    place: ItemPlace,
+) -> Result<Option<(Counts, usize)>, PatternFault>
+    requires { at ≤ length text.now }
     ensures read { IfOk result
-        (λ piece. (e : Expression) × IsSpelled Extended text.now e × IsReported alloc piece e) }
+        (λ found.
+        MatchOption found (¬ OpensDuplication (drop at text.now))
+        (λ d. (place ≡ ItemPlace.Later) × HasOne Duplication text.now at d.0 d.1)) }
     ensures refused { IfErr result
-        (λ fault. RunsOut alloc fault ⊎ IsNoExtended text.now fault) }
+        (IsAt (ExtendedTokenFault place (drop at text.now)) text.now) }
 {
-    let level = read_text(alloc, text)?;
-    let branches = with_branch(level.branches, level.items)?;
-    Ok(any_of(branches))
+    if !follows_item(place) {
+        if opens_duplication(text, at) {
+            return Err(PatternFault {
+                kind: FaultKind::NothingToRepeat,
+                at,
+            });
+        }
+        return Ok(None);
+    }
+    let found = read_duplication(text, at)?;
+    Ok(found)
+}
+
+/// The escaped byte whose backslash is at a place.
+fn escape_token(text: &[u8], at: usize) -> Result<(Token, usize), PatternFault>
+    requires { Begins (codes "\\") (drop at text.now) }
+    ensures read { IfOk result
+        (λ found. (g : Bool) (p : ItemPlace) → Stands Extended g p text.now at found.0 found.1) }
+    ensures refused { IfErr result
+        (λ fault. (p : ItemPlace) → IsAt (ExtendedTokenFault p (drop at text.now)) text.now fault) }
+{
+    let byte = read_escape(text, at, EXTENDED_REFUSED)?;
+    Ok((Token::Atom(Atom::Set(ByteSet::only(byte))), at + 2))
+}
+
+/// The token of a byte that begins no other token.
+fn single_token(byte: u8, in_group: bool) -> Token
+    ensures { token_of result ≡ byte_token in_group byte }
+{
+    if in_group & (byte == b')') {
+        return Token::Closing;
+    }
+    Token::Atom(Atom::Set(meant_by(byte)))
+}
+
+/// The token at a place of an extended expression, and the place after it.
+pub fn extended_token(
+    text: &[u8],
+    at: usize,
+    place: ItemPlace,
+    in_group: bool,
+) -> Result<(Token, usize), PatternFault>
+    requires { at < length text.now }
+    ensures read { IfOk result
+        (λ found. Stands Extended in_group place text.now at found.0 found.1) }
+    ensures refused { IfErr result
+        (IsAt (ExtendedTokenFault place (drop at text.now)) text.now) }
+{
+    if let Some((counts, beyond)) = read_times(text, at, place)? {
+        return Ok((Token::Times(counts), beyond));
+    }
+    match text[at] {
+        b'(' => Ok((Token::Opening, at + 1)),
+        b'|' => Ok((Token::Bar, at + 1)),
+        b'^' => Ok((Token::Lead, at + 1)),
+        b'$' => Ok((Token::Atom(Atom::End), at + 1)),
+        b'[' => {
+            let (atom, beyond) = atom_at(text, at)?;
+            Ok((Token::Atom(atom), beyond))
+        }
+        b'\\' => escape_token(text, at),
+        byte => Ok((single_token(byte, in_group), at + 1)),
+    }
+}
+
+/// The number of positions of an extended regular expression, its intervals written out, or the
+/// greatest `usize` where it has more. Its tree is not built.
+///
+/// # Errors
+///
+/// Those of [`read_extended`] but `FaultKind::Memory`: it allocates no memory.
+pub fn extended_positions(text: &[u8]) -> Result<usize, PatternFault>
+    ensures counted { IfOk result (HasPositions Extended text.now) }
+    ensures refused { IfErr result (IsFirstFault Extended text.now) }
+{
+    count(Syntax::Extended, text)
 }
 
 /// The tree of an extended regular expression (XBD 9.4). Its items are `Set`, `Not`, `Begin`, `End`
@@ -283,20 +189,13 @@ pub(crate) fn read_whole(alloc: Option<Global>, text: &[u8]) -> Result<Piece, Pa
 ///
 /// # Errors
 ///
-/// Where the text is no extended expression, the first fault that a reading from the left meets, as
-/// the bytes at its place show it. `FaultKind::Memory` where memory runs out.
+/// Where the text is no extended expression, its first fault. `FaultKind::Memory` where memory runs
+/// out.
 pub fn read_extended(alloc: Global, text: &[u8]) -> Result<Tree, PatternFault>
     ensures read { IfOk result (λ tree. IsSpelled Extended text.now (expression_of tree)) }
     ensures only { IfOk result (λ tree. SpellsNoOther Extended text.now (expression_of tree)) }
     ensures refused { IfErr result
-        (λ fault. (fault ≡ record { kind = FaultKind.Memory; at = 0 }) ⊎
-        IsNoExtended text.now fault) }
+        (λ fault. IsOutOfMemory fault ⊎ IsFirstFault Extended text.now fault) }
 {
-    let whole = read_whole(Some(alloc), text)?;
-    match whole.tree {
-        Some(tree) => Ok(tree),
-        None => unreachable!(),
-    }
+    read(alloc, Syntax::Extended, text)
 }
-
-mod groups;

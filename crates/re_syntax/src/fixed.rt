@@ -1,6 +1,7 @@
 ghost use Rattle.std.specs.Prelude.{◌≡◌, IfOk, IfErr, map};
 ghost use Rattle.re_trees.specs.Expression.{sequence};
 ghost use Rattle.re_trees.specs.Working.Trees.{expression_of};
+ghost use Rattle.re_syntax.specs.Faults.{IsOutOfMemory};
 ghost use Rattle.re_syntax.specs.Spelled.{IsSpelled, SpellsNoOther};
 ghost use Rattle.re_syntax.specs.declared.syntax.Syntax.TheVariants.{Fixed};
 
@@ -24,7 +25,7 @@ pub fn out_of_memory() -> PatternFault
 pub fn read_fixed(alloc: Global, text: &[u8]) -> Result<Tree, PatternFault>
     ensures read { IfOk result (λ tree. IsSpelled Fixed text.now (expression_of tree)) }
     ensures only { IfOk result (λ tree. SpellsNoOther Fixed text.now (expression_of tree)) }
-    ensures refused { IfErr result (λ fault. fault ≡ record { kind = FaultKind.Memory; at = 0 }) }
+    ensures refused { IfErr result IsOutOfMemory }
 {
     let mut parts = Vec::new(alloc);
     for b in text {

@@ -1,6 +1,8 @@
 //! Laws of the definitions, each the contract of a function that does nothing.
 ghost use Rattle.re_syntax.specs.Laws.{SpellsOne, KeepsStandard, BeginsWithOneBracket, HasOneSplit};
-ghost use Rattle.re_syntax.specs.Laws.{HasOnePartList};
+ghost use Rattle.re_syntax.specs.Laws.{HasOnePartList, HasOneCut};
+
+use crate::syntax::Syntax;
 
 /// A text spells at most one expression in each syntax.
 #[tactic(auto, using(crate::proofs::lemmas::SpelledUnique::spells_one))]
@@ -31,4 +33,10 @@ pub fn has_one_split(_text: &[u8])
 #[tactic(auto, using(crate::proofs::lemmas::SpelledUnique::has_one_part_list))]
 pub fn parts_are_unique(_line: &[u8])
     ensures { HasOnePartList _line.now }
+{}
+
+/// A text has one cut into tokens or one first fault, and its tokens spell what it spells.
+#[tactic(auto, using(crate::proofs::lemmas::TokenLaws::has_one_cut))]
+pub fn cuts_are_unique(_text: &[u8])
+    ensures { (syntax : Syntax) → HasOneCut syntax _text.now }
 {}

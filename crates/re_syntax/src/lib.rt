@@ -4,6 +4,7 @@
 mod ahead;
 mod basic;
 mod bracket;
+mod building;
 mod cursor;
 mod escape;
 mod extended;
@@ -11,21 +12,20 @@ mod fault;
 mod fixed;
 mod interval;
 mod laws;
-mod levels;
-mod pieces;
-mod positions;
 mod profile;
+mod reading;
+mod shape;
 mod syntax;
+mod tokens;
 
-pub use basic::read_basic;
-pub use bracket::read_bracket;
-pub use extended::read_extended;
+pub use basic::{basic_positions, read_basic};
+pub use extended::{extended_positions, read_extended};
 pub use fault::{FaultKind, PatternFault};
 pub use fixed::read_fixed;
 pub use laws::{
-    brackets_are_unique, has_one_split, parts_are_unique, spells_one, standard_is_kept,
+    brackets_are_unique, cuts_are_unique, has_one_split, parts_are_unique, spells_one,
+    standard_is_kept,
 };
-pub use positions::{basic_positions, extended_positions};
 pub use re_trees::{
     ByteSet, Class, FilePatterns, MOST_PATTERNS, MOST_POSITIONS, Patterns, Span, Tree, fold,
     split_file, split_list,

@@ -1,8 +1,7 @@
 -- Worked examples of basic expressions: texts and what they spell.
-use Rattle.re_syntax.proofs.Prelude.{◌≡◌, ℕ, zero, suc, ◌<◌, ◌≤◌, max, false, nat_eq, List, [], ◌∷◌, ◌++◌, Some, None, IsTrue, codes, refl, subst, arith, Basic, Text, Expression, empty, begin, end, repeat, cat, alt, byte, IsNumber, IsAllowed, exactly, at_least, up_to, ItemPlace, IsAtEnd, of_text, of_group, of_branch, leading, IsSpelled, as_basic}
-use Rattle.re_syntax.specs.Basic.{First, star, plus, question, interval, is_ordinary, last, more, Items, none, trailing, item, Item, atom, repeated, escaped, ordinary, group}
+use Rattle.re_syntax.proofs.Prelude.{◌≡◌, ℕ, false, nat_eq, [], ◌∷◌, Some, None, IsTrue, codes, refl, arith, Basic, Text, empty, begin, end, repeat, cat, alt, byte, IsNumber, IsAllowed, exactly, at_least, up_to, ItemPlace, IsAtEnd, of_text, of_group, of_branch, leading, IsSpelled, as_basic}
+use Rattle.re_syntax.specs.Basic.{star, plus, question, interval, is_ordinary, last, more, none, trailing, item, Item, atom, repeated, escaped, ordinary, group}
 use Rattle.re_syntax.proofs.lemmas.BracketsUnique.{apart}
-use Rattle.re_syntax.proofs.lemmas.BasicUnique.{whole-branches}
 
 -- a byte that stands for itself and is no `$`
 itself : {p : ItemPlace} {t : Text} (b : ℕ) → IsTrue (is_ordinary p b) → nat_eq b 36 ≡ false → Item p 0 (b ∷ t) t (byte b)
@@ -140,75 +139,3 @@ begin_in_branch =
 -- `a$\|b`: a dollar that is last in its branch
 end_in_branch : IsSpelled Basic (codes "a$\\|b") (alt (cat (byte 97 ∷ end ∷ []) ∷ byte 98 ∷ []))
 end_in_branch = as_basic (more (item (itself 97 refl refl) (trailing of_branch)) (last (item (itself 98 refl refl) none))) (omega arith)
-
--- n groups, each in the one before
-
--- n openings before a text
-abbrev opened : ℕ → Text → Text
-opened zero t = t
-opened (suc n) t = codes "\\(" ++ opened n t
-
--- n closings before a text
-abbrev closed_after : ℕ → Text → Text
-closed_after zero t = t
-closed_after (suc n) t = closed_after n (codes "\\)" ++ t)
-
--- what is in the outermost group
-abbrev nested : ℕ → List Expression
-nested zero = []
-nested (suc n) = empty ∷ []
-
--- the greater of a height and 0 is the height
-max_zero : (n : ℕ) → max n 0 ≡ n
-max_zero n = omega arith
-
--- items at the same height
-at_height : {h k : ℕ} {t u : Text} {es : List Expression} → h ≡ k → Items First h t u es → Items First k t u es
-at_height {t = t} {u = u} {es = es} e is = subst (λ n. Items First n t u es) e is
-
--- the groups are items
-nested_items : (n : ℕ) (t : Text) → Items First n (opened n (closed_after n t)) t (nested n)
-nested_items zero t = none
-nested_items (suc zero) t = at_height (max_zero 1) (item (atom (group (last (nested_items zero (codes "\\)" ++ t))))) none)
-nested_items (suc (suc n)) t = at_height (max_zero (suc (suc n))) (item (atom (group (last (nested_items (suc n) (codes "\\)" ++ t))))) none)
-
--- groups nested up to the greatest depth are read
-pub nested_groups : (n : ℕ) → suc n ≤ 256 → IsSpelled Basic (opened (suc n) (closed_after (suc n) [])) empty
-nested_groups n h = as_basic (last (nested_items (suc n) [])) h
-
--- n stars, one after another
-
--- n stars before a text
-abbrev starred : ℕ → Text → Text
-starred zero t = t
-starred (suc n) t = starred n (codes "*" ++ t)
-
--- an expression with a star n times
-abbrev often : ℕ → Expression → Expression
-often zero e = e
-often (suc n) e = repeat (often n e) 0 None
-
--- a byte and its stars are one item
-star_item : (n : ℕ) (t : Text) → Item First n (97 ∷ starred n t) t (often n (byte 97))
-star_item zero t = itself 97 refl refl
-star_item (suc n) t = repeated (star_item n (codes "*" ++ t)) star
-
--- that item is the only one
-star_items : (n : ℕ) → Items First n (97 ∷ starred n []) [] (often n (byte 97) ∷ [])
-star_items n = at_height (max_zero n) (item (star_item n []) none)
-
--- stars, one after another, are read up to the greatest depth
-pub starred_often : (n : ℕ) → n ≤ 256 → IsSpelled Basic (97 ∷ starred n []) (often n (byte 97))
-starred_often n h = as_basic (last (star_items n)) h
-
--- a text whose items are too high spells nothing, since it is read in one way
-too_high : {n : ℕ} {t : Text} {e : Expression} {es : List Expression} → Items First n t [] es → ¬ (n ≤ 256) → IsSpelled Basic t e → ⊥
-too_high is h (as_basic bs k) = h (omega (arith, (whole-branches (last is) bs).heights))
-
--- with one star too many the text spells nothing
-pub too_many_stars : (n : ℕ) (e : Expression) → 256 < n → ¬ IsSpelled Basic (97 ∷ starred n []) e
-too_many_stars n e h spelled = too_high (star_items n) (λ k. absurd (omega arith)) spelled
-
--- with one group too many the text spells nothing
-pub too_many_groups : (n : ℕ) (e : Expression) → 256 < n → ¬ IsSpelled Basic (opened n (closed_after n [])) e
-too_many_groups n e h spelled = too_high (nested_items n []) (λ k. absurd (omega arith)) spelled

@@ -1,6 +1,5 @@
 -- The points of bracket expressions, by what a cursor passes or finds.
-use Rattle.re_syntax.proofs.Prelude.{◌≡◌, ℕ, ◌<◌, ◌≤◌, arith, inl, inr, [], ◌∷◌, ◌++◌, codes, drop, sym, ap, ◌∙◌, subst, Cursor, Text, Begins, OpensNamed, Point, bare, symbol, OpensNoClass, left, Passes}
-use Rattle.re_syntax.proofs.lemmas.BracketsUnique.{heads, tails, point-unique}
+use Rattle.re_syntax.proofs.Prelude.{◌≡◌, ℕ, inl, inr, [], ◌∷◌, ◌++◌, codes, sym, ap, ◌∙◌, subst, Cursor, Text, Begins, OpensNamed, Point, bare, symbol, OpensNoClass, left, Passes}
 
 -- what does not begin a text does not begin an equal one
 pub not_begins_along : {f g t u : Text} → ¬ Begins f t → f ≡ g → t ≡ u → ¬ Begins g u
@@ -22,21 +21,3 @@ byte_passed {a} {d} {b} p no_symbol no_class = point_along p.passed (bare b open
     opens e (inl (rest, f)) = no_symbol (rest, p.passed ∙ ap (λ t. b ∷ t) f ∙ ap (λ x. x ∷ 46 ∷ rest) e)
     opens e (inr (inl (rest, f))) = no_class.class (rest, p.passed ∙ ap (λ t. b ∷ t) f ∙ ap (λ x. x ∷ 58 ∷ rest) e)
     opens e (inr (inr (rest, f))) = no_class.equivalence (rest, p.passed ∙ ap (λ t. b ∷ t) f ∙ ap (λ x. x ∷ 61 ∷ rest) e)
-
--- a `[.` without one byte and `.]` is no point
-pub no_symbol : {t u v : Text} {b : ℕ} → t ≡ codes "[." ++ u → ((c : ℕ) → ¬ Begins (c ∷ codes ".]") u) → Point t v b → ⊥
-no_symbol e h (bare b opens) = opens (heads e) (inl (_, tails e))
-no_symbol e h (symbol {t = t} b) = h b (t, sym (tails (tails e)))
-
--- a `[.` without one byte and `.]` does not begin as one with them
-no_symbol_shown : {t u : Text} → t ≡ codes "[." ++ u → ((c : ℕ) → ¬ Begins (c ∷ codes ".]") u) → (b : ℕ) → ¬ Begins (codes "[." ++ b ∷ codes ".]") t
-no_symbol_shown e h b (rest, f) = h b (rest, tails (tails (sym e ∙ f)))
-
--- a `[.` without one byte and `.]` shows at the place where the cursor found it
-pub symbol_shown : (c : Cursor) {at : ℕ} {u : Text} → at ≡ c.at → left c ≡ codes "[." ++ u → ((b : ℕ) → ¬ Begins (b ∷ codes ".]") u) →
-    Begins (codes "[.") (drop at c.text.now) × ((b : ℕ) → ¬ Begins (codes "[." ++ b ∷ codes ".]") (drop at c.text.now))
-symbol_shown c {u = u} e f h = rw e ((u, f), no_symbol_shown f h)
-
--- a point below a byte ends no range from that byte
-pub too_low : {s t u : Text} {a b : ℕ} → Point s u b → s ≡ t → b < a → (v : Text) (d : ℕ) → Point t v d → ¬ (a ≤ d)
-too_low {a = a} {b = b} x e h v d y le = let same : b ≡ d = (point-unique x y e).values in absurd (omega arith)

@@ -1,5 +1,5 @@
 -- A bracket expression is read in one way, whatever follows it.
-use Rattle.re_syntax.proofs.Prelude.{◌≡◌, ◌≢◌, ℕ, inl, inr, true, false, nat_eq, ◌∷◌, ◌++◌, codes, refl, sym, ap, ◌∙◌, eq-eqb, ListPlace, Text, Begins, Bytes, only, range, in_class, Expression, one_of, none_of, Point, bare, symbol, MayBeAlone, Element, class, equivalence, alone, span, Rest, closing, IsBracket, matching, non_matching, BeginsWithOneBracket}
+use Rattle.re_syntax.proofs.Prelude.{◌≡◌, ◌≢◌, ℕ, ◌⊎◌, inl, inr, cases_eq, ne_eqb, if◌then◌else◌, true, false, nat_eq, [], ◌∷◌, ◌++◌, codes, refl, sym, ap, ◌∙◌, eq-eqb, ListPlace, Text, Begins, Bytes, only, range, in_class, Expression, one_of, none_of, Point, OpensNamed, bare, symbol, MayBeAlone, Element, class, equivalence, alone, span, Rest, closing, IsBracket, matching, non_matching, BeginsWithOneBracket}
 use Rattle.re_syntax.specs.declared.bracket.ListPlace.TheVariants.{First}
 use Rattle.re_syntax.specs.Brackets.{more}
 use Rattle.re_trees.proofs.lemmas.UnionsLaws.{both_unions}
@@ -29,15 +29,29 @@ point-unique (bare a h) (symbol b) e = absurd (h (heads e) (inl (_, tails e)))
 point-unique (symbol a) (bare b k) e = absurd (k (sym (heads e)) (inl (_, sym (tails e))))
 point-unique (symbol a) (symbol b) e = record { values = heads (tails (tails e)); rests = tails (tails (tails (tails (tails e)))) }
 
--- what opens a class is no point
-pub class_point : {t u w : Text} {a : ℕ} → Point t u a → t ≡ 91 ∷ 58 ∷ w → ⊥
-class_point (bare a h) e = h (heads e) (inr (inl (_, tails e)))
-class_point (symbol a) e = apart 46 58 (heads (tails e)) refl
+-- what begins here: a class, an equivalence class, or neither
+abbrev second_kind : Text → ℕ
+second_kind [] = 0
+second_kind (c ∷ w) = if nat_eq c 58 then 1 else if nat_eq c 61 then 2 else 0
 
--- what opens an equivalence class is no point
-pub equivalence_point : {t u w : Text} {a : ℕ} → Point t u a → t ≡ 91 ∷ 61 ∷ w → ⊥
-equivalence_point (bare a h) e = h (heads e) (inr (inr (_, tails e)))
-equivalence_point (symbol a) e = apart 46 61 (heads (tails e)) refl
+abbrev pub kind_of : Text → ℕ
+kind_of [] = 0
+kind_of (b ∷ w) = if nat_eq b 91 then second_kind w else 0
+
+pub point_kind : {t u : Text} {b : ℕ} → Point t u b → kind_of t ≡ 0
+point_kind (symbol b) = refl
+point_kind (bare {t = t} b h) = go (cases_eq b 91) t h
+  where
+    go : (b ≡ 91) ⊎ (b ≢ 91) → (t : Text) → (b ≡ 91 → ¬ OpensNamed t) → kind_of (b ∷ t) ≡ 0
+    go (inr n) t h = rw (ne_eqb b 91 n) refl
+    go (inl e) [] h = rw e refl
+    go (inl e) (c ∷ w) h = rw (e, ne_eqb c 58 (λ f. h e (inr (inl (w, ap (λ x. x ∷ w) f)))), ne_eqb c 61 (λ f. h e (inr (inr (w, ap (λ x. x ∷ w) f))))) refl
+
+abbrev pub element_kind : {p q : ListPlace} {t u : Text} {a : Bytes} → Element p t u a q → (n : ℕ) × (kind_of t ≡ n)
+element_kind (class c) = (1, refl)
+element_kind (equivalence b) = (2, refl)
+element_kind (alone x may) = (0, point_kind x)
+element_kind (span x start y open' le) = (0, point_kind x)
 
 -- two elements add the same bytes and leave the same place and rest
 pub record SameElement (a b : Bytes) (q r : ListPlace) (u v : Text) : Type 0 where
@@ -57,25 +71,16 @@ pub element-unique : {p q r : ListPlace} {t s u v : Text} {a b : Bytes} → Elem
 element-unique (class {t = t} c) (class {t = s} d) e =
     let same = class_name-unique c d t s (tails (tails e)) in
     record { bytes = ap in_class same.classes_same; places = refl; rests = same.rests }
-element-unique (class c) (equivalence b) e = absurd (apart 58 61 (heads (tails e)) refl)
-element-unique (class c) (alone x may) e = absurd (class_point x (sym e))
-element-unique (class c) (span x start y open' le) e = absurd (class_point x (sym e))
-element-unique (equivalence b) (class c) e = absurd (apart 61 58 (heads (tails e)) refl)
 element-unique (equivalence b) (equivalence d) e =
     record { bytes = ap only (heads (tails (tails e))); places = refl; rests = tails (tails (tails (tails (tails e)))) }
-element-unique (equivalence b) (alone x may) e = absurd (equivalence_point x (sym e))
-element-unique (equivalence b) (span x start y open' le) e = absurd (equivalence_point x (sym e))
-element-unique (alone x may) (class c) e = absurd (class_point x e)
-element-unique (alone x may) (equivalence b) e = absurd (equivalence_point x e)
 element-unique (alone x may) (alone y may') e = let same = point-unique x y e in record { bytes = ap only same.values; places = refl; rests = same.rests }
 element-unique (alone x may) (span y start z open' le) e = absurd (alone_span x may y open' e)
-element-unique (span x start y open' le) (class c) e = absurd (class_point x e)
-element-unique (span x start y open' le) (equivalence b) e = absurd (equivalence_point x e)
 element-unique (span x start y open' le) (alone z may) e = absurd (alone_span z may x open' (sym e))
 element-unique (span {a = a} {b = b} x start y open' le) (span {a = c} {b = d} z start' w open'' le') e =
     let one = point-unique x z e in
     let two = point-unique y w (tails one.rests) in
     record { bytes = ap (λ k. range k b) one.values ∙ ap (λ k. range c k) two.values; places = refl; rests = two.rests }
+element-unique x y e = absurd (apart (element_kind x).0 (element_kind y).0 (sym (element_kind x).1 ∙ ap kind_of e ∙ (element_kind y).1) refl)
 
 -- the bracket that closes a list is no element
 pub element-not_closing : {p q : ListPlace} {t u w : Text} {a : Bytes} → p ≢ First → Element p t u a q → t ≡ 93 ∷ w → ⊥

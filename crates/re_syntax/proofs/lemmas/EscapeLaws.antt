@@ -1,7 +1,9 @@
 -- Escapes, by what follows the backslash.
-use Rattle.re_syntax.proofs.Prelude.{◌≡◌, ℕ, ◌+◌, ◌≤◌, nat_le, [], ◌∷◌, ◌++◌, length, drop, Some, IsTrue, slice_get, codes, refl, sym, ap, ◌∙◌, subst, arith, length-drop, and_parts, and_from, leb-true, le-leb, or_left, or_right, nil_from_length, slice_get_within, FaultKind, TrailingBackslash, PatternFault, Text, Begins, range, union, is_undefined, IsRefusedEscape, undefined, reference, one_to_nine, EscapeStands, HasNoEscape, refused}
-use Rattle.re_syntax.specs.Working.EscapeSteps.{trailing}
+use Rattle.re_syntax.proofs.Prelude.{EscapeFault, undefined, reference, ◌≡◌, ℕ, ◌+◌, ◌≤◌, nat_le, [], ◌∷◌, length, drop, Some, IsTrue, slice_get, codes, refl, sym, ap, ◌∙◌, subst, arith, length-drop, and_parts, and_from, leb-true, le-leb, or_left, or_right, nil_from_length, slice_get_within, FaultKind, TrailingBackslash, Text, Begins, range, union, is_undefined, one_to_nine, EscapeStands}
+use Rattle.re_syntax.specs.EscapeFaults.{trailing}
+use Rattle.re_syntax.specs.Faults.{IsAt}
 use Rattle.re_syntax.proofs.lemmas.BracketsUnique.{heads, tails}
+use Rattle.re_syntax.proofs.lemmas.CutsUnique.{SameFault}
 use Rattle.re_syntax.proofs.lemmas.Places.{byte_at, beyond_first}
 
 -- a backslash and a byte
@@ -23,30 +25,37 @@ reference_undefined others b h =
     let low = leb-true 49 b both.0 in
     or_left _ _ (or_right (union (range 65 90) (range 97 122) b) _ (and_from (nat_le 48 b) _ (le-leb 48 b (omega arith)) both.1))
 
--- a byte that is refused has no meaning
-refused_undefined : {others : Text} {kind : FaultKind} {b : ℕ} → IsRefusedEscape others kind b → IsTrue (is_undefined others b)
-refused_undefined (undefined h k) = h
-refused_undefined {others} (reference {b = b} h) = reference_undefined others b h
+-- the text's place
+place_within : (text : Text) (at : ℕ) → Begins (codes "\\") (drop at text) → at ≤ length text
+place_within text at (rest, e) = omega (arith, simp length-drop at (ap length e))
 
 -- a backslash and a byte that is refused
 pub refused_escape : (others text : Text) (at b : ℕ) (kind : FaultKind) → Begins (codes "\\") (drop at text) → slice_get text (at + 1) ≡ Some b →
-    IsRefusedEscape others kind b → HasNoEscape others text at (record { kind = kind; at = at })
-refused_escape others text at b kind (rest, e) f h =
+    ((u : Text) → EscapeFault others (92 ∷ b ∷ u) kind (92 ∷ b ∷ u)) → IsAt (EscapeFault others (drop at text)) text (record { kind = kind; at = at })
+refused_escape others text at b kind (rest, e) f x =
     let next : rest ≡ b ∷ drop (at + 1 + 1) text = beyond_first text at 92 rest e ∙ byte_at text (at + 1) b f in
-    let front : drop at text ≡ 92 ∷ b ∷ drop (at + 1 + 1) text = e ∙ ap (λ x. 92 ∷ x) next in
-    refused refl (record { byte = b; begins = (drop (at + 1 + 1) text, front); refused = h })
+    record { within = place_within text at (rest, e); is_fault = subst (λ t. EscapeFault others t kind t) (sym (e ∙ ap (λ x. 92 ∷ x) next)) (x (drop (at + 1 + 1) text)) }
 
 -- a backslash that is last
 pub trailing_backslash : (others text : Text) (at : ℕ) → Begins (codes "\\") (drop at text) → length text ≤ at + 1 →
-    HasNoEscape others text at (record { kind = TrailingBackslash; at = at })
+    IsAt (EscapeFault others (drop at text)) text (record { kind = TrailingBackslash; at = at })
 trailing_backslash others text at (rest, e) h =
     let nothing : rest ≡ [] = nil_from_length rest (omega (arith, simp length-drop at (ap length e))) in
-    trailing refl (e ∙ ap (λ x. 92 ∷ x) nothing)
+    record { within = place_within text at (rest, e); is_fault = subst (λ t. EscapeFault others t TrailingBackslash t) (sym (e ∙ ap (λ x. 92 ∷ x) nothing)) trailing }
 
--- a byte after a backslash where there is no escape is one that may not follow it
-pub no_escape : {others text : Text} {at : ℕ} {fault : PatternFault} → HasNoEscape others text at fault → (b : ℕ) (u : Text) → drop at text ≡ codes "\\" ++ b ∷ u →
-    IsTrue (is_undefined others b)
-no_escape (trailing e front) b u k = let same : 92 ∷ [] ≡ 92 ∷ b ∷ u = sym front ∙ k in cc
-no_escape {others} (refused e r) b u k =
-    let (rest, front) = r.begins in
-    subst (λ x. IsTrue (is_undefined others x)) (heads (tails (sym front ∙ k))) (refused_undefined r.refused)
+-- a backslash has one fault, and none where the byte after it may stand there
+pub escape_fault-unique : {others t s u v : Text} {j k : FaultKind} → EscapeFault others t j u → EscapeFault others s k v → t ≡ s → SameFault j k u v
+escape_fault-unique trailing trailing e = record { kinds = refl; places = e }
+escape_fault-unique trailing (undefined h n) e = let f = tails e in cc
+escape_fault-unique trailing (reference h) e = let f = tails e in cc
+escape_fault-unique (undefined h n) trailing e = let f = tails e in cc
+escape_fault-unique (undefined h n) (undefined i m) e = record { kinds = refl; places = e }
+escape_fault-unique (undefined h n) (reference i) e = absurd (n (rw (heads (tails e)) i))
+escape_fault-unique (reference h) trailing e = let f = tails e in cc
+escape_fault-unique (reference h) (undefined i n) e = absurd (n (rw (sym (heads (tails e))) h))
+escape_fault-unique (reference h) (reference i) e = record { kinds = refl; places = e }
+
+pub escape-no_fault : {others t u v : Text} {b : ℕ} {k : FaultKind} → EscapeFault others t k v → t ≡ 92 ∷ b ∷ u → IsTrue (is_undefined others b)
+escape-no_fault trailing e = let f = tails e in absurd (cc)
+escape-no_fault {others} (undefined h n) e = rw (sym (heads (tails e))) h
+escape-no_fault {others} (reference {b = b} h) e = rw (sym (heads (tails e))) (reference_undefined others b h)

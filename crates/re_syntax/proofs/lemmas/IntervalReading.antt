@@ -122,11 +122,15 @@ pub up_to_found : {text : Text} {at comma : ℕ} (close : Text) → IsAfter (cod
 up_to_found {text} {at} {comma} close c None h = none_after_first close (drop at text) (drop comma text) c.front h
 up_to_found close c (Some it) h = stands_up_to close c h
 
+-- a number, and then nothing that an interval may go on with
+none_by : {text : Text} {at count beyond : ℕ} (close : Text) → IsNoPart close → NumberStands text at count beyond → ((u : Text) → Goes close u (drop beyond text) → ⊥) → HasNoInterval close (drop at text)
+none_by {text} {at} {beyond = beyond} close no_part s f =
+    record { none = λ u least most c. f u (goes close u (drop at text) s.digits (drop beyond text) least most no_part c s.front s.number.digits s.stops) }
+
 -- a number, and then neither what closes it nor a comma
 pub none_after_number : {text : Text} {at count beyond : ℕ} (close : Text) → IsNoPart close → NumberStands text at count beyond → ¬ Begins close (drop beyond text) →
     ¬ Begins (codes ",") (drop beyond text) → HasNoInterval close (drop at text)
-none_after_number {text} {at} {count} {beyond} close no_part s no_close no_comma =
-    record { none = λ u least most c. go u (goes close u (drop at text) s.digits (drop beyond text) least most no_part c s.front s.number.digits s.stops) }
+none_after_number {text} {at} {count} {beyond} close no_part s no_close no_comma = none_by close no_part s go
   where
     go : (u : Text) → Goes close u (drop beyond text) → ⊥
     go u (closes e) = no_close (u, e)
@@ -136,8 +140,7 @@ none_after_number {text} {at} {count} {beyond} close no_part s no_close no_comma
 -- a number and a comma, and then neither a number nor what closes
 pub none_after_comma : {text : Text} {at count beyond comma : ℕ} (close : Text) → IsNoPart close → NumberStands text at count beyond → ¬ Begins close (drop beyond text) →
     IsAfter (codes ",") text beyond comma → HasNoDigit (drop comma text) → ¬ Begins close (drop comma text) → HasNoInterval close (drop at text)
-none_after_comma {text} {at} {count} {beyond} {comma} close no_part s no_close c no_digit no_end =
-    record { none = λ u least most i. go u (goes close u (drop at text) s.digits (drop beyond text) least most no_part i s.front s.number.digits s.stops) }
+none_after_comma {text} {at} {count} {beyond} {comma} close no_part s no_close c no_digit no_end = none_by close no_part s go
   where
     go : (u : Text) → Goes close u (drop beyond text) → ⊥
     go u (closes e) = no_close (u, e)
@@ -148,8 +151,7 @@ none_after_comma {text} {at} {count} {beyond} {comma} close no_part s no_close c
 pub none_after_numbers : {text : Text} {at count beyond comma other last : ℕ} (close : Text) → IsNoPart close → NumberStands text at count beyond →
     ¬ Begins close (drop beyond text) → IsAfter (codes ",") text beyond comma → NumberStands text comma other last → ¬ Begins close (drop last text) →
     HasNoInterval close (drop at text)
-none_after_numbers {text} {at} {count} {beyond} {comma} {other} {last} close no_part s no_close c o no_end =
-    record { none = λ u least most i. go u (goes close u (drop at text) s.digits (drop beyond text) least most no_part i s.front s.number.digits s.stops) }
+none_after_numbers {text} {at} {count} {beyond} {comma} {other} {last} close no_part s no_close c o no_end = none_by close no_part s go
   where
     go : (u : Text) → Goes close u (drop beyond text) → ⊥
     go u (closes e) = no_close (u, e)

@@ -1,6 +1,5 @@
--- What readers of expressions share: bytes at places of a text, what was found, and what follows
--- from what is said.
-use Rattle.re_syntax.proofs.Prelude.{◌≡◌, ℕ, ◌+◌, ◌<◌, max, Bool, true, false, not, ◌∷◌, ◌++◌, length, take, drop, Option, Some, None, Global, Result, Ok, Err, IfOk, IfErr, MatchOption, MatchBool, is_some, slice_get, get_or, sym, ap, ◌∙◌, arith, take-add, take-append_seam, drop-drop, drop_more, slice_get_within, slice_get-get_or, get_or_from_slice_get, PatternFault, Text, IsRefused, memory, reported}
+-- Bytes at places of a text, and what was found.
+use Rattle.re_syntax.proofs.Prelude.{◌≡◌, ℕ, ◌+◌, ◌<◌, Bool, true, false, ◌∷◌, length, drop, Option, Result, Ok, Err, IfOk, Some, None, MatchOption, MatchBool, is_some, slice_get, get_or, sym, ap, ◌∙◌, drop-drop, drop_more, slice_get_within, slice_get-get_or, get_or_from_slice_get, Text}
 
 -- the text from the place of a byte on
 pub byte_at : (text : Text) (at b : ℕ) → slice_get text at ≡ Some b → drop at text ≡ b ∷ drop (at + 1) text
@@ -15,22 +14,10 @@ pub either_found : (A B C : Type 0) (P : ℕ → Type 0) (r : Option ℕ) (b : B
 either_found A B C P None b e h g f = rw e (g h)
 either_found A B C P (Some x) b e h g f = rw e (f x h)
 
--- whether nothing was found
-pub none_found : (A B C : Type 0) (P : ℕ → Type 0) (r : Option ℕ) (b : Bool) → is_some r ≡ not b → MatchOption r C P → (C → A) → ((x : ℕ) → P x → B) → MatchBool b A B
-none_found A B C P None true e h f g = f h
-none_found A B C P None false e h f g = cc
-none_found A B C P (Some x) true e h f g = cc
-none_found A B C P (Some x) false e h f g = g x h
-
 -- what follows from what is said of a result holds of it too
 pub ok_as : {T E : Type 0} (P Q : T → Type 0) (r : Result T E) → IfOk r P → ((x : T) → P x → Q x) → IfOk r Q
 ok_as P Q (Ok x) h f = f x h
 ok_as P Q (Err e) h f = tt
-
--- what follows from what is said of an error holds of it too
-pub err_as : {T E : Type 0} (P Q : E → Type 0) (r : Result T E) → IfErr r P → ((e : E) → P e → Q e) → IfErr r Q
-err_as P Q (Ok x) h f = tt
-err_as P Q (Err e) h f = f e h
 
 -- where something was found, what is said of it
 pub some_found : (A : Type 0) (P : ℕ → Type 0) (r : Option ℕ) (b : Bool) → b ≡ is_some r → b ≡ true → MatchOption r A P → (x : ℕ) × P x
@@ -49,16 +36,3 @@ byte_here text at b h e = slice_get-get_or text at 0 h ∙ ap Some e
 -- the text from there on
 pub front_here : (text : Text) (at b : ℕ) → at < length text → get_or text at 0 ≡ b → drop at text ≡ b ∷ drop (at + 1) text
 front_here text at b h e = byte_at text at b (byte_here text at b h e)
-
--- the text before the place after some bytes ends with them
-pub take-after : (t : Text) (at : ℕ) (bytes r : Text) → drop at t ≡ bytes ++ r → take (at + length bytes) t ≡ take at t ++ bytes
-take-after t at bytes r e = take-add at (length bytes) t ∙ ap (λ x. take at t ++ x) (ap (take (length bytes)) e ∙ take-append_seam bytes r)
-
--- the greatest of three heights
-pub regrouped : (h k n : ℕ) → max h (max k n) ≡ max (max h k) n
-regrouped h k n = omega arith
-
--- what follows from what a refusal says of the text is said by it too
-pub refused_as : {alloc : Option Global} {P Q S : Type 0} {fault : PatternFault} → IsRefused alloc P S fault → (P → Q) → IsRefused alloc Q S fault
-refused_as (memory e) f = memory e
-refused_as (reported h s) f = reported (f h) s

@@ -1,7 +1,6 @@
 -- The laws of the definitions: one expression, one split, one list of parts.
-use Rattle.re_syntax.proofs.Prelude.{◌≡◌, map, refl, ap, Text, Expression, byte, sequence, choice, Syntax, Fixed, IsSpelled, SpellsNoOther, as_basic, as_extended, as_fixed, SpellsOne, HasOneSplit, HasOnePartList}
-use Rattle.re_syntax.proofs.lemmas.BasicUnique.{whole-branches as basic-branches}
-use Rattle.re_syntax.proofs.lemmas.ExtendedUnique.{whole-branches}
+use Rattle.re_syntax.proofs.Prelude.{◌≡◌, map, Text, Expression, byte, sequence, Syntax, Fixed, IsSpelled, SpellsNoOther, as_fixed, SpellsOne, HasOneSplit, HasOnePartList}
+use Rattle.re_syntax.proofs.lemmas.TokenLaws.{keeps_spelled, one_meaning}
 use Rattle.re_trees.proofs.lemmas.LinesLaws.{AreLines-lines_of, lines_of-unique, AreListed-list_of, list_of-unique}
 use Rattle.re_syntax.proofs.lemmas.PartsExist.{AreParts-exist}
 use Rattle.re_trees.proofs.lemmas.EndedLinesLaws.{AreEndedLines-ended_lines_of, ended_lines_of-unique}
@@ -13,9 +12,7 @@ fixed_spelled t e h = let P : Expression → Type 0 = λ x. IsSpelled Fixed t x 
 
 -- a text spells one expression
 pub IsSpelled-unique : {syntax : Syntax} {t : Text} {d e : Expression} → IsSpelled syntax t d → IsSpelled syntax t e → d ≡ e
-IsSpelled-unique (as_basic bs h) (as_basic cs k) = ap choice (basic-branches bs cs).expressions
-IsSpelled-unique (as_extended bs h) (as_extended cs k) = ap choice (whole-branches bs cs).expressions
-IsSpelled-unique as_fixed as_fixed = refl
+IsSpelled-unique {syntax} {t} {d} {e} p q = one_meaning syntax t d e (keeps_spelled syntax t d p) (keeps_spelled syntax t e q)
 
 -- a fixed string spells nothing but the sequence of its bytes
 pub fixed_only : (t : Text) (e : Expression) → e ≡ sequence (map byte t) → SpellsNoOther Fixed t e

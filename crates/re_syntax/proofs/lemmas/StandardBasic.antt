@@ -3,7 +3,7 @@ use Rattle.re_syntax.proofs.Prelude.{◌≡◌, ℕ, List, ◌∷◌, ◌++◌, 
 use Rattle.re_syntax.specs.Basic.{Duplication, star, interval, last, Items, none, trailing, item, Item, atom, repeated, Atom, bracket, period, escaped, ordinary, group}
 use Rattle.re_syntax.specs.Working.StandardBasic.{Duplication as StandardDuplication, star as standard_star, interval as standard_interval, IsAtEnd as StandardEnd, of_text as standard_of_text, of_group as standard_of_group, Items as StandardItems, none as standard_none, leading as standard_leading, trailing as standard_trailing, item as standard_item, Item as StandardItem, atom as standard_atom, repeated as standard_repeated, Atom as StandardAtom, bracket as standard_bracket, period as standard_period, escaped as standard_escaped, ordinary as standard_ordinary, group as standard_group, as_basic as standard_as_basic}
 use Rattle.re_syntax.proofs.lemmas.BracketsUnique.{heads, tails, apart, bracket_front}
-use Rattle.re_syntax.proofs.lemmas.AtomFronts.{not_ordinary, never_backslash, undefined_apart}
+use Rattle.re_syntax.proofs.lemmas.BasicTokensUnique.{never}
 use Rattle.re_syntax.proofs.lemmas.StandardIntervals.{interval-kept}
 
 -- Where the standard has a part, there is no `\|`.
@@ -19,8 +19,8 @@ duplication_no_bar (standard_interval form allowed) u w e = apart 123 124 (heads
 atom_no_bar : {p : ItemPlace} {h : ℕ} {t u : Text} {e : Expression} → StandardAtom p h t u e → (w : Text) → t ≡ 92 ∷ 124 ∷ w → ⊥
 atom_no_bar (standard_bracket b) w e = let (v, f) = bracket_front b in apart 91 92 (heads (sym f ∙ e)) refl
 atom_no_bar standard_period w e = apart 46 92 (heads e) refl
-atom_no_bar (standard_escaped b h) w e = undefined_apart b 124 h refl (heads (tails e))
-atom_no_bar {p} (standard_ordinary b h k) w e = not_ordinary p b 92 h (never_backslash p) (heads e)
+atom_no_bar (standard_escaped b h) w e = h (rw (heads (tails e)) refl)
+atom_no_bar {p} (standard_ordinary b h k) w e = never p h refl (sym e)
 atom_no_bar (standard_group is) w e = apart 40 124 (heads (tails e)) refl
 
 item_no_bar : {p : ItemPlace} {h : ℕ} {t u : Text} {e : Expression} → StandardItem p h t u e → (w : Text) → t ≡ 92 ∷ 124 ∷ w → ⊥

@@ -1,20 +1,31 @@
 -- What each step of reading a bracket expression says: which part of the grammar is next to the
 -- cursor, or that there is none and where that shows.
-use Rattle.std.specs.Prelude.{◌≡◌, ◌≢◌, ℕ, ◌≤◌, ◌⊎◌, drop, codes}
+use Rattle.std.specs.Prelude.{◌≡◌, ◌≢◌, ℕ, ◌≤◌, ◌++◌, ◌⊎◌, drop, length, codes}
 use Rattle.re_syntax.specs.declared.bracket.ListPlace.{ListPlace}
 use Rattle.re_syntax.specs.declared.bracket.ListPlace.TheVariants.{First, AfterPoint}
 use Rattle.re_syntax.specs.declared.cursor.Cursor.{Cursor}
-use Rattle.re_syntax.specs.declared.fault.FaultKind.TheVariants.{UnclosedBracket}
+use Rattle.re_syntax.specs.declared.fault.FaultKind.{FaultKind}
 use Rattle.re_syntax.specs.declared.fault.PatternFault.{PatternFault}
-use Rattle.re_trees.specs.Bytes.{Text, Begins, Bytes}
-use Rattle.re_trees.specs.Expression.{Expression}
-use Rattle.re_syntax.specs.Brackets.{Point, Element, Rest, IsBracket}
+use Rattle.re_trees.specs.Bytes.{Text, Begins}
+use Rattle.re_syntax.specs.BracketFaults.{ElementFault}
+use Rattle.re_syntax.specs.Faults.{IsAt}
 use Rattle.re_syntax.specs.Working.Cursors.{left, Passes}
-use Rattle.re_syntax.specs.Faults.{ShowsBracketFault}
 
--- the cursor's text has these bytes at this place
-abbrev pub Stands : Text → ℕ → Cursor → Type 0
-Stands bytes at c = Begins bytes (drop at c.text.now)
+-- the cursor's text from a place on
+abbrev pub from_place : ℕ → Cursor → Text
+from_place at c = drop at c.text.now
+
+-- the fault is in the cursor's text, at its place
+abbrev pub Fails : (FaultKind → Text → Type 0) → Cursor → PatternFault → Type 0
+Fails IsFault c = IsAt IsFault c.text.now
+
+-- the place is in the cursor's text
+abbrev pub IsIn : ℕ → Cursor → Type 0
+IsIn at c = at ≤ length c.text.now
+
+-- a hyphen is at the place, and the cursor directly after it
+abbrev pub IsHyphenBefore : ℕ → Cursor → Type 0
+IsHyphenBefore at c = from_place at c ≡ codes "-" ++ left c
 
 -- no `[` before a `:` or `=`, which would open a class
 pub record OpensNoClass (t : Text) : Type 0 where
@@ -30,34 +41,9 @@ pub record MayGoOn (p : ListPlace) (t : Text) : Type 0 where
 pub record PassesHyphen (old new : Cursor) (at : ℕ) : Type 0 where
   pub passes : Passes (codes "-") old new
   pub not_last : ¬ Begins (codes "-]") (left old)
-  pub stands : Stands (codes "-") at old
+  pub place : at ≡ old.at
 
--- the bytes at the fault's place of the cursor's text show it; an unclosed bracket expression shows
--- at this opening
-pub record IsShown (opening : ℕ) (c : Cursor) (fault : PatternFault) : Type 0 where
-  pub shows : ShowsBracketFault fault.kind (drop fault.at c.text.now)
-  pub unclosed : fault.kind ≡ UnclosedBracket → fault.at ≡ opening
-
--- in the open bracket expression the next part is no point, no point from the byte `first` on, no
--- element, and no list of elements
-pub record HasNoPoint (opening : ℕ) (c : Cursor) (fault : PatternFault) : Type 0 where
-  pub none : (v : Text) (b : ℕ) → ¬ Point (left c) v b
-  pub shown : IsShown opening c fault
-
-pub record HasNoRangeEnd (opening first : ℕ) (c : Cursor) (fault : PatternFault) : Type 0 where
-  pub none : (v : Text) (b : ℕ) → Point (left c) v b → ¬ (first ≤ b)
-  pub shown : IsShown opening c fault
-
-pub record HasNoElement (opening : ℕ) (p : ListPlace) (c : Cursor)
-    (fault : PatternFault) : Type 0 where
-  pub none : (v : Text) (a : Bytes) (q : ListPlace) → ¬ Element p (left c) v a q
-  pub shown : IsShown opening c fault
-
-pub record HasNoList (opening : ℕ) (c : Cursor) (fault : PatternFault) : Type 0 where
-  pub none : (u : Text) (s : Bytes) → ¬ Rest First (left c) u s
-  pub shown : IsShown opening c fault
-
--- no bracket expression comes next
-pub record HasNoBracket (c : Cursor) (fault : PatternFault) : Type 0 where
-  pub none : (u : Text) (e : Expression) → ¬ IsBracket (left c) u e
-  pub shown : IsShown c.at c fault
+-- the fault of two hyphens, of which the first may begin no range, before what the cursor has left
+abbrev pub IsStray : ℕ → Cursor → PatternFault → Type 0
+IsStray opening c fault = (p : ListPlace) → p ≢ First → ¬ Begins (codes "]") (left c) →
+    Fails (ElementFault (from_place opening c) p (codes "--" ++ left c)) c fault

@@ -3,11 +3,6 @@ use Rattle.std.specs.Prelude.{◌≡◌, ℕ, ◌≤◌, ◌++◌, length, drop,
 use Rattle.re_syntax.specs.declared.interval.Counts.{Counts}
 use Rattle.re_trees.specs.Bytes.{Text}
 
--- the text begins with no duplication
-pub record HasNone (IsDuplication : Text → ℕ → Option ℕ → Type 0) (t : Text) : Type 0 where
-  pub none : (d : Text) (least : ℕ) (most : Option ℕ) (u : Text) → IsDuplication d least most →
-      t ≡ d ++ u → ⊥
-
 -- a duplication goes from one place up to another
 pub record HasOne (IsDuplication : Text → ℕ → Option ℕ → Type 0) (text : Text) (at : ℕ)
     (counts : Counts) (beyond : ℕ) : Type 0 where

@@ -1,8 +1,10 @@
 //! Duplications of basic expressions (XBD 9.3.6), with GNU grep's `\+` and `\?`.
-ghost use Rattle.std.specs.Prelude.{◌≤◌, IfOk, IfErr, MatchOption, MatchBool, length, drop};
-ghost use Rattle.re_syntax.specs.BasicFaults.{NeedsItem};
+ghost use Rattle.std.specs.Prelude.{Bool, ◌≤◌, IfOk, IfErr, MatchOption, MatchBool, length, drop};
+ghost use Rattle.re_syntax.specs.Basic.{ItemPlace, Duplication};
+ghost use Rattle.re_syntax.specs.BasicTokens.{NeedsItem, BasicTokenFault};
+ghost use Rattle.re_syntax.specs.Faults.{IsAt};
 ghost use Rattle.re_syntax.specs.Working.BasicSteps.{HasNoSign, OpensNoDuplication};
-ghost use Rattle.re_syntax.specs.Working.BasicSteps.{DuplicationStands, HasBadInterval};
+ghost use Rattle.re_syntax.specs.Working.DuplicationSteps.{HasOne};
 
 use crate::ahead::after;
 use crate::fault::{FaultKind, PatternFault};
@@ -12,7 +14,7 @@ use crate::interval::{Counts, counts_fault, read_interval};
 fn read_sign(text: &[u8], at: usize) -> Option<(Counts, usize)>
     requires { at ≤ length text.now }
     ensures { MatchOption result (HasNoSign (drop at text.now))
-        (λ d. DuplicationStands text.now at d.0 d.1) }
+        (λ d. HasOne Duplication text.now at d.0 d.1) }
 {
     if let Some(beyond) = after(text, at, b"*") {
         let (least, most) = (0, None);
@@ -31,8 +33,10 @@ fn read_sign(text: &[u8], at: usize) -> Option<(Counts, usize)>
 pub fn read_duplication(text: &[u8], at: usize) -> Result<Option<(Counts, usize)>, PatternFault>
     requires { at ≤ length text.now }
     ensures read { IfOk result (λ found. MatchOption found (OpensNoDuplication (drop at text.now))
-        (λ d. DuplicationStands text.now at d.0 d.1)) }
-    ensures refused { IfErr result (HasBadInterval text.now at) }
+        (λ d. HasOne Duplication text.now at d.0 d.1)) }
+    ensures refused { IfErr result
+        (λ fault. (g : Bool) →
+        IsAt (BasicTokenFault g ItemPlace.Later (drop at text.now)) text.now fault) }
 {
     if let Some(sign) = read_sign(text, at) {
         return Ok(Some(sign));

@@ -1,15 +1,16 @@
-use Rattle.re_syntax.proofs.Prelude.{◌≡◌, inr, IfOk, IfErr, OnOk, subst, ◌∙◌, members, Element, left, HasNoElement}
-use Rattle.re_syntax.proofs.lemmas.BracketNamed.{class_passed, equivalence_passed, no_class, class_shown, no_equivalence, equivalence_shown}
+use Rattle.re_syntax.proofs.Prelude.{◌≡◌, IfOk, IfErr, OnOk, subst, ◌∙◌, members, Element, left}
+use Rattle.re_syntax.specs.BracketFaults.{ElementFault, no_class, no_equivalence}
+use Rattle.re_syntax.specs.Working.BracketSteps.{from_place, Fails}
+use Rattle.re_syntax.proofs.lemmas.BracketNamed.{class_passed, equivalence_passed}
+use Rattle.re_syntax.proofs.lemmas.BracketFaultsReading.{fault_here}
 use Rattle.re_syntax.proofs.bracket.read_element.Goals as goal
 
 pub returns-in-Some-clause-read : goal.returns-in-Some-clause-read
 returns-in-Some-clause-read c = rw c.class.ensures (class_passed c.in-Some.class c.if-skip.ensures.skipped c.in-Some.ensures)
 
 pub returns-in-None-clause-refused : goal.returns-in-None-clause-refused
-returns-in-None-clause-refused c = record {
-  none = λ v a q. no_class c.if-skip.ensures.skipped.passed c.in-None.ensures;
-  shown = record { shows = class_shown c.args.cursor.now c.place-from.ensures c.if-skip.ensures.skipped.passed c.in-None.ensures; unclosed = λ e. cc };
-}
+returns-in-None-clause-refused c =
+    fault_here (ElementFault (from_place c.args.opening c.args.cursor.now) c.args.place) c.args.cursor.now c.place-from.ensures c.if-skip.ensures.skipped.passed (no_class c.in-None.ensures)
 
 pub returns-in-Some-take_closed_byte-clause-read : goal.returns-in-Some-take_closed_byte-clause-read
 returns-in-Some-take_closed_byte-clause-read c =
@@ -19,10 +20,7 @@ returns-in-Some-take_closed_byte-clause-read c =
 pub returns-in-None-take_closed_byte-clause-refused : goal.returns-in-None-take_closed_byte-clause-refused
 returns-in-None-take_closed_byte-clause-refused c =
     let past = rw c.if-skip.ensures.else_same at c.if-skip-2.ensures.skipped in
-    record {
-      none = λ v a q. no_equivalence past.passed c.in-None-take_closed_byte.ensures;
-      shown = record { shows = inr (equivalence_shown c.args.cursor.now c.place-from.ensures past.passed c.in-None-take_closed_byte.ensures); unclosed = λ e. cc };
-    }
+    fault_here (ElementFault (from_place c.args.opening c.args.cursor.now) c.args.place) c.args.cursor.now c.place-from.ensures past.passed (no_equivalence c.in-None-take_closed_byte.ensures)
 
 pub read_point_or_range-requires-clause-opened : goal.read_point_or_range-requires-clause-opened
 read_point_or_range-requires-clause-opened c = rw (c.if-skip-2.ensures.else_same, c.if-skip.ensures.else_same) c.requires.opened
@@ -42,7 +40,7 @@ returns-clause-read c =
 
 pub returns-clause-refused : goal.returns-clause-refused
 returns-clause-refused c =
-    subst (λ k. IfErr c.read_point_or_range.result (HasNoElement c.args.opening c.args.place k))
+    subst (λ k. IfErr c.read_point_or_range.result (Fails (ElementFault (from_place c.args.opening k) c.args.place (left k)) k))
     (c.if-skip-2.ensures.else_same ∙ c.if-skip.ensures.else_same) c.read_point_or_range.ensures.refused
 
 pub returns-clause-same_text : goal.returns-clause-same_text

@@ -1,7 +1,13 @@
 use Rattle.re_syntax.proofs.Prelude.{ap, ◌∙◌, err_from_is_err_and}
-use Rattle.re_syntax.proofs.lemmas.BracketElements.{shown_along}
-use Rattle.re_syntax.proofs.lemmas.BracketLists.{goes_on-first, goes_on-next, goes_on-last, goes_on-none, element-shortens}
+use Rattle.re_syntax.specs.BracketFaults.{here}
+use Rattle.re_syntax.proofs.lemmas.BracketFaultsReading.{fault_as, list_fault}
+use Rattle.re_syntax.proofs.lemmas.BracketLists.{goes_on-first, goes_on-next, goes_on-last, element-shortens}
 use Rattle.re_syntax.proofs.bracket.read_list.Goals as goal
+
+pub returns-in_err-set-clause-refused : goal.returns-in_err-set-clause-refused
+returns-in_err-set-clause-refused c =
+    let p = err_from_is_err_and c.from_residual.result c.from_residual.ensures.1 in
+    rw (p.1, p.2) (fault_as c.in_err-set.ensures.refused (λ kind from f. here f))
 
 pub loop-place-init : goal.loop-place-init
 loop-place-init c = record { same_text = c.in_ok-set.ensures.same_text; goes_on = goes_on-first c.in_ok-set.ensures.read }
@@ -10,10 +16,7 @@ pub returns-in_err-bytes-clause-refused : goal.returns-in_err-bytes-clause-refus
 returns-in_err-bytes-clause-refused c =
     let p = err_from_is_err_and c.from_residual-in_err-bytes.result c.from_residual-in_err-bytes.ensures.1 in
     let refused = rw c.loop-place-test.ensures.else_same at c.in_err-bytes.ensures.refused in
-    rw (p.1, p.2) (record {
-      none = λ u s. goes_on-none c.loop-place.invariant.goes_on c.loop-place-test.ensures.skipped refused.none;
-      shown = shown_along c.args.opening c.loop-place.cursor c.args.cursor.now _ c.loop-place.invariant.same_text refused.shown;
-    })
+    rw (p.1, p.2) (list_fault c.args.opening c.args.cursor.now c.loop-place.cursor c.loop-place.place _ c.loop-place.invariant.same_text c.loop-place.invariant.goes_on.fault refused)
 
 pub loop-place-smaller : goal.loop-place-smaller
 loop-place-smaller c = element-shortens (rw c.loop-place-test.ensures.else_same at c.in_ok-bytes.ensures.read)
@@ -22,7 +25,7 @@ pub loop-place-preserved : goal.loop-place-preserved
 loop-place-preserved c = record {
   same_text = c.in_ok-bytes.ensures.same_text ∙ ap (λ k. k.text) c.loop-place-test.ensures.else_same ∙ c.loop-place.invariant.same_text;
   goes_on = rw c.union-set.ensures
-      (goes_on-next c.loop-place.invariant.goes_on c.loop-place-test.ensures.skipped (rw c.loop-place-test.ensures.else_same at c.in_ok-bytes.ensures.read));
+      (goes_on-next c.loop-place.invariant.goes_on (rw c.loop-place-test.ensures.else_same at c.in_ok-bytes.ensures.read));
 }
 
 pub returns-clause-read : goal.returns-clause-read

@@ -1,4 +1,4 @@
-use Rattle.re_syntax.proofs.lemmas.ExtendedOpenings.{found_opens}
+use Rattle.re_syntax.proofs.lemmas.ExtendedTokenReading.{found_opens}
 use Rattle.re_syntax.proofs.extended.opens_duplication.Goals as goal
 
 pub returns-in-Ok : goal.returns-in-Ok

@@ -1,8 +1,13 @@
-use Rattle.re_syntax.proofs.lemmas.ExtendedOpenings.{closing_no_part, none_at_end, sign_stands, none_without_brace, none_without_interval, interval_stands, bad_interval}
+use Rattle.re_syntax.proofs.Prelude.{codes, refl, opens_interval}
+use Rattle.re_syntax.specs.declared.tokens.ItemPlace.TheVariants.{Later}
+use Rattle.re_syntax.specs.Extended.{interval}
+use Rattle.re_syntax.specs.ExtendedTokens.{ExtendedTokenFault, disallowed}
+use Rattle.re_syntax.proofs.lemmas.ExtendedTokenReading.{none_at_end, sign_stands, none_without_brace, none_without_interval}
+use Rattle.re_syntax.proofs.lemmas.TokenReading.{closing_no_part, interval_stands, bad_interval}
 use Rattle.re_syntax.proofs.extended.read_duplication.Goals as goal
 
 pub read_interval-requires-clause-closes : goal.read_interval-requires-clause-closes
-read_interval-requires-clause-closes c = closing_no_part
+read_interval-requires-clause-closes c = closing_no_part 125 (codes "") refl refl
 
 pub returns-in-None-clause-read : goal.returns-in-None-clause-read
 returns-in-None-clause-read c = none_at_end c.args.text.now c.args.at c.in-None.ensures
@@ -16,8 +21,13 @@ returns-in-None-after-clause-read c = none_without_brace c.args.text.now c.args.
 pub returns-in-None-read_interval-clause-read : goal.returns-in-None-read_interval-clause-read
 returns-in-None-read_interval-clause-read c = none_without_interval c.in-Some-after.ensures c.in-None-read_interval.ensures
 
-pub returns-in-Some-counts_fault-clause-refused : goal.returns-in-Some-counts_fault-clause-refused
-returns-in-Some-counts_fault-clause-refused c = bad_interval c.in-Some-after.ensures c.in-Some-read_interval.ensures c.in-Some-counts_fault.ensures
-
 pub returns-in-None-counts_fault-clause-read : goal.returns-in-None-counts_fault-clause-read
-returns-in-None-counts_fault-clause-read c = interval_stands c.in-Some-after.ensures c.in-Some-read_interval.ensures c.in-None-counts_fault.ensures
+returns-in-None-counts_fault-clause-read c =
+    let i = c.in-Some-read_interval.ensures in interval_stands c.in-Some-after.ensures i c.in-None-counts_fault.ensures (λ allowed. interval i.stands.form allowed)
+
+pub returns-in-Some-counts_fault-clause-refused : goal.returns-in-Some-counts_fault-clause-refused
+returns-in-Some-counts_fault-clause-refused c =
+    let i = c.in-Some-read_interval.ensures in bad_interval c.in-Some-after.ensures i (ExtendedTokenFault Later) c.requires c.in-Some-counts_fault.ensures (λ bad. disallowed i.stands bad)
+
+pub returns-in-Some-counts_fault-clause-opens : goal.returns-in-Some-counts_fault-clause-opens
+returns-in-Some-counts_fault-clause-opens c = rw c.in-Some-after.ensures.front (opens_interval c.in-Some-read_interval.ensures.stands)

@@ -1,0 +1,14 @@
+use Rattle.re_syntax.proofs.Prelude.{err_from_is_err_and, ap, one_of}
+use Rattle.re_syntax.specs.ExtendedTokens.{in_escape}
+use Rattle.re_syntax.specs.ExtendedTokens.{escaped}
+use Rattle.re_syntax.proofs.lemmas.BracketFaultsReading.{fault_as}
+use Rattle.re_syntax.proofs.lemmas.TokenReading.{escape_stands}
+use Rattle.re_syntax.proofs.extended.escape_token.Goals as goal
+
+pub returns-in_err-byte-clause-refused : goal.returns-in_err-byte-clause-refused
+returns-in_err-byte-clause-refused c =
+    let q = err_from_is_err_and c.from_residual.result c.from_residual.ensures.1 in
+    rw (q.1, q.2) (λ p. fault_as c.in_err-byte.ensures.refused (λ kind from f. in_escape f))
+
+pub returns-clause-read : goal.returns-clause-read
+returns-clause-read c g p = escape_stands _ c.in_ok-byte.ensures.read (ap one_of c.only.ensures) (escaped _ c.in_ok-byte.ensures.read.allowed)

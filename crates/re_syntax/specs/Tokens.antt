@@ -1,0 +1,32 @@
+-- The tokens that the text of an expression is cut into, as the standard's grammars have them (XBD
+-- 9.5.1). In each syntax they are a relation between a text that begins with a token, the text after
+-- it, and the token.
+use Rattle.std.specs.Prelude.{ℕ, Bool, ◌∷◌, Option}
+use Rattle.re_syntax.specs.declared.tokens.ItemPlace.{ItemPlace}
+use Rattle.re_syntax.specs.declared.tokens.ItemPlace.TheVariants.{First, AfterAnchor, Later}
+use Rattle.re_trees.specs.Bytes.{Text}
+use Rattle.re_trees.specs.Expression.{Expression, byte}
+
+pub data Token : Type 0 where
+  -- what opens and closes a group; what separates two branches
+  opening closing bar : Token
+  -- a `^` that is an anchor
+  lead : Token
+  -- a byte, a set of bytes, or a `$` that is an anchor
+  atom : Expression → Token
+  -- a duplication
+  times : ℕ → Option ℕ → Token
+
+-- the place of the token after this one
+abbrev pub place_after : Token → ItemPlace
+place_after opening = First
+place_after closing = Later
+place_after bar = First
+place_after lead = AfterAnchor
+place_after (atom e) = Later
+place_after (times least most) = Later
+
+-- a token of a fixed string: each byte is one
+pub data FixedToken : Bool → ItemPlace → Text → Text → Token → Type 0 where
+  one_byte : {g : Bool} {p : ItemPlace} {u : Text} (b : ℕ) →
+      FixedToken g p (b ∷ u) u (atom (byte b))

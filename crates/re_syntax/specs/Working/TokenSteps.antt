@@ -1,0 +1,44 @@
+-- What reading a token says.
+use Rattle.std.specs.Prelude.{ℕ, ◌<◌, ◌≤◌, ◌&&◌, Bool, length, drop, nat_eq, if◌then◌else◌}
+use Rattle.re_syntax.specs.declared.tokens.ItemPlace.{ItemPlace}
+use Rattle.re_syntax.specs.declared.syntax.Syntax.{Syntax}
+use Rattle.re_syntax.specs.declared.tokens.Atom.{Atom}
+use Rattle.re_syntax.specs.declared.tokens.Atom.TheVariants.{Set, Not, End}
+use Rattle.re_syntax.specs.declared.tokens.Token.{Token as Read}
+use Rattle.re_syntax.specs.declared.tokens.Token.TheVariants.{Opening, Closing, Bar, Lead, Times}
+use Rattle.re_syntax.specs.declared.tokens.Token.TheVariants.{Atom as Atomic}
+use Rattle.re_trees.specs.Bytes.{Text, Bytes, any_but_nul, only}
+use Rattle.re_syntax.specs.FirstFaults.{IsToken}
+use Rattle.re_trees.specs.Expression.{Expression, one_of, none_of, end}
+use Rattle.re_syntax.specs.Tokens.{Token, opening, closing, bar, lead, atom, times}
+use Rattle.re_trees.specs.Working.Trees.{members}
+
+-- what an atom means
+abbrev pub atom_expression : Atom → Expression
+atom_expression (Set s) = one_of (members s)
+atom_expression (Not s) = none_of (members s)
+atom_expression End = end
+
+-- what a byte means outside brackets and escapes
+abbrev pub meant_bytes : ℕ → Bytes
+meant_bytes b = if nat_eq b 46 then any_but_nul else only b
+
+-- what a token that was read means
+abbrev pub token_of : Read → Token
+token_of Opening = opening
+token_of Closing = closing
+token_of Bar = bar
+token_of Lead = lead
+token_of (Atomic it) = atom (atom_expression it)
+token_of (Times counts) = times counts.least counts.most
+
+-- a token goes from one place up to another
+pub record Stands (syntax : Syntax) (g : Bool) (p : ItemPlace) (text : Text) (at : ℕ) (token : Read)
+    (beyond : ℕ) : Type 0 where
+  pub forward : at < beyond
+  pub within : beyond ≤ length text
+  pub stands : IsToken syntax g p (drop at text) (drop beyond text) (token_of token)
+
+-- what a byte is that is nothing else
+abbrev pub byte_token : Bool → ℕ → Token
+byte_token g b = if g && nat_eq b 41 then closing else atom (one_of (meant_bytes b))
