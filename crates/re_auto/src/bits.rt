@@ -19,9 +19,9 @@ pub fn add(into: &mut [u64], row: &[u64])
     }
 }
 
-// Adds the members of `row`, which are all in the words of the range.
+/// Adds the members of `row`, which are all in the words of the range.
 #[inline(always)]
-fn add_within(into: &mut [u64], row: &[u64], range: WordRange)
+pub fn add_within(into: &mut [u64], row: &[u64], range: WordRange)
     requires same { length into.old ≡ length row.now }
     requires covers { Covers range row.now }
     ensures len { length into.new ≡ length into.old }
@@ -91,6 +91,7 @@ pub fn take_lowest(left: &mut u64) -> usize
     ensures small { result < 64 }
     ensures held { InWord left.old result }
     ensures less { left.new < left.old }
+    ensures gone { InWord left.new result → ⊥ }
     ensures rest { (b : ℕ) → b < 64 → InWord left.old b ↔ (InWord left.new b ⊎ (b ≡ result)) }
 {
     let lowest = left.trailing_zeros() as usize;
@@ -188,8 +189,9 @@ pub fn put_word(into: &mut [u64], word: u64)
     into[0] = word;
 }
 
-/// Adds the members of `row` to row `r` of a table.
-pub fn add_to_row(table: &mut [u64], width: usize, r: usize, row: &[u64])
+/// Adds the members of `row`, which are all in the words of the range, to row `r` of a table.
+pub fn add_to_row(table: &mut [u64], width: usize, r: usize, row: &[u64], range: WordRange)
+    requires covers { Covers range row.now }
     requires room { r * width + width ≤ length table.old }
     requires same { length row.now ≡ width }
     ensures len { length table.new ≡ length table.old }
@@ -197,5 +199,5 @@ pub fn add_to_row(table: &mut [u64], width: usize, r: usize, row: &[u64])
         Has (row_of table.new width p) q ↔
         (Has (row_of table.old width p) q ⊎ ((p ≡ r) × Has row.now q)) }
 {
-    add(&mut table[r * width..r * width + width], row);
+    add_within(&mut table[r * width..r * width + width], row, range);
 }

@@ -2,10 +2,10 @@
 
 mod classes;
 mod count;
-mod ends;
+pub mod ends;
 pub mod fill;
 mod parts;
-mod rows;
+pub mod rows;
 
 /// Why an automaton, or a set for one, could not be made.
 #[derive(Clone, Copy, PartialEq, Eq, Debug, Drop)]

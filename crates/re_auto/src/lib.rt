@@ -17,4 +17,5 @@ pub use mode::Mode;
 pub use ranges::WordRange;
 pub use re_meter::{Meter, fresh_meter};
 pub use step::automaton::Automaton;
+pub use step::preceding::Preceding;
 pub use step::state_set::StateSet;

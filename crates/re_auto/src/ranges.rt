@@ -1,5 +1,5 @@
 //! The words of a row that contain its members: usually few of them in a wide automaton.
-ghost use Rattle.std.specs.Prelude.{◌≡◌, ℕ, ◌*◌, ◌/◌, ◌<◌, ◌≤◌, IfOk, length};
+ghost use Rattle.std.specs.Prelude.{◌≡◌, ℕ, ◌*◌, ◌/◌, ◌<◌, ◌≤◌, ◌⊎◌, IfOk, List, length};
 ghost use Rattle.re_auto.specs.Working.Bits.{Has};
 ghost use Rattle.re_auto.specs.Working.Ranges.{Covers, CoverRows};
 ghost use Rattle.re_auto.specs.Working.Tables.{most_words};
@@ -14,6 +14,26 @@ pub struct WordRange {
     pub first: u8,
     /// The word after the last.
     pub past: u8,
+}
+
+impl WordRange {
+    /// All words from the first of both to the last.
+    #[inline(always)]
+    pub fn joined(self, other: WordRange) -> WordRange
+        ensures { (a b c : List ℕ) → Covers self a → Covers other b → (length c ≡ length a) →
+            (length c ≡ length b) → ((q : ℕ) → Has c q → Has a q ⊎ Has b q) → Covers result c }
+    {
+        if self.first == self.past {
+            return other;
+        }
+        if other.first == other.past {
+            return self;
+        }
+        WordRange {
+            first: self.first.min(other.first),
+            past: self.past.max(other.past),
+        }
+    }
 }
 
 /// For each of the first `rows` rows the range from the first to the last word that has members.
@@ -34,8 +54,8 @@ pub fn ranges_of(
     Ok(ranges)
 }
 
-// The range of one row. It is empty where the row has no member.
-fn range_of(row: &[u64]) -> WordRange
+/// The range of one row. It is empty where the row has no member.
+pub fn range_of(row: &[u64]) -> WordRange
     requires { length row.now ≤ most_words }
     ensures { Covers result row.now }
 {

@@ -1,4 +1,5 @@
 //! Stepping over a line: the automaton, and the sets of its positions.
 
 pub mod automaton;
+pub mod preceding;
 pub mod state_set;

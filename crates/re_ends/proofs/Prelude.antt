@@ -1,12 +1,12 @@
 -- The words of specs and of std that proofs of this crate use, passed on from one place. Declares nothing.
 unfoldable pub use Rattle.re_auto.specs.Working.Bits.{Has}
 pub use Rattle.re_auto.specs.Working.Positions.{Part, PartHolds, Reaches, is_begin, is_end, part_of}
-pub use Rattle.re_ends.specs.Working.GreatestEnds.{AddsEnds, AreEndsAt, FoundPast, IsStepBack, Leads, LeadsPast, MatchesPast}
+pub use Rattle.re_ends.specs.Working.GreatestEnds.{AddsEnds, FoundPast, Leads, LeadsPast, MatchesPast}
 pub use Rattle.re_trees.specs.Bytes.{Text}
 pub use Rattle.re_trees.specs.Expression.{Expression}
 pub use Rattle.re_trees.specs.Holds.{Holds, Matches, positions}
 pub use Rattle.re_trees.specs.Parts.{IsFound}
 pub use Rattle.re_trees.specs.Working.Trees.{expression_of}
-pub use Rattle.std.proofs.Common.{Bool, IsTrue, List, Some, [], add-one, ap, arith, drop, false, get_or, get_or-set_other, get_or-set_same, inl, inr, length, length-append, length-set, map, max, nat_eq, refl, replicate, rules, set, slice_get, slice_index, if◌then◌else◌, subst, suc, sym, take, true, zero, ℕ, ◌*◌, ◌++◌, ◌+◌, ◌-◌, ◌/◌, ◌<◌, ◌↔◌, ◌∙◌, ◌∷◌, ◌≡◌, ◌≤◌, ◌⊎◌}
+pub use Rattle.std.proofs.Common.{Bool, IsTrue, List, Some, [], ap, arith, drop, false, get_or, get_or-set_other, get_or-set_same, inl, inr, length, length-append, length-set, map, max, nat_eq, refl, replicate, set, slice_get, slice_index, subst, suc, sym, take, true, zero, ℕ, ◌*◌, ◌++◌, ◌+◌, ◌-◌, ◌/◌, ◌<◌, ◌↔◌, ◌∙◌, ◌∷◌, ◌≡◌, ◌≤◌, ◌⊎◌}
 pub use Rattle.std.proofs.lemmas.Bool.{cases_eq, cases_lt, false≢true, true≢false}
-pub use Rattle.std.proofs.lemmas.List.{get_or-replicate, get_or_append_left, get_or_past, length-replicate, with_items_is}
+pub use Rattle.std.proofs.lemmas.List.{get_or_append_left, length-replicate, with_items_is}

@@ -1,8 +1,8 @@
 -- lemmas by subject
 pub mod EndLaws
 pub mod FoundEnds
-pub mod RankLaws
-pub mod NumberLaws
+pub mod ClosingLaws
+pub mod GroupLaws
 pub mod ListLaws
 pub mod KeptLaws
 pub mod TableLaws

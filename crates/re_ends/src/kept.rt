@@ -1,47 +1,47 @@
-//! Steps between rows of ranks, as far as they are kept.
-ghost use Rattle.std.specs.Prelude.{◌≡◌, ℕ, ◌+◌, ◌*◌, ◌^◌, ◌<◌, ◌≤◌, Bool, true, false, ◌∷◌, IsTrue};
+//! Steps between rows of groups, as far as they are kept.
+ghost use Rattle.std.specs.Prelude.{◌≡◌, ℕ, ◌+◌, ◌*◌, ◌^◌, ◌<◌, ◌≤◌, Bool, true, false, [], ◌∷◌, ◌++◌, IsTrue};
 ghost use Rattle.std.specs.Prelude.{IfOk, IfSome, OnOk, List, length, get_or, slice_index};
 ghost use Rattle.re_trees.specs.Expression.{Expression};
 ghost use Rattle.re_trees.specs.Holds.{positions};
 ghost use Rattle.re_trees.specs.Working.Trees.{expression_of};
 ghost use Rattle.re_auto.specs.Working.Positions.{part_of};
-ghost use Rattle.re_ends.specs.Working.Ranks.{kept_in, Leaves, AreRanksFor, IsRankStep, IsRow};
+ghost use Rattle.re_ends.specs.Working.Groups.{AreGroupsFor, Follow, Leaves, IsRow, IsStep};
 ghost use Rattle.re_ends.specs.Working.KeptSteps.{listed, unknown, no_step, cell_at, rows_of, AreLonger, AreRowsFor, AreStepsFor, IsOperation, IsRowIn};
 
+use crate::groups::{Groups, first_in};
 use crate::list::EndList;
-use crate::ranks::{Ranks, greatest_among};
 use re_auto::Automaton;
 use std::alloc::{AllocError, Global};
 use std::collections::HashMap;
 
 // The most steps that are kept.
-const MOST_STEPS: usize = 4096;
+const MOST_STEPS: usize = 1 << 14;
 
-// The most bytes that rows and their cells take.
-const MOST_BYTES: usize = 1 << 22;
+// The most bytes that rows, cells and lists take.
+const MOST_BYTES: usize = 1 << 24;
 
 // The most cells.
 const MOST_CELLS: usize = 1 << 30;
 
-// From this operation on, an operation is the number of a list of ranks that stay, plus this. Below
-// it is the first rank that stays, as do all after it.
+// From this operation on, an operation is the number of a list of ends that stay, plus this. Below it
+// is the first end that stays, as do those after it.
 const LISTED: u16 = 1 << 15;
 
 // No operation.
 const UNKNOWN: u16 = u16::MAX;
 
-// The operation that leaves the ends as they are.
-const ALL: u16 = 2;
-
 /// A kept step.
 #[derive(Clone, Copy, Drop)]
 pub struct Step {
-    /// Where the row of the ranks before the byte has its cells.
+    /// Where the row of the groups before the byte has its cells.
     pub row: u32,
-    /// The greatest of these ranks, of positions that a stretch inside a line can begin with.
+    /// The first of these groups with a position that a stretch inside a line can begin with, counted
+    /// from 1 on, or 0 if there is none.
     pub inside: u16,
-    /// What becomes of the ends.
+    /// Which ends stay.
     pub op: u16,
+    /// How many ends stay.
+    pub count: u16,
 }
 
 // What a cell has whose step is not kept.
@@ -49,24 +49,26 @@ const NO_STEP: Step = Step {
     row: 0,
     inside: 0,
     op: UNKNOWN,
+    count: 0,
 };
 
-/// Rows of ranks, and for each row a cell for each class of bytes, with the step over such a byte
+/// Rows of groups, and for each row a cell for each class of bytes, with the step over such a byte
 /// if it is kept. The first row is that of a line's end, the second that of a place inside a line
 /// that no match goes over.
 #[derive(Drop)]
 pub struct KeptSteps {
     classes: Vec<u8>,
     width: usize,
-    rows: Vec<Vec<u16>>,
+    rows: Vec<Vec<u32>>,
     cells: Vec<Step>,
     lists: Vec<Vec<u16>>,
     numbers: HashMap<u64, usize>,
     held: usize,
+    bytes: usize,
 }
 
 impl KeptSteps {
-    /// No steps, and rows where no position has an end.
+    /// No steps, and rows without groups.
     pub fn new(alloc: Global, automaton: &Automaton) -> Result<KeptSteps, AllocError>
         ensures { IfOk result (AreStepsFor (expression_of automaton.now)) }
     {
@@ -75,9 +77,9 @@ impl KeptSteps {
         let mut cells = Vec::new(alloc);
         lengthen(&mut cells, 0, 3 * width)?;
         let mut rows = Vec::new(alloc);
-        rows.push(vec![in alloc; 0u16; automaton.size()]?)?;
-        rows.push(vec![in alloc; 0u16; automaton.size()]?)?;
-        rows.push(vec![in alloc; 0u16; automaton.size()]?)?;
+        rows.push(Vec::new(alloc))?;
+        rows.push(Vec::new(alloc))?;
+        rows.push(Vec::with_capacity(alloc, automaton.size())?)?;
         Ok(KeptSteps {
             classes,
             width,
@@ -86,14 +88,14 @@ impl KeptSteps {
             lists: Vec::new(alloc),
             numbers: HashMap::new(alloc),
             held: 0,
+            bytes: 0,
         })
     }
 
-    /// The row where no position has an end, at a line's end or inside a line.
+    /// The row without groups, at a line's end or inside a line.
     pub fn first_row(&self, at_end: bool) -> usize
         requires sound { (e : Expression) × AreStepsFor e self.now }
-        ensures { (ranks : List ℕ) × IsRowIn self.now result at_end ranks ×
-            ((q : ℕ) → slice_index ranks q ≡ 0) }
+        ensures { IsRowIn self.now result at_end [] }
     {
         if at_end {
             return 0;
@@ -101,37 +103,44 @@ impl KeptSteps {
         self.width
     }
 
-    /// Removes all steps, and all rows but the first two. Returns where the row with these ranks
+    /// Removes all steps, and all rows but the first two. Returns where the row with these members
     /// begins.
-    pub fn begin_anew(&mut self, automaton: &Automaton, ranks: &[u16]) -> usize
+    pub fn begin_anew(&mut self, automaton: &Automaton, row: &[u32]) -> usize
         requires rows { AreRowsFor (expression_of automaton.now) self.old }
-        requires row { IsRow (positions (expression_of automaton.now)) ranks.now }
+        requires row { IsRow (positions (expression_of automaton.now)) row.now }
         ensures sound { AreStepsFor (expression_of automaton.now) self.new }
-        ensures row { IsRowIn self.new result false ranks.now }
+        ensures row { IsRowIn self.new result false row.now }
     {
         self.rows.truncate(3);
-        self.rows[2].copy_from_slice(ranks);
+        let third = &mut self.rows[2];
+        third.clear();
+        let _ = third.extend_from_slice(row);
         self.cells.truncate(3 * self.width);
         self.cells.fill(NO_STEP);
         self.lists.clear();
         self.numbers.clear();
         self.held = 0;
+        self.bytes = 0;
         2 * self.width
     }
 
     // Whether no more steps may be kept.
-    fn is_full(&self, size: usize) -> bool {
-        let rows = self.rows.len().saturating_mul(size.saturating_mul(2));
-        let bytes = self.cells.len().saturating_mul(8).saturating_add(rows);
-        self.held >= MOST_STEPS || bytes >= MOST_BYTES
+    fn is_full(&self) -> bool {
+        self.held >= MOST_STEPS || self.bytes >= MOST_BYTES
     }
 
-    /// The ranks of a row.
-    pub fn ranks(&self, row: usize) -> &[u16]
+    // Counts elements that are kept, each of so many bytes.
+    fn count_bytes(&mut self, elements: usize, bytes: usize)
+        ensures { self.new ≡ record self.old { bytes = self.new.bytes } }
+    {
+        self.bytes = self.bytes.saturating_add(elements.saturating_mul(bytes));
+    }
+
+    /// The members of a row's groups.
+    pub fn row(&self, row: usize) -> &[u32]
         requires sound { (e : Expression) × AreStepsFor e self.now }
         requires row { (end : Bool) × (of : List ℕ) × IsRowIn self.now row end of }
-        ensures { (end : Bool) (of : List ℕ) → IsRowIn self.now row end of →
-            result.now ≡ of }
+        ensures { (end : Bool) (of : List ℕ) → IsRowIn self.now row end of → result.now ≡ of }
     {
         &self.rows[row / self.width]
     }
@@ -150,23 +159,21 @@ impl KeptSteps {
     /// Does with the ends what an operation says. `false`, and nothing is done, if there is no such
     /// operation or no room for it.
     #[inline(always)]
-    pub fn apply(&self, op: u16, list: &mut EndList, place: usize) -> bool
+    pub fn apply(&self, step: Step, list: &mut EndList, place: usize) -> bool
         ensures none { result ≡ false → list.new ≡ list.old }
-        ensures moved { (kept : List ℕ) → IsOperation self.now.lists.items op kept →
-            IsTrue result → Leaves kept (place ∷ list.old.ends) list.new.ends }
-        ensures known { IsTrue result → op < unknown }
+        ensures moved { (kept : List ℕ) → IsOperation self.now.lists.items step.op kept →
+            (length kept ≡ step.count) → IsTrue result →
+            Leaves kept (list.old.ends ++ place ∷ []) list.new.ends }
+        ensures known { IsTrue result → step.op < unknown }
         ensures most { list.new.most ≡ list.old.most }
     {
-        if op == ALL {
-            return true;
+        if step.op < LISTED {
+            return list.cut(step.op, step.count, place);
         }
-        if op < LISTED {
-            return list.cut(op, place);
-        }
-        if op == UNKNOWN {
+        if step.op == UNKNOWN {
             return false;
         }
-        let number = (op - LISTED) as usize;
+        let number = (step.op - LISTED) as usize;
         if number >= self.lists.len() {
             return false;
         }
@@ -178,45 +185,42 @@ impl KeptSteps {
         true
     }
 
-    /// Where the row with these ranks begins. It is added if there is none. `None` if there is no
-    /// room or memory for it, and then steps may be lost.
-    pub fn row_of(&mut self, alloc: Global, automaton: &Automaton, ranks: &Ranks) -> Option<usize>
+    /// Where the row of these groups begins. It is added if there is none. `None` if there is no room
+    /// or memory for it, and then steps may be lost.
+    pub fn row_of(&mut self, alloc: Global, automaton: &Automaton, groups: &Groups) -> Option<usize>
         requires sound { AreStepsFor (expression_of automaton.now) self.old }
-        requires row { IsRow (positions (expression_of automaton.now)) ranks.now.next.items }
+        requires row { IsRow (positions (expression_of automaton.now)) groups.now.row.items }
         ensures rows { AreRowsFor (expression_of automaton.now) self.new }
         ensures sound { IfSome result (λ row. AreStepsFor (expression_of automaton.now) self.new ×
-            IsRowIn self.new row false ranks.now.next.items) }
+            IsRowIn self.new row false groups.now.row.items) }
         ensures kept { (row : ℕ) (end : Bool) (of : List ℕ) → IsRowIn self.old row end of →
             IsRowIn self.new row end of }
     {
-        if self.is_full(ranks.next.len()) {
+        if self.is_full() {
             return None;
         }
-        if let Some(row) = self.find(ranks) {
+        if let Some(row) = self.find(groups) {
             return Some(row);
         }
-        match self.add(alloc, automaton, ranks) {
+        match self.add(alloc, automaton, groups) {
             Ok(row) => Some(row),
             Err(_) => None,
         }
     }
 
-    // The row with these ranks, if it is found.
-    fn find(&self, ranks: &Ranks) -> Option<usize>
+    // The row of these groups, if it is found.
+    fn find(&self, groups: &Groups) -> Option<usize>
         requires { (e : Expression) × AreStepsFor e self.now }
-        ensures { IfSome result (λ row. IsRowIn self.now row false ranks.now.next.items) }
+        ensures { IfSome result (λ row. IsRowIn self.now row false groups.now.row.items) }
     {
-        let Some(known) = self.numbers.get(&ranks.hash) else {
+        let Some(known) = self.numbers.get(&groups.hash) else {
             return None;
         };
         let number = *known;
-        if number == 0 {
+        if number == 0 || number >= self.rows.len() {
             return None;
         }
-        if number >= self.rows.len() {
-            return None;
-        }
-        if self.rows[number].as_slice() != ranks.next.as_slice() {
+        if self.rows[number].as_slice() != groups.row.as_slice() {
             return None;
         }
         Some(number * self.width)
@@ -227,13 +231,13 @@ impl KeptSteps {
         &mut self,
         alloc: Global,
         automaton: &Automaton,
-        ranks: &Ranks,
+        groups: &Groups,
     ) -> Result<usize, AllocError>
         requires sound { AreStepsFor (expression_of automaton.now) self.old }
-        requires row { IsRow (positions (expression_of automaton.now)) ranks.now.next.items }
+        requires row { IsRow (positions (expression_of automaton.now)) groups.now.row.items }
         ensures rows { AreRowsFor (expression_of automaton.now) self.new }
         ensures sound { IfOk result (λ row. AreStepsFor (expression_of automaton.now) self.new ×
-            IsRowIn self.new row false ranks.now.next.items) }
+            IsRowIn self.new row false groups.now.row.items) }
         ensures kept { (row : ℕ) (end : Bool) (of : List ℕ) → IsRowIn self.old row end of →
             IsRowIn self.new row end of }
     {
@@ -242,14 +246,16 @@ impl KeptSteps {
         if first > MOST_CELLS - 256 {
             return Err(AllocError);
         }
-        let row = Vec::from_slice(alloc, &ranks.next)?;
+        let row = Vec::from_slice(alloc, &groups.row)?;
         lengthen(&mut self.cells, first, self.width)?;
         self.rows.push(row)?;
-        let _ = self.numbers.insert(ranks.hash, number);
+        let _ = self.numbers.insert(groups.hash, number);
+        self.count_bytes(groups.row.len(), 4);
+        self.count_bytes(self.width, 12);
         Ok(first)
     }
 
-    /// Keeps a step from a row over a byte, to the row of the ranks that it led to, if there is
+    /// Keeps a step from a row over a byte, to the row of the groups that it led to, if there is
     /// memory for it.
     pub fn put(
         &mut self,
@@ -258,34 +264,39 @@ impl KeptSteps {
         from: usize,
         byte: u8,
         to: usize,
-        ranks: &Ranks,
+        groups: &Groups,
     )
         requires sound { AreStepsFor (expression_of automaton.now) self.old }
-        requires made { AreRanksFor (expression_of automaton.now) ranks.now }
-        requires row { IsRow (positions (expression_of automaton.now)) ranks.now.next.items }
+        requires made { AreGroupsFor (expression_of automaton.now) groups.now }
+        requires row { IsRow (positions (expression_of automaton.now)) groups.now.row.items }
         requires from { (end : Bool) × (of : List ℕ) × IsRowIn self.old from end of ×
-            IsRankStep (part_of (expression_of automaton.now) 0) end of byte (kept_in ranks.now)
-            ranks.now.next.items }
-        requires to { IsRowIn self.old to false ranks.now.next.items }
+            IsStep (part_of (expression_of automaton.now) 0) end of byte groups.now.kept.items
+            groups.now.row.items }
+        requires to { IsRowIn self.old to false groups.now.row.items }
         ensures sound { AreStepsFor (expression_of automaton.now) self.new }
         ensures kept { (row : ℕ) (end : Bool) (of : List ℕ) → IsRowIn self.old row end of →
             IsRowIn self.new row end of }
     {
-        let Ok(op) = operation_of(alloc, &mut self.lists, ranks.kept()) else {
+        let Ok(op) = operation_of(alloc, &mut self.lists, &groups.kept) else {
             return;
         };
-        let inside = greatest_among(&ranks.next, automaton.beginning(false), 0);
+        let inside = first_in(&groups.row, automaton.beginning(false));
         let at = from + self.classes[byte as usize] as usize;
         self.cells[at] = Step {
             row: to as u32,
             inside,
             op,
+            count: groups.kept.len() as u16,
         };
         self.held = self.held.saturating_add(1);
+        if op < LISTED {
+            return;
+        }
+        self.count_bytes(groups.kept.len(), 2);
     }
 }
 
-// The operation that leaves these ranks. They are listed if they don't follow each other.
+// The operation that leaves these ends. They are listed if they don't follow each other.
 fn operation_of(alloc: Global, lists: &mut Vec<Vec<u16>>, kept: &[u16]) -> Result<u16, AllocError>
     ensures kept { AreLonger lists.old.items lists.new.items }
     ensures op { IfOk result (λ op. (op < unknown) × IsOperation lists.new.items op kept.now) }
@@ -303,19 +314,15 @@ fn operation_of(alloc: Global, lists: &mut Vec<Vec<u16>>, kept: &[u16]) -> Resul
     Ok(LISTED + number as u16)
 }
 
-// The first of these ranks, if they follow each other, else `LISTED`.
+// The first of these numbers, if they follow each other, else `LISTED`.
 fn run_of(kept: &[u16]) -> u16
-    ensures { result < listed → (0 < result) ×
-        ((k : ℕ) → k < length kept.now → slice_index kept.now k ≡ result + k) }
+    ensures { result < listed → Follow result kept.now }
 {
     if kept.is_empty() {
-        return ALL;
+        return 0;
     }
     let first = kept[0];
-    if first == 0 {
-        return LISTED;
-    }
-    'ranks: for k in 0..kept.len() {
+    'ends: for k in 0..kept.len() {
         if kept[k] as usize != first as usize + k {
             return LISTED;
         }

@@ -2,10 +2,10 @@
 //! begins there. They are found in one pass back from the line's end.
 #![tactic(auto)]
 
+mod groups;
 mod kept;
 mod list;
 mod pass;
-mod ranks;
 mod table;
 
 pub use pass::Asked;

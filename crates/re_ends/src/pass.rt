@@ -8,9 +8,9 @@ ghost use Rattle.re_ends.specs.Working.GreatestEnds.{IsBorder};
 ghost use Rattle.re_ends.specs.Working.KeptSteps.{AreStepsFor, IsRowIn};
 ghost use Rattle.re_ends.specs.Working.EndTables.{IsPassFor, IsAtRow, IsAt, Adds, AddsFrom};
 
+use crate::groups::{Groups, first_in};
 use crate::kept::KeptSteps;
 use crate::list::EndList;
-use crate::ranks::{Ranks, greatest_among};
 use re_auto::Automaton;
 use std::alloc::{AllocError, Global};
 
@@ -25,7 +25,7 @@ pub struct Asked<'a, 'l> {
     pub line: &'l [u8],
 }
 
-/// A place on a line, and the row of the ranks there.
+/// A place on a line, and the row of the groups there.
 #[derive(Clone, Copy, Drop)]
 pub struct Spot {
     /// The place.
@@ -34,12 +34,12 @@ pub struct Spot {
     pub row: usize,
 }
 
-/// For an automaton, the greatest ends of positions at a place of a line on their way back over it:
-/// ranks, and the ends of the ranks. Steps between ranks are kept.
+/// For an automaton, the greatest ends of positions at a place of a line on the way back over it:
+/// groups, and their ends. Steps between groups are kept.
 #[derive(Drop)]
 pub struct Pass {
     steps: KeptSteps,
-    ranks: Ranks,
+    groups: Groups,
     list: EndList,
 }
 
@@ -48,10 +48,14 @@ impl Pass {
     pub fn new(alloc: Global, automaton: &Automaton) -> Result<Pass, AllocError>
         ensures { IfOk result (IsPassFor (expression_of automaton.now)) }
     {
-        let ranks = Ranks::new(alloc, automaton)?;
+        let groups = Groups::new(alloc, automaton)?;
         let list = EndList::new(alloc, automaton.size())?;
         let steps = KeptSteps::new(alloc, automaton)?;
-        Ok(Pass { steps, ranks, list })
+        Ok(Pass {
+            steps,
+            groups,
+            list,
+        })
     }
 
     /// Begins at a place that no match goes over.
@@ -128,7 +132,7 @@ impl Pass {
     }
 
     // Steps back over the byte before the place, whose step is not kept. Returns the row of the
-    // ranks there.
+    // groups there.
     #[inline(never)]
     fn step(&mut self, asked: &Asked, from: Spot, built: &mut u64) -> usize
         requires at { IsAt asked.now self.old from }
@@ -139,11 +143,14 @@ impl Pass {
         let byte = asked.line[from.place - 1];
         let at_end = from.place == asked.line.len();
         *built = built.saturating_add(1);
-        let after = self.steps.ranks(from.row);
-        self.ranks.step(asked.automaton, after, byte, at_end);
-        self.list.pick(self.ranks.kept(), from.place);
-        let Some(to) = self.steps.row_of(asked.alloc, asked.automaton, &self.ranks) else {
-            return self.steps.begin_anew(asked.automaton, &self.ranks.next);
+        let after = self.steps.row(from.row);
+        self.groups.step(asked.automaton, after, byte, at_end);
+        self.list.pick(&self.groups.kept, from.place);
+        let Some(to) = self
+            .steps
+            .row_of(asked.alloc, asked.automaton, &self.groups)
+        else {
+            return self.steps.begin_anew(asked.automaton, &self.groups.row);
         };
         self.steps.put(
             asked.alloc,
@@ -151,7 +158,7 @@ impl Pass {
             from.row,
             byte,
             to,
-            &self.ranks,
+            &self.groups,
         );
         to
     }
@@ -165,8 +172,8 @@ impl Pass {
         ensures added { Adds asked.now stop (suc at.place) at.place ends.old ends.new }
     {
         let beginning = asked.automaton.beginning(at.place == 0);
-        let rank = greatest_among(self.steps.ranks(at.row), beginning, 0);
-        self.list.put_end(rank, at.place, ends, at.place - stop);
+        let first = first_in(self.steps.row(at.row), beginning);
+        self.list.put_end(first, ends, at.place - stop);
     }
 }
 
@@ -198,7 +205,7 @@ fn walk_rows(
     let mut place = from.place;
     'places: while place > stop {
         let step = steps.step(row, asked.line[place - 1]);
-        if !steps.apply(step.op, list, place) {
+        if !steps.apply(step, list, place) {
             return Spot { place, row };
         }
         row = step.row as usize;
@@ -206,7 +213,7 @@ fn walk_rows(
         if place == 0 {
             return Spot { place, row };
         }
-        list.put_end(step.inside, place, ends, place - stop);
+        list.put_end(step.inside, ends, place - stop);
     }
     Spot { place, row }
 }

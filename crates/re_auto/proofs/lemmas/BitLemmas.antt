@@ -115,6 +115,7 @@ pub record IsLowest (word k : ℕ) : Type 0 where
   pub small : k < 64
   pub set : bit_at word k ≡ 1
   pub less : bit_and word (bit_not w64 (1 * 2 ^ k % 2 ^ 64)) < word
+  pub gone : bit_at (bit_and word (bit_not w64 (1 * 2 ^ k % 2 ^ 64))) k ≡ 1 → ⊥
   pub rest : (b : ℕ) → b < 64 → (bit_at word b ≡ 1) ↔ ((bit_at (bit_and word (bit_not w64 (1 * 2 ^ k % 2 ^ 64))) b ≡ 1) ⊎ (b ≡ k))
 
 pub lowest : (word : ℕ) → 0 < word → word < 2 ^ 64 → IsLowest word (trailing_zeros w64 word)
@@ -130,6 +131,7 @@ lowest word some fits =
         | inl same ↦ absurd (let both : bit_at left k ≡ bit_at word k = ap (λ x. bit_at x k) same in omega (arith, both, gone, found.1))
         | inr other ↦ omega (arith, and_le_l word (bit_not w64 (1 * 2 ^ k % 2 ^ 64)))
       ];
+      gone = λ h. omega (arith, gone, h);
       rest = λ b lt. elim (cases_eq b k) [
         | inl same ↦ (λ h. inr same, λ h. rw same found.1)
         | inr other ↦

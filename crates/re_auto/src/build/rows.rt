@@ -7,10 +7,12 @@ ghost use Rattle.re_auto.specs.Working.Bits.{Has, row_of};
 ghost use Rattle.re_auto.specs.Working.PartTables.{Adds, AreBlankRows, HasRows, HasWidth, Shows};
 ghost use Rattle.re_auto.specs.Working.PartTables.{Wanted, crossing, shown};
 ghost use Rattle.re_auto.specs.Working.Positions.{again, in_turn, one_position};
+ghost use Rattle.re_auto.specs.Working.Ranges.{Covers};
 ghost use Rattle.re_auto.specs.Working.Tables.{most_words};
 
 use crate::bits;
 use crate::build::ends::{Ends, blank_set};
+use crate::ranges::{WordRange, range_of};
 use re_trees::ByteSet;
 use std::alloc::{AllocError, Global};
 
@@ -80,18 +82,28 @@ impl Rows {
 
     // Adds that each position of `first` can come directly after each of `last`.
     fn cross(&mut self, last: &Vec<u64>, first: &Vec<u64>)
-        requires same { length first.now.items ≡ self.old.width }
-        requires few { length last.now.items ≤ most_words }
+        requires same { (length last.now.items ≡ self.old.width) ×
+            (length first.now.items ≡ self.old.width) }
+        requires few { self.old.width ≤ most_words }
         requires rows { HasRows (Has last.now.items) self.old }
         ensures { Adds (crossing (Has last.now.items) (Has first.now.items)) self.old self.new }
     {
-        cross_rows(&mut self.follow, self.width, last, first);
+        cross_rows(&mut self.follow, self.width, last, first, range_of(first));
     }
 }
 
-// Adds the members of `first` to the row of each member of word `k` of a set.
-fn cross_word(follow: &mut [u64], width: usize, k: usize, word: u64, first: &[u64])
+// Adds the members of `first`, which are in the words of the range, to the row of each member of
+// word `k` of a set.
+fn cross_word(
+    follow: &mut [u64],
+    width: usize,
+    k: usize,
+    word: u64,
+    first: &[u64],
+    range: WordRange,
+)
     requires same { length first.now ≡ width }
+    requires covers { Covers range first.now }
     requires rows { (b : ℕ) → b < 64 → bit_at word b ≡ 1 →
         (k * 64 + b) * width + width ≤ length follow.old }
     requires few { k < most_words }
@@ -104,13 +116,15 @@ fn cross_word(follow: &mut [u64], width: usize, k: usize, word: u64, first: &[u6
     let mut left = word;
     'bits: while left != 0 {
         let bit = bits::take_lowest(&mut left);
-        bits::add_to_row(follow, width, k * 64 + bit, first);
+        bits::add_to_row(follow, width, k * 64 + bit, first, range);
     }
 }
 
-// Adds the members of `first` to the row of each member of `last`.
-fn cross_rows(follow: &mut [u64], width: usize, last: &[u64], first: &[u64])
+/// Adds the members of `first`, which are in the words of the range, to the row of each member of
+/// `last`.
+pub fn cross_rows(follow: &mut [u64], width: usize, last: &[u64], first: &[u64], range: WordRange)
     requires same { length first.now ≡ width }
+    requires covers { Covers range first.now }
     requires few { length last.now ≤ most_words }
     requires rows { (p : ℕ) → Has last.now p → p * width + width ≤ length follow.old }
     ensures len { length follow.new ≡ length follow.old }
@@ -119,7 +133,7 @@ fn cross_rows(follow: &mut [u64], width: usize, last: &[u64], first: &[u64])
         (Has (row_of follow.old width x) q ⊎ Has last.now x × Has first.now q) }
 {
     'words: for k in 0..last.len() {
-        cross_word(follow, width, k, last[k], first);
+        cross_word(follow, width, k, last[k], first, range);
     }
 }
 

@@ -9,7 +9,7 @@ ghost use Rattle.re_auto.specs.declared.mode.Mode.TheVariants.{Search};
 ghost use Rattle.re_auto.specs.Working.Bits.{Has, Are};
 ghost use Rattle.re_meter.specs.Meters.{many_built};
 ghost use Rattle.re_auto.specs.Working.Positions.{part_of, is_begin, is_end};
-ghost use Rattle.re_auto.specs.Working.Ranges.{Covers};
+ghost use Rattle.re_auto.specs.Working.Preceding.{ArePrecedingFor};
 ghost use Rattle.re_auto.specs.Working.SteppedSets.{MayBegin, IsNext};
 ghost use Rattle.re_auto.specs.Working.Tables.{words_for, CanBegin, IsRefused};
 ghost use Rattle.re_auto.specs.Working.StateSets.{IsMadeFor, IsNowhere, StandsAt, IsNextSet};
@@ -21,7 +21,7 @@ use crate::bits;
 use crate::build::BuildFault;
 use crate::build::fill::build_tables;
 use crate::mode::Mode;
-use crate::ranges::WordRange;
+use crate::step::preceding::Preceding;
 use crate::step::state_set::StateSet;
 use crate::tables::Tables;
 use re_meter::Meter;
@@ -235,9 +235,9 @@ impl Automaton {
         &self.tables.last_inside
     }
 
-    /// The positions that can come directly after position `p`.
+    // The positions that can come directly after position `p`.
     #[inline(always)]
-    pub fn following(&self, p: usize) -> &[u64]
+    fn following(&self, p: usize) -> &[u64]
         requires { p < positions (expression_of self.now) }
         ensures { Are result.now (λ q. (part_of (expression_of self.now) 0).follow p q)
             (words_for (positions (expression_of self.now))) }
@@ -245,15 +245,11 @@ impl Automaton {
         bits::row(&self.tables.follow, self.tables.width, p)
     }
 
-    /// The range of the words of `following(p)` that contains its members.
-    #[inline(always)]
-    pub fn followed_words(&self, p: usize) -> WordRange
-        requires { p < positions (expression_of self.now) }
-        ensures { (row : List ℕ)
-            → Are row (λ q. (part_of (expression_of self.now) 0).follow p q)
-            (words_for (positions (expression_of self.now))) → Covers result row }
+    /// For each position, those that can come directly before it.
+    pub fn preceding(&self, alloc: Global) -> Result<Preceding, AllocError>
+        ensures { IfOk result (ArePrecedingFor (expression_of self.now)) }
     {
-        self.tables.ranges[p]
+        Preceding::of(alloc, &self.tables)
     }
 
     /// The bytes that some position takes.

@@ -1,5 +1,5 @@
--- Greatest ends are what the chains say, and are right step by step.
-use Rattle.re_ends.proofs.Prelude.{◌≡◌, ℕ, zero, suc, ◌+◌, ◌-◌, ◌<◌, ◌≤◌, inl, inr, ◌⊎◌, Bool, List, length, max, slice_index, refl, sym, subst, arith, cases_lt, ◌↔◌, Text, Expression, Part, is_begin, is_end, Reaches, PartHolds, part_of, Leads, LeadsPast, AreEndsAt, IsStepBack, MatchesPast}
+-- Greatest ends are what the chains say.
+use Rattle.re_ends.proofs.Prelude.{◌≡◌, ℕ, zero, suc, ◌+◌, ◌-◌, ◌<◌, ◌≤◌, inl, inr, ◌⊎◌, length, max, slice_index, refl, sym, subst, arith, cases_lt, ◌↔◌, Text, Expression, Part, is_begin, is_end, Reaches, PartHolds, part_of, Leads, LeadsPast, MatchesPast}
 use Rattle.re_auto.proofs.lemmas.Chains.{reaches_bounds}
 use Rattle.re_auto.proofs.lemmas.PositionsDecide.{positions_decide}
 
@@ -35,18 +35,6 @@ module _ (part : Part) (line : Text) where
       took k zero s leads = leads.0
       took k (suc n) s leads = leads.0
 
-  -- a step back keeps the ends right
-  pub ends_back : (p : ℕ) (end : Bool) (after ends : List ℕ) → p < length line → end ≡ is_end line (suc p) → AreEndsAt part line (suc p) after → IsStepBack part (suc p) end after (slice_index line p) ends → AreEndsAt part line p ends
-  ends_back p end after ends lt is right step q m = (λ h. to ((step q m).0 h), λ (n, le, leads). (step q m).1 (back n le leads))
-    where
-      to : part.takes q (slice_index line p) × ((m < suc p) × part.last end q ⊎ ((r : ℕ) × part.follow q r × (m < slice_index after r))) → LeadsPast part line p q m
-      to (t, inl (le, last)) = (0, omega (arith, le), ((lt, t), subst (λ b. part.last b q) is last))
-      to (t, inr (r, w, past)) = let (n, le, leads) = (right r m).0 past in (suc n, omega (arith, le), ((lt, t), (r, w, leads)))
-
-      back : (n : ℕ) → m ≤ p + n → Leads part line p n q → part.takes q (slice_index line p) × ((m < suc p) × part.last end q ⊎ ((r : ℕ) × part.follow q r × (m < slice_index after r)))
-      back zero le (t, last) = (t.1, inl (omega (arith, le), subst (λ b. part.last b q) (sym is) last))
-      back (suc n) le (t, (r, w, leads)) = (t.1, inr (r, w, (right r m).1 (n, omega (arith, le), leads)))
-
 -- the positions that a stretch can begin with say how far the matched stretches reach
 pub ends_decide : (e : Expression) (n : ℕ) (line : Text) (i m : ℕ) → MatchesPast e line i m ↔ ((q : ℕ) × (part_of e n).first (is_begin i) q × LeadsPast (part_of e n) line i q m)
 ends_decide e n line i m = (λ (j, past, lt, on, h). to j past lt ((positions_decide e n line i j).0 h), λ (q, first, (k, le, leads)). back q first k le leads)
@@ -70,8 +58,8 @@ ends_decide e n line i m = (λ (j, past, lt, on, h). to j past lt ((positions_de
         (suc (i + k), omega (arith, le), bounds.0, bounds.1, (positions_decide e n line i (suc (i + k))).1 (inr (l, whole, last)))
 
 -- the greater of two numbers is after m exactly if one of them is
-pub max_past : (a b r m : ℕ) → r ≡ max a b → (m < r) ↔ ((m < a) ⊎ (m < b))
-max_past a b r m is = (
+pub max_past : (a b : ℕ) {r : ℕ} (m : ℕ) → r ≡ max a b → (m < r) ↔ ((m < a) ⊎ (m < b))
+max_past a b m is = (
   (λ h. elim (cases_lt m a) [ inl lt ↦ inl lt | inr ge ↦ inr (omega (arith, h, is, ge)) ]),
   (λ h. elim h [ inl lt ↦ omega (arith, lt, is) | inr lt ↦ omega (arith, lt, is) ]),
 )

@@ -1,42 +1,28 @@
--- Lists of ends, and the operations on them.
-use Rattle.re_ends.proofs.Prelude.{◌≡◌, ℕ, suc, ◌+◌, ◌-◌, ◌<◌, ◌≤◌, inl, inr, List, ◌∷◌, length, length-set, get_or, slice_index, slice_get, set, drop, map, Some, sym, ap, ◌∙◌, arith}
-use Rattle.std.specs.Prelude.{min, Vec}
-use Rattle.std.specs.Global.{Global}
-use Rattle.std.proofs.lemmas.List.{drop-set, get_or-drop, get_or-map, length-drop, length-map, drop-drop, drop_min}
-use Rattle.std.proofs.lemmas.Grind.{same_number_lists}
-use Rattle.re_ends.specs.Working.Ranks.{end_of, Leaves}
-use Rattle.re_ends.specs.Working.KeptSteps.{listed, Lists, IsOperation}
+-- Lists of ends, and which of them stay.
+use Rattle.re_ends.proofs.Prelude.{◌≡◌, ℕ, ◌+◌, ◌<◌, ◌≤◌, inl, inr, ◌⊎◌, List, [], ◌∷◌, ◌++◌, length, length-append, get_or-set_other, slice_index, set, take, drop, sym, subst, ap, ◌∙◌, arith, cases_lt, get_or_append_left}
+use Rattle.std.proofs.lemmas.Grind.{get_or-set_at}
+use Rattle.std.proofs.lemmas.List.{get_or-drop, get_or-take, length-drop, length-take, length-set}
+use Rattle.std.proofs.Math.Seq.{get_or-append_seam}
+use Rattle.re_ends.specs.Working.Groups.{Follow, Leaves}
 
--- the place is put first, and the least are left out
-pub cut_left : (buffer : List ℕ) (base place rank b : ℕ) → 0 < base → base ≤ length buffer → b ≡ min (base - 1 + (rank - 1)) (length buffer) → drop b (set buffer (base - 1) place) ≡ drop (rank - 1) (place ∷ drop base buffer)
-cut_left buffer base place rank b some fits is =
-    let one : base - 1 + 1 ≡ base = omega (arith, some) in
-    let long : b ≡ min (base - 1 + (rank - 1)) (length (set buffer (base - 1) place)) = is ∙ ap (min (base - 1 + (rank - 1))) (sym (length-set buffer (base - 1) place)) in
-    ap (λ n. drop n (set buffer (base - 1) place)) long ∙ drop_min (base - 1 + (rank - 1)) (set buffer (base - 1) place) ∙ sym (drop-drop (rank - 1) (base - 1) (set buffer (base - 1) place))
-    ∙ ap (drop (rank - 1)) (drop-set buffer (base - 1) place (omega (arith, some, fits)) ∙ ap (λ n. place ∷ drop n buffer) one)
+-- the ends and the place after them, by number
+pub end_cases : (ends : List ℕ) (place n : ℕ) → n < length (ends ++ place ∷ []) → ((n < length ends) × (slice_index (ends ++ place ∷ []) n ≡ slice_index ends n)) ⊎ ((n ≡ length ends) × (slice_index (ends ++ place ∷ []) n ≡ place))
+end_cases ends place n lt = elim (cases_lt n (length ends)) [
+  | inl less ↦ inl (less, get_or_append_left ends (place ∷ []) 0 n less)
+  | inr ge ↦ let same : length ends ≡ n = omega (arith, lt, ge, length-append ends (place ∷ [])) in inr (sym same, subst (λ k. slice_index (ends ++ place ∷ []) k ≡ place) same (get_or-append_seam ends place [] 0))
+]
 
--- all ends are picked
-pub all_picked : (f : ℕ → ℕ) (kept into : List ℕ) (to : ℕ) → to + length kept ≡ length into → ((i : ℕ) → i < length kept → get_or into (to + i) 0 ≡ f (get_or kept i 0)) → drop to into ≡ map f kept
-all_picked f kept into to long picked =
-    let here = length-drop to into in
-    let there = length-map kept f in
-    same_number_lists (drop to into) (map f kept) (omega (arith, here, there, long)) (λ i lt. let less : i < length kept = omega (arith, lt, here, long) in get_or-drop to into i 0 ∙ picked i less ∙ sym (get_or-map f kept i 0 0 less))
-
--- what an operation leaves
-pub cut_leaves : (lists : Lists) (op : ℕ) (kept old new : List ℕ) → op < listed → IsOperation lists op kept → new ≡ drop (op - 1) old → Leaves kept old new
-cut_leaves lists op kept old new lt (inl (small, some, run)) is = λ k less low high.
-    let at = run k less in
-    let long = length-drop (op - 1) old in
-    let here : slice_index kept k ≡ suc (op - 1 + k) = omega (arith, at, some) in
-    (omega (arith, ap length is, long, at, high, some), ap (λ l. slice_index l k) is ∙ get_or-drop (op - 1) old k 0 ∙ sym (ap (end_of old) here))
-cut_leaves lists op kept old new lt (inr (list, ge, at, same)) is = absurd (omega (arith, lt, ge))
-
-pub picked_leaves : (kept old new : List ℕ) → new ≡ map (end_of old) kept → Leaves kept old new
-picked_leaves kept old new is = λ k less low high. (omega (arith, ap length is, length-map kept (end_of old), less), ap (λ l. slice_index l k) is ∙ get_or-map (end_of old) kept k 0 0 less)
-
-pub pick_leaves : (lists : Lists) (op : ℕ) (kept old new read : List ℕ) → listed ≤ op → ((list : Vec ℕ Global) → slice_get lists (op - listed) ≡ Some list → read ≡ list.items) → IsOperation lists op kept → new ≡ map (end_of old) read → Leaves kept old new
-pick_leaves lists op kept old new read ge reads (inl (small, some, run)) is = absurd (omega (arith, small, ge))
-pick_leaves lists op kept old new read ge reads (inr (list, le, at, same)) is = picked_leaves kept old new (is ∙ ap (map (end_of old)) (reads list at ∙ sym same))
-
-pub all_leaves : (lists : Lists) (op : ℕ) (kept ends : List ℕ) (place : ℕ) → op ≡ 2 → IsOperation lists op kept → Leaves kept (place ∷ ends) ends
-all_leaves lists op kept ends place is operation = cut_leaves lists op kept (place ∷ ends) ends (omega (arith, is)) operation (ap (λ n. drop (n - 1) (place ∷ ends)) (sym is))
+-- the place is put last, and those from one on stay
+pub cut_leaves : (buffer : List ℕ) (base held first count place : ℕ) (kept : List ℕ) → base + held < length buffer → first + count ≤ held + 1 → Follow first kept → length kept ≡ count → Leaves kept (take held (drop base buffer) ++ place ∷ []) (take count (drop (base + first) (set buffer (base + held) place)))
+cut_leaves buffer base held first count place kept room fits follow long =
+    let new = set buffer (base + held) place in
+    let rest = length-drop base buffer in
+    let old = length-take held (drop base buffer) in (
+      omega (arith, long, length-take count (drop (base + first) new), length-drop (base + first) new, length-set buffer (base + held) place, room, fits),
+      λ k lt within.
+          let is = follow k lt in
+          get_or-take count (drop (base + first) new) k 0 (omega (arith, lt, long)) ∙ get_or-drop (base + first) new k 0 ∙ elim (end_cases (take held (drop base buffer)) place (slice_index kept k) within) [
+            | inl at ↦ get_or-set_other buffer (base + held) (base + first + k) place 0 (λ same. omega (arith, same, at.0, is, old, rest, room)) ∙ sym (at.1 ∙ get_or-take held (drop base buffer) (slice_index kept k) 0 (omega (arith, at.0, old)) ∙ get_or-drop base buffer (slice_index kept k) 0 ∙ ap (slice_index buffer) (let there : base + slice_index kept k ≡ base + first + k = omega (arith, is) in there))
+            | inr at ↦ get_or-set_at buffer (base + held) (base + first + k) place 0 (omega (arith, at.0, is, old, rest, room)) room ∙ sym at.1
+          ],
+    )

@@ -1,88 +1,80 @@
 -- A pass by steps that are kept.
-use Rattle.re_ends.proofs.Prelude.{◌≡◌, ℕ, suc, ◌+◌, ◌-◌, ◌<◌, ◌≤◌, inl, inr, ◌⊎◌, false, List, ◌∷◌, length, length-set, map, max, get_or, set, ap, slice_index, refl, sym, subst, ◌∙◌, arith, cases_lt, ◌↔◌, Text, Expression, part_of, is_begin, is_end, MatchesPast}
+use Rattle.re_ends.proofs.Prelude.{◌≡◌, ℕ, suc, ◌+◌, ◌-◌, ◌<◌, ◌≤◌, inl, inr, ◌⊎◌, false, List, [], ◌∷◌, ◌++◌, length, length-set, max, get_or-set_other, set, ap, slice_index, refl, sym, subst, ◌∙◌, arith, cases_eq, cases_lt, ◌↔◌, Text, Expression, part_of, is_begin, is_end, LeadsPast, MatchesPast}
 use Rattle.std.proofs.Common.{ne_eqb}
+use Rattle.std.proofs.lemmas.Grind.{get_or-set_at}
 use Rattle.re_ends.specs.declared.kept.KeptSteps.{KeptSteps}
 use Rattle.re_ends.specs.declared.kept.Step.{Step}
-use Rattle.re_ends.specs.Working.Ranks.{end_of, Ends, StandAt, Leaves, IsRankStep, IsGreatest}
+use Rattle.re_ends.specs.Working.Groups.{end_of, Ends, IsFirstIn, IsStep, Leaves, StandAt}
 use Rattle.re_ends.specs.Working.KeptSteps.{unknown, cell_at, rows_of, AreStepsFor, IsKeptStep, IsOperation, IsRowIn}
 use Rattle.re_trees.specs.declared.span.Span.{Span}
 use Rattle.re_ends.specs.Working.EndTables.{IsAtRow, AddsFrom, IsFirstFrom}
 use Rattle.re_ends.proofs.lemmas.EndLaws.{ends_decide, max_past}
-use Rattle.re_ends.proofs.lemmas.RankLaws.{at_each, rank_past, steps_on}
-use Rattle.re_ends.proofs.lemmas.NumberLaws.{set_cases}
+use Rattle.re_ends.proofs.lemmas.GroupLaws.{no_less_before, steps_on}
 
--- the end of the greatest rank of the positions that a stretch can begin with is the greatest end
-module _ (e : Expression) (line : Text) (p : ℕ) (ranks ends : List ℕ) (stand : StandAt (part_of e 0) line p ranks ends) (Row : ℕ → Type 0) (begins : (q : ℕ) → Row q ↔ (part_of e 0).first (is_begin p) q) (greatest : ℕ) (is : IsGreatest Row ranks 0 greatest) where
-  named : (m : ℕ) → m < greatest → (q : ℕ) × Row q × (m < slice_index ranks q)
-  named m lt = elim ((is m).0 lt) [ inl none ↦ absurd (omega (arith, none)) | inr some ↦ some ]
-
-  within : greatest ≤ suc stand.count
-  within = elim (cases_lt (suc stand.count) greatest) [ inl lt ↦ absurd (let (q, w, past) = named (suc stand.count) lt in let low = stand.small q in omega (arith, past, low)) | inr ge ↦ ge ]
-
-  past_end : (m : ℕ) → (m < end_of (p ∷ ends) greatest) ↔ MatchesPast e line p m
-  past_end m =
-      let (t, at) = rank_past (p ∷ ends) m (suc stand.count) stand.grow in
-      let here = at greatest within in (
-        (λ h. let (q, w, lt) = named t (here.0 h) in (ends_decide e 0 line p m).1 (q, (begins q).0 w, (stand.right q m).0 (subst (λ y. m < y) (sym (end_is q)) ((at (slice_index ranks q) (stand.small q)).1 lt)))),
-        (λ h. let (q, w, leads) = (ends_decide e 0 line p m).0 h in here.1 ((is t).1 (inr (q, (begins q).1 w, (at (slice_index ranks q) (stand.small q)).0 (subst (λ y. m < y) (end_is q) ((stand.right q m).1 leads)))))),
-      )
+-- the end of the first group with a position that a stretch can begin with is the greatest end
+module _ (e : Expression) {line : Text} {p : ℕ} {groups ends : List ℕ} (stand : StandAt (part_of e 0) line p groups ends) {number : ℕ} (is : IsFirstIn ((part_of e 0).first (is_begin p)) groups number) where
+  past_end : (m : ℕ) → (m < end_of ends number) ↔ MatchesPast e line p m
+  past_end m = (λ past. (ends_decide e 0 line p m).1 (to number is past), λ h. back number is ((ends_decide e 0 line p m).0 h))
     where
-      end_is : (q : ℕ) → get_or (map (end_of (p ∷ ends)) ranks) q 0 ≡ end_of (p ∷ ends) (slice_index ranks q)
-      end_is q = at_each (end_of (p ∷ ends)) refl ranks q
+      to : (n : ℕ) → IsFirstIn ((part_of e 0).first (is_begin p)) groups n → m < end_of ends n → (q : ℕ) × (part_of e 0).first (is_begin p) q × LeadsPast (part_of e 0) line p q m
+      to n (inl (none, not)) past = absurd (let gone = ap (end_of ends) none in omega (arith, past, gone))
+      to n (inr (k, at, (q, in_k, first), least)) past = (q, first, (stand.right q m).1 (k, in_k, subst (λ j. m < end_of ends j) at past))
+
+      back : (n : ℕ) → IsFirstIn ((part_of e 0).first (is_begin p)) groups n → (q : ℕ) × (part_of e 0).first (is_begin p) q × LeadsPast (part_of e 0) line p q m → m < end_of ends n
+      back n is (q, first, leads) = let (k, in_k, past) = (stand.right q m).0 leads in elim is [
+        | inl none ↦ absurd (none.1 k q in_k first)
+        | inr (j, at, some, least) ↦ subst (λ i. m < end_of ends i) (sym at) (no_less_before ends p j k m stand.fall (least k q in_k first) ((stand.groups k).1 (q, in_k)) past)
+      ]
 
   -- the place is given its end
-  pub place_marked : (start end : ℕ) (old now new : List ℕ) → start ≤ p → p - start < length now → new ≡ set now (p - start) (max (slice_index now (p - start)) (end_of (p ∷ ends) greatest)) → AddsFrom e line start end (suc p) old now → AddsFrom e line start end p old new
+  pub place_marked : (start end : ℕ) (old now new : List ℕ) → start ≤ p → p - start < length now → new ≡ set now (p - start) (max (slice_index now (p - start)) (end_of ends number)) → AddsFrom e line start end (suc p) old now → AddsFrom e line start end p old new
   place_marked start end old now new low room put after = subst (AddsFrom e line start end p old) (sym put) (
-    length-set now (p - start) (max (slice_index now (p - start)) (end_of (p ∷ ends) greatest)) ∙ after.0,
-    λ i m inside. elim (set_cases now (p - start) (max (slice_index now (p - start)) (end_of (p ∷ ends) greatest)) i room) [
+    length-set now (p - start) (max (slice_index now (p - start)) (end_of ends number)) ∙ after.0,
+    λ i m inside. elim (cases_eq i (p - start)) [
       | inl at ↦
-          let here : p ≡ start + i = omega (arith, at.0, low) in
-          let said = max_past (slice_index now i) (end_of (p ∷ ends) greatest) _ m (at.1 ∙ ap (λ k. max (slice_index now k) (end_of (p ∷ ends) greatest)) (sym at.0)) in (
+          let here : p ≡ start + i = omega (arith, at, low) in
+          let said = max_past (slice_index now i) (end_of ends number) m (get_or-set_at now (p - start) i _ 0 at room ∙ ap (λ k. max (slice_index now k) (end_of ends number)) (sym at)) in (
             (λ h. elim (said.0 h) [
               | inl had ↦ elim ((after.1 i m inside).0 had) [ inl o ↦ inl o | inr o ↦ absurd (omega (arith, o.0, here)) ]
               | inr past ↦ inr (omega (arith, here), subst (λ k. MatchesPast e line k m) here ((past_end m).0 past))
             ]),
             (λ h. said.1 (elim h [ inl o ↦ inl ((after.1 i m inside).1 (inl o)) | inr o ↦ inr ((past_end m).1 (subst (λ k. MatchesPast e line k m) (sym here) o.1)) ])),
           )
-      | inr at ↦ subst (λ y. (m < y) ↔ ((m < slice_index old i) ⊎ ((p ≤ start + i) × MatchesPast e line (start + i) m))) (sym at.1) (
+      | inr other ↦ subst (λ y. (m < y) ↔ ((m < slice_index old i) ⊎ ((p ≤ start + i) × MatchesPast e line (start + i) m))) (sym (get_or-set_other now (p - start) i _ 0 other)) (
         (λ h. elim ((after.1 i m inside).0 h) [ inl o ↦ inl o | inr o ↦ inr (omega (arith, o.0), o.1) ]),
-        (λ h. (after.1 i m inside).1 (elim h [ inl o ↦ inl o | inr o ↦ inr (omega (arith, o.0, at.0, low), o.1) ])),
+        (λ h. (after.1 i m inside).1 (elim h [ inl o ↦ inl o | inr o ↦ inr (omega (arith, o.0, other, low), o.1) ])),
       )
     ],
   )
 
--- a place before the line's end is not that
-not_end : (line : Text) (p : ℕ) → p < length line → false ≡ is_end line p
-not_end line p lt = sym (ne_eqb p (length line) (λ (same : p ≡ length line). omega (arith, same, lt)))
-
 -- a step back from a place
-pub step_stands : (e : Expression) (line : Text) (steps : KeptSteps) (list new : Ends) (place row : ℕ) (ranks kept into : List ℕ) → 0 < place → place ≤ length line → IsRankStep (part_of e 0) (is_end line place) ranks (slice_index line (place - 1)) kept into → StandAt (part_of e 0) line place ranks list.ends → Leaves kept (place ∷ list.ends) new.ends → IsRowIn steps row false into
+pub step_stands : {e : Expression} {line : Text} {steps : KeptSteps} {ends groups kept into : List ℕ} (new : Ends) (place : ℕ) {row : ℕ} → 0 < place → place ≤ length line → IsStep (part_of e 0) (is_end line place) groups (slice_index line (place - 1)) kept into → StandAt (part_of e 0) line place groups ends → Leaves kept (ends ++ place ∷ []) new.ends → IsRowIn steps row false into
     → IsAtRow e line steps new (place - 1) row
-step_stands e line steps list new place row ranks kept into some within step stand left is =
+step_stands {e} {line} {steps} {ends} {groups} {kept} {into} new place {row} some within step stand left is =
     let one : suc (place - 1) ≡ place = omega (arith, some) in
     let lt : place - 1 < length line = omega (arith, some, within) in
     record {
-      within = omega (arith, within);
-      ranks = into;
-      row = subst (λ b. IsRowIn steps row b into) (not_end line (place - 1) lt) is;
-      stands = steps_on (part_of e 0) line (place - 1) (is_end line (suc (place - 1))) ranks list.ends kept into new.ends lt refl (subst (λ n. IsRankStep (part_of e 0) (is_end line n) ranks (slice_index line (place - 1)) kept into) (sym one) step)
-          (subst (λ n. StandAt (part_of e 0) line n ranks list.ends) (sym one) stand) (subst (λ n. Leaves kept (n ∷ list.ends) new.ends) (sym one) left);
+      within = omega (arith, lt);
+      groups = into;
+      row = subst (λ b. IsRowIn steps row b into) (sym (ne_eqb (place - 1) (length line) (λ (same : place - 1 ≡ length line). omega (arith, same, lt)))) is;
+      stands = subst (λ n. IsStep (part_of e 0) (is_end line n) groups (slice_index line (place - 1)) kept into → StandAt (part_of e 0) line n groups ends → Leaves kept (ends ++ n ∷ []) new.ends → StandAt (part_of e 0) line (place - 1) into new.ends) one
+          (steps_on (part_of e 0) line (place - 1) (is_end line (suc (place - 1))) groups ends kept into new.ends lt refl) step stand left;
     }
 
 -- a step that is kept
-module _ (e : Expression) (line : Text) (steps : KeptSteps) (list new : Ends) (place row : ℕ) (step : Step) (right : AreStepsFor e steps) (at : IsAtRow e line steps list place row) (some : 0 < place) (byte : slice_index line (place - 1) < 256) (is : step ≡ cell_at (rows_of steps) row (slice_index line (place - 1))) (held : step.op < unknown)
-    (moved : (kept : List ℕ) → IsOperation steps.lists.items step.op kept → Leaves kept (place ∷ list.ends) new.ends) where
-  kept_step : IsKeptStep (part_of e 0) steps.width steps.rows.items steps.lists.items (is_end line place) at.ranks (slice_index line (place - 1)) step
-  kept_step = subst (λ (s : Step). IsKeptStep (part_of e 0) steps.width steps.rows.items steps.lists.items (is_end line place) at.ranks (slice_index line (place - 1)) s) (sym is) (right.kept row (is_end line place) at.ranks (slice_index line (place - 1)) at.row byte (subst (λ (s : Step). s.op < unknown) is held))
+module _ {e : Expression} {line : Text} {steps : KeptSteps} {list : Ends} (new : Ends) {place row : ℕ} {step : Step} (right : AreStepsFor e steps) (at : IsAtRow e line steps list place row) (some : 0 < place) (byte : slice_index line (place - 1) < 256) (is : step ≡ cell_at (rows_of steps) row (slice_index line (place - 1))) (held : step.op < unknown)
+    (moved : (kept : List ℕ) → IsOperation steps.lists.items step.op kept → length kept ≡ step.count → Leaves kept (list.ends ++ place ∷ []) new.ends) where
+  kept_step : IsKeptStep (part_of e 0) steps.width steps.rows.items steps.lists.items (is_end line place) at.groups (slice_index line (place - 1)) step
+  kept_step = subst (λ (s : Step). IsKeptStep (part_of e 0) steps.width steps.rows.items steps.lists.items (is_end line place) at.groups (slice_index line (place - 1)) s) (sym is) (right.kept row (is_end line place) at.groups (slice_index line (place - 1)) at.row byte (subst (λ (s : Step). s.op < unknown) is held))
 
   pub walked : IsAtRow e line steps new (place - 1) step.row
-  walked = step_stands e line steps list new place step.row at.ranks kept_step.kept kept_step.into some at.within kept_step.right at.stands (moved kept_step.kept kept_step.op) kept_step.row
+  walked = step_stands new place some at.within kept_step.right at.stands (moved kept_step.kept kept_step.op kept_step.count) kept_step.row
 
   -- the place before it is not the line's first, and is given its end
-  pub walked_ends : (start end : ℕ) (old now next : List ℕ) → 1 < place → start < place → place - 1 - start < length now → next ≡ set now (place - 1 - start) (max (slice_index now (place - 1 - start)) (end_of ((place - 1) ∷ new.ends) step.inside)) → AddsFrom e line start end place old now → AddsFrom e line start end (place - 1) old next
+  pub walked_ends : (start end : ℕ) (old now next : List ℕ) → 1 < place → start < place → place - 1 - start < length now → next ≡ set now (place - 1 - start) (max (slice_index now (place - 1 - start)) (end_of new.ends step.inside)) → AddsFrom e line start end place old now → AddsFrom e line start end (place - 1) old next
   unfolding walked kept_step step_stands
   walked_ends start end old now next inside low room put after =
-      place_marked e line (place - 1) walked.ranks new.ends walked.stands ((part_of e 0).first false) (λ q. subst (λ b. (part_of e 0).first false q ↔ (part_of e 0).first b q) (sym (ne_eqb (place - 1) 0 (λ (first : place - 1 ≡ 0). omega (arith, first, inside)))) ((λ h. h), (λ h. h))) step.inside kept_step.inside
+      place_marked e walked.stands (subst (λ b. IsFirstIn ((part_of e 0).first b) walked.groups step.inside) (sym (ne_eqb (place - 1) 0 (λ (first : place - 1 ≡ 0). omega (arith, first, inside)))) kept_step.inside)
       start end old now next (omega (arith, low)) room put (subst (λ n. AddsFrom e line start end n old now) (let one : place ≡ suc (place - 1) = omega (arith, some) in one) after)
 
 -- the first stretch from a place before, where the ends of the places between are listed

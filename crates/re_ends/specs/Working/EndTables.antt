@@ -12,14 +12,14 @@ use Rattle.re_ends.specs.declared.pass.Pass.{Pass}
 use Rattle.re_ends.specs.declared.pass.Spot.{Spot}
 use Rattle.re_ends.specs.declared.table.EndTable.{EndTable}
 use Rattle.re_ends.specs.Working.GreatestEnds.{MatchesPast, FindsIn}
-use Rattle.re_ends.specs.Working.Ranks.{AreRanksFor, Ends, StandAt}
+use Rattle.re_ends.specs.Working.Groups.{AreGroupsFor, Ends, StandAt}
 use Rattle.re_ends.specs.Working.KeptSteps.{AreStepsFor, IsRowIn}
 
 -- all that a pass keeps is right for the automaton of this expression
 pub record IsPassFor (e : Expression) (t : Pass) : Type 0 where
   pub steps : AreStepsFor e t.steps
-  pub ranks : AreRanksFor e t.ranks
-  pub most : positions e ≤ t.list.most
+  pub groups : AreGroupsFor e t.groups
+  pub most : positions e < t.list.most
 
 -- how many places a search goes back at once
 abbrev pub piece : ℕ
@@ -29,13 +29,13 @@ pub record AreEndsFor (e : Expression) (t : EndTable) : Type 0 where
   pub pass : IsPassFor e t.pass
   pub room : length t.room.items ≡ piece
 
--- a pass over the line is at this place, with the ranks of this row and these ends
+-- a pass over the line is at this place, with the groups of this row and these ends
 pub record IsAtRow (e : Expression) (line : Text) (steps : KeptSteps) (list : Ends)
     (place r : ℕ) : Type 0 where
   pub within : place ≤ length line
-  pub ranks : List ℕ
-  pub row : IsRowIn steps r (is_end line place) ranks
-  pub stands : StandAt (part_of e 0) line place ranks list.ends
+  pub groups : List ℕ
+  pub row : IsRowIn steps r (is_end line place) groups
+  pub stands : StandAt (part_of e 0) line place groups list.ends
 
 abbrev pub IsAt : Asked → Pass → Spot → Type 0
 IsAt asked t spot =

@@ -19,21 +19,6 @@ Leads part line p (suc n) q =
 abbrev pub LeadsPast : Part → Text → ℕ → ℕ → ℕ → Type 0
 LeadsPast part line p q m = (n : ℕ) × (m ≤ p + n) × Leads part line p n q
 
--- Each position has the greatest end of the stretches that take the byte at place p with it: its
--- number is greater than m exactly if one of them ends after m, so it is 0 where there is none.
-abbrev pub AreEndsAt : Part → Text → ℕ → List ℕ → Type 0
-AreEndsAt part line p ends = (q m : ℕ) → (m < slice_index ends q) ↔ LeadsPast part line p q m
-
--- A step back over the byte c, from the ends at the place after it, which is `place`. `at_end` says
--- that this is the line's last.
-abbrev pub IsStepBack : Part → ℕ → Bool → List ℕ → ℕ → List ℕ → Type 0
-IsStepBack part place at_end after c ends =
-    (q m : ℕ) →
-    (m < slice_index ends q) ↔
-    (part.takes q c
-    × ((m < place) × part.last at_end q
-    ⊎ ((r : ℕ) × part.follow q r × (m < slice_index after r))))
-
 -- a matched stretch that is not empty begins at i and ends after m
 abbrev pub MatchesPast : Expression → Text → ℕ → ℕ → Type 0
 MatchesPast e line i m =

@@ -1,5 +1,5 @@
--- Steps between rows of ranks, as far as they are kept.
-use Rattle.std.specs.Prelude.{◌≡◌, ℕ, ◌+◌, ◌-◌, ◌*◌, ◌^◌, ◌<◌, ◌≤◌, ◌⊎◌, Bool, false, All, List, ◌∷◌, nat_eq, Some, length, get_or, slice_get, slice_index, Vec}
+-- Steps between rows of groups, as far as they are kept.
+use Rattle.std.specs.Prelude.{◌≡◌, ℕ, ◌+◌, ◌-◌, ◌*◌, ◌^◌, ◌<◌, ◌≤◌, ◌⊎◌, Bool, false, List, [], ◌∷◌, nat_eq, Some, length, get_or, slice_get, slice_index, Vec, vec_capacity}
 use Rattle.std.specs.declared.alloc.Global.{Global}
 use Rattle.re_trees.specs.Expression.{Expression}
 use Rattle.re_trees.specs.Holds.{positions}
@@ -7,23 +7,23 @@ use Rattle.re_auto.specs.Working.Positions.{Part, part_of}
 use Rattle.re_auto.specs.Working.StateSets.{AreAlikeInClasses}
 use Rattle.re_ends.specs.declared.kept.Step.{Step}
 use Rattle.re_ends.specs.declared.kept.KeptSteps.{KeptSteps}
-use Rattle.re_ends.specs.Working.Ranks.{IsRankStep, IsRow, IsGreatest}
+use Rattle.re_ends.specs.Working.Groups.{Follow, IsFirstIn, IsRow, IsStep}
 
--- lists of ranks
+-- lists of numbers
 abbrev pub Lists : Type 0
 Lists = List (Vec ℕ Global)
 
--- Operations from this one on are numbers of lists of ranks that stay, plus this. The last is none.
+-- Operations from this one on are numbers of lists of ends that stay, plus this. The last is none.
 abbrev pub listed : ℕ
 listed = 2 ^ 15
 
 abbrev pub unknown : ℕ
 unknown = 2 ^ 16 - 1
 
--- An operation says which ranks stay: those from one on, or the listed ones.
+-- An operation says which ends stay: those from one on, or the listed ones.
 abbrev pub IsOperation : Lists → ℕ → List ℕ → Type 0
 IsOperation lists op kept =
-    ((op < listed) × (0 < op) × ((k : ℕ) → k < length kept → slice_index kept k ≡ op + k))
+    ((op < listed) × Follow op kept)
     ⊎ ((list : Vec ℕ Global) × (listed ≤ op) × (slice_get lists (op - listed) ≡ Some list) ×
     (kept ≡ list.items))
 
@@ -33,9 +33,9 @@ AreLonger old new =
     (k : ℕ) (list : Vec ℕ Global) → slice_get old k ≡ Some list → slice_get new k ≡ Some list
 
 abbrev pub no_step : Step
-no_step = record { row = 0; inside = 0; op = unknown }
+no_step = record { row = 0; inside = 0; op = unknown; count = 0 }
 
--- the classes of bytes and their number, rows, cells, and lists of ranks that stay
+-- the classes of bytes and their number, rows, cells, and lists of ends that stay
 pub record Rows : Type 0 where
   pub classes : List ℕ
   pub width : ℕ
@@ -53,28 +53,29 @@ rows_of s =
       lists = s.lists.items;
     }
 
--- Of these rows of cells, which lie `width` apart, the one that begins at r is that of these ranks.
+-- Of these rows of cells, which lie `width` apart, the one that begins at r is that of these groups.
 -- `end` says that it is the first, that of a line's end.
-pub record IsRowOf (width : ℕ) (rows : Lists) (r : ℕ) (end : Bool) (ranks : List ℕ) : Type 0 where
+pub record IsRowOf (width : ℕ) (rows : Lists) (r : ℕ) (end : Bool) (groups : List ℕ) : Type 0 where
   pub number : ℕ
   pub list : Vec ℕ Global
   pub row : r ≡ number * width
   pub is : slice_get rows number ≡ Some list
-  pub same : ranks ≡ list.items
+  pub same : groups ≡ list.items
   pub last : end ≡ nat_eq number 0
 
 abbrev pub IsRowIn : KeptSteps → ℕ → Bool → List ℕ → Type 0
 IsRowIn s = IsRowOf s.width s.rows.items
 
--- what a cell says of the step over a byte from these ranks
+-- what a cell says of the step over a byte from these groups
 pub record IsKeptStep (part : Part) (width : ℕ) (rows lists : Lists) (end : Bool) (from : List ℕ)
     (c : ℕ) (step : Step) : Type 0 where
   pub into : List ℕ
   pub row : IsRowOf width rows step.row false into
   pub kept : List ℕ
   pub op : IsOperation lists step.op kept
-  pub right : IsRankStep part end from c kept into
-  pub inside : IsGreatest (part.first false) into 0 step.inside
+  pub count : length kept ≡ step.count
+  pub right : IsStep part end from c kept into
+  pub inside : IsFirstIn (part.first false) into step.inside
 
 -- the cell of a row for a byte
 abbrev pub cell_at : Rows → ℕ → ℕ → Step
@@ -90,10 +91,11 @@ pub record AreClasses (e : Expression) (classes : List ℕ) (width : ℕ) : Type
 -- classes and rows are right for the automaton of this expression
 pub record AreRows (e : Expression) (bytes : List ℕ) (width : ℕ) (all : Lists) : Type 0 where
   pub classes : AreClasses e bytes width
-  pub rows : All (λ (list : Vec ℕ Global). IsRow (positions e) list.items) all
+  pub rows : (k : ℕ) (list : Vec ℕ Global) →
+      slice_get all k ≡ Some list → IsRow (positions e) list.items
   pub begin : (first : Vec ℕ Global) × (second : Vec ℕ Global) × (third : Vec ℕ Global) ×
       (more : Lists) × (all ≡ first ∷ second ∷ third ∷ more) ×
-      ((q : ℕ) → (slice_index first.items q ≡ 0) × (slice_index second.items q ≡ 0))
+      (first.items ≡ []) × (second.items ≡ []) × (positions e ≤ vec_capacity third)
   pub small : length all * width ≤ 2 ^ 30
 
 -- and there are cells for them
@@ -106,10 +108,10 @@ AreRowsFor e s =
 pub record AreRight (e : Expression) (known : Rows) : Type 0 where
   pub rows : AreRows e known.classes known.width known.rows
   pub filled : length known.rows * known.width ≤ length known.cells
-  pub kept : (row : ℕ) (end : Bool) (ranks : List ℕ) (c : ℕ) →
-      IsRowOf known.width known.rows row end ranks → c < 256 →
+  pub kept : (row : ℕ) (end : Bool) (groups : List ℕ) (c : ℕ) →
+      IsRowOf known.width known.rows row end groups → c < 256 →
       Step.op (cell_at known row c) < unknown →
-      IsKeptStep (part_of e 0) known.width known.rows known.lists end ranks c (cell_at known row c)
+      IsKeptStep (part_of e 0) known.width known.rows known.lists end groups c (cell_at known row c)
 
 abbrev pub AreStepsFor : Expression → KeptSteps → Type 0
 AreStepsFor e steps = AreRight e (rows_of steps)

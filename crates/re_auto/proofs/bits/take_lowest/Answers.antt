@@ -13,3 +13,6 @@ returns-clause-less c = (lowest c.args.left.now c.requires (omega arith)).less
 
 pub returns-clause-rest : goal.returns-clause-rest
 returns-clause-rest c = (lowest c.args.left.now c.requires (omega arith)).rest
+
+pub returns-clause-gone : goal.returns-clause-gone
+returns-clause-gone c = (lowest c.args.left.now c.requires (omega arith)).gone

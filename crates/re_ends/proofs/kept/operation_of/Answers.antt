@@ -3,7 +3,7 @@ use Rattle.re_ends.proofs.lemmas.KeptLaws.{get_left, get_last}
 use Rattle.re_ends.proofs.kept.operation_of.Goals as goal
 
 pub returns-then-op-lt-LISTED-clause-op : goal.returns-then-op-lt-LISTED-clause-op
-returns-then-op-lt-LISTED-clause-op c = let run = c.run_of-op.ensures c.if-op-lt-LISTED.true in (omega (arith, c.if-op-lt-LISTED.true), inl (c.if-op-lt-LISTED.true, run.0, run.1))
+returns-then-op-lt-LISTED-clause-op c = (omega (arith, c.if-op-lt-LISTED.true), inl (c.if-op-lt-LISTED.true, c.run_of-op.ensures c.if-op-lt-LISTED.true))
 
 pub returns-clause-kept : goal.returns-clause-kept
 returns-clause-kept c = λ k list is. rw c.in_ok-push.ensures.items (get_left c.args.lists.now.items _ k list is)

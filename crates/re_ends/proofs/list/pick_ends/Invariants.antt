@@ -1,9 +1,8 @@
-use Rattle.re_ends.proofs.Prelude.{◌≡◌, ℕ, ◌<◌, ◌+◌, ◌∷◌, drop, get_or, length}
-use Rattle.re_ends.specs.Working.Ranks.{end_of}
+use Rattle.re_ends.proofs.Prelude.{◌≡◌, ℕ, ◌<◌, [], ◌∷◌, ◌++◌, length, slice_index}
 use Rattle.re_ends.proofs.list.pick_ends.Given as goal
 
-abbrev pub invariant-ranks : goal.invariant-ranks
-invariant-ranks l = record {
+abbrev pub invariant-ends : goal.invariant-ends
+invariant-ends l = record {
   len : length l.into ≡ length l.fn.into;
-  picked : (i : ℕ) → i < l.k → get_or l.into (l.to + i) 0 ≡ end_of (l.place ∷ drop l.base l.ends) (get_or l.kept i 0);
+  picked : (i : ℕ) → i < l.k → slice_index l.kept i < length (l.ends ++ l.place ∷ []) → slice_index l.into i ≡ slice_index (l.ends ++ l.place ∷ []) (slice_index l.kept i);
 }

@@ -1,5 +1,5 @@
-use Rattle.re_ends.proofs.Prelude.{◌≡◌, ℕ, ◌<◌, ◌≤◌, List, length, expression_of}
-use Rattle.re_ends.specs.Working.EndTables.{IsAtRow, AddsFrom}
+use Rattle.re_ends.proofs.Prelude.{◌≡◌, ◌<◌, ◌≤◌, length, expression_of}
+use Rattle.re_ends.specs.Working.EndTables.{Adds, IsAtRow}
 use Rattle.re_ends.proofs.pass.walk_rows.Given as goal
 
 -- the pass is at this place, and those from it on have their ends
@@ -11,7 +11,7 @@ invariant-places l = record {
   some : 0 < l.place;
   len : length l.ends ≡ length l.fn.ends;
   most : l.list.most ≡ l.fn.list.most;
-  added : (end : ℕ) (old : List ℕ) → AddsFrom (expression_of l.asked.automaton.now) l.asked.line.now l.stop end l.fn.from.place old l.fn.ends → AddsFrom (expression_of l.asked.automaton.now) l.asked.line.now l.stop end l.place old l.ends;
+  added : Adds l.asked l.stop l.fn.from.place l.place l.fn.ends l.ends;
 }
 
 abbrev pub decreases-places : goal.decreases-places

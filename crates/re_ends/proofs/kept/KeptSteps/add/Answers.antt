@@ -1,7 +1,6 @@
 use Rattle.re_ends.proofs.Prelude.{arith, ap, ◌≡◌, ◌+◌, ◌*◌, ◌≤◌, sym, subst, length, ◌∙◌, expression_of, positions}
 use Rattle.std.specs.Prelude.{◌^◌}
-use Rattle.re_ends.specs.Working.Ranks.{IsRow}
-use Rattle.re_ends.specs.Working.KeptSteps.{rows_of}
+use Rattle.re_ends.specs.Working.Groups.{IsRow}
 use Rattle.re_ends.proofs.lemmas.KeptLaws as laws
 use Rattle.re_ends.proofs.kept.KeptSteps.add.Goals as goal
 
@@ -27,12 +26,12 @@ returns-clause-sound c =
     let same = c.in_ok-row.ensures.items ∙ c.deref.ensures.value in
     let filled : c.len-number.result * c.args.self.now.width + c.args.self.now.width ≤ length c.lengthen.new.cells.items = omega (arith, c.in_ok-lengthen.ensures.len) in
     let small : c.len-number.result * c.args.self.now.width + c.args.self.now.width ≤ 2 ^ 30 = omega (arith, c.if-first.false, right.rows.classes.narrow) in (
-      rw c.in_ok-push.ensures.items (laws.right_more e (rows_of c.args.self.now) right c.in_ok-row.row c.lengthen.new.cells.items (subst (IsRow (positions e)) (sym same) c.requires.row) (rw number at filled) (rw number at small) (rw number at c.lengthen.ensures.same) (rw number at c.lengthen.ensures.none)),
-      rw c.in_ok-push.ensures.items (laws.row_at c.args.self.now.width _ c.len-number.result c.in_ok-row.row c.args.ranks.now.next.items (omega (arith, ap length right.rows.begin.4, number)) (rw number (laws.get_last c.args.self.now.rows.items c.in_ok-row.row)) (sym same)),
+      rw (c.count_bytes-2.ensures, c.count_bytes.ensures, c.in_ok-push.ensures.items) (laws.right_more right c.in_ok-row.row c.lengthen.new.cells.items (subst (IsRow (positions e)) (sym same) c.requires.row) (rw number at filled) (rw number at small) (rw number at c.lengthen.ensures.same) (rw number at c.lengthen.ensures.none)),
+      rw (c.count_bytes-2.ensures, c.count_bytes.ensures, c.in_ok-push.ensures.items) (laws.row_at c.args.self.now.width c.len-number.result c.in_ok-row.row (omega (arith, ap length right.rows.begin.4, number)) (rw number (laws.get_last c.args.self.now.rows.items c.in_ok-row.row)) (sym same)),
     )
 
 pub returns-clause-rows : goal.returns-clause-rows
 returns-clause-rows c = let all = (returns-clause-sound c).0 in (all.rows, all.filled)
 
 pub returns-clause-kept : goal.returns-clause-kept
-returns-clause-kept c = λ row end of is. rw c.in_ok-push.ensures.items (laws.row_longer c.args.self.now.width c.args.self.now.rows.items _ row end of is)
+returns-clause-kept c = λ row end of is. rw (c.count_bytes-2.ensures, c.count_bytes.ensures, c.in_ok-push.ensures.items) (laws.row_longer _ is)

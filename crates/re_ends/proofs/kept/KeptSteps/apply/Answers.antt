@@ -1,16 +1,14 @@
-use Rattle.re_ends.proofs.Prelude.{arith, ap, ◌∙◌, ◌-◌, ◌∷◌}
+use Rattle.re_ends.proofs.Prelude.{arith, inl, inr, ap, subst, sym, ◌∙◌, ◌-◌, ◌∷◌, ◌++◌, []}
 use Rattle.std.proofs.lemmas.Option.{get_or_from_slice_get}
+use Rattle.re_ends.specs.Working.Groups.{Leaves}
 use Rattle.re_ends.specs.Working.KeptSteps.{listed}
-use Rattle.re_ends.proofs.lemmas.ListLaws as laws
 use Rattle.re_ends.proofs.kept.KeptSteps.apply.Goals as goal
 
-pub returns-then-op-eq-ALL-clause-moved : goal.returns-then-op-eq-ALL-clause-moved
-returns-then-op-eq-ALL-clause-moved c = λ kept is yes. laws.all_leaves c.args.self.now.lists.items c.args.op kept c.args.list.now.ends c.args.place c.if-op-eq-ALL.true is
-
-pub returns-then-op-lt-LISTED-clause-moved : goal.returns-then-op-lt-LISTED-clause-moved
-returns-then-op-lt-LISTED-clause-moved c = λ kept is yes. laws.cut_leaves c.args.self.now.lists.items c.args.op kept (c.args.place ∷ c.args.list.now.ends) c.cut.new.self.ends c.if-op-lt-LISTED.true is (c.cut.ensures.cut yes)
+pub returns-then-step-lt-LISTED-clause-moved : goal.returns-then-step-lt-LISTED-clause-moved
+returns-then-step-lt-LISTED-clause-moved c = λ kept operation long yes. elim operation [ inl run ↦ c.cut.ensures.cut kept run.1 long yes | inr list ↦ absurd (omega (arith, list.1, c.if-step-lt-LISTED.true)) ]
 
 pub returns-clause-moved : goal.returns-clause-moved
-returns-clause-moved c = λ kept is yes.
-    laws.pick_leaves c.args.self.now.lists.items c.args.op kept (c.args.place ∷ c.args.list.now.ends) c.pick.new.self.ends c.deref.result.now (omega (arith, c.if-op-lt-LISTED.false))
-    (λ list at. c.deref.ensures.value ∙ ap (λ v. v.items) (c.index-kept.ensures ∙ get_or_from_slice_get c.args.self.now.lists.items (c.args.op - listed) list c.index-kept.result.now at)) is c.pick.ensures.picked
+returns-clause-moved c = λ kept operation long yes. elim operation [
+  | inl run ↦ absurd (omega (arith, run.0, c.if-step-lt-LISTED.false))
+  | inr (list, le, at, same) ↦ subst (λ l. Leaves l (c.args.list.now.ends ++ c.args.place ∷ []) c.pick.new.self.ends) (c.deref.ensures.value ∙ ap (λ v. v.items) (c.index-kept.ensures ∙ get_or_from_slice_get c.args.self.now.lists.items (c.args.step.op - listed) list c.index-kept.result.now at) ∙ sym same) c.pick.ensures.picked
+]

@@ -17,6 +17,6 @@ overflow_mul-result c =
 
 pub returns : goal.returns
 returns c =
-    row_at c.args.self.now.width c.args.self.now.rows.items c.in-Some.known.now c.index.result.now c.args.ranks.now.next.items (omega (arith, c.if-number-eq0.false))
+    row_at c.args.self.now.width c.in-Some.known.now c.index.result.now (omega (arith, c.if-number-eq0.false))
     (slice_get_read c.args.self.now.rows.items c.len.result c.in-Some.known.now c.index.result.now (omega (arith, c.len.ensures, c.args.self.now.rows.ok)) c.if-number-len.false c.index.ensures)
     (sym c.as_slice-2.ensures.value ∙ sym (same_text c.as_slice.result.now c.as_slice-2.result.now (not_false _ (sym c.if-ne.false ∙ c.ne.ensures))) ∙ c.as_slice.ensures.value)

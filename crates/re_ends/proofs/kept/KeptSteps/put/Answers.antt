@@ -1,50 +1,60 @@
-use Rattle.re_ends.proofs.Prelude.{arith, ap, subst, ◌≡◌, length, false, slice_index, expression_of, Has, part_of}
-use Rattle.std.proofs.lemmas.List.{get_or_read_under}
-use Rattle.re_auto.proofs.lemmas.Numbered.{part_numbered}
-use Rattle.re_ends.specs.Working.Ranks.{IsGreatest, kept_in}
-use Rattle.re_ends.specs.Working.KeptSteps.{rows_of, IsOperation}
+use Rattle.re_ends.proofs.Prelude.{arith, false, length, set, subst, ◌+◌, ◌≡◌, slice_index, expression_of, Has, part_of, positions}
+use Rattle.re_ends.specs.Working.KeptSteps.{AreRight, IsOperation}
+use Rattle.re_ends.proofs.lemmas.ClosingLaws.{few_groups}
+use Rattle.re_ends.proofs.lemmas.GroupLaws.{first_alike}
 use Rattle.re_ends.proofs.lemmas.KeptLaws as laws
-use Rattle.re_ends.proofs.kept.KeptSteps.put.Goals.{After-index}
+use Rattle.re_ends.proofs.kept.KeptSteps.put.Goals.{After-index, After-len}
 use Rattle.re_ends.proofs.kept.KeptSteps.put.Goals as goal
 
 pub returns-in_default-clause-sound : goal.returns-in_default-clause-sound
-returns-in_default-clause-sound c = laws.right_lists (expression_of c.args.automaton.now) (rows_of c.args.self.now) c.requires.sound c.operation_of.new.lists.items c.operation_of.ensures.kept
+returns-in_default-clause-sound c = laws.right_lists c.requires.sound c.operation_of.ensures.kept
 
-pub returns-in_default-clause-kept : goal.returns-in_default-clause-kept
-returns-in_default-clause-kept c = λ row end of is. is
-
-pub greatest_among-inside-requires : goal.greatest_among-inside-requires
-greatest_among-inside-requires c = record { small = λ r h. let small = (part_numbered (expression_of c.args.automaton.now) 0).first false r ((c.beginning.ensures.1 r).0 h) in omega (arith, small.1, ap length c.deref.ensures.value, c.requires.row.len) }
+pub first_in-inside-requires : goal.first_in-inside-requires
+first_in-inside-requires c = record { row = (positions (expression_of c.args.automaton.now), omega (arith, c.requires.made.few), rw c.deref-2.ensures.value c.requires.row, omega (arith, c.beginning.ensures.0)) }
 
 class : (c : After-index) → c.index.result.now ≡ slice_index c.args.self.now.classes.items c.args.byte
-class c = get_or_read_under c.args.self.now.classes.items c.args.byte 256 c.index.result.now 0 c.index.ensures c.ranges.byte.fits (omega (arith, c.requires.sound.rows.classes.bytes))
+class c = laws.class_read c.requires.sound c.index.result.now c.ranges.byte.fits c.index.ensures
 
 pub overflow_add-at : goal.overflow_add-at
 overflow_add-at c =
-    let inside = laws.cell_before (expression_of c.args.automaton.now) (rows_of c.args.self.now) c.requires.sound c.args.from c.requires.from.0 c.requires.from.1 c.requires.from.2 c.args.byte c.ranges.byte.fits in
+    let inside = laws.cell_before c.requires.sound c.requires.from.2 c.args.byte c.ranges.byte.fits in
     omega (arith, class (goal.at.overflow_add-at c).After-index, inside, c.requires.sound.rows.small)
 
 pub overflow_cast-to : goal.overflow_cast-to
-overflow_cast-to c = let small = laws.row_small (expression_of c.args.automaton.now) (rows_of c.args.self.now) c.requires.sound c.args.to false c.args.ranks.now.next.items c.requires.to in omega (arith, small)
+overflow_cast-to c = let small = laws.row_small c.requires.sound c.requires.to in omega (arith, small)
+
+pub overflow_cast-len : goal.overflow_cast-len
+overflow_cast-len c = let few = few_groups c.args.groups.now.row.items (length c.args.groups.now.kept.items) c.requires.row.in_turn c.requires.from.3.made in omega (arith, few, c.requires.row.few, c.len.ensures, c.requires.made.few, c.args.groups.now.kept.ok)
 
 pub index_mut-requires : goal.index_mut-requires
 index_mut-requires c =
-    let inside = laws.cell_within (expression_of c.args.automaton.now) (rows_of c.args.self.now) c.requires.sound c.args.from c.requires.from.0 c.requires.from.1 c.requires.from.2 c.args.byte c.ranges.byte.fits in
+    let inside = laws.cell_within c.requires.sound c.requires.from.2 c.args.byte c.ranges.byte.fits in
     omega (arith, class (goal.at.index_mut-requires c).After-index, inside, c.args.self.now.cells.ok)
 
-pub returns-clause-sound : goal.returns-clause-sound
-returns-clause-sound c =
+sound : (c : After-len) → c.index.result.now ≡ slice_index c.args.self.now.classes.items c.args.byte → AreRight (expression_of c.args.automaton.now) (record {
+  classes = c.args.self.now.classes.items;
+  width = c.args.self.now.width;
+  rows = c.args.self.now.rows.items;
+  cells = set c.args.self.now.cells.items (c.args.from + c.index.result.now) (record { row = c.args.to; inside = c.first_in-inside.result; op = c.in-Ok.op; count = c.len.result });
+  lists = c.operation_of.new.lists.items;
+})
+sound c class =
     let e = expression_of c.args.automaton.now in
-    let known = c.args.self.now in
-    let listed = laws.right_lists e (rows_of c.args.self.now) c.requires.sound c.operation_of.new.lists.items c.operation_of.ensures.kept in
-    rw (class (goal.at.returns-clause-sound c).After-index) (laws.right_put e (record { classes = known.classes.items; width = known.width; rows = known.rows.items; cells = known.cells.items; lists = c.operation_of.new.lists.items }) listed c.args.from c.args.byte c.requires.from.0 c.requires.from.1 _ c.requires.from.2 c.ranges.byte.fits (record {
-      into = c.args.ranks.now.next.items;
+    rw class (laws.right_put (laws.right_lists c.requires.sound c.operation_of.ensures.kept) c.requires.from.2 c.ranges.byte.fits (record {
+      into = c.args.groups.now.row.items;
       row = c.requires.to;
-      kept = kept_in c.args.ranks.now;
-      op = subst (IsOperation c.operation_of.new.lists.items c.in-Ok.op) c.kept.ensures c.in-Ok.ensures.op.1;
+      kept = c.args.groups.now.kept.items;
+      op = subst (IsOperation c.operation_of.new.lists.items c.in-Ok.op) c.deref.ensures.value c.in-Ok.ensures.op.1;
+      count = omega (arith, c.len.ensures, c.args.groups.now.kept.ok);
       right = c.requires.from.3;
-      inside = laws.greatest_named (Has c.beginning.result.now) ((part_of (expression_of c.args.automaton.now) 0).first false) c.args.ranks.now.next.items 0 c.greatest_among-inside.result c.beginning.ensures.1 (subst (λ l. IsGreatest (Has c.beginning.result.now) l 0 c.greatest_among-inside.result) c.deref.ensures.value c.greatest_among-inside.ensures);
+      inside = first_alike (Has c.beginning.result.now) ((part_of e 0).first false) c.args.groups.now.row.items c.beginning.ensures.1 (rw c.deref-2.ensures.value at c.first_in-inside.ensures);
     }))
 
+pub returns-then-op-lt-LISTED-clause-sound : goal.returns-then-op-lt-LISTED-clause-sound
+returns-then-op-lt-LISTED-clause-sound c = sound (goal.at.returns-then-op-lt-LISTED-clause-sound c).After-len (class (goal.at.returns-then-op-lt-LISTED-clause-sound c).After-index)
+
+pub returns-clause-sound : goal.returns-clause-sound
+returns-clause-sound c = rw c.count_bytes.ensures (sound (goal.at.returns-clause-sound c).After-len (class (goal.at.returns-clause-sound c).After-index))
+
 pub returns-clause-kept : goal.returns-clause-kept
-returns-clause-kept c = λ row end of is. is
+returns-clause-kept c = λ row end of is. rw c.count_bytes.ensures is

@@ -1,25 +1,23 @@
-use Rattle.re_ends.proofs.Prelude.{arith, ap, length, expression_of, part_of, is_end, Has, subst, sym}
-use Rattle.re_auto.proofs.lemmas.Numbered.{part_numbered}
-use Rattle.re_ends.specs.Working.KeptSteps.{rows_of}
-use Rattle.re_ends.specs.Working.Ranks.{StandAt}
-use Rattle.re_ends.proofs.lemmas.KeptLaws.{row_ranks}
+use Rattle.re_ends.proofs.Prelude.{arith, expression_of, part_of, positions, is_begin, is_end, Has}
+use Rattle.re_ends.proofs.lemmas.GroupLaws.{first_alike}
+use Rattle.re_ends.proofs.lemmas.KeptLaws.{row_is}
 use Rattle.re_ends.proofs.lemmas.TableLaws as laws
 use Rattle.re_ends.proofs.pass.Pass.mark.Goals as goal
 
-pub greatest_among-rank-requires : goal.greatest_among-rank-requires
-greatest_among-rank-requires c =
+pub first_in-first-requires : goal.first_in-first-requires
+first_in-first-requires c =
     let e = expression_of c.args.asked.now.automaton.now in
     let at = c.requires.at.1 in
-    let same = c.ranks.ensures (is_end c.args.asked.now.line.now c.args.at.place) at.ranks at.row in
-    let row = row_ranks e (rows_of c.args.self.now.steps) c.requires.at.0.steps c.args.at.row (is_end c.args.asked.now.line.now c.args.at.place) at.ranks at.row in
-    record { small = λ r h. let small = (part_numbered e 0).first _ r ((c.beginning-beginning.ensures.1 r).0 h) in omega (arith, small.1, ap length same, row.len) }
+    let end = is_end c.args.asked.now.line.now c.args.at.place in
+    record { row = (positions e, omega (arith, c.requires.at.0.groups.few), rw (c.row.ensures end at.groups at.row) (row_is c.requires.at.0.steps at.row), omega (arith, c.beginning-beginning.ensures.0)) }
 
 pub returns : goal.returns
 returns c = record {
   added = λ end old after.
       let e = expression_of c.args.asked.now.automaton.now in
       let at = c.requires.at.1 in
-      let same = c.ranks.ensures (is_end c.args.asked.now.line.now c.args.at.place) at.ranks at.row in
-      laws.place_marked e c.args.asked.now.line.now c.args.at.place c.ranks.result.now c.args.self.now.list.ends (subst (λ l. StandAt (part_of e 0) c.args.asked.now.line.now c.args.at.place l c.args.self.now.list.ends) (sym same) at.stands) (Has c.beginning-beginning.result.now) c.beginning-beginning.ensures.1 c.greatest_among-rank.result c.greatest_among-rank.ensures
+      let same = c.row.ensures (is_end c.args.asked.now.line.now c.args.at.place) at.groups at.row in
+      laws.place_marked e at.stands
+      (first_alike (Has c.beginning-beginning.result.now) ((part_of e 0).first (is_begin c.args.at.place)) at.groups c.beginning-beginning.ensures.1 (rw same at c.first_in-first.ensures))
       c.args.stop end old c.args.ends.now c.put_end.new.ends c.requires.stop (omega (arith, c.requires.room, c.requires.stop)) c.put_end.ensures after;
 }

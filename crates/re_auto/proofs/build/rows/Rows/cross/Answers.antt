@@ -1,5 +1,8 @@
-use Rattle.re_auto.proofs.Prelude.{length, inl, inr, refl, ap, ◌∙◌, with_items_is}
+use Rattle.re_auto.proofs.Prelude.{arith, length, inl, inr, refl, ap, ◌∙◌, with_items_is}
 use Rattle.re_auto.proofs.build.rows.Rows.cross.Goals as goal
+
+pub range_of-requires : goal.range_of-requires
+range_of-requires c = omega (arith, ap length c.deref-3.ensures.value, c.requires.same.1, c.requires.few)
 
 pub returns : goal.returns
 returns c =

@@ -1,0 +1,61 @@
+use Rattle.re_ends.proofs.Prelude.{arith, ap, inl, inr, subst, sym, ℕ, zero, suc, false, true≢false, ◌∙◌, ◌≡◌, ◌+◌, ◌-◌, ◌<◌, length, slice_index, cases_lt, with_items_is}
+use Rattle.std.proofs.Math.Dec.{eqb}
+use Rattle.std.proofs.lemmas.Bool.{eqb-true}
+use Rattle.re_ends.specs.Working.Closing.{AreClosed}
+use Rattle.re_ends.specs.Working.Groups.{group_of}
+use Rattle.re_ends.proofs.lemmas.ClosingLaws as laws
+use Rattle.re_ends.proofs.groups.Groups.close_all.Goals as goal
+
+pub add_to-range-requires-clause-made : goal.add_to-range-requires-clause-made
+add_to-range-requires-clause-made c =
+    let (b, same, none) = c.requires in
+    let m = c.turn-range.ensures b same (c.members.invariant.met b same none) in
+    (b.e, m.made.preceding, rw same at (m.row.small _ _ (laws.member b.after c.members.i (rw same c.members-test.true))), ap length c.deref_mut.ensures.value ∙ m.made.met)
+
+pub members-preserved : goal.members-preserved
+members-preserved c = record {
+  met = λ b same none.
+      let m = c.turn-range.ensures b same (c.members.invariant.met b same none) in
+      let met = with_items_is c.turn-range.new.self.met c.add_to-range.new.set (c.add_to-range.ensures.len ∙ c.deref_mut.ensures.len) in
+      laws.met_next m (rw same c.members-test.true) (ap (λ xs. group_of (slice_index xs c.members.i)) same) _ _
+      (record {
+        few = m.made.few;
+        preceding = m.made.preceding;
+        left = m.made.left;
+        met = ap length met ∙ c.add_to-range.ensures.len ∙ ap length c.deref_mut.ensures.value ∙ m.made.met;
+        row = m.made.row;
+        kept = m.made.kept;
+      }) m.closed (rw met c.add_to-range.ensures.covers) (λ p. rw (met, same) (rw c.deref_mut.ensures.value at (c.add_to-range.ensures.added b.e p m.made.preceding)));
+  first = λ none. absurd (omega (arith, none));
+  last = λ some. ap (λ n. group_of (slice_index c.args.after.now n)) (let is : c.members.i + 1 - 1 ≡ c.members.i = omega arith in is);
+}
+
+pub returns-then-is_empty : goal.returns-then-is_empty
+returns-then-is_empty c = λ b same none.
+    let empty : length c.args.after.now ≡ 0 = eqb-true _ _ (sym (c.if-is_empty.ensures)) in
+    let m = c.members.invariant.met b same none in
+    let start : c.members.group ≡ 0 = c.members.invariant.first (let le = m.within in omega (arith, le, ap length same, empty)) in
+    let count : 0 ≡ b.count = elim (cases_lt 0 b.count) [ inl some ↦ absurd (let (q, (j, lt, is, at)) = (m.count 0).0 some in omega (arith, lt, ap length same, empty)) | inr ge ↦ omega (arith, ge) ] in
+    (count, m.made, subst (λ k. AreClosed b k c.members.self) (start ∙ count) m.closed)
+
+-- a member was met
+some : (n : ℕ) → (false ≡ eqb n 0) → 0 < n
+some zero is = absurd (true≢false (sym is))
+some (suc n) is = omega arith
+
+pub overflow_add-result : goal.overflow_add-result
+overflow_add-result c =
+    let (b, same, none) = c.requires in
+    let m = c.members.invariant.met b same none in
+    let end : c.members.i ≡ length b.after = (let le = m.within in omega (arith, le, ap length same, c.members-test.false)) in
+    let lt = some _ c.if-is_empty.ensures in
+    let last = c.members.invariant.last (omega (arith, lt, end, ap length same)) in
+    let less = (m.row.groups _).1 (_, laws.member b.after (c.members.i - 1) (omega (arith, lt, end, ap length same))) in
+    omega (arith, less, ap (λ xs. group_of (slice_index xs (c.members.i - 1))) same, last, laws.few_groups _ _ m.row.in_turn m.row.groups, m.row.few, m.made.few)
+
+pub returns : goal.returns
+returns c = λ b same none.
+    let m = c.members.invariant.met b same none in
+    let end : c.members.i ≡ length b.after = (let le = m.within in omega (arith, le, ap length same, c.members-test.false)) in
+    let count = laws.all_met m end (let lt = some _ c.if-is_empty.ensures in omega (arith, lt, end, ap length same)) (rw same (c.members.invariant.last (let lt = some _ c.if-is_empty.ensures in omega (arith, lt, end, ap length same)))) in
+    (omega (arith, count), c.close.ensures.made b.e m.made, subst (λ k. AreClosed b k c.close.new.self) (sym count) (c.close.ensures.closed b m.made m.closed (laws.is_met m (λ j ge less. absurd (omega (arith, ge, less, end))) (omega (arith, count)))))

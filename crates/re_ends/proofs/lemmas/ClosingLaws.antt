@@ -1,0 +1,407 @@
+-- Members of groups, and the groups that a step back closes.
+use Rattle.re_ends.proofs.Prelude.{◌≡◌, ℕ, zero, suc, ◌+◌, ◌-◌, ◌*◌, ◌/◌, ◌<◌, ◌≤◌, inl, inr, ◌⊎◌, ◌↔◌, List, [], ◌∷◌, ◌++◌, length, length-append, map, set, true, false, get_or, get_or-set_other, get_or-set_same, slice_index, get_or_append_left, refl, sym, subst, ap, ◌∙◌, arith, cases_lt, false≢true, Expression, Has, part_of, positions}
+use Rattle.std.specs.Prelude.{◌%◌, ◌^◌, bit_and}
+use Rattle.std.specs.Int.{bit_at, bit_not, w64}
+use Rattle.std.proofs.lemmas.Nat.Bits.{bit_at-lt, bit_at-zero, bit_at_and, bit_at_not}
+use Rattle.std.proofs.lemmas.Bool.{cases_eq}
+use Rattle.re_auto.proofs.lemmas.BitLemmas.{at_word}
+use Rattle.std.specs.List.{AllByRecursion, IsDistinct, list_any}
+use Rattle.std.proofs.Math.Dec.{eqb}
+use Rattle.std.proofs.Math.Seq.{get_or-append_seam}
+use Rattle.std.proofs.lemmas.Bool.{ne_eqb}
+use Rattle.std.proofs.lemmas.Bool.Decides.{eqb_tells}
+use Rattle.std.proofs.lemmas.Map.Steps.{length-le_from_distinct_below}
+use Rattle.re_ends.specs.Working.Groups.{group_of, position_of, AreGroupsFor, AreInTurn, Grow, HasGroups, In, IsRow, IsStep}
+use Rattle.std.specs.declared.alloc.Global.{Global}
+use Rattle.std.specs.Prelude.{Vec}
+use Rattle.re_ends.specs.declared.groups.Groups.{Groups}
+use Rattle.re_auto.specs.declared.ranges.WordRange.{WordRange}
+use Rattle.re_auto.specs.Working.Ranges.{Covers}
+use Rattle.re_auto.proofs.lemmas.Numbered.{part_numbered}
+use Rattle.re_ends.proofs.lemmas.ListLaws.{end_cases}
+use Rattle.re_ends.specs.Working.Closing.{AreClosed, AreMembers, AreMet, AreNoneMet, Byte, CanEnd, IsClosed, Takes}
+
+-- numbers below n, each once, are n at most
+others : (x : ℕ) (xs : List ℕ) → ((j : ℕ) → j < length xs → x ≡ slice_index xs j → ⊥) → AllByRecursion (λ y. eqb x y ≡ false) xs
+others x [] none = tt
+others x (y ∷ ys) none = (ne_eqb x y (none 0 (omega arith)), others x ys (λ j lt. none (suc j) (omega (arith, lt))))
+
+distinct : (xs : List ℕ) → ((i j : ℕ) → i < j → j < length xs → slice_index xs i ≡ slice_index xs j → ⊥) → IsDistinct eqb xs
+unfolding IsDistinct
+distinct [] apart = tt
+distinct (x ∷ xs) apart = (others x xs (λ j lt. apart 0 (suc j) (omega arith) (omega (arith, lt))), distinct xs (λ i j less lt. apart (suc i) (suc j) (omega (arith, less)) (omega (arith, lt))))
+
+below : (n : ℕ) (xs : List ℕ) → ((j : ℕ) → j < length xs → slice_index xs j < n) → (q : ℕ) → list_any (eqb q) xs ≡ true → q < n
+below n [] small q h = absurd (false≢true h)
+below n (x ∷ xs) small q h = elim (eqb_tells q x) [
+  | inl same ↦ subst (λ y. y < n) (sym same.1) (small 0 (omega arith))
+  | inr other ↦ below n xs (λ j lt. small (suc j) (omega (arith, lt))) q (rw other.0 at h)
+]
+
+pub position_at : (row : List ℕ) (i : ℕ) → slice_index (map position_of row) i ≡ position_of (slice_index row i)
+position_at [] i = refl
+position_at (x ∷ xs) zero = refl
+position_at (x ∷ xs) (suc i) = position_at xs i
+
+pub length_map : (row : List ℕ) → length (map position_of row) ≡ length row
+length_map [] = refl
+length_map (x ∷ xs) = ap suc (length_map xs)
+
+pub member : (row : List ℕ) (i : ℕ) → i < length row → In row (group_of (slice_index row i)) (position_of (slice_index row i))
+member row i lt = (i, lt, refl, refl)
+
+pub few_members : (n : ℕ) {g : ℕ} {row : List ℕ} → AreMembers g row → ((j q : ℕ) → In row j q → q < n) → length row ≤ n
+few_members n {row = row} made small =
+    rw (← length_map row) (length-le_from_distinct_below (map position_of row) n
+    (distinct (map position_of row) (λ i j less lt same. made.apart i j less (rw (length_map row) at lt) (sym (position_at row i) ∙ same ∙ position_at row j)))
+    (below n (map position_of row) (λ j lt. rw (position_at row j) (small _ _ (member row j (rw (length_map row) at lt))))))
+
+-- one member more
+module _ (g p : ℕ) (row : List ℕ) (small : p < 65536) where
+  long : length (row ++ (g * 65536 + p) ∷ []) ≡ length row + 1
+  long = length-append row ((g * 65536 + p) ∷ [])
+
+  at_old : (i : ℕ) → i < length row → slice_index (row ++ (g * 65536 + p) ∷ []) i ≡ slice_index row i
+  at_old i lt = get_or_append_left row ((g * 65536 + p) ∷ []) 0 i lt
+
+  pub in_pushed : (j q : ℕ) → In (row ++ (g * 65536 + p) ∷ []) j q ↔ (In row j q ⊎ (j ≡ g) × (q ≡ p))
+  in_pushed j q = (
+    (λ (i, lt, is, at). elim (end_cases row (g * 65536 + p) i lt) [
+      | inl (less, old) ↦ inl (i, less, ap group_of (sym old) ∙ is, ap position_of (sym old) ∙ at)
+      | inr (last, value) ↦ inr (omega (arith, is, value, small), omega (arith, at, value, small))
+    ]),
+    (λ h. elim h [
+      | inl (i, lt, is, at) ↦ (i, omega (arith, lt, long), ap group_of (at_old i lt) ∙ is, ap position_of (at_old i lt) ∙ at)
+      | inr same ↦ let at_last = get_or-append_seam row (g * 65536 + p) [] 0 in (length row, omega (arith, long), omega (arith, at_last, same.0, small), omega (arith, at_last, same.1, small))
+    ]),
+  )
+
+  module _ (made : AreMembers g row) (fresh : (j : ℕ) → In row j p → ⊥) where
+    pub pushed : AreMembers g (row ++ (g * 65536 + p) ∷ [])
+    pushed = record {
+      in_turn = λ i j before lt. elim (end_cases row (g * 65536 + p) j lt) [
+        | inl (old, b) ↦ let a = at_old i (omega (arith, before, old)) in let le = made.in_turn i j before old in omega (arith, a, b, le)
+        | inr (last, value) ↦ let a = at_old i (omega (arith, before, last)) in let le = made.last _ _ (member row i (omega (arith, before, last))) in omega (arith, a, value, le, small)
+      ];
+      last = λ j q h. elim ((in_pushed j q).0 h) [ inl old ↦ made.last j q old | inr same ↦ omega (arith, same.0) ];
+      apart = λ i j before lt same. elim (end_cases row (g * 65536 + p) j lt) [
+        | inl (old, b) ↦ made.apart i j before old (ap position_of (sym (at_old i (omega (arith, before, old)))) ∙ same ∙ ap position_of b)
+        | inr (last, value) ↦ let a = at_old i (omega (arith, before, last)) in fresh _ (i, omega (arith, before, last), refl, omega (arith, a, same, value, small))
+      ];
+    }
+
+    pub has_room : (n : ℕ) → p < n → ((j q : ℕ) → In row j q → q < n) → length row < n
+    has_room n less small_row =
+        let few = few_members n pushed (λ j q h. elim ((in_pushed j q).0 h) [ inl old ↦ small_row j q old | inr same ↦ omega (arith, same.1, less) ]) in
+        omega (arith, few, long)
+
+-- the common members of word k of two sets are taken out of both
+module _ (met left : List ℕ) (k : ℕ) where
+  pub in_word : (b : ℕ) → b < 64 → (bit_at (bit_and (get_or met k 0) (get_or left k 0)) b ≡ 1) ↔ (Has met (k * 64 + b) × Has left (k * 64 + b))
+  in_word b lt =
+      let is = bit_at_and (get_or met k 0) (get_or left k 0) b in
+      let m = bit_at-lt (get_or met k 0) b in
+      let l = bit_at-lt (get_or left k 0) b in
+      let in_met = at_word met k b lt in
+      let in_left = at_word left k b lt in (
+        (λ h. (in_met.1 (omega (arith, h, is, m, l)), in_left.1 (omega (arith, h, is, m, l)))),
+        (λ h. let a = in_met.0 h.0 in let b = in_left.0 h.1 in omega (arith, a, b, is)),
+      )
+
+  pub met_now : k < length met → (q : ℕ) → Has (set met k 0) q ↔ (Has met q × (q / 64 ≡ k → ⊥))
+  unfolding Has
+  met_now room q = elim (cases_eq (q / 64) k) [
+    | inl same ↦
+        let none : get_or (set met k 0) (q / 64) 0 ≡ 0 = subst (λ j. get_or (set met k 0) j 0 ≡ 0) (sym same) (get_or-set_same met k 0 0 room) in
+        ((λ h. absurd (let zero = ap (λ x. bit_at x (q % 64)) none in omega (arith, h, zero, bit_at-zero (q % 64)))), (λ h. absurd (h.1 same)))
+    | inr other ↦ let same = ap (λ x. bit_at x (q % 64)) (get_or-set_other met k (q / 64) 0 0 other) in ((λ h. (sym same ∙ h, other)), (λ h. same ∙ h.0))
+  ]
+
+  pub left_now : bit_and (get_or met k 0) (get_or left k 0) < 2 ^ 64 → k < length left → (q : ℕ) →
+      Has (set left k (bit_and (get_or left k 0) (bit_not w64 (bit_and (get_or met k 0) (get_or left k 0))))) q ↔ (Has left q × (q / 64 ≡ k → Has met q → ⊥))
+  unfolding Has
+  left_now fits room q = elim (cases_eq (q / 64) k) [
+    | inl same ↦
+        let x = bit_and (get_or left k 0) (bit_not w64 (bit_and (get_or met k 0) (get_or left k 0))) in
+        let at : bit_at (get_or (set left k x) (q / 64) 0) (q % 64) ≡ bit_at x (q % 64) = ap (λ y. bit_at y (q % 64)) (subst (λ j. get_or (set left k x) j 0 ≡ x) (sym same) (get_or-set_same left k x 0 room)) in
+        let was : bit_at (get_or left (q / 64) 0) (q % 64) ≡ bit_at (get_or left k 0) (q % 64) = ap (λ j. bit_at (get_or left j 0) (q % 64)) same in
+        let other : bit_at (get_or met (q / 64) 0) (q % 64) ≡ bit_at (get_or met k 0) (q % 64) = ap (λ j. bit_at (get_or met j 0) (q % 64)) same in
+        let both = bit_at_and (get_or left k 0) (bit_not w64 (bit_and (get_or met k 0) (get_or left k 0))) (q % 64) in
+        let not = bit_at_not w64 (bit_and (get_or met k 0) (get_or left k 0)) (q % 64) fits (omega arith) in
+        let word = bit_at_and (get_or met k 0) (get_or left k 0) (q % 64) in
+        let m = bit_at-lt (get_or met k 0) (q % 64) in
+        let l = bit_at-lt (get_or left k 0) (q % 64) in (
+          (λ h. (omega (arith, h, at, was, both, not, word, m, l), λ same met. omega (arith, h, at, other, met, both, not, word, m, l))),
+          (λ h. elim (cases_eq (bit_at (get_or met k 0) (q % 64)) 1) [
+            | inl is ↦ absurd (h.1 same (other ∙ is))
+            | inr none ↦ let here = h.0 in omega (arith, here, at, was, both, not, word, m, l, none)
+          ]),
+        )
+    | inr other ↦
+        let same = ap (λ y. bit_at y (q % 64)) (get_or-set_other left k (q / 64) (bit_and (get_or left k 0) (bit_not w64 (bit_and (get_or met k 0) (get_or left k 0)))) 0 other) in
+        ((λ h. (sym same ∙ h, λ is met. other is)), (λ h. same ∙ h.0))
+  ]
+
+-- there are no more groups than members
+pub few_groups : (row : List ℕ) (count : ℕ) → AreInTurn row → HasGroups row count → count ≤ length row
+few_groups row count turn groups = elim (cases_lt 0 count) [
+  | inl some ↦ let (q, (i, lt, is, at)) = (groups (count - 1)).0 (omega (arith, some)) in let low = at_least (count - 1) (omega (arith, some)) i lt is in omega (arith, low, lt)
+  | inr none ↦ omega (arith, none)
+]
+  where
+    at_least : (k : ℕ) → k < count → (i : ℕ) → i < length row → group_of (slice_index row i) ≡ k → k ≤ i
+    at_least zero less i lt is = omega arith
+    at_least (suc k) less i lt is =
+        let (q, (j, below, was, at)) = (groups k).0 (omega (arith, less)) in
+        let low = at_least k (omega (arith, less)) j below was in
+        elim (cases_lt j i) [
+          | inl before ↦ omega (arith, low, before)
+          | inr after ↦ elim (cases_eq i j) [
+            | inl same ↦ absurd (let both : group_of (slice_index row i) ≡ group_of (slice_index row j) = ap (λ n. group_of (slice_index row n)) same in omega (arith, both, is, was))
+            | inr other ↦ absurd (let le = turn i j (omega (arith, after, other)) below in omega (arith, le, is, was))
+          ]
+        ]
+
+-- the group of the last member is the last that has one
+pub group_last : {g : ℕ} {row : List ℕ} → AreMembers g row → 0 < length row → (q : ℕ) → In row g q → group_of (slice_index row (length row - 1)) ≡ g
+group_last {row = row} made some q (i, lt, is, at) =
+    let le = made.last _ _ (member row (length row - 1) (omega (arith, some))) in
+    elim (cases_lt i (length row - 1)) [
+      | inl less ↦ let low = made.in_turn i (length row - 1) less (omega (arith, some)) in omega (arith, le, low, is)
+      | inr ge ↦ ap (λ n. group_of (slice_index row n)) (let same : length row - 1 ≡ i = omega (arith, lt, ge) in same) ∙ is
+    ]
+
+-- members are positions of the expression, and no more than these
+module _ {b : Byte} {k : ℕ} {left kept row : List ℕ} (closed : IsClosed b k left kept row) where
+  pub small_left : (q : ℕ) → Has left q → q < positions b.e
+  small_left q h = let less = (part_numbered b.e 0).takes q b.code (closed.ready q h).0 in omega (arith, less.1)
+
+  pub small_in : (j q : ℕ) → In row j q → q < positions b.e
+  small_in j q h = let less = (part_numbered b.e 0).takes q b.code (closed.members j q h).0 in omega (arith, less.1)
+
+  pub few_closed : length row ≤ positions b.e
+  few_closed = few_members (positions b.e) closed.made_of small_in
+
+  pub few_kept : length kept ≤ length row
+  few_kept = few_groups row (length kept) closed.made_of.in_turn closed.made
+
+is_in : (set : List ℕ) (q : ℕ) → Has set q ⊎ (Has set q → ⊥)
+unfolding Has
+is_in set q = cases_eq (bit_at (slice_index set (q / 64)) (q % 64)) 1
+
+-- one group more is closed
+module _ {b : Byte} {k : ℕ} {left kept row : List ℕ} (met left' : List ℕ) {row' : List ℕ} (was : IsClosed b k left kept row) (is : (q : ℕ) → Has met q ↔ CanEnd b k q)
+    (left_is : (q : ℕ) → Has left' q ↔ (Has left q × (Has met q → ⊥))) (added : (j q : ℕ) → In row' j q ↔ (In row j q ⊎ (j ≡ length kept) × Has met q × Has left q))
+    (made : AreMembers (length kept) row') where
+  in_kept : (j q : ℕ) → In row j q → j < length kept
+  in_kept j q here = (was.made j).1 (q, here)
+
+  new : (q : ℕ) → Has met q → Has left q → In row' (length kept) q
+  new q m l = (added (length kept) q).1 (inr (refl, m, l))
+
+  closed_with : (kept' : List ℕ) → ((j : ℕ) → j < length kept → slice_index kept' j ≡ slice_index kept j) → ((q : ℕ) → In row' (length kept) q → slice_index kept' (length kept) ≡ k) → Grow kept' → ((j : ℕ) → j < length kept' → slice_index kept' j < suc k) → HasGroups row' (length kept') → AreMembers (length kept') row' → IsClosed b (suc k) left' kept' row'
+  closed_with kept' old last grow below groups members = record {
+    ready = λ q h. let (l, none) = (left_is q).0 h in let t = was.ready q l in (t.0, λ j here. elim ((added j q).0 here) [ inl had ↦ t.1 j had | inr more ↦ none more.1 ]);
+    others = λ q t. elim (was.others q t) [
+      | inl l ↦ elim (is_in met q) [ inl m ↦ inr (length kept, new q m l) | inr none ↦ inl ((left_is q).1 (l, none)) ]
+      | inr (j, here) ↦ inr (j, (added j q).1 (inl here))
+    ];
+    grow = grow;
+    below = below;
+    members = λ j q h. elim ((added j q).0 h) [
+      | inl had ↦ let t = was.members j q had in (t.0, subst (λ x. CanEnd b x q) (sym (old j (in_kept j q had))) t.1)
+      | inr (same, m, l) ↦ ((was.ready q l).0, subst (λ x. CanEnd b x q) (sym (ap (slice_index kept') same ∙ last q (new q m l))) ((is q).0 m))
+    ];
+    all = λ i q lt t can. elim (cases_lt i k) [
+      | inl less ↦ let (j, le, here) = was.all i q less t can in (j, omega (arith, le, old j (in_kept j q here)), (added j q).1 (inl here))
+      | inr ge ↦ elim (was.others q t) [
+        | inl l ↦ let here = new q ((is q).1 (subst (λ x. CanEnd b x q) (let same : i ≡ k = omega (arith, lt, ge) in same) can)) l in (length kept, omega (arith, last q here, ge), here)
+        | inr (j, here) ↦ (j, (let less = was.below j (in_kept j q here) in omega (arith, less, ge, old j (in_kept j q here))), (added j q).1 (inl here))
+      ]
+    ];
+    made = groups;
+    made_of = members;
+  }
+
+  pub closed_none : ((q : ℕ) × In row' (length kept) q → ⊥) → IsClosed b (suc k) left' kept row'
+  closed_none none = closed_with kept (λ j lt. refl) (λ q h. absurd (none (q, h))) was.grow (λ j lt. let less = was.below j lt in omega (arith, less)) (λ j. (
+    (λ lt. let (q, here) = (was.made j).0 lt in (q, (added j q).1 (inl here))),
+    (λ (q, h). elim ((added j q).0 h) [ inl had ↦ in_kept j q had | inr more ↦ absurd (none (q, new q more.1 more.2)) ]),
+  )) made
+
+  pub closed_some : (q : ℕ) → In row' (length kept) q → IsClosed b (suc k) left' (kept ++ k ∷ []) row'
+  closed_some p last =
+      let old : (j : ℕ) → j < length kept → slice_index (kept ++ k ∷ []) j ≡ slice_index kept j = λ j lt. get_or_append_left kept (k ∷ []) 0 j lt in
+      closed_with (kept ++ k ∷ []) old (λ q h. get_or-append_seam kept k [] 0) (λ i j before lt. elim (end_cases kept k j lt) [
+        | inl (less, at) ↦ let more = was.grow i j before less in omega (arith, more, old i (omega (arith, before, less)), at)
+        | inr (same, at) ↦ let more = was.below i (omega (arith, before, same)) in omega (arith, more, at, old i (omega (arith, before, same)))
+      ]) (λ j lt. elim (end_cases kept k j lt) [ inl (less, at) ↦ let more = was.below j less in omega (arith, more, at) | inr (same, at) ↦ omega (arith, at) ])
+      (λ j. (
+        (λ lt. elim (end_cases kept k j lt) [
+          | inl (less, at) ↦ let (q, here) = (was.made j).0 less in (q, (added j q).1 (inl here))
+          | inr (same, at) ↦ (p, subst (λ n. In row' n p) (sym same) last)
+        ]),
+        (λ (q, h). let le = made.last j q h in omega (arith, le, length-append kept (k ∷ []))),
+      )) (record { in_turn = made.in_turn; last = λ j q h. (let le = made.last j q h in omega (arith, le, length-append kept (k ∷ []))); apart = made.apart })
+
+-- groups that nothing can have the end of are closed
+pub skip : {b : Byte} {k : ℕ} {left kept row : List ℕ} (k' : ℕ) → IsClosed b k left kept row → k ≤ k' → ((i q : ℕ) → k ≤ i → i < k' → CanEnd b i q → ⊥) → IsClosed b k' left kept row
+skip {k = k} k' was le none = record {
+  ready = was.ready;
+  others = was.others;
+  grow = was.grow;
+  below = λ j lt. let less = was.below j lt in omega (arith, less, le);
+  members = was.members;
+  all = λ i q lt t can. elim (cases_lt i k) [ inl less ↦ was.all i q less t can | inr ge ↦ absurd (none i q ge lt can) ];
+  made = was.made;
+  made_of = was.made_of;
+}
+
+-- where all members of a group were met, those that can have its end are marked
+module _ {b : Byte} {i group : ℕ} {range : WordRange} {groups : Groups} (m : AreMet b i group range groups) where
+  pub group_below : (k q : ℕ) → In b.after k q → k < b.count
+  group_below k q h = (m.count k).1 (q, h)
+
+  pub is_met : ((j : ℕ) → i ≤ j → j < length b.after → group < group_of (slice_index b.after j)) → group < b.count → (q : ℕ) → Has groups.met.items q ↔ CanEnd b group q
+  is_met over lt q = (
+    (λ h. let (j, before, is, follow) = (m.met q).0 h in inl (_, follow, (j, omega (arith, before, m.within), is, refl))),
+    (λ h. elim h [
+      | inl (r, follow, (j, less, is, at)) ↦ elim (cases_lt j i) [
+        | inl before ↦ (m.met q).1 (j, before, is, subst (λ x. (part_of b.e 0).follow q x) (sym at) follow)
+        | inr ge ↦ absurd (let more = over j ge less in omega (arith, more, is))
+      ]
+      | inr (same, ends) ↦ absurd (omega (arith, same, lt))
+    ]),
+  )
+
+  -- the next member is in another group: this one is closed
+  module _ (lt : i < length b.after) (other : group_of (slice_index b.after i) ≡ group → ⊥) where
+    pub later : (j : ℕ) → i ≤ j → j < length b.after → group < group_of (slice_index b.after j)
+    later j ge less =
+        let here = m.reached i (omega arith) lt in
+        elim (cases_lt i j) [
+          | inl after ↦ let le = m.row.in_turn i j after less in omega (arith, here, other, le)
+          | inr last ↦ subst (λ n. group < group_of (slice_index b.after n)) (let same : i ≡ j = omega (arith, ge, last) in same) (omega (arith, here, other))
+        ]
+
+    pub below_count : group < b.count
+    below_count = let less = group_below _ _ (member b.after i lt) in let more = later i (omega arith) lt in omega (arith, less, more)
+
+    pub turned : (now : Groups) → AreGroupsFor b.e now → ((q : ℕ) → Has now.met.items q → ⊥) → AreClosed b (suc group) now →
+        AreMet b i (group_of (slice_index b.after i)) (record { first = 0; past = 0 }) now
+    turned now made none closed = record {
+      made = made;
+      row = m.row;
+      count = m.count;
+      within = m.within;
+      covers = record { ordered = omega arith; within = omega arith; members = λ q h. absurd (none q h) };
+      over = λ j before. let le = m.over j before in let more = later i (omega arith) lt in omega (arith, le, more);
+      reached = λ j ge less. elim (cases_lt i j) [
+        | inl after ↦ m.row.in_turn i j after less
+        | inr last ↦ subst (λ n. group_of (slice_index b.after i) ≤ group_of (slice_index b.after n)) (let same : i ≡ j = omega (arith, ge, last) in same) (omega arith)
+      ];
+      met = λ q. ((λ h. absurd (none q h)), (λ (j, before, is, follow). absurd (let le = m.over j before in let more = later i (omega arith) lt in omega (arith, le, more, is))));
+      closed = skip (group_of (slice_index b.after i)) closed (let more = later i (omega arith) lt in more)
+          (λ k q low high can. elim can [
+            | inl (r, follow, (j, less, is, at)) ↦ elim (cases_lt j i) [
+              | inl before ↦ let le = m.over j before in omega (arith, le, is, low)
+              | inr ge ↦ elim (cases_lt i j) [
+                | inl after ↦ let le = m.row.in_turn i j after less in omega (arith, le, is, high)
+                | inr last ↦ let same : group_of (slice_index b.after i) ≡ group_of (slice_index b.after j) = ap (λ n. group_of (slice_index b.after n)) (let e : i ≡ j = omega (arith, ge, last) in e) in omega (arith, same, is, high)
+              ]
+            ]
+            | inr (same, ends) ↦ let less = group_below _ _ (member b.after i lt) in omega (arith, same, less, high)
+          ]);
+    }
+
+  -- the next member is met
+  pub met_next : (lt : i < length b.after) → group_of (slice_index b.after i) ≡ group → (now : Groups) (range' : WordRange) → AreGroupsFor b.e now → AreClosed b group now → Covers range' now.met.items →
+      ((p : ℕ) → Has now.met.items p ↔ (Has groups.met.items p ⊎ (part_of b.e 0).follow p (position_of (slice_index b.after i)))) → AreMet b (i + 1) group range' now
+  met_next lt same now range' made closed covers added = record {
+    made = made;
+    row = m.row;
+    count = m.count;
+    within = omega (arith, lt);
+    covers = covers;
+    over = λ j before. elim (cases_lt j i) [ inl less ↦ m.over j less | inr ge ↦ subst (λ n. group_of (slice_index b.after n) ≤ group) (let e : i ≡ j = omega (arith, before, ge) in e) (omega (arith, same)) ];
+    reached = λ j ge less. m.reached j (omega (arith, ge)) less;
+    met = λ q. (
+      (λ h. elim ((added q).0 h) [ inl old ↦ let (j, before, is, follow) = (m.met q).0 old in (j, omega (arith, before), is, follow) | inr follow ↦ (i, omega arith, same, follow) ]),
+      (λ (j, before, is, follow). (added q).1 (elim (cases_lt j i) [
+        | inl less ↦ inl ((m.met q).1 (j, less, is, follow))
+        | inr ge ↦ inr (subst (λ n. (part_of b.e 0).follow q (position_of (slice_index b.after n))) (let e : j ≡ i = omega (arith, before, ge) in e) follow)
+      ])),
+    );
+    closed = closed;
+  }
+
+  -- all members were met
+  pub all_met : i ≡ length b.after → 0 < i → group_of (slice_index b.after (i - 1)) ≡ group → b.count ≡ suc group
+  all_met end some last =
+      let less = group_below _ _ (member b.after (i - 1) (omega (arith, end, some))) in
+      elim (cases_lt (suc group) b.count) [
+        | inl more ↦ absurd (let (q, (j, within, is, at)) = (m.count (suc group)).0 more in let le = m.over j (omega (arith, within, end)) in omega (arith, le, is))
+        | inr ge ↦ omega (arith, ge, less, last)
+      ]
+
+-- before the first group is closed, all that take the byte are left
+pub none_closed : (b : Byte) (left : List ℕ) {kept row : List ℕ} → ((q : ℕ) → Has left q ↔ Takes b q) → kept ≡ [] → row ≡ [] → IsClosed b 0 left kept row
+none_closed b left {kept} {row} is no_kept no_row =
+    let none : (j q : ℕ) → In row j q → ⊥ = λ j q (i, lt, same, at). omega (arith, lt, ap length no_row) in
+    let no_number : (j : ℕ) → j < length kept → ⊥ = λ j lt. omega (arith, lt, ap length no_kept) in
+    record {
+      ready = λ q h. ((is q).0 h, λ j. none j q);
+      others = λ q t. inl ((is q).1 t);
+      grow = λ j k before lt. absurd (no_number k lt);
+      below = λ j lt. absurd (no_number j lt);
+      members = λ j q here. absurd (none j q here);
+      all = λ i q lt t can. absurd (omega (arith, lt));
+      made = λ k. ((λ lt. absurd (no_number k lt)), (λ (q, here). absurd (none k q here)));
+      made_of = record { in_turn = λ i j before lt. absurd (omega (arith, lt, ap length no_row)); last = λ j q here. absurd (none j q here); apart = λ i j before lt. absurd (omega (arith, lt, ap length no_row)) };
+    }
+
+pub start : (b : Byte) (groups : Groups) → AreGroupsFor b.e groups → IsRow (positions b.e) b.after → HasGroups b.after b.count → ((q : ℕ) → Has groups.met.items q → ⊥) →
+    AreClosed b 0 groups → AreNoneMet b groups
+start b groups made row count none closed = record {
+  made = made;
+  row = row;
+  count = count;
+  within = omega arith;
+  covers = record { ordered = omega arith; within = omega arith; members = λ q h. absurd (none q h) };
+  over = λ j before. absurd (omega (arith, before));
+  reached = λ j ge lt. omega arith;
+  met = λ q. ((λ h. absurd (none q h)), (λ (j, before, is, follow). absurd (omega (arith, before))));
+  closed = closed;
+}
+
+-- once all are closed, the members are those before the byte
+pub closed_row : {b : Byte} {k : ℕ} {left kept row : List ℕ} → IsClosed b k left kept row → IsRow (positions b.e) row
+closed_row {kept = kept} closed = record {
+  few = few_closed closed;
+  small = small_in closed;
+  in_turn = closed.made_of.in_turn;
+  count = length kept;
+  groups = closed.made;
+}
+
+pub closed_step : {b : Byte} {left kept row : List ℕ} → HasGroups b.after b.count → IsClosed b (suc b.count) left kept row → IsStep (part_of b.e 0) b.at_end b.after b.code kept row
+closed_step {b} groups closed = record {
+  count = b.count;
+  groups = groups;
+  grow = closed.grow;
+  few = λ j lt. let less = closed.below j lt in omega (arith, less);
+  members = closed.members;
+  all = λ k q t can. closed.all k q (elim can [ inl (r, follow, here) ↦ let lt = (groups k).1 (r, here) in omega (arith, lt) | inr (same, ends) ↦ omega (arith, same) ]) t can;
+  made = closed.made;
+}
+
+-- another set of those met
+pub with_met : {e : Expression} {groups : Groups} (met : Vec ℕ Global) → AreGroupsFor e groups → length met.items ≡ length groups.met.items → AreGroupsFor e (record groups { met = met })
+with_met met made len = record { few = made.few; preceding = made.preceding; left = made.left; met = len ∙ made.met; row = made.row; kept = made.kept }
+
+-- positions that can end here are those that can have the place's end
+pub is_own : (b : Byte) (set : List ℕ) → HasGroups b.after b.count → ((q : ℕ) → Has set q ↔ (part_of b.e 0).last b.at_end q) → (q : ℕ) → Has set q ↔ CanEnd b b.count q
+is_own b set groups is q = (
+  (λ h. inr (refl, (is q).0 h)),
+  (λ can. elim can [ inl (r, follow, here) ↦ absurd (let lt = (groups b.count).1 (r, here) in omega (arith, lt)) | inr (same, ends) ↦ (is q).1 ends ]),
+)

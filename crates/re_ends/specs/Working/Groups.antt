@@ -1,0 +1,115 @@
+-- Groups of positions at a place of a line: those of a group have the same greatest end, and the groups
+-- with greater ends come first. A row has the members of all groups, and a list has the groups' ends.
+use Rattle.std.specs.Prelude.{◌≡◌, ℕ, zero, suc, ◌+◌, ◌/◌, ◌%◌, ◌^◌, ◌<◌, ◌≤◌, ◌↔◌, ◌⊎◌, Bool, List, [], ◌∷◌, ◌++◌, length, slice_index, vec_capacity}
+use Rattle.re_trees.specs.Bytes.{Text}
+use Rattle.re_trees.specs.Expression.{Expression}
+use Rattle.re_trees.specs.Holds.{positions}
+use Rattle.re_trees.specs.Limits.{most_positions}
+use Rattle.re_auto.specs.Working.Positions.{Part}
+use Rattle.re_auto.specs.Working.Preceding.{ArePrecedingFor}
+use Rattle.re_auto.specs.Working.Tables.{words_for}
+use Rattle.re_ends.specs.declared.groups.Groups.{Groups}
+use Rattle.re_ends.specs.Working.GreatestEnds.{LeadsPast}
+
+-- the ends of groups, and how many there is room for
+pub record Ends : Type 0 where
+  pub ends : List ℕ
+  pub most : ℕ
+
+-- the end with this number, counted from 1 on, where 0 is none
+abbrev pub end_of : List ℕ → ℕ → ℕ
+end_of ends zero = 0
+end_of ends (suc k) = slice_index ends k
+
+-- the ends with these numbers stay
+abbrev pub Leaves : List ℕ → List ℕ → List ℕ → Type 0
+Leaves kept old new =
+    (length new ≡ length kept) ×
+    ((k : ℕ) → k < length kept → slice_index kept k < length old →
+    slice_index new k ≡ slice_index old (slice_index kept k))
+
+-- the numbers follow each other, from this one on
+abbrev pub Follow : ℕ → List ℕ → Type 0
+Follow first xs = (k : ℕ) → k < length xs → slice_index xs k ≡ first + k
+
+-- a member of a row: the number of its group times 2^16, plus its position
+abbrev pub group_of : ℕ → ℕ
+group_of member = member / 2 ^ 16
+
+abbrev pub position_of : ℕ → ℕ
+position_of member = member % 2 ^ 16
+
+-- the position is in group k
+abbrev pub In : List ℕ → ℕ → ℕ → Type 0
+In row k q =
+    (i : ℕ) × (i < length row) × (group_of (slice_index row i) ≡ k) ×
+    (position_of (slice_index row i) ≡ q)
+
+-- each of so many groups has a member, and there are no others
+abbrev pub HasGroups : List ℕ → ℕ → Type 0
+HasGroups row count = (k : ℕ) → (k < count) ↔ ((q : ℕ) × In row k q)
+
+-- the members are in the order of their groups
+abbrev pub AreInTurn : List ℕ → Type 0
+AreInTurn row =
+    (i j : ℕ) → i < j → j < length row →
+    group_of (slice_index row i) ≤ group_of (slice_index row j)
+
+-- the members of some groups, in turn: one at most for each of n positions
+pub record IsRow (n : ℕ) (row : List ℕ) : Type 0 where
+  pub few : length row ≤ n
+  pub small : (k q : ℕ) → In row k q → q < n
+  pub in_turn : AreInTurn row
+  pub count : ℕ
+  pub groups : HasGroups row count
+
+-- the numbers grow
+abbrev pub Grow : List ℕ → Type 0
+Grow xs = (j k : ℕ) → j < k → k < length xs → slice_index xs j < slice_index xs k
+
+-- the ends fall
+abbrev pub Fall : List ℕ → Type 0
+Fall xs = (j k : ℕ) → j < k → k < length xs → slice_index xs k < slice_index xs j
+
+-- these groups and ends stand for the greatest ends at place p
+pub record StandAt (part : Part) (line : Text) (p : ℕ) (row ends : List ℕ) : Type 0 where
+  pub right : (q m : ℕ) →
+      LeadsPast part line p q m ↔ ((k : ℕ) × In row k q × (m < slice_index ends k))
+  pub groups : HasGroups row (length ends)
+  pub fall : Fall (ends ++ p ∷ [])
+
+-- before a byte, position q can have the end of group k of those after it, or, for the number after
+-- theirs, the place between
+abbrev pub CanHave : Part → Bool → List ℕ → ℕ → ℕ → ℕ → Type 0
+CanHave part at_end after count k q =
+    ((r : ℕ) × part.follow q r × In after k r) ⊎ ((k ≡ count) × part.last at_end q)
+
+-- A step back over byte c on groups alone, which speaks of no place: each position that takes the
+-- byte has the first end that it can have. `kept` has the numbers of the ends that stay.
+pub record IsStep (part : Part) (at_end : Bool) (after : List ℕ) (c : ℕ)
+    (kept row : List ℕ) : Type 0 where
+  pub count : ℕ
+  pub groups : HasGroups after count
+  pub grow : Grow kept
+  pub few : (j : ℕ) → j < length kept → slice_index kept j ≤ count
+  pub members : (j q : ℕ) → In row j q →
+      part.takes q c × CanHave part at_end after count (slice_index kept j) q
+  pub all : (k q : ℕ) → part.takes q c → CanHave part at_end after count k q →
+      (j : ℕ) × (slice_index kept j ≤ k) × In row j q
+  pub made : HasGroups row (length kept)
+
+-- the number of the first group that has a member in S, counted from 1 on, or 0 if there is none
+abbrev pub IsFirstIn : (ℕ → Type 0) → List ℕ → ℕ → Type 0
+IsFirstIn S row number =
+    ((number ≡ 0) × ((k q : ℕ) → In row k q → S q → ⊥))
+    ⊎ ((k : ℕ) × (number ≡ suc k) × ((q : ℕ) × In row k q × S q)
+    × ((j q : ℕ) → In row j q → S q → k ≤ j))
+
+-- room for this expression
+pub record AreGroupsFor (e : Expression) (groups : Groups) : Type 0 where
+  pub few : positions e ≤ most_positions
+  pub preceding : ArePrecedingFor e groups.preceding
+  pub left : length groups.left.items ≡ words_for (positions e)
+  pub met : length groups.met.items ≡ words_for (positions e)
+  pub row : positions e ≤ vec_capacity groups.row
+  pub kept : positions e ≤ vec_capacity groups.kept

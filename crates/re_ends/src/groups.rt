@@ -1,0 +1,234 @@
+//! Groups of positions by their greatest ends at a place of a line, and a step back on them.
+ghost use Rattle.std.specs.Prelude.{◌≡◌, ℕ, suc, Bool, List, ◌+◌, ◌*◌, ◌^◌, ◌<◌, ◌≤◌, ◌↔◌, ◌⊎◌, IfOk, IsTrue, length, slice_index, vec_capacity};
+ghost use Rattle.std.specs.Int.{bit_at};
+ghost use Rattle.re_trees.specs.Expression.{Expression};
+ghost use Rattle.re_trees.specs.Holds.{positions};
+ghost use Rattle.re_trees.specs.Working.Trees.{expression_of};
+ghost use Rattle.re_auto.specs.Working.Bits.{Has};
+ghost use Rattle.re_auto.specs.Working.Positions.{part_of};
+ghost use Rattle.re_auto.specs.Working.Ranges.{Covers};
+ghost use Rattle.re_auto.specs.Working.Tables.{most_words};
+ghost use Rattle.re_ends.specs.Working.Closing.{AreClosed, AreMembers, AreMet, AreNoneMet, Byte, CanEnd};
+ghost use Rattle.re_ends.specs.Working.Groups.{group_of, AreGroupsFor, HasGroups, In, IsFirstIn, IsRow, IsStep};
+
+use re_auto::{Automaton, Preceding, WordRange, bits};
+use re_trees::MOST_POSITIONS;
+use std::alloc::{AllocError, Global};
+
+// A member is the number of its group times this, plus its position.
+const GROUP: u32 = 1 << 16;
+
+// No words of a set.
+const NO_WORDS: WordRange = WordRange { first: 0, past: 0 };
+
+/// What a step back makes for an automaton.
+#[derive(Drop)]
+pub struct Groups {
+    preceding: Preceding,
+    left: Vec<u64>,
+    met: Vec<u64>,
+    /// The members of the groups.
+    pub row: Vec<u32>,
+    /// For each group the number of the group after the byte whose end it has. Where that is their
+    /// number, the end is the place after the byte.
+    pub kept: Vec<u16>,
+    /// A number that equal rows share.
+    pub hash: u64,
+}
+
+impl Groups {
+    /// Room for this automaton.
+    pub fn new(alloc: Global, automaton: &Automaton) -> Result<Groups, AllocError>
+        ensures { IfOk result (AreGroupsFor (expression_of automaton.now)) }
+    {
+        let size = automaton.size();
+        if size > MOST_POSITIONS {
+            return Err(AllocError);
+        }
+        let preceding = automaton.preceding(alloc)?;
+        let left = Vec::from_slice(alloc, automaton.taking(0))?;
+        let met = vec![in alloc; 0u64; left.len()]?;
+        let row = Vec::with_capacity(alloc, size)?;
+        let kept = Vec::with_capacity(alloc, size)?;
+        Ok(Groups {
+            preceding,
+            left,
+            met,
+            row,
+            kept,
+            hash: 0,
+        })
+    }
+
+    /// Steps back over a byte from the groups after it. `at_end` says that it is the line's last.
+    pub fn step(&mut self, automaton: &Automaton, after: &[u32], byte: u8, at_end: bool)
+        requires made { AreGroupsFor (expression_of automaton.now) self.old }
+        requires after { IsRow (positions (expression_of automaton.now)) after.now }
+        ensures made { AreGroupsFor (expression_of automaton.now) self.new }
+        ensures row { IsRow (positions (expression_of automaton.now)) self.new.row.items }
+        ensures right { IsStep (part_of (expression_of automaton.now) 0) at_end after.now byte
+            self.new.kept.items self.new.row.items }
+    {
+        self.begin(automaton, byte);
+        let count = self.close_all(after);
+        bits::copy(&mut self.met, automaton.ending(at_end));
+        let all = WordRange {
+            first: 0,
+            past: self.met.len() as u8,
+        };
+        self.close(all, count);
+        self.hash = hash_of(&self.row);
+    }
+
+    // Leaves all positions that take the byte, in no group.
+    fn begin(&mut self, automaton: &Automaton, byte: u8)
+        requires { AreGroupsFor (expression_of automaton.now) self.old }
+        ensures { (at_end : Bool) (after : List ℕ) (count : ℕ) →
+            IsRow (positions (expression_of automaton.now)) after → HasGroups after count →
+            AreNoneMet (record {
+              e = expression_of automaton.now;
+              code = byte;
+              at_end = at_end;
+              after = after;
+              count = count;
+            }) self.new }
+    {
+        bits::copy(&mut self.left, automaton.taking(byte));
+        bits::clear(&mut self.met);
+        self.row.clear();
+        self.kept.clear();
+    }
+
+    // Closes the groups after the byte in turn. Returns their number.
+    fn close_all(&mut self, after: &[u32]) -> u16
+        requires { (b : Byte) × (b.after ≡ after.now) × AreNoneMet b self.old }
+        ensures { (b : Byte) → b.after ≡ after.now → AreNoneMet b self.old →
+            (result ≡ b.count) × AreGroupsFor b.e self.new × AreClosed b b.count self.new }
+    {
+        let mut group = 0;
+        let mut range = NO_WORDS;
+        'members: for i in 0..after.len() {
+            range = self.turn(after, i, group, range);
+            group = (after[i] / GROUP) as u16;
+            let position = (after[i] % GROUP) as usize;
+            range = self.preceding.add_to(&mut self.met, range, position);
+        }
+        if after.is_empty() {
+            return 0;
+        }
+        self.close(range, group);
+        group + 1
+    }
+
+    // Closes the group if the next member is in another one. Returns the range of those met then.
+    #[inline(always)]
+    fn turn(&mut self, after: &[u32], i: usize, group: u16, range: WordRange) -> WordRange
+        requires i { i < length after.now }
+        requires met { (b : Byte) × (b.after ≡ after.now) × AreMet b i group range self.old }
+        ensures { (b : Byte) → b.after ≡ after.now → AreMet b i group range self.old →
+            AreMet b i (group_of (slice_index after.now i)) result self.new }
+    {
+        if (after[i] / GROUP) as u16 == group {
+            return range;
+        }
+        self.close(range, group);
+        NO_WORDS
+    }
+
+    // Makes a group of those left that can have the end of this group after the byte, if there are any.
+    fn close(&mut self, range: WordRange, group: u16)
+        requires made { (b : Byte) × AreGroupsFor b.e self.old × AreClosed b group self.old }
+        requires covers { Covers range self.old.met.items }
+        ensures none { (q : ℕ) → Has self.new.met.items q → ⊥ }
+        ensures made { (e : Expression) → AreGroupsFor e self.old → AreGroupsFor e self.new }
+        ensures closed { (b : Byte) → AreGroupsFor b.e self.old → AreClosed b group self.old →
+            ((q : ℕ) → Has self.old.met.items q ↔ CanEnd b group q) →
+            AreClosed b (suc group) self.new }
+    {
+        let number = self.kept.len() as u16;
+        take_met(&mut self.met, &mut self.left, range, number, &mut self.row);
+        if has_last(&self.row, number) {
+            let _ = self.kept.push(group);
+        }
+    }
+}
+
+// Whether the last group that there can be has a member.
+#[inline(always)]
+fn has_last(row: &[u32], group: u16) -> bool
+    requires { AreMembers group row.now }
+    ensures { IsTrue result ↔ ((q : ℕ) × In row.now group q) }
+{
+    let count = row.len();
+    count > 0 && row[count - 1] / GROUP == group as u32
+}
+
+// Takes those left that are met out of both sets, and makes them members of the group.
+fn take_met(met: &mut [u64], left: &mut [u64], range: WordRange, group: u16, row: &mut Vec<u32>)
+    requires covers { Covers range met.old }
+    requires same { length met.old ≡ length left.old }
+    requires few { length left.old ≤ most_words }
+    requires fresh { (j q : ℕ) → Has left.old q → In row.old.items j q → ⊥ }
+    requires small { (q : ℕ) → Has left.old q → q < vec_capacity row.old }
+    requires made { AreMembers group row.old.items }
+    requires below { (j q : ℕ) → In row.old.items j q → q < vec_capacity row.old }
+    ensures same { (length met.new ≡ length met.old) × (length left.new ≡ length left.old) }
+    ensures none { (q : ℕ) → Has met.new q → ⊥ }
+    ensures left { (q : ℕ) → Has left.new q ↔ (Has left.old q × (Has met.old q → ⊥)) }
+    ensures added { (j q : ℕ) → In row.new.items j q ↔
+        (In row.old.items j q ⊎ (j ≡ group) × Has met.old q × Has left.old q) }
+    ensures made { AreMembers group row.new.items }
+    ensures room { vec_capacity row.old ≤ vec_capacity row.new }
+{
+    'words: for k in range.first as usize..range.past as usize {
+        let word = met[k] & left[k];
+        met[k] = 0;
+        left[k] &= !word;
+        put_members(row, group, k, word);
+    }
+}
+
+// Makes the positions of word `k` of a set members of the group.
+#[inline(always)]
+fn put_members(row: &mut Vec<u32>, group: u16, k: usize, word: u64)
+    requires few { k < most_words }
+    requires fresh { (j b : ℕ) → b < 64 → bit_at word b ≡ 1 → In row.old.items j (k * 64 + b) → ⊥ }
+    requires small { (b : ℕ) → b < 64 → bit_at word b ≡ 1 → k * 64 + b < vec_capacity row.old }
+    requires made { AreMembers group row.old.items }
+    requires below { (j q : ℕ) → In row.old.items j q → q < vec_capacity row.old }
+    ensures added { (j q : ℕ) → In row.new.items j q ↔ (In row.old.items j q ⊎
+        ((b : ℕ) × (b < 64) × (bit_at word b ≡ 1) × ((j ≡ group) × (q ≡ k * 64 + b)))) }
+    ensures made { AreMembers group row.new.items }
+    ensures room { vec_capacity row.old ≤ vec_capacity row.new }
+{
+    let mut rest = word;
+    'bits: while rest != 0 {
+        let bit = bits::take_lowest(&mut rest);
+        let position = (k * 64 + bit) as u32;
+        let _ = row.push(group as u32 * GROUP + position);
+    }
+}
+
+/// The number of the first group that has a member in the set, counted from 1 on, or 0 if there is
+/// none.
+pub fn first_in(row: &[u32], set: &[u64]) -> u16
+    requires row { (n : ℕ) × (n < 2 ^ 15) × IsRow n row.now × (n ≤ length set.now * 64) }
+    ensures { IsFirstIn (Has set.now) row.now result }
+{
+    'members: for i in 0..row.len() {
+        if bits::has(set, (row[i] % GROUP) as usize) {
+            return (row[i] / GROUP) as u16 + 1;
+        }
+    }
+    0
+}
+
+// A number that equal rows share. No contract depends on it.
+fn hash_of(row: &[u32]) -> u64 {
+    let mut hash = 0u64;
+    'members: for i in 0..row.len() {
+        let spread = (row[i] as u64).wrapping_mul(0x9E37_79B9_7F4A_7C15);
+        hash = hash.wrapping_add(spread ^ (spread >> 32));
+    }
+    hash
+}
