@@ -154,7 +154,8 @@ impl Patterns {
         if from > line.len() {
             return None;
         }
-        parts(&mut self.matchers, line, from, meter)
+        let whole = self.whole;
+        parts(&mut self.matchers, whole, line, from, meter)
     }
 
     /// How many parts the line has from a place on. The first ones are written over the array, as

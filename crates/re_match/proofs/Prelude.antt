@@ -1,14 +1,11 @@
 -- The words of specs and of std that proofs of this crate use, passed on from one place. Declares nothing.
 pub use Rattle.memchr.specs.Find.{FindsNeedle, OccursAt}
 pub use Rattle.re_auto.specs.Searches.{FindsPart}
-pub use Rattle.re_ends.specs.Working.GreatestEnds.{AddsEnds, FindsIn, FoundPast, IsBorder, MatchesPast}
-pub use Rattle.re_match.specs.Working.CachedMatchers.{CachedMatcher, SameCached, cache_in, no_cache}
+pub use Rattle.re_ends.specs.Working.GreatestEnds.{AddsEnds, FoundPast, MatchesPast}
+pub use Rattle.re_match.specs.Working.CachedMatchers.{CachedMatcher, SameCached, cache_in}
 pub use Rattle.re_match.specs.Working.Literals.{Literals, any_literal, literal_meaning}
-pub use Rattle.re_match.specs.Working.Strings.{IsPartOfLines, StringMatcher, look_expression}
-pub use Rattle.re_match.specs.Working.Aheads.{BeginsLater, IsWindowOf, past}
-pub use Rattle.re_match.specs.Working.Windows.{AreEdgesFor}
-pub use Rattle.re_match.specs.declared.ahead.Ahead.{Ahead}
-pub use Rattle.re_match.specs.declared.ahead.Ahead.TheVariants.{In, Nothing, Part}
+pub use Rattle.re_match.specs.Working.Strings.{IsPartOfLines, look_expression}
+pub use Rattle.re_match.specs.Working.Aheads.{BeginsLater, past}
 pub use Rattle.re_match.specs.Working.Same.{SameMatcher}
 pub use Rattle.re_match.specs.Working.Sweeps.{IsSameFrom, LooksOver, StopsAt, left_for}
 pub use Rattle.re_match.specs.declared.strings.Look.{Look}
@@ -33,7 +30,7 @@ unfoldable pub use Rattle.re_strings.specs.Working.FixedSets.{IsBestOccurrence}
 pub use Rattle.re_strings.specs.Working.Keys.{keys}
 unfoldable pub use Rattle.re_strings.specs.Working.Keys.{key}
 pub use Rattle.re_strings.specs.Working.Reached.{EndsFirst}
-pub use Rattle.re_trees.specs.Bytes.{Bytes, Text, only}
+pub use Rattle.re_trees.specs.Bytes.{Text, only}
 pub use Rattle.re_trees.specs.Expression.{Expression, alt, byte, cat, sequence}
 pub use Rattle.re_trees.specs.Holds.{Holds, Matches, folded, positions}
 pub use Rattle.re_trees.specs.Lines.{HasNoNewline, newline, terminated}
@@ -41,10 +38,10 @@ unfoldable pub use Rattle.re_trees.specs.Lines.{lines_of}
 pub use Rattle.re_trees.specs.Parts.{IsFound, IsPart}
 pub use Rattle.re_trees.specs.Working.Trees.{expression_of}
 pub use Rattle.re_trees.specs.declared.span.Span.{Span}
-pub use Rattle.std.proofs.Common.{All, Bool, Decides, IfSome, IsTrue, List, None, Option, Some, [], ap, append-nil, arith, bytes_eq, drop, drop-drop, drop_of_length-le, eq-eqb, eqb-true, false, get_or, get_or-append-add, get_or-drop, get_or-take, inl, inr, is_some, length, length-append, length-drop, length-take, length-take-le, map, min, option_map, refl, rules, slice_get, slice_index, slice_range, subst, suc, sym, take, take-append-drop, true, zero, zero-add, ℕ, ◌++◌, ◌+◌, ◌-◌, ◌<◌, ◌↔◌, ◌∙◌, ◌∷◌, ◌≡◌, ◌≢◌, ◌≤◌, ◌⊎◌}
+pub use Rattle.std.proofs.Common.{All, Bool, Decides, IfSome, IsTrue, List, None, Option, Some, [], ap, append-nil, arith, bytes_eq, drop, drop-drop, drop_of_length-le, eq-eqb, eqb-true, false, get_or, get_or-append-add, get_or-drop, get_or-take, inl, inr, is_some, length, length-append, length-drop, length-take, length-take-le, map, min, option_map, refl, rules, slice_get, slice_index, slice_range, subst, suc, sym, take, take-append-drop, true, zero, zero-add, ℕ, ◌++◌, ◌+◌, ◌-◌, ◌<◌, ◌↔◌, ◌∙◌, ◌∷◌, ◌≡◌, ◌≢◌, ◌≤◌}
 pub use Rattle.std.proofs.Math.Decide.{dec_le}
 pub use Rattle.std.proofs.Math.Seq.{drop-length}
-pub use Rattle.std.proofs.lemmas.Bool.{cases_eq, cases_lt, eqb-false, false≢true}
+pub use Rattle.std.proofs.lemmas.Bool.{cases_lt, eqb-false, false≢true}
 pub use Rattle.std.proofs.lemmas.List.{drop-append-le, get_or-map, get_or_append_left, length-map, map-append, take-append-le, take_rest}
 pub use Rattle.std.proofs.lemmas.List.Elements.{All-head}
 pub use Rattle.std.proofs.lemmas.Option.{slice_get-map}

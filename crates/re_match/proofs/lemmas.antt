@@ -7,7 +7,6 @@ pub mod SetBlocks
 pub mod SetAround
 pub mod StepSums
 pub mod WindowLaws
-pub mod AheadLaws
 pub mod SweptLines
 pub mod LookLaws
 pub mod SameLaws

@@ -3,6 +3,5 @@ pub mod Literals
 pub mod Strings
 pub mod CachedMatchers
 pub mod Prefilters
-pub mod Windows
 pub mod Aheads
 pub mod Sweeps

@@ -16,13 +16,11 @@ ghost use Rattle.re_steps.specs.Working.Simulations.{AreSetsFor};
 ghost use Rattle.re_steps.specs.Working.Stages.{Cache, Searches, FinishesFrom, IsReadied, mode_for};
 ghost use Rattle.re_ends.specs.Working.GreatestEnds.{AddsEnds, FoundPast, FindsIn, IsBorder};
 ghost use Rattle.re_ends.specs.Working.EndTables.{AreEndsFor};
-ghost use Rattle.re_match.specs.Working.Aheads.{CountsAhead, IsAhead, IsWindowOf, past, stretch_cost};
-ghost use Rattle.re_match.specs.Working.Windows.{AreEdgesFor, IsSaid};
+ghost use Rattle.re_match.specs.Working.Aheads.{AreEdgesFor, CountsAhead, IsAhead, IsSaid, IsWindowOf, past};
 ghost use Rattle.re_match.specs.Working.CachedMatchers.{AnswersLine, SameCached, no_cache};
 ghost use Rattle.re_match.specs.Working.Sweeps.{LooksOver};
 
 use crate::ahead::Ahead;
-use crate::front_ends::{add_line, is_line};
 use crate::line_match::LineMatch;
 use crate::prefilter::Prefilter;
 use crate::sweeps::{Stop, Sweep, Sweeps, next_by_sweeps};
@@ -62,7 +60,7 @@ impl Model for Cached {
     ghost use Rattle.re_match.specs.Working.Prefilters.{IsPrefilterFor};
     ghost use Rattle.re_steps.specs.Working.Simulations.{AreSetsFor};
     ghost use Rattle.re_ends.specs.Working.EndTables.{AreEndsFor};
-    ghost use Rattle.re_match.specs.Working.Windows.{AreEdgesFor};
+    ghost use Rattle.re_match.specs.Working.Aheads.{AreEdgesFor};
     ghost use Rattle.re_match.specs.Working.CachedMatchers.{CachedMatcher, IsTableFor, cache_in};
 
     ghost Value = { CachedMatcher };
@@ -233,38 +231,6 @@ impl Cached {
         }
     }
 
-    // Whether the line is matched, without the cache.
-    fn is_match_afresh(&mut self, line: &[u8], meter: &mut Meter) -> bool
-        ensures reported { IsTrue result ↔
-            Matches (expression_of self.old.tree) line.now self.old.whole }
-        ensures steps { AddsAtMost (length line.now + 1) meter.old meter.new }
-        ensures same { self.new ≡ self.old }
-    {
-        if let Some(reported) = self.settled(line, meter) {
-            return reported;
-        }
-        let mode = self.mode();
-        self.sets.search(&self.automaton, mode, line, meter)
-    }
-
-    // The matched part if the whole line has to be matched.
-    fn whole_line(&mut self, line: &[u8], from: usize, meter: &mut Meter) -> Option<Span>
-        requires within { from ≤ length line.now }
-        requires whole { self.old.whole ≡ true }
-        ensures reported { FindsPart (expression_of self.old.tree ∷ []) line.now true from result }
-        ensures end { IfSome result (λ part. part.end ≡ length line.now) }
-        ensures same { self.new ≡ self.old }
-        ensures steps { AddsAtMost (stretch_cost from (length line.now)) meter.old meter.new }
-    {
-        if from > 0 || line.is_empty() || !self.is_match_afresh(line, meter) {
-            return None;
-        }
-        Some(Span {
-            start: 0,
-            end: line.len(),
-        })
-    }
-
     // Where the next match of the line is.
     #[inline(always)]
     fn next_match(&self, line: &[u8], from: usize, meter: &mut Meter) -> Ahead
@@ -272,28 +238,6 @@ impl Cached {
         ensures { IsSaid (expression_of self.now.tree) line.now from meter.old meter.new result }
     {
         self.prefilter.next_match(&self.edges, line, from, meter)
-    }
-
-    // The next part if it need not be the whole line.
-    fn part(&mut self, line: &[u8], from: usize, meter: &mut Meter) -> Option<Span>
-        requires { from ≤ length line.now }
-        ensures reported { FindsPart (expression_of self.old.tree ∷ []) line.now false from result }
-        ensures same { self.new ≡ self.old }
-        ensures steps { AddsAtMost (length line.now - from) meter.old meter.new }
-    {
-        let mut place = from;
-        'windows: while place < line.len() {
-            let window = match self.next_match(line, place, meter) {
-                Ahead::Part(part) => return Some(part),
-                Ahead::In(window) => window,
-                Ahead::Nothing => return None,
-            };
-            if let Some(part) = self.find_in(line, window, meter) {
-                return Some(part);
-            }
-            place = place_after(line, window);
-        }
-        None
     }
 
     // The next part in the window.
@@ -310,39 +254,6 @@ impl Cached {
             line,
         };
         self.back.find(&asked, window, meter)
-    }
-
-    // What is said of the next part if it has to be the whole line.
-    fn look_at_line(&mut self, line: &[u8], from: usize, meter: &mut Meter) -> Ahead
-        requires within { from ≤ length line.now }
-        requires whole { self.old.whole ≡ true }
-        ensures reported { IsAhead (expression_of self.old.tree) line.now true from result }
-        ensures same { self.new ≡ self.old }
-        ensures steps { CountsAhead line.now from meter.old meter.new result }
-    {
-        let Some(part) = self.whole_line(line, from, meter) else {
-            return Ahead::Nothing;
-        };
-        Ahead::Part(part)
-    }
-
-    // Gives each place of the window the greatest end of the matched stretches that begin there, where it
-    // is greater than the end that the place has.
-    fn put_ends(&mut self, line: &[u8], window: Window, ends: &mut [usize], meter: &mut Meter)
-        requires window { IsWindowOf (expression_of self.old.tree) line.now window }
-        requires room { length ends.old ≡ window.end - window.start }
-        ensures added { AddsEnds
-            (λ i m. FoundPast (expression_of self.old.tree ∷ []) line.now false (window.start + i) m)
-            ends.old ends.old ends.new }
-        ensures same { self.new ≡ self.old }
-        ensures steps { AddsUpTo (window.end - window.start) 0 meter.old meter.new }
-    {
-        let asked = Asked {
-            alloc: self.alloc,
-            automaton: &self.automaton,
-            line,
-        };
-        self.back.add_ends(&asked, window, ends, meter);
     }
 }
 
@@ -423,26 +334,31 @@ impl LineMatch for Cached {
 
     fn find(&mut self, line: &[u8], from: usize, meter: &mut Meter) -> Option<Span>
         requires { from ≤ length line.now }
-        ensures reported { FindsPart (expression_of self.old.tree ∷ []) line.now self.old.whole from
-            result }
+        ensures reported { FindsPart (expression_of self.old.tree ∷ []) line.now false from result }
         ensures steps { AddsAtMost (length line.now - from + 1) meter.old meter.new }
         ensures same { self.new ≡ self.old }
     {
-        if self.whole {
-            return self.whole_line(line, from, meter);
+        let mut place = from;
+        'windows: while place < line.len() {
+            let window = match self.next_match(line, place, meter) {
+                Ahead::Part(part) => return Some(part),
+                Ahead::In(window) => window,
+                Ahead::Nothing => return None,
+            };
+            if let Some(part) = self.find_in(line, window, meter) {
+                return Some(part);
+            }
+            place = place_after(line, window);
         }
-        self.part(line, from, meter)
+        None
     }
 
     fn next_window(&mut self, line: &[u8], from: usize, meter: &mut Meter) -> Ahead
         requires { from < length line.now }
-        ensures reported { IsAhead (expression_of self.old.tree) line.now self.old.whole from result }
+        ensures reported { IsAhead (expression_of self.old.tree) line.now from result }
         ensures same { self.new ≡ self.old }
         ensures steps { CountsAhead line.now from meter.old meter.new result }
     {
-        if self.whole {
-            return self.look_at_line(line, from, meter);
-        }
         self.next_match(line, from, meter)
     }
 
@@ -456,23 +372,19 @@ impl LineMatch for Cached {
     )
         requires window { IsWindowOf (expression_of self.old.tree) line.now window }
         requires ends { length ends.old ≡ window.end - window.start }
-        requires spare { length spare.old ≡ window.end - window.start }
         ensures added { AddsEnds
-            (λ i m. FoundPast (expression_of self.old.tree ∷ []) line.now self.old.whole
-            (window.start + i) m) ends.old ends.old ends.new }
+            (λ i m. FoundPast (expression_of self.old.tree ∷ []) line.now false (window.start + i) m)
+            ends.old ends.old ends.new }
         ensures samespare { length spare.new ≡ length spare.old }
-        ensures steps { AddsUpTo (stretch_cost window.start window.end) 0 meter.old meter.new }
-        ensures same { SameCached self.old self.new }
+        ensures same { self.new ≡ self.old }
+        ensures steps { AddsUpTo (window.end - window.start) 0 meter.old meter.new }
     {
-        if !self.whole {
-            self.put_ends(line, window, ends, meter);
-            return;
-        }
-        if !is_line(line, window) {
-            return;
-        }
-        let matched = self.searched(line, meter);
-        add_line(matched, line, ends);
+        let asked = Asked {
+            alloc: self.alloc,
+            automaton: &self.automaton,
+            line,
+        };
+        self.back.add_ends(&asked, window, ends, meter);
     }
 
     fn next_matched(&mut self, block: &[u8], meter: &mut Meter) -> Option<Span> {

@@ -4,7 +4,6 @@
 
 mod ahead;
 mod cached;
-mod front_ends;
 mod line_match;
 mod prefilter;
 mod scan_backoff;
@@ -21,3 +20,4 @@ pub use scan_backoff::ScanBackoff;
 pub use string_set::StringSet;
 pub use strings::{Look, Strings};
 pub use sweeps::{Stop, Sweep};
+pub use window::rest_of;

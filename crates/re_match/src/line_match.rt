@@ -1,4 +1,4 @@
-ghost use Rattle.std.specs.Prelude.{◌≡◌, Bool, ℕ, ◌+◌, ◌-◌, ◌<◌, ◌≤◌, ◌↔◌, [], ◌∷◌, IsTrue, IfSome};
+ghost use Rattle.std.specs.Prelude.{◌≡◌, Bool, ℕ, ◌+◌, ◌-◌, ◌<◌, ◌≤◌, ◌↔◌, [], ◌∷◌, IsTrue, IfSome, false};
 ghost use Rattle.std.specs.Prelude.{length};
 ghost use Rattle.re_trees.specs.Expression.{Expression};
 ghost use Rattle.re_trees.specs.Holds.{Matches};
@@ -9,7 +9,7 @@ ghost use Rattle.re_runs.specs.Working.Blocks.{IsBlock, CountsMatched};
 ghost use Rattle.re_runs.specs.Working.Blocks.{FindsMatched, next_cost};
 ghost use Rattle.re_ends.specs.Working.GreatestEnds.{AddsEnds, FoundPast};
 ghost use Rattle.re_match.specs.Working.Same.{SameMatcher};
-ghost use Rattle.re_match.specs.Working.Aheads.{CountsAhead, IsAhead, IsWindowOf, stretch_cost};
+ghost use Rattle.re_match.specs.Working.Aheads.{CountsAhead, IsAhead, IsWindowOf};
 
 use crate::ahead::Ahead;
 use re_auto::Meter;
@@ -42,27 +42,28 @@ pub trait LineMatch {
         ensures same { SameMatcher expression whole room self.old self.new }
         ensures steps { AddsUpTo (length line.now + 1) 0 meter.old meter.new };
 
-    /// The leftmost-longest part that begins at `from` or later (XBD 9.1). It takes at most one
-    /// step for each byte from `from` on and one more, and passes at most as many bytes.
+    /// The leftmost-longest part that begins at `from` or later (XBD 9.1), if the whole line need not
+    /// be matched. It takes at most one step for each byte from `from` on and one more, and passes at
+    /// most as many bytes.
     fn find(&mut self, line: &[u8], from: usize, meter: &mut Meter) -> Option<Span>
         requires { from ≤ length line.now }
-        ensures reported { FindsPart (expression self.old ∷ []) line.now (whole self.old) from result }
+        ensures reported { FindsPart (expression self.old ∷ []) line.now false from result }
         ensures same { SameMatcher expression whole room self.old self.new }
         ensures steps { AddsAtMost (length line.now - from + 1) meter.old meter.new };
 
-    /// Where the next part is, from `from` on. Up to the end of the part, or to the line's end if there
-    /// is none, it takes at most one step for each byte, and one more if `from` is 0, and passes each at
-    /// most once. If it answers by a window, it passes no byte after the one that ends the window, and
-    /// takes steps for those before the window alone.
+    /// Where the next part is, from `from` on, if the whole line need not be matched. Up to the end of
+    /// the part, or to the line's end if there is none, it takes at most one step for each byte, and
+    /// passes each at most once. If it answers by a window, it passes no byte after the one that ends the
+    /// window, and takes steps for those before the window alone.
     fn next_window(&mut self, line: &[u8], from: usize, meter: &mut Meter) -> Ahead
         requires { from < length line.now }
-        ensures reported { IsAhead (expression self.old) line.now (whole self.old) from result }
+        ensures reported { IsAhead (expression self.old) line.now from result }
         ensures same { SameMatcher expression whole room self.old self.new }
         ensures steps { CountsAhead line.now from meter.old meter.new result };
 
-    /// Gives each place of the window the greatest end of the parts that begin there, if it is greater
-    /// than the end that the place has. It takes at most one step for each byte of the window, and one
-    /// more where that begins the line, and passes no byte. `spare` is room for what it works with.
+    /// Gives each place of the window the greatest end of the parts that begin there, if the whole line
+    /// need not be matched, and if it is greater than the end that the place has. It takes at most one
+    /// step for each byte of the window, and passes no byte. `spare` is room for what it works with.
     fn add_ends(
         &mut self,
         line: &[u8],
@@ -75,11 +76,11 @@ pub trait LineMatch {
         requires ends { length ends.old ≡ window.end - window.start }
         requires spare { length spare.old ≡ window.end - window.start }
         ensures added { AddsEnds
-            (λ i m. FoundPast (expression self.old ∷ []) line.now (whole self.old) (window.start + i) m)
+            (λ i m. FoundPast (expression self.old ∷ []) line.now false (window.start + i) m)
             ends.old ends.old ends.new }
         ensures same_spare { length spare.new ≡ length spare.old }
         ensures same { SameMatcher expression whole room self.old self.new }
-        ensures steps { AddsUpTo (stretch_cost window.start window.end) 0 meter.old meter.new };
+        ensures steps { AddsUpTo (window.end - window.start) 0 meter.old meter.new };
 
     /// The first line of a block of whole lines that is matched, by its place without its newline.
     /// It takes at most one step for each byte up to that newline and one for the newline, and passes

@@ -10,16 +10,15 @@ ghost use Rattle.re_runs.specs.Working.Finders.{runs_of};
 ghost use Rattle.re_needle.specs.Working.Needles.{IsSettled};
 ghost use Rattle.re_runs.specs.Working.Runs.{FindsRun, IsLongestRun};
 ghost use Rattle.re_match.specs.Working.Sweeps.{StopsAt, LooksOver};
-ghost use Rattle.re_match.specs.Working.Windows.{AreEdgesFor, IsSaid};
+ghost use Rattle.re_match.specs.Working.Aheads.{AreEdgesFor, IsSaid};
 ghost use Rattle.re_match.specs.declared.ahead.Ahead.TheVariants.{In};
 ghost use Rattle.re_match.specs.Working.Prefilters.{IsPrefilterFor};
 ghost use Rattle.re_runs.specs.Working.Blocks.{IsBlock, PassesUnmatched};
 
 use crate::ahead::Ahead;
-use crate::front_ends::rest_of;
 use crate::scan_backoff::ScanBackoff;
 use crate::sweeps::{Stop, Sweep};
-use crate::window::Edges;
+use crate::window::{Edges, rest_of};
 use re_auto::Meter;
 use re_ends::Window;
 use re_needle::{LookCost, Needle, has_begin};

@@ -110,17 +110,6 @@ impl StringSet {
         self.table.first_end(line, meter).is_some()
     }
 
-    /// The same by steps.
-    pub fn stands_by_steps(&self, line: &[u8], meter: &mut Meter) -> bool
-        ensures reported { IsTrue result ↔ Matches (any_literal self.now) line.now false }
-        ensures steps { AddsUpTo (length line.now + 1) 0 meter.old meter.new }
-    {
-        if self.has_empty {
-            return true;
-        }
-        self.table.first_end_by_steps(line, meter).is_some()
-    }
-
     /// Looks for the first line with some string in a block of whole lines.
     pub fn first_line(&self, block: &[u8], meter: &mut Meter) -> Sweep
         requires { IsBlock block.now }

@@ -12,9 +12,9 @@ ghost use Rattle.re_runs.specs.Working.Blocks.{FindsMatched, next_cost};
 ghost use Rattle.re_match.specs.declared.strings.Look.TheVariants.{One};
 ghost use Rattle.re_match.specs.Working.Strings.{look_expression, matched_strings, IsPartOfLines};
 ghost use Rattle.re_match.specs.Working.Strings.{IsForSet, IsOnLines, LooksFor, CountsLook};
-ghost use Rattle.re_match.specs.Working.Strings.{LooksForPart, CountsPart};
+ghost use Rattle.re_match.specs.Working.Strings.{LooksForPart, CountsPart, part_cost};
 ghost use Rattle.re_match.specs.Working.Literals.{any_literal};
-ghost use Rattle.re_match.specs.Working.Aheads.{CountsAhead, IsAhead, IsWindowOf, stretch_cost};
+ghost use Rattle.re_match.specs.Working.Aheads.{CountsAhead, IsAhead, IsWindowOf};
 ghost use Rattle.re_match.specs.Working.Same.{SameMatcher};
 ghost use Rattle.re_match.specs.Working.Sweeps.{StopsAt};
 ghost use Rattle.re_auto.specs.Searches.{FindsPart};
@@ -22,18 +22,17 @@ ghost use Rattle.re_trees.specs.Parts.{IsFound};
 ghost use Rattle.re_ends.specs.Working.GreatestEnds.{AddsEnds, FoundPast};
 
 use crate::ahead::Ahead;
-use crate::front_ends::{add_line, bytes_to_part, is_line, rest_of};
 use crate::line_match::LineMatch;
 use crate::scan_backoff::ScanBackoff;
 use crate::string_set::StringSet;
 use crate::sweeps::{Stop, Sweep, Sweeps, next_by_sweeps};
+use crate::window::rest_of;
 use memchr::memmem::Finder;
-use re_auto::Meter;
+use re_auto::{Meter, fresh_meter};
 use re_ends::Window;
 use re_needle::LookCost;
 use re_runs::{
     bytes_to, count_by, find_text, first_line_with, has_no_newline, line_end, next_line_with,
-    step_to_text,
 };
 use re_strings::add_occurrences;
 use re_trees::Span;
@@ -71,17 +70,6 @@ impl Look {
         }
     }
 
-    // The same by steps.
-    fn stands_by_steps(&self, line: &[u8], meter: &mut Meter) -> bool
-        ensures reported { IsTrue result ↔ Matches (look_expression self.now) line.now false }
-        ensures steps { AddsUpTo (length line.now + 1) 0 meter.old meter.new }
-    {
-        match self {
-            Look::One(finder) => step_to_text(finder, line, meter).is_some(),
-            Look::Many(set) => set.stands_by_steps(line, meter),
-        }
-    }
-
     // The first string at `from` or later, and of those that begin there the longest. An empty
     // string makes no part.
     fn occurrence(&self, line: &[u8], from: usize, meter: &mut Meter) -> Option<Span>
@@ -100,6 +88,29 @@ impl Look {
         let start = from + find_text(finder, &line[from..], meter)?;
         let end = start + length;
         Some(Span { start, end })
+    }
+
+    // Where the next part is. Bytes after its end that the search went over count as steps; if there
+    // are too many, it is looked for in the rest of the line.
+    fn next_part(&self, line: &[u8], from: usize, meter: &mut Meter) -> Ahead
+        requires { from < length line.now }
+        ensures reported { IsAhead (look_expression self.now) line.now from result }
+        ensures steps { CountsAhead line.now from meter.old meter.new result }
+    {
+        let mut looked = fresh_meter();
+        let Some(part) = self.occurrence(line, from, &mut looked) else {
+            meter.add_passed(line.len() - from);
+            return Ahead::Nothing;
+        };
+        let bytes = part.end - from;
+        let beyond = (looked.passed() as usize).saturating_sub(bytes);
+        meter.add_passed(bytes);
+        if beyond > bytes {
+            meter.add_passed((line.len() - part.end).min(beyond));
+            return Ahead::In(rest_of(line, part.start));
+        }
+        meter.add_built(beyond as u64);
+        Ahead::Part(part)
     }
 
     // Looks for the first line of a block that has some string.
@@ -243,33 +254,6 @@ impl Strings {
         self.count_matched(block, meter)
     }
 
-    // The matched part if the whole line has to be a string.
-    fn whole_line(&self, line: &[u8], from: usize) -> Option<Span>
-        ensures { FindsPart (matched_strings self.now ∷ []) line.now true from result }
-    {
-        if from > 0 || line.is_empty() || !self.look.is_line(line) {
-            return None;
-        }
-        Some(Span {
-            start: 0,
-            end: line.len(),
-        })
-    }
-
-    // The part, if the whole line has to be a string.
-    fn look_at_line(&self, line: &[u8], from: usize, meter: &mut Meter) -> Ahead
-        ensures reported { IsAhead (matched_strings self.now) line.now true from result }
-        ensures steps { CountsAhead line.now from meter.old meter.new result }
-    {
-        if from == 0 {
-            meter.add_built(line.len() as u64 + 1);
-        }
-        let Some(part) = self.whole_line(line, from) else {
-            return Ahead::Nothing;
-        };
-        Ahead::Part(part)
-    }
-
     // Whether each line that has a string is matched, and a line can have it.
     fn is_part(&self) -> bool
         ensures { IsTrue result ↔ IsPartOfLines self.now }
@@ -287,41 +271,20 @@ impl Strings {
     fn should_scan(&self) -> bool {
         matches!(&self.look, Look::One(_)) || self.backoff.should_scan()
     }
-
-    // The next part.
-    fn part(&self, line: &[u8], from: usize, meter: &mut Meter) -> Option<Span>
-        requires { from ≤ length line.now }
-        ensures reported { FindsPart (matched_strings self.now ∷ []) line.now self.now.whole from result }
-        ensures within { IfSome result
-            (λ part. (from ≤ part.end) × (part.end ≤ length line.now)) }
-        ensures looked { ((self.now.whole ≡ true) × (meter.new ≡ meter.old))
-            ⊎ LooksForPart self.now.look line.now from result meter.old meter.new }
-    {
-        if self.whole {
-            return self.whole_line(line, from);
-        }
-        self.look.occurrence(line, from, meter)
-    }
 }
 
-// The next part where one string is looked for.
-fn look_for(finder: &Finder, line: &[u8], from: usize, meter: &mut Meter) -> Ahead
-    requires { from < length line.now }
-    ensures reported { IsAhead (sequence (map byte finder.now)) line.now false from result }
-    ensures steps { CountsAhead line.now from meter.old meter.new result }
+// How many bytes a search for a part from a place on answers for: those up to the part's end; if
+// there is none, those up to the line's end, and one more.
+fn bytes_to_part(line: &[u8], from: usize, found: Option<Span>) -> u64
+    requires from { from ≤ length line.now }
+    requires part { IfSome found (λ part. (from ≤ part.end) × (part.end ≤ length line.now)) }
+    ensures is { result ≡ part_cost line.now from found }
+    ensures few { result ≤ length line.now - from + 1 }
 {
-    let length = finder.needle().len();
-    if length == 0 {
-        return Ahead::Nothing;
+    match found {
+        Some(part) => (part.end - from) as u64,
+        None => (line.len() - from) as u64 + 1,
     }
-    let Some(place) = find_text(finder, &line[from..], meter) else {
-        meter.add_built((line.len() - from) as u64);
-        return Ahead::Nothing;
-    };
-    let start = from + place;
-    let end = start + length;
-    meter.add_built((end - from) as u64);
-    Ahead::Part(Span { start, end })
 }
 
 impl LineMatch for Strings {
@@ -354,38 +317,29 @@ impl LineMatch for Strings {
         ensures steps { AddsUpTo (length line.now + 1) 0 meter.old meter.new }
         ensures same { self.new ≡ self.old }
     {
-        if self.whole {
-            meter.add_built(line.len() as u64 + 1);
-            return self.look.is_line(line);
-        }
-        self.look.stands_by_steps(line, meter)
+        meter.add_built(line.len() as u64 + 1);
+        self.is_match(line, &mut fresh_meter())
     }
 
     fn find(&mut self, line: &[u8], from: usize, meter: &mut Meter) -> Option<Span>
         requires { from ≤ length line.now }
-        ensures reported { FindsPart (matched_strings self.old ∷ []) line.now self.old.whole from result }
+        ensures reported { FindsPart (matched_strings self.old ∷ []) line.now false from result }
         ensures steps { AddsAtMost (length line.now - from + 1) meter.old meter.new }
         ensures same { self.new ≡ self.old }
-        ensures counted { CountsPart self.old line.now from result meter.old meter.new }
+        ensures counted { CountsPart self.old.look line.now from result meter.old meter.new }
     {
-        let found = self.part(line, from, meter);
+        let found = self.look.occurrence(line, from, meter);
         meter.add_built(bytes_to_part(line, from, found));
         found
     }
 
     fn next_window(&mut self, line: &[u8], from: usize, meter: &mut Meter) -> Ahead
         requires { from < length line.now }
-        ensures reported { IsAhead (matched_strings self.old) line.now self.old.whole from result }
+        ensures reported { IsAhead (matched_strings self.old) line.now from result }
         ensures steps { CountsAhead line.now from meter.old meter.new result }
         ensures same { self.new ≡ self.old }
     {
-        if self.whole {
-            return self.look_at_line(line, from, meter);
-        }
-        if let Look::One(finder) = &self.look {
-            return look_for(finder, line, from, meter);
-        }
-        Ahead::In(rest_of(line, from))
+        self.look.next_part(line, from, meter)
     }
 
     fn add_ends(
@@ -400,23 +354,15 @@ impl LineMatch for Strings {
         requires ends { length ends.old ≡ window.end - window.start }
         requires spare { length spare.old ≡ window.end - window.start }
         ensures added { AddsEnds
-            (λ i m. FoundPast (matched_strings self.old ∷ []) line.now self.old.whole (window.start + i) m)
+            (λ i m. FoundPast (matched_strings self.old ∷ []) line.now false (window.start + i) m)
             ends.old ends.old ends.new }
         ensures same_spare { length spare.new ≡ length spare.old }
-        ensures steps { AddsUpTo (stretch_cost window.start window.end) 0 meter.old meter.new }
+        ensures steps { AddsUpTo (window.end - window.start) 0 meter.old meter.new }
         ensures same { self.new ≡ self.old }
     {
-        if !self.whole {
-            meter.add_built((window.end - window.start) as u64);
-            let stretch = &line[window.start..window.end];
-            self.look.put_ends(stretch, window.start, ends, spare);
-            return;
-        }
-        if !is_line(line, window) {
-            return;
-        }
-        meter.add_built(line.len() as u64 + 1);
-        add_line(self.look.is_line(line), line, ends);
+        meter.add_built((window.end - window.start) as u64);
+        let stretch = &line[window.start..window.end];
+        self.look.put_ends(stretch, window.start, ends, spare);
     }
 
     fn next_matched(&mut self, block: &[u8], meter: &mut Meter) -> Option<Span>

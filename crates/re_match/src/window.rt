@@ -5,10 +5,10 @@ ghost use Rattle.re_trees.specs.Expression.{Expression};
 ghost use Rattle.re_trees.specs.Working.Trees.{expression_of, members};
 ghost use Rattle.re_meter.specs.Meters.{AddsUpTo};
 ghost use Rattle.re_ends.specs.Working.GreatestEnds.{IsBorder};
-ghost use Rattle.re_match.specs.Working.Aheads.{past};
-ghost use Rattle.re_match.specs.Working.Windows.{AreEdgesFor};
+ghost use Rattle.re_match.specs.Working.Aheads.{AreEdgesFor, past};
 
 use re_auto::{Automaton, Meter};
+use re_ends::Window;
 use re_trees::ByteSet;
 
 // Nearer places are not looked at again for where a match begins.
@@ -118,4 +118,14 @@ fn run_end(set: &ByteSet, line: &[u8], from: usize) -> usize
         }
     }
     line.len()
+}
+
+/// All of the line from this place on.
+pub fn rest_of(line: &[u8], from: usize) -> Window
+    ensures { result ≡ record { start = from; end = length line.now } }
+{
+    Window {
+        start: from,
+        end: line.len(),
+    }
 }

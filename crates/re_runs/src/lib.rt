@@ -23,4 +23,4 @@ pub use nibbles::Nibbles;
 pub use run_finder::{RunFinder, sets_of};
 pub use set_finder::SetFinder;
 pub use survey::{HALVED, Survey, rank_of};
-pub use text_finder::{bytes_over, find_text, step_to_text};
+pub use text_finder::{bytes_over, find_text};

@@ -1,7 +1,7 @@
 //! Search for a string, counted.
 ghost use Rattle.std.specs.Prelude.{◌≡◌, ◌≤◌, IfSome, length};
 ghost use Rattle.memchr.specs.Find.{FindsNeedle};
-ghost use Rattle.re_meter.specs.Meters.{many_built, many_passed};
+ghost use Rattle.re_meter.specs.Meters.{many_passed};
 ghost use Rattle.re_runs.specs.Working.Runs.{look_cost};
 
 use memchr::memmem::Finder;
@@ -16,16 +16,6 @@ pub fn find_text(finder: &Finder<'_>, line: &[u8], meter: &mut Meter) -> Option<
 {
     let found = finder.find(line);
     meter.add_passed(bytes_over(line, found));
-    found
-}
-
-/// The same, where the bytes are steps.
-pub fn step_to_text(finder: &Finder<'_>, line: &[u8], meter: &mut Meter) -> Option<usize>
-    ensures found { FindsNeedle line.now finder.now 0 result }
-    ensures counted { meter.new ≡ many_built (look_cost line.now result) meter.old }
-{
-    let found = finder.find(line);
-    meter.add_built(bytes_over(line, found) as u64);
     found
 }
 

@@ -1,9 +1,9 @@
 -- The words of specs and of std that proofs of this crate use, passed on from one place. Declares nothing.
 pub use Rattle.memchr.specs.Find.{IsFirstByte, is_byte}
-pub use Rattle.re_auto.specs.Searches.{AllAnswer, DecidesMatchOfAll, FindsPart, FindsPartOfAll, SameMatchers, SomeMatches}
+pub use Rattle.re_auto.specs.Searches.{AllAnswer, DecidesMatchOfAll, FindsPart, SameMatchers, SomeMatches}
 pub use Rattle.re_ends.specs.Working.GreatestEnds.{AddsEnds, FoundPast}
 pub use Rattle.re_ends.specs.declared.table.Window.{Window}
-pub use Rattle.re_match.specs.Working.Aheads.{IsAhead, past, stretch_cost}
+pub use Rattle.re_match.specs.Working.Aheads.{IsAhead, past}
 pub use Rattle.re_match.specs.declared.ahead.Ahead.TheVariants.{In}
 pub use Rattle.re_match.specs.Working.Literals.{Literals, any_literal}
 pub use Rattle.re_match.specs.Working.Same.{SameMatcher}
@@ -11,10 +11,10 @@ pub use Rattle.re_match.specs.declared.sweeps.Stop.{Stop}
 pub use Rattle.re_match.specs.declared.sweeps.Stop.TheVariants.{Matched, Seen, Unseen}
 pub use Rattle.re_match.specs.declared.sweeps.Sweep.{Sweep}
 pub use Rattle.re_meter.specs.Meters.{AddsUpTo}
-pub use Rattle.re_runs.specs.Working.Blocks.{CountsMatched, FindsMatched, IsLineFrom}
+pub use Rattle.re_runs.specs.Working.Blocks.{IsLineFrom}
 pub use Rattle.re_needle.specs.Working.Needles.{IsNeeded, StandsBetween}
-pub use Rattle.re_search.specs.Reading.{IsNotSpelled, IsReadable, IsRefusedFor}
-pub use Rattle.re_search.specs.Working.Blocks.{CountsMatchedByAll, StopsNear, left_for_all}
+pub use Rattle.re_search.specs.Reading.{IsReadable, IsRefusedFor}
+pub use Rattle.re_search.specs.Working.Blocks.{StopsNear, left_for_all}
 pub use Rattle.re_search.specs.Working.Filters.{AreNeeded, NeedsOneOf, PassesByFilter}
 pub use Rattle.re_search.specs.Working.LineParts.{AreAllEnds, AreEnds, AreEndsIn, ArePartsOf, FindsBefore, LineEnds, spent}
 pub use Rattle.re_search.specs.Working.Matchers.{matched_expression}

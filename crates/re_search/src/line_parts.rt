@@ -1,19 +1,20 @@
 //! All parts of one line, from the first to the last. Each byte of the line is one step of each
 //! matcher, however many parts there are.
-ghost use Rattle.std.specs.Prelude.{◌≡◌, ℕ, ◌+◌, ◌-◌, ◌*◌, ◌^◌, ◌<◌, ◌≤◌, [], ◌∷◌, IfOk, IfSome, length};
-ghost use Rattle.std.specs.Prelude.{map, replicate, vec_capacity};
+ghost use Rattle.std.specs.Prelude.{◌≡◌, ℕ, ◌+◌, ◌-◌, ◌*◌, ◌^◌, ◌<◌, ◌≤◌, [], ◌∷◌, false, IfOk, IfSome, length};
+ghost use Rattle.std.specs.Prelude.{map, replicate, true, vec_capacity};
 ghost use Rattle.re_syntax.specs.Bytes.{Text};
 ghost use Rattle.re_auto.specs.Meters.{Steps};
 ghost use Rattle.re_auto.specs.Searches.{AddsAtMost, AllAnswer, FindsPart, SameMatchers};
 ghost use Rattle.re_meter.specs.Meters.{AddsUpTo};
-ghost use Rattle.re_match.specs.Working.Aheads.{IsWindowOf, past, stretch_cost};
+ghost use Rattle.re_match.specs.Working.Aheads.{IsWindowOf, past};
 ghost use Rattle.re_match.specs.Working.Same.{SameMatcher};
 ghost use Rattle.re_search.specs.Working.LineParts.{AreAllEnds, AreEnds, AreEndsIn, ArePartsOf};
 ghost use Rattle.re_search.specs.Working.LineParts.{FindsBefore, spent};
 ghost use Rattle.re_search.specs.Working.Sought.{Sought};
 
+use crate::several::line_part;
 use re_auto::Meter;
-use re_match::{Ahead, LineMatch, Window};
+use re_match::{Ahead, LineMatch, Window, rest_of};
 use re_syntax::Span;
 use std::alloc::{AllocError, Global};
 use std::marker::Model;
@@ -141,13 +142,12 @@ impl LineParts {
         requires window { IsWindowOf (M.expression matcher.old) line.now window }
         requires high { window.end ≤ length line.now }
         requires room { length line.now ≤ self.old.room }
-        ensures right { AreEndsIn
-            (record { expressions = M.expression matcher.old ∷ []; whole = M.whole matcher.old })
+        ensures right { AreEndsIn (record { expressions = M.expression matcher.old ∷ []; whole = false })
             line.now window.start window.end self.new }
         ensures seen { self.new.seen ≡ past line.now window.end }
         ensures room { self.new.room ≡ self.old.room }
         ensures same { SameMatcher M.expression M.whole M.room matcher.old matcher.new }
-        ensures steps { AddsUpTo (stretch_cost window.start window.end) 0 meter.old meter.new }
+        ensures steps { AddsUpTo (window.end - window.start) 0 meter.old meter.new }
     {
         self.open(line, window);
         fill(&mut self.spare, window.end - window.start);
@@ -155,33 +155,19 @@ impl LineParts {
     }
 
     // Looks at the whole line.
-    fn look_over<M: LineMatch>(
-        &mut self,
-        matchers: &mut [M],
-        whole: bool,
-        line: &[u8],
-        meter: &mut Meter,
-    )
-        requires alike { AllAnswer whole (map M.whole matchers.old) }
+    fn look_over<M: LineMatch>(&mut self, matchers: &mut [M], line: &[u8], meter: &mut Meter)
         requires room { length line.now ≤ self.old.room }
         ensures right { (from : ℕ) → ArePartsOf
-            (record { expressions = map M.expression matchers.old; whole = whole }) line.now from
+            (record { expressions = map M.expression matchers.old; whole = false }) line.now from
             self.new }
         ensures seen { self.new.seen ≡ length line.now }
         ensures room { self.new.room ≡ self.old.room }
         ensures same_matchers { SameMatchers M.expression M.whole M.room matchers.old matchers.new }
         ensures steps { AddsAtMost (length matchers.old * (length line.now + 1)) meter.old meter.new }
     {
-        self.open(line, whole_of(line));
+        self.open(line, rest_of(line, 0));
         fill(&mut self.spare, line.len());
-        put_ends(
-            matchers,
-            whole,
-            line,
-            &mut self.ends,
-            &mut self.spare,
-            meter,
-        );
+        put_ends(matchers, line, &mut self.ends, &mut self.spare, meter);
     }
 }
 
@@ -213,14 +199,51 @@ pub fn next_part<M: LineMatch>(
         AddsAtMost (length matchers.old * spent parts.old.seen) first meter.old
         → AddsAtMost (length matchers.old * spent parts.new.seen) first meter.new }
 {
+    if whole {
+        return next_whole(matchers, line, from, parts, meter);
+    }
     if matchers.len() == 1 {
         return next_of_one(&mut matchers[0], line, from, parts, meter);
     }
     if parts.seen() == line.len() {
         return parts.known_part(from);
     }
-    parts.look_over(matchers, whole, line, meter);
+    parts.look_over(matchers, line, meter);
     parts.known_part(from)
+}
+
+// The next part where the whole line has to be matched.
+fn next_whole<M: LineMatch>(
+    matchers: &mut [M],
+    line: &[u8],
+    from: usize,
+    parts: &mut LineParts,
+    meter: &mut Meter,
+) -> Option<Span>
+    requires within { from ≤ length line.now }
+    requires alike { AllAnswer true (map M.whole matchers.old) }
+    requires right { ArePartsOf
+        (record { expressions = map M.expression matchers.old; whole = true }) line.now from parts.old }
+    ensures reported { FindsPart (map M.expression matchers.old) line.now true from result }
+    ensures same_matchers { SameMatchers M.expression M.whole M.room matchers.old matchers.new }
+    ensures right { IfSome result
+        (λ part. ArePartsOf
+        (record { expressions = map M.expression matchers.old; whole = true }) line.now part.end
+        parts.new) }
+    ensures room { parts.new.room ≡ parts.old.room }
+    ensures seen { parts.new.seen ≤ length line.now }
+    ensures steps { (first : Steps) →
+        AddsAtMost (length matchers.old * spent parts.old.seen) first meter.old
+        → AddsAtMost (length matchers.old * spent parts.new.seen) first meter.new }
+{
+    if parts.seen() > 0 {
+        return parts.known_part(from);
+    }
+    if from == line.len() {
+        return None;
+    }
+    parts.pass(line.len());
+    line_part(matchers, line, from, meter)
 }
 
 // The next part of the line, by one matcher, which looks at the line window by window.
@@ -234,15 +257,13 @@ fn next_of_one<M: LineMatch>(
     requires within { from ≤ length line.now }
     requires room { length line.now ≤ parts.old.room }
     requires right { ArePartsOf
-        (record { expressions = M.expression matcher.old ∷ []; whole = M.whole matcher.old })
-        line.now from parts.old }
-    ensures reported { FindsPart (M.expression matcher.old ∷ []) line.now (M.whole matcher.old) from
-        result }
+        (record { expressions = M.expression matcher.old ∷ []; whole = false }) line.now from parts.old }
+    ensures reported { FindsPart (M.expression matcher.old ∷ []) line.now false from result }
     ensures same { SameMatcher M.expression M.whole M.room matcher.old matcher.new }
     ensures right { IfSome result
         (λ part. ArePartsOf
-        (record { expressions = M.expression matcher.old ∷ []; whole = M.whole matcher.old })
-        line.now part.end parts.new) }
+        (record { expressions = M.expression matcher.old ∷ []; whole = false }) line.now part.end
+        parts.new) }
     ensures room { parts.new.room ≡ parts.old.room }
     ensures seen { parts.new.seen ≤ length line.now }
     ensures steps { (first : Steps) → AddsAtMost (spent parts.old.seen) first meter.old
@@ -305,33 +326,21 @@ fn fill(list: &mut Vec<usize>, count: usize)
 // Gives each place of the line the greatest end of the parts that begin there.
 fn put_ends<M: LineMatch>(
     matchers: &mut [M],
-    whole: bool,
     line: &[u8],
     ends: &mut [usize],
     spare: &mut [usize],
     meter: &mut Meter,
 )
-    requires alike { AllAnswer whole (map M.whole matchers.old) }
     requires zeros { ends.old ≡ replicate (length line.now) 0 }
     requires spare { length spare.old ≡ length line.now }
     ensures right { AreAllEnds
-        (record { expressions = map M.expression matchers.old; whole = whole }) line.now ends.new }
+        (record { expressions = map M.expression matchers.old; whole = false }) line.now ends.new }
     ensures same_matchers { SameMatchers M.expression M.whole M.room matchers.old matchers.new }
     ensures room { length ends.new ≡ length ends.old }
     ensures spare { length spare.new ≡ length spare.old }
     ensures steps { AddsAtMost (length matchers.old * (length line.now + 1)) meter.old meter.new }
 {
     for matcher in matchers.iter_mut() {
-        matcher.add_ends(line, whole_of(line), ends, spare, meter);
-    }
-}
-
-// The window that is the whole line.
-fn whole_of(line: &[u8]) -> Window
-    ensures { result ≡ record { start = 0; end = length line.now } }
-{
-    Window {
-        start: 0,
-        end: line.len(),
+        matcher.add_ends(line, rest_of(line, 0), ends, spare, meter);
     }
 }

@@ -7,7 +7,8 @@ ghost use Rattle.re_syntax.specs.Working.Counted.{HasPositions};
 ghost use Rattle.re_syntax.specs.Profile.{most_positions, most_states};
 ghost use Rattle.re_syntax.specs.Spelled.{IsSpelled, IsMeant, has_limit};
 ghost use Rattle.re_needle.specs.Working.Needles.{IsNeeded};
-ghost use Rattle.re_search.specs.Reading.{IsSmallFor, IsReadable, IsOutOfMemory, IsNotSpelled};
+ghost use Rattle.re_search.specs.Reading.{IsSmallFor, IsReadable, IsOutOfMemory};
+ghost use Rattle.re_syntax.specs.FirstFaults.{IsFirstFault};
 ghost use Rattle.re_search.specs.Reading.{IsRefusedFor};
 ghost use Rattle.re_search.specs.Working.Matchers.{matched_expression, wants_whole, is_fixed};
 ghost use Rattle.re_search.specs.Working.Matchers.{room_of, entries_of, CountsSteps};
@@ -130,8 +131,7 @@ impl LineMatch for Matcher {
 
     fn find(&mut self, line: &[u8], from: usize, meter: &mut Meter) -> Option<Span>
         requires { from ≤ length line.now }
-        ensures reported { FindsPart (matched_expression self.old ∷ []) line.now (wants_whole self.old)
-            from result }
+        ensures reported { FindsPart (matched_expression self.old ∷ []) line.now false from result }
         ensures steps { AddsAtMost (length line.now - from + 1) meter.old meter.new }
         ensures same_entries { entries_of self.new ≡ entries_of self.old }
         ensures same { SameMatcher matched_expression wants_whole room_of self.old self.new }
@@ -308,7 +308,7 @@ pub(crate) fn built_tree(
 // How many positions the text has, as a pattern.
 fn spelled_positions(text: &[u8], syntax: Syntax) -> Result<usize, PatternFault>
     ensures counted { IfOk result (HasPositions syntax text.now) }
-    ensures refused { IfErr result (IsNotSpelled syntax text.now) }
+    ensures refused { IfErr result (IsFirstFault syntax text.now) }
 {
     match syntax {
         Syntax::Basic => basic_positions(text),
@@ -321,7 +321,7 @@ fn spelled_positions(text: &[u8], syntax: Syntax) -> Result<usize, PatternFault>
 pub(crate) fn spelled_tree(alloc: Global, text: &[u8], syntax: Syntax) -> Result<Tree, PatternFault>
     ensures read { IfOk result (λ tree. IsSpelled syntax text.now (expression_of tree)) }
     ensures refused { IfErr result
-        (λ fault. IsOutOfMemory fault ⊎ IsNotSpelled syntax text.now fault) }
+        (λ fault. IsOutOfMemory fault ⊎ IsFirstFault syntax text.now fault) }
 {
     match syntax {
         Syntax::Basic => read_basic(alloc, text),

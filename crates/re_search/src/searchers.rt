@@ -5,7 +5,6 @@ ghost use Rattle.re_auto.specs.Searches.{AllAnswer};
 ghost use Rattle.re_search.specs.Working.Filters.{AreNeeded};
 
 mod matches;
-mod parts;
 
 use crate::filter::Filter;
 use re_match::LineMatch;

@@ -8,7 +8,7 @@ ghost use Rattle.re_strings.specs.Working.FixedSets.{Labels, Steps, StepsOn, Occ
 ghost use Rattle.re_strings.specs.Working.FixedSets.{StandsSince, StandsAtNode, IsBestOccurrence};
 ghost use Rattle.re_strings.specs.Working.FixedSets.{better_ending};
 ghost use Rattle.re_strings.specs.Working.Reached.{Reaches, IsSettled, EndsFirst, end_cost};
-ghost use Rattle.re_meter.specs.Meters.{many_built, many_passed};
+ghost use Rattle.re_meter.specs.Meters.{many_passed};
 ghost use Rattle.re_strings.specs.Working.Keys.{keys};
 ghost use Rattle.re_trees.specs.declared.span.Span.{Span};
 
@@ -51,19 +51,6 @@ impl AhoCorasick {
     {
         let end = self.ended(line);
         meter.add_passed(end.unwrap_or(line.len()));
-        end
-    }
-
-    /// The same, where the bytes are steps.
-    pub fn first_end_by_steps(&self, line: &[u8], meter: &mut Meter) -> Option<usize>
-        requires { IsTable self.now }
-        ensures ends { (all : Labels) → IsTableOf all self.now →
-            EndsFirst all.strings (keys self.now.fold line.now) result }
-        ensures within { IfSome result (λ end. (1 ≤ end) × (end ≤ length line.now)) }
-        ensures counted { meter.new ≡ many_built (end_cost line.now result) meter.old }
-    {
-        let end = self.ended(line);
-        meter.add_built(end.unwrap_or(line.len()) as u64);
         end
     }
 

@@ -130,10 +130,10 @@ fn mixed_line(rt: &HostRuntime, count: usize) -> Option<Vec<u8>> {
     Some(line)
 }
 
-/// The greatest end of `(a|b){12}a(a|b)*` from place `k` of such a line: the line's end, if there
-/// is an `a` after twelve bytes.
+/// The greatest end of `(a|b){14}a(a|b)*` from place `k` of such a line: the line's end, if there
+/// is an `a` after 14 bytes.
 fn end_from(line: &[u8], k: usize) -> usize {
-    let Some(byte) = line.get(k.saturating_add(12)) else {
+    let Some(byte) = line.get(k.saturating_add(14)) else {
         return 0;
     };
     if *byte == b'a' {
@@ -144,10 +144,10 @@ fn end_from(line: &[u8], k: usize) -> usize {
 
 #[test]
 fn ends_are_right_where_steps_are_removed(rt: HostRuntime) {
-    let Some(line) = mixed_line(&rt, 16_000) else {
+    let Some(line) = mixed_line(&rt, 40_000) else {
         return;
     };
-    let Some((ends, built)) = passed_twice(&rt, b"(a|b){12}a(a|b)*", &line) else {
+    let Some((ends, built)) = passed_twice(&rt, b"(a|b){14}a(a|b)*", &line) else {
         assert!(rt; false);
         return;
     };

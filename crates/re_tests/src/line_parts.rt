@@ -73,7 +73,7 @@ fn count_parts(
     let mut from = 0;
     let mut count: u64 = 0;
     while let Some(part) = searchers.next_part(line, from, line_parts, meter) {
-        let expected = parts(others, line, from, &mut fresh_meter());
+        let expected = parts(others, false, line, from, &mut fresh_meter());
         assert_eq!(rt; Some((part.start, part.end)), ends_of(expected), "{line:?}");
         from = part.end;
         count += 1;

@@ -86,15 +86,17 @@ pub(crate) fn ends_of(part: Option<Span>) -> Option<(usize, usize)> {
 }
 
 fn assert_found(rt: &impl Abort, matcher: &mut Matcher, row: &Search) {
-    let ((_, text, _, _), line, is_selected, from, expected) = *row;
+    let ((_, text, _, whole), line, is_selected, from, expected) = *row;
     let mut meter = fresh_meter();
     assert!(rt; from <= line.len());
-    let found = matcher.find(line, from, &mut meter);
-    assert_eq!(rt;
-        ends_of(found),
-        expected,
-        "{text:?} on {line:?} from {from}"
-    );
+    if !whole {
+        let found = matcher.find(line, from, &mut meter);
+        assert_eq!(rt;
+            ends_of(found),
+            expected,
+            "{text:?} on {line:?} from {from}"
+        );
+    }
     let is_match = matcher.is_match(line, &mut meter);
     assert_eq!(rt; is_match, is_selected, "{text:?} on {line:?}");
     assert!(rt;

@@ -1,5 +1,5 @@
 -- What is matched of a line by one text, by where a search for the text finds it.
-use Rattle.re_match.proofs.Prelude.{◌≡◌, ℕ, ◌+◌, ◌-◌, ◌<◌, ◌≤◌, true, false, IsTrue, [], ◌∷◌, ◌++◌, length, map, drop, Option, None, Some, ◌↔◌, refl, sym, ap, subst, ◌∙◌, arith, zero-add, length-append, length-drop, Decides, is_some, bytes_eq, Text, byte, sequence, Holds, Matches, IsFound, IsPart, OccursAt, FindsNeedle, FoundPast, false≢true, bytes_eq-Decides, dec_le, drop-length, drop-drop, append-nil}
+use Rattle.re_match.proofs.Prelude.{◌≡◌, ℕ, ◌+◌, ◌-◌, ◌<◌, ◌≤◌, true, false, IsTrue, [], ◌∷◌, ◌++◌, length, map, drop, Option, None, Some, ◌↔◌, refl, sym, ap, subst, ◌∙◌, arith, zero-add, length-append, length-drop, Decides, is_some, bytes_eq, Text, byte, sequence, Holds, Matches, IsFound, IsPart, OccursAt, FindsNeedle, false≢true, bytes_eq-Decides, dec_le, drop-length, drop-drop, append-nil}
 use Rattle.re_trees.proofs.lemmas.Decisions.{Any-first}
 use Rattle.re_trees.proofs.lemmas.FixedStrings.{stands-holds, holds-stands, stands-matches, matches-stands}
 use Rattle.re_trees.proofs.lemmas.SomeOfJoined.{Any-single}

@@ -1,10 +1,9 @@
 -- Steps after steps.
-use Rattle.re_match.proofs.Prelude.{sym, subst, ◌≡◌, ℕ, ◌+◌, ◌-◌, ◌≤◌, Option, length, drop, length-drop, arith, Text, AddsUpTo, many_passed, look_cost}
-use Rattle.re_runs.proofs.lemmas.Looks.{look_within}
+use Rattle.re_match.proofs.Prelude.{sym, subst, ◌≡◌, ℕ, ◌+◌, ◌-◌, ◌≤◌, arith, AddsUpTo, many_passed}
 use Rattle.re_auto.specs.Meters.{Steps}
 use Rattle.re_auto.specs.Searches.{AddsAtMost}
-use Rattle.re_meter.proofs.lemmas.Adding.{adds_both as both, adds_within as within, adds_passed, only_passed, built_adds}
-use Rattle.re_meter.specs.Meters.{many_built}
+use Rattle.re_meter.proofs.lemmas.Adding.{adds_both as both, adds_within as within, adds_passed, only_passed, built_adds, reused_adds}
+use Rattle.re_meter.specs.Meters.{many_built, many_reused}
 
 -- steps after steps
 pub adds_both : (first next : ℕ) (old mid new : Steps) → AddsAtMost first old mid → AddsAtMost next mid new → AddsAtMost (first + next) old new
@@ -17,12 +16,6 @@ adds_within few most old new h a = within few most few most old new h h a
 -- steps after steps are at most a number that is no less than their sum
 pub adds_up : (first next most : ℕ) (old mid new : Steps) → first + next ≤ most → AddsAtMost first old mid → AddsAtMost next mid new → AddsAtMost most old new
 adds_up first next most old mid new h a b = adds_within (first + next) most old new h (adds_both first next old mid new a b)
-
--- a look from a place on
-pub look_adds : (steps : ℕ) (line : Text) (from : ℕ) (found : Option ℕ) (old new : Steps) → new ≡ many_passed (look_cost (drop from line) found) old → AddsUpTo steps (length line - from + 1) old new
-look_adds steps line from found old new is =
-    let few : look_cost (drop from line) found ≤ length line - from + 1 = omega (arith, look_within (drop from line) found, length-drop from line) in
-    within 0 steps (length line - from + 1) (length line - from + 1) old new (omega arith) (omega arith) (only_passed (length line - from + 1) (look_cost (drop from line) found) old new few is)
 
 -- a look, and then steps of one kind
 pub look_and_built : (cost looks most_steps most_bytes : ℕ) (old mid new : Steps) → looks ≤ most_steps → cost ≤ most_bytes → mid ≡ many_passed cost old → new ≡ many_built looks mid → AddsUpTo most_steps most_bytes old new
@@ -41,3 +34,14 @@ pub adds_on : (first next first_bytes next_bytes most_steps most_bytes : ℕ) (o
     → AddsUpTo first first_bytes old mid → AddsUpTo next next_bytes mid new → AddsUpTo most_steps most_bytes old new
 adds_on first next first_bytes next_bytes most_steps most_bytes old mid new few fits a b =
     within (first + next) most_steps (first_bytes + next_bytes) most_bytes old new few fits (both first next first_bytes next_bytes old mid new a b)
+
+-- steps of a pass back
+pub walked_adds : (n reused : ℕ) (old new : Steps) → reused ≤ n → new ≡ many_built (n - reused) (many_reused reused old) → AddsUpTo n 0 old new
+walked_adds n reused old new few is =
+    let sum : reused + (n - reused) ≤ n = omega (arith, few) in
+    subst (AddsUpTo n 0 old) (sym is)
+    (within (reused + (n - reused)) n 0 0 old _ sum (omega arith) (both reused (n - reused) 0 0 old (many_reused reused old) _ (reused_adds reused 0 old) (built_adds (n - reused) 0 (many_reused reused old))))
+
+-- some bytes were passed
+pub passes : (most cost : ℕ) (old new : Steps) → cost ≤ most → new ≡ many_passed cost old → AddsAtMost most old new
+passes most cost old new fits is = within 0 most most most old new (omega arith) (omega arith) (only_passed most cost old new fits is)

@@ -1,7 +1,5 @@
 -- The stretch of a line in which the next match is.
-use Rattle.re_match.proofs.Prelude.{RunStandsAt, ◌≡◌, ◌∙◌, sym, false≢true, slice_index, slice_range, ℕ, ◌+◌, ◌-◌, ◌<◌, ◌≤◌, ◌↔◌, ◌⊎◌, inl, inr, subst, true, false, None, IsTrue, List, [], ◌∷◌, length, drop, Some, arith, ap, take, get_or, get_or-drop, get_or-take, get_or_append_left, length-take, length-drop, length-take-le, cases_lt, dec_le, Text, Expression, Holds, IsFound, IsPart, Span, Needle, FindsRun, IsNeedleOf, runs_of, AddsEnds, FoundPast, MatchesPast}
-use borrow.Rule.Slice.PartMut.{mid_of, put_mid}
-use Rattle.std.proofs.lemmas.List.{get_or-append_right}
+use Rattle.re_match.proofs.Prelude.{RunStandsAt, ◌≡◌, ◌∙◌, sym, false≢true, slice_index, slice_range, ℕ, ◌+◌, ◌-◌, ◌<◌, ◌≤◌, ◌↔◌, inl, inr, subst, false, None, IsTrue, List, Bool, [], ◌∷◌, length, drop, Some, arith, length-drop, length-take-le, cases_lt, dec_le, Text, Expression, Holds, IsFound, IsPart, Span, Needle, FindsRun, IsNeedleOf, runs_of, AddsEnds, FoundPast, MatchesPast}
 use Rattle.re_trees.specs.Working.Trees.{members}
 use Rattle.re_trees.proofs.lemmas.Decisions.{Any-first}
 use Rattle.re_trees.proofs.lemmas.SomeOfJoined.{Any-single}
@@ -10,30 +8,23 @@ use Rattle.re_auto.proofs.lemmas.PositionsDecide.{each_byte_taken}
 use Rattle.re_runs.proofs.lemmas.RunLaws.{run_rest, run_whole}
 use Rattle.re_ends.specs.Working.GreatestEnds.{IsBorder, FindsIn}
 use Rattle.re_match.specs.declared.window.Edges.{Edges}
-use Rattle.re_match.specs.Working.Aheads.{BeginsLater, past}
-use Rattle.re_match.specs.Working.Windows.{AreEdgesFor}
+use Rattle.re_match.specs.Working.Aheads.{AreEdgesFor, BeginsLater, past}
+
+-- a stretch is found from each place up to its start
+pub from_place : (es : List Expression) (line : Text) (whole : Bool) (a b i j : ℕ) → b ≤ i → IsFound es line whole a i j → IsFound es line whole b i j
+from_place es line whole a b i j begins f = record { begins = begins; not_empty = f.not_empty; on_line = f.on_line; is_whole = f.is_whole; holds = f.holds }
+
+-- the next part from a later place on, where none begins before that
+pub part_later : (es : List Expression) (line : Text) (whole : Bool) (from at : ℕ) → from ≤ at → ((i j : ℕ) → IsFound es line whole from i j → at ≤ i) → (i j : ℕ) → IsPart es line whole at i j → IsPart es line whole from i j
+part_later es line whole from at low later i j p = record {
+  found = from_place es line whole at from i j (omega (arith, low, p.found.begins)) p.found;
+  earliest = λ k l f. p.earliest k l (from_place es line whole from at k l (later k l f) f);
+  longest = λ l f. p.longest l (from_place es line whole from at i l p.found.begins f);
+}
 
 module _ (e : Expression) (line : Text) where
-  -- a stretch that is found from one place on is found from another on
-  moved : (from place i j : ℕ) → place ≤ i → IsFound (e ∷ []) line false from i j → IsFound (e ∷ []) line false place i j
-  moved from place i j low f = record { begins = low; not_empty = f.not_empty; on_line = f.on_line; is_whole = f.is_whole; holds = f.holds }
-
   taken : (from i j k : ℕ) → IsFound (e ∷ []) line false from i j → i ≤ k → k < j → (q : ℕ) × (part_of e 0).takes q (slice_index line k)
   taken from i j k f low high = each_byte_taken e line i j k low high (Any-single (λ x. Holds line x i j) e f.holds)
-
-  -- the next part from a later place on, before which none begins
-  pub part_on : (from place : ℕ) (part : Span) → BeginsLater e line false from place → IsPart (e ∷ []) line false place part.start part.end → IsPart (e ∷ []) line false from part.start part.end
-  part_on from place part later is =
-      let begins = is.found.begins in
-      record {
-        found = moved place from part.start part.end (omega (arith, later.0, begins)) is.found;
-        earliest = λ k l f. is.earliest k l (moved from place k l (later.1 k l f) f);
-        longest = λ l f. is.longest l (moved from place part.start l (later.1 part.start l f) f);
-      }
-
-  -- none from a later place on
-  pub none_on : (from place : ℕ) → BeginsLater e line false from place → ((i j : ℕ) → IsFound (e ∷ []) line false place i j → ⊥) → (i j : ℕ) → IsFound (e ∷ []) line false from i j → ⊥
-  none_on from place later none i j f = none i j (moved from place i j (later.1 i j f) f)
 
   pub border_within : (end : ℕ) → IsBorder e line end → end ≤ length line
   border_within end (inl same) = omega (arith, same)
@@ -46,14 +37,6 @@ module _ (e : Expression) (line : Text) where
     | inl over ↦ let (q, t) = taken from i j end f low over in absurd (none q t)
     | inr ge ↦ ge
   ]
-
-  module _ (edges : Edges) (right : AreEdgesFor e edges) (small : (x : ℕ) → slice_index line x < 256) where
-    -- a byte that isn't one of those of matches is a border
-    pub border_there : (end : ℕ) → end ≤ length line → (end < length line → members edges.bytes (slice_index line end) ≡ false) → IsBorder e line end
-    border_there end within outside = elim (cases_lt end (length line)) [
-      | inl lt ↦ inr (lt, λ q t. false≢true (sym (outside lt) ∙ (right (slice_index line end) (small end)).1 (q, t)))
-      | inr ge ↦ inl (omega (arith, ge, within))
-    ]
 
   module _ (from near : ℕ) (needle : Needle) (of : IsNeedleOf e needle) (low : from ≤ near) (within : from ≤ length line) (next : FindsRun (drop from line) (runs_of needle.finder) (Some (near - from))) where
     -- no run is before the needle's next place
@@ -71,11 +54,11 @@ module _ (e : Expression) (line : Text) where
         omega (arith, is.fits, some, low)
 
     -- where each match begins with the needle, none begins before that
-    pub later_by_needle : IsTrue needle.is_first → BeginsLater e line false from near
+    pub later_by_needle : IsTrue needle.is_first → BeginsLater e line from near
     later_by_needle first = (low, λ i j f. none_before i f.begins (of.first first line i j f.on_line (Any-single (λ x. Holds line x i j) e f.holds)))
 
     -- else none begins before the bytes of matches that come directly before it
-    pub later_by_bytes : (edges : Edges) → AreEdgesFor e edges → ((x : ℕ) → slice_index line x < 256) → (start : ℕ) → from ≤ start → start ≤ near → (from < start → members edges.bytes (slice_index line (start - 1)) ≡ false) → BeginsLater e line false from start
+    pub later_by_bytes : (edges : Edges) → AreEdgesFor e edges → ((x : ℕ) → slice_index line x < 256) → (start : ℕ) → from ≤ start → start ≤ near → (from < start → members edges.bytes (slice_index line (start - 1)) ≡ false) → BeginsLater e line from start
     later_by_bytes edges right small start after high outside = (after, not_before)
       where
         not_before : (i j : ℕ) → IsFound (e ∷ []) line false from i j → start ≤ i
@@ -89,12 +72,12 @@ module _ (e : Expression) (line : Text) where
               | no h ↦ absurd (false≢true (sym (outside (omega (arith, h, begins))) ∙ (right (slice_index line (start - 1)) (small (start - 1))).1 (taken from i j (start - 1) f (omega (arith, h)) (omega (arith, far, inside, some, high, h, begins)))))
             ]
 
-  module _ (from place start end : ℕ) (later : BeginsLater e line false from place) (next : BeginsLater e line false place start) (border : IsBorder e line end) where
+  module _ (from place start end : ℕ) (later : BeginsLater e line from place) (next : BeginsLater e line place start) (border : IsBorder e line end) where
     begins_on : (i j : ℕ) → IsFound (e ∷ []) line false from i j → start ≤ i
-    begins_on i j f = next.1 i j (moved from place i j (later.1 i j f) f)
+    begins_on i j f = next.1 i j (from_place (e ∷ []) line false from place i j (later.1 i j f) f)
 
     -- where none begins in the window, each begins after the byte that ends it
-    pub later_on : FindsIn e line start end None → start ≤ end → end ≤ length line → BeginsLater e line false from (past line end)
+    pub later_on : FindsIn e line start end None → start ≤ end → end ≤ length line → BeginsLater e line from (past line end)
     later_on none low within = (omega (arith, later.0, next.0, low, within), λ i j f. let beyond = after i j f in omega (arith, beyond))
       where
         after : (i j : ℕ) → IsFound (e ∷ []) line false from i j → end < i
@@ -179,15 +162,6 @@ module _ (e : Expression) (line : Text) (start end : ℕ) (low : start ≤ end) 
         )),
   )
 
--- a window that isn't the line has no part that is
-pub not_whole : (e : Expression) (line : Text) (start end : ℕ) → IsBorder e line end → ((start ≡ 0) × (end ≡ length line) → ⊥) → (i m : ℕ) → i < end - start → FoundPast (e ∷ []) line true (start + i) m → ⊥
-not_whole e line start end border other i m lt (j, past, f) =
-    let g : IsFound (e ∷ []) line false 0 (start + i) j = record { begins = f.begins; not_empty = f.not_empty; on_line = f.on_line; is_whole = tt; holds = f.holds } in
-    let over = over_border e line 0 end (start + i) j border g (omega (arith, lt)) in
-    let (first, last) = f.is_whole in
-    let within = border_within e line end border in
-    other (omega (arith, first), omega (arith, over, last, within))
-
 -- the ends of a window's places
 pub ends_of_window : (P : ℕ → ℕ → Type 0) (e : Expression) (line : Text) (start end : ℕ) → (start ≤ end) × IsBorder e line end → (old new : List ℕ) → length old ≡ end - start
     → ((i m : ℕ) → i < length (slice_range line start end) → P i m ↔ FoundPast (e ∷ []) line false (start + i) m) → AddsEnds P (slice_range line start end) old new → AddsEnds (λ i m. FoundPast (e ∷ []) line false (start + i) m) old old new
@@ -200,19 +174,3 @@ ends_of_window P e line start end window old new room alike added =
         λ h. (added.1 i m (omega (arith, lt, size))).1 (elim h [ inl o ↦ inl o | inr f ↦ inr ((alike i m (omega (arith, lt, size))).1 f) ]),
       ),
     )
-
--- an expression whose window is the whole line
-pub ends_of_line : (P Q : ℕ → ℕ → Type 0) (line : Text) (start : ℕ) (old new : List ℕ) → start ≡ 0 → length old ≡ length line → ((i m : ℕ) → i < length line → P i m ↔ Q i m) → AddsEnds P old old new → AddsEnds (λ i m. Q (start + i) m) old old new
-ends_of_line P Q line start old new first long alike added = (
-  added.0,
-  λ i m lt.
-      let same : start + i ≡ i = omega (arith, first) in
-      let at = alike i m (omega (arith, lt, long)) in (
-        λ h. elim ((added.1 i m lt).0 h) [ inl o ↦ inl o | inr p ↦ inr (subst (λ k. Q k m) (sym same) (at.0 p)) ],
-        λ h. (added.1 i m lt).1 (elim h [ inl o ↦ inl o | inr q ↦ inr (at.1 (subst (λ k. Q k m) same q)) ]),
-      ),
-)
-
--- no end is put
-pub no_ends_put : (P : ℕ → ℕ → Type 0) (old : List ℕ) → ((i m : ℕ) → i < length old → P i m → ⊥) → AddsEnds P old old old
-no_ends_put P old none = (omega arith, λ i m lt. (λ h. inl h, λ h. elim h [ inl o ↦ o | inr p ↦ absurd (none i m lt p) ]))

@@ -61,10 +61,9 @@ LooksForPart (One text) line from found old new =
     ((text ≡ []) × (new ≡ old)) ⊎ LooksOnce text (drop from line) old new
 LooksForPart (Many set) line from found old new = ReachesPart set.value line from found old new
 
--- the same, or the whole line has to be one of them, and so many steps were counted
-pub record CountsPart (matcher : StringMatcher) (line : Text) (from : ℕ) (found : Option Span)
+-- and so many steps were counted
+pub record CountsPart (look : Look) (line : Text) (from : ℕ) (found : Option Span)
     (old new : Steps) : Type 0 where
   pub looked : Steps
-  pub looks : ((matcher.whole ≡ true) × (looked ≡ old))
-      ⊎ LooksForPart matcher.look line from found old looked
+  pub looks : LooksForPart look line from found old looked
   pub counted : new ≡ many_built (part_cost line from found) looked

@@ -1,29 +1,15 @@
 -- The search for the parts of one line: the ends of its parts, and the steps.
-use Rattle.re_search.proofs.Prelude.{◌≡◌, ℕ, zero, suc, ◌+◌, ◌-◌, ◌*◌, ◌<◌, ◌≤◌, ◌⊎◌, ◌∙◌, ap, replicate, length-replicate, get_or-replicate, inl, inr, Bool, List, [], ◌∷◌, ◌++◌, length, max, take, get_or, sym, subst, arith, ◌↔◌, slice_index, mul-le-mul_left, Text, Expression, IsFound, IsPart, AllAnswer, FoundPast, AddsEnds, Sought, LineEnds, AreAllEnds, AreEnds, AreEndsIn, ArePartsOf, AddsUpTo, spent, FindsBefore, FindsPart, Span, Option, Some, None, IfSome, In, IsAhead, Window, false, past, stretch_cost, cases_lt, dec_le, get_or_past}
+use Rattle.re_search.proofs.Prelude.{◌≡◌, ℕ, zero, suc, ◌+◌, ◌-◌, ◌*◌, ◌<◌, ◌≤◌, ◌⊎◌, ◌∙◌, ap, replicate, length-replicate, get_or-replicate, inl, inr, Bool, List, [], ◌∷◌, ◌++◌, length, max, take, get_or, sym, subst, arith, ◌↔◌, slice_index, mul-le-mul_left, Text, Expression, IsFound, IsPart, FoundPast, AddsEnds, Sought, LineEnds, AreAllEnds, AreEnds, AreEndsIn, ArePartsOf, AddsUpTo, spent, FindsBefore, FindsPart, Span, Option, Some, None, IfSome, In, IsAhead, Window, false, true, past, cases_lt, dec_le, get_or_past}
 use Rattle.re_meter.specs.Meters.{Steps, AddsAtMost}
 use Rattle.re_meter.proofs.lemmas.Adding.{adds_within, adds_both}
 use Rattle.re_ends.proofs.lemmas.FoundEnds.{both_past}
-use Rattle.re_match.proofs.lemmas.WindowLaws.{border_within, over_border}
-use Rattle.re_search.proofs.lemmas.OneMatcherMore.{answer_of}
+use Rattle.re_match.proofs.lemmas.WindowLaws.{border_within, from_place, over_border}
 
 -- ---- parts
 
--- a stretch is found from each place up to its start
-pub from_place : (es : List Expression) (line : Text) (whole : Bool) (a b i j : ℕ) → b ≤ i → IsFound es line whole a i j → IsFound es line whole b i j
-from_place es line whole a b i j begins f = record { begins = begins; not_empty = f.not_empty; on_line = f.on_line; is_whole = f.is_whole; holds = f.holds }
-
-module _ (es : List Expression) (line : Text) (whole : Bool) (from at : ℕ) (low : from ≤ at) (later : (i j : ℕ) → IsFound es line whole from i j → at ≤ i) where
-  -- the next part from a later place on, where none begins before that
-  pub part_later : (i j : ℕ) → IsPart es line whole at i j → IsPart es line whole from i j
-  part_later i j p = record {
-    found = from_place es line whole at from i j (omega (arith, low, p.found.begins)) p.found;
-    earliest = λ k l f. p.earliest k l (from_place es line whole from at k l (later k l f) f);
-    longest = λ l f. p.longest l (from_place es line whole from at i l p.found.begins f);
-  }
-
-  -- and where none begins from there on up to another place
-  pub none_later : (seen n top : ℕ) → ((i j : ℕ) → IsFound es line whole at i j → seen ≤ i) → n ≡ seen → top ≡ max at n → (i j : ℕ) → IsFound es line whole from i j → top ≤ i
-  none_later seen n top none is high i j f = omega (arith, is, high, later i j f, none i j (from_place es line whole from at i j (later i j f) f))
+-- where none begins before a place, nor from there on up to another
+pub none_later : (es : List Expression) (line : Text) (whole : Bool) (from at : ℕ) → ((i j : ℕ) → IsFound es line whole from i j → at ≤ i) → (seen n top : ℕ) → ((i j : ℕ) → IsFound es line whole at i j → seen ≤ i) → n ≡ seen → top ≡ max at n → (i j : ℕ) → IsFound es line whole from i j → top ≤ i
+none_later es line whole from at later seen n top none is high i j f = omega (arith, is, high, later i j f, none i j (from_place es line whole from at i j (later i j f) f))
 
 -- ---- ends of parts
 
@@ -89,21 +75,19 @@ pub passed_right : (sought : Sought) (line : Text) (from seen room : ℕ) → (l
 passed_right sought line from seen room once on le = record { on_line = on; at_once = once; are_ends = λ i m ge lt. absurd (omega (arith, ge, lt, le)) }
 
 -- the ends of no matcher
-pub no_ends : (line : Text) (whole : Bool) (ends : List ℕ) → ((i : ℕ) → i < length line → get_or ends i 0 ≡ 0) → AreAllEnds (record { expressions = []; whole = whole }) line ends
-no_ends line whole ends zeros i m lt = (λ h. absurd (omega (arith, h, zeros i lt)), λ (j, past, f). absurd (omega (arith, f.holds.2)))
+pub no_ends : (line : Text) (ends : List ℕ) → ((i : ℕ) → i < length line → get_or ends i 0 ≡ 0) → AreAllEnds (record { expressions = []; whole = false }) line ends
+no_ends line ends zeros i m lt = (λ h. absurd (omega (arith, h, zeros i lt)), λ (j, past, f). absurd (omega (arith, f.holds.2)))
 
 -- and those of one more
-pub ends_more : (es : List Expression) (wholes : List Bool) (line : Text) (n : ℕ) (e : Expression) (w whole : Bool) (old new : List ℕ) (start : ℕ) → start ≡ 0 → length old ≡ length line → n < length wholes → get_or wholes n w ≡ w → take (n + 1) es ≡ take n es ++ e ∷ [] → AllAnswer whole wholes →
-    AreAllEnds (record { expressions = take n es; whole = whole }) line old → AddsEnds (λ i m. FoundPast (e ∷ []) line w (start + i) m) old old new → AreAllEnds (record { expressions = take (n + 1) es; whole = whole }) line new
-ends_more es wholes line n e w whole old new start first long h at next all are more =
-    let answer = answer_of whole w wholes n h at all in
-    let adds = subst (λ v. AddsEnds (λ i m. FoundPast (e ∷ []) line v (start + i) m) old old new) answer more in
-    subst (λ fs. AreAllEnds (record { expressions = fs; whole = whole }) line new) (sym next) (λ i m lt.
-    let both = both_past (take n es) (e ∷ []) line whole i m in
-    let same : start + i ≡ i = omega (arith, first) in
+pub ends_more : (es : List Expression) (line : Text) (n : ℕ) (e : Expression) (old new : List ℕ) → length old ≡ length line → take (n + 1) es ≡ take n es ++ e ∷ [] →
+    AreAllEnds (record { expressions = take n es; whole = false }) line old → AddsEnds (λ i m. FoundPast (e ∷ []) line false (0 + i) m) old old new → AreAllEnds (record { expressions = take (n + 1) es; whole = false }) line new
+ends_more es line n e old new long next are adds =
+    subst (λ fs. AreAllEnds (record { expressions = fs; whole = false }) line new) (sym next) (λ i m lt.
+    let both = both_past (take n es) (e ∷ []) line false i m in
+    let same : 0 + i ≡ i = omega arith in
     let at = adds.1 i m (omega (arith, lt, long)) in (
-      λ h. both.0 (elim (at.0 h) [ inl had ↦ inl ((are i m lt).0 had) | inr p ↦ inr (subst (λ k. FoundPast (e ∷ []) line whole k m) same p) ]),
-      λ f. at.1 (elim (both.1 f) [ inl p ↦ inl ((are i m lt).1 p) | inr p ↦ inr (subst (λ k. FoundPast (e ∷ []) line whole k m) (sym same) p) ]),
+      λ h. both.0 (elim (at.0 h) [ inl had ↦ inl ((are i m lt).0 had) | inr p ↦ inr (subst (λ k. FoundPast (e ∷ []) line false k m) same p) ]),
+      λ f. at.1 (elim (both.1 f) [ inl p ↦ inl ((are i m lt).1 p) | inr p ↦ inr (subst (λ k. FoundPast (e ∷ []) line false k m) (sym same) p) ]),
     ))
 
 -- what several matchers know of the whole line
@@ -129,7 +113,7 @@ zeros_added P old new n zeros added =
 
 -- ---- windows
 
-module _ (e : Expression) (line : Text) (whole : Bool) (from : ℕ) (window : Window) (within : from < length line) (is : IsAhead e line whole from (In window)) where
+module _ (e : Expression) (line : Text) (from : ℕ) (window : Window) (within : from < length line) (is : IsAhead e line from (In window)) where
   -- a window ends on the line, after the place from which on it was looked for
   pub window_ends : (window.end ≤ length line) × (from < past line window.end) × (past line window.end ≤ length line)
   window_ends =
@@ -137,25 +121,24 @@ module _ (e : Expression) (line : Text) (whole : Bool) (from : ℕ) (window : Wi
       (on, omega (arith, within, is.0.0, is.1.0), omega arith)
 
   -- the ends of its places are all up to the place after it
-  pub window_known : (parts : LineEnds) → parts.seen ≡ past line window.end → AreEndsIn (record { expressions = e ∷ []; whole = whole }) line window.start window.end parts → AreEnds (record { expressions = e ∷ []; whole = whole }) line from parts.seen parts.first parts.ends
+  pub window_known : (parts : LineEnds) → parts.seen ≡ past line window.end → AreEndsIn (record { expressions = e ∷ []; whole = false }) line window.start window.end parts → AreEnds (record { expressions = e ∷ []; whole = false }) line from parts.seen parts.first parts.ends
   window_known parts seen are i m ge lt = elim (cases_lt i window.start) [
     | inl before ↦ (
       λ p. absurd (let low = p.0 in let first = are.first in omega (arith, before, low, first)),
-      λ (j, past, f). absurd (let late = is.0.1 i j (from_place (e ∷ []) line whole 0 from i j ge f) in omega (arith, late, before)),
+      λ (j, past, f). absurd (let late = is.0.1 i j (from_place (e ∷ []) line false 0 from i j ge f) in omega (arith, late, before)),
     )
     | inr after ↦ elim (cases_lt i window.end) [
       | inl inside ↦
           let place : i - parts.first ≡ i - window.start = let first = are.first in omega (arith, first) in
           let back : window.start + (i - window.start) ≡ i = omega (arith, after) in
           let at = are.are_ends (i - window.start) m (omega (arith, inside, after)) in (
-            λ p. subst (λ k. FoundPast (e ∷ []) line whole k m) back (at.0 (subst (λ k. m < get_or parts.ends k 0) place p.1)),
-            λ f. (let first = are.first in omega (arith, first, after), subst (λ k. m < get_or parts.ends k 0) (sym place) (at.1 (subst (λ k. FoundPast (e ∷ []) line whole k m) (sym back) f))),
+            λ p. subst (λ k. FoundPast (e ∷ []) line false k m) back (at.0 (subst (λ k. m < get_or parts.ends k 0) place p.1)),
+            λ f. (let first = are.first in omega (arith, first, after), subst (λ k. m < get_or parts.ends k 0) (sym place) (at.1 (subst (λ k. FoundPast (e ∷ []) line false k m) (sym back) f))),
           )
       | inr beyond ↦ (
         λ p. absurd (let first = are.first in let long = are.long in let none = get_or_past parts.ends (i - parts.first) 0 (omega (arith, first, long, beyond)) in omega (arith, p.1, none)),
         λ (j, past, f). absurd (
-            let g : IsFound (e ∷ []) line false 0 i j = record { begins = f.begins; not_empty = f.not_empty; on_line = f.on_line; is_whole = tt; holds = f.holds } in
-            let over = over_border e line 0 window.end i j is.1.1 g (omega (arith, lt, seen)) in
+            let over = over_border e line 0 window.end i j is.1.1 f (omega (arith, lt, seen)) in
             let some = f.not_empty in
             omega (arith, over, some, beyond)),
       )
@@ -163,17 +146,15 @@ module _ (e : Expression) (line : Text) (whole : Bool) (from : ℕ) (window : Wi
   ]
 
 -- its steps are those of its bytes
-spent_more : (seen from to : ℕ) → seen ≤ from → from < to → spent seen + stretch_cost from to ≤ spent to
-spent_more zero zero (suc to) le lt = omega arith
-spent_more zero (suc from) (suc to) le lt = omega (arith, lt)
-spent_more (suc seen) (suc from) (suc to) le lt = omega (arith, le, lt)
-spent_more (suc seen) zero to le lt = absurd (omega (arith, le))
+spent_more : (seen from to : ℕ) → seen ≤ from → from < to → spent seen + (to - from) ≤ spent to
 spent_more seen from zero le lt = absurd (omega (arith, lt))
+spent_more zero from (suc to) le lt = omega arith
+spent_more (suc seen) from (suc to) le lt = omega (arith, le, lt)
 
-pub stretch_steps : (seen from to : ℕ) (first old new : Steps) → seen ≤ from → from < to → AddsAtMost (spent seen) first old → AddsAtMost (stretch_cost from to) old new → AddsAtMost (spent to) first new
+pub stretch_steps : (seen from to : ℕ) (first old new : Steps) → seen ≤ from → from < to → AddsAtMost (spent seen) first old → AddsAtMost (to - from) old new → AddsAtMost (spent to) first new
 stretch_steps seen from to first old new le lt before next =
     let few = spent_more seen from to le lt in
-    adds_within (spent seen + stretch_cost from to) (spent to) (spent seen + stretch_cost from to) (spent to) first new few few (adds_both (spent seen) (stretch_cost from to) (spent seen) (stretch_cost from to) first old new before next)
+    adds_within (spent seen + (to - from)) (spent to) (spent seen + (to - from)) (spent to) first new few few (adds_both (spent seen) (to - from) (spent seen) (to - from) first old new before next)
 
 -- all parts of a line take no more than one search of it
 few_spent : (seen long : ℕ) → seen ≤ long → spent seen ≤ long + 1
@@ -186,22 +167,15 @@ all_parts count seen long first now le few =
     adds_within (count * spent seen) (count * (long + 1)) (count * spent seen) (count * (long + 1)) first now most most few
 
 -- the steps of a window and of the search for it
-window_cost : (from start end to : ℕ) → from ≤ start → start ≤ end → end ≤ to → start - from + stretch_cost start end ≤ stretch_cost from to
-window_cost zero zero end to a b c = omega (arith, c)
-window_cost zero (suc k) end to a b c = omega (arith, b, c)
-window_cost (suc n) (suc k) end to a b c = omega (arith, a, b, c)
-window_cost (suc n) zero end to a b c = absurd (omega (arith, a))
-
-few_bytes : (from to : ℕ) → to - from + 0 ≤ stretch_cost from to
-few_bytes zero to = omega arith
-few_bytes (suc n) to = omega arith
-
 pub window_steps : (seen from start end to : ℕ) (first old mid new : Steps) → seen ≤ from → from < to → from ≤ start → start ≤ end → end ≤ to
-    → AddsAtMost (spent seen) first old → AddsUpTo (start - from) (to - from) old mid → AddsUpTo (stretch_cost start end) 0 mid new → AddsAtMost (spent to) first new
+    → AddsAtMost (spent seen) first old → AddsUpTo (start - from) (to - from) old mid → AddsUpTo (end - start) 0 mid new → AddsAtMost (spent to) first new
 window_steps seen from start end to first old mid new le lt low order high before look more =
     stretch_steps seen from to first old new le lt before
-    (adds_within (start - from + stretch_cost start end) (stretch_cost from to) (to - from + 0) (stretch_cost from to) old new (window_cost from start end to low order high) (few_bytes from to) (adds_both (start - from) (stretch_cost start end) (to - from) 0 old mid new look more))
+    (adds_within (start - from + (end - start)) (to - from) (to - from + 0) (to - from) old new (omega (arith, low, order, high)) (omega arith) (adds_both (start - from) (end - start) (to - from) 0 old mid new look more))
 
--- those of the whole line
-pub steps_of_line : (long : ℕ) (old new : Steps) → AddsUpTo (stretch_cost 0 long) 0 old new → AddsAtMost (long + 1) old new
-steps_of_line long old new a = adds_within (long + 1) (long + 1) 0 (long + 1) old new (omega arith) (omega arith) a
+-- ---- whole lines
+
+-- where something was looked at all is known
+pub known_whole : (es : List Expression) (line : Text) (from seen : ℕ) (found : Option Span) → 0 < seen → FindsBefore (record { expressions = es; whole = true }) line from seen found → FindsPart es line true from found
+known_whole es line from seen None some none = λ i j f. omega (arith, some, none i j f, f.is_whole.0)
+known_whole es line from seen (Some part) some is = is

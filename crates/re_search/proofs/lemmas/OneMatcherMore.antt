@@ -1,5 +1,5 @@
 -- One matcher more of a list: what is known of those that were asked, before it was and afterwards.
-use Rattle.re_search.proofs.Prelude.{◌≡◌, ℕ, ◌+◌, ◌-◌, ◌*◌, ◌<◌, ◌≤◌, if◌then◌else◌, nat_lt, subst, Bool, true, false, inl, inr, List, [], ◌∷◌, ◌++◌, length, map, take, get_or, Option, refl, sym, ap, ◌∙◌, arith, add-one, set, take-suc, map-set_same, false≢true, cases_lt, lt-ltb, get_or-map, length-map, Text, Expression, Matches, AddsUpTo, FindsPart, FindsPartOfAll, SomeMatches, DecidesMatchOfAll, AllAnswer, Span, mul-le-mul_right}
+use Rattle.re_search.proofs.Prelude.{◌≡◌, ℕ, ◌+◌, ◌-◌, ◌*◌, ◌<◌, ◌≤◌, if◌then◌else◌, nat_lt, subst, Bool, true, false, inl, inr, List, [], ◌∷◌, ◌++◌, length, map, take, get_or, refl, sym, ap, ◌∙◌, arith, add-one, set, take-suc, map-set_same, false≢true, cases_lt, lt-ltb, get_or-map, length-map, Text, Expression, Matches, AddsUpTo, SomeMatches, DecidesMatchOfAll, AllAnswer, mul-le-mul_right}
 use Rattle.re_auto.specs.Meters.{Steps}
 use Rattle.re_meter.proofs.lemmas.Adding.{adds_both as bounds_both, adds_within as bounds_within}
 use Rattle.re_match.proofs.lemmas.StepSums.{adds_up}
@@ -31,14 +31,6 @@ pub answer_of : (whole w : Bool) (wholes : List Bool) (i : ℕ) → i < length w
 answer_of whole w wholes i h at all = sym at ∙ all i w h
 
 module _ (es : List Expression) (wholes : List Bool) (line : Text) (i : ℕ) (e : Expression) (w : Bool) (h : i < length wholes) (at : get_or wholes i w ≡ w) where
-  -- the next part for one matcher more, which has the expression e
-  pub part_more : (from : ℕ) (best found result : Option Span) → take (i + 1) es ≡ take i es ++ e ∷ [] →
-      ((es fs : List Expression) (line : Text) (whole : Bool) (from : ℕ) → FindsPart es line whole from best → FindsPart fs line whole from found → FindsPart (es ++ fs) line whole from result) →
-      FindsPartOfAll (take i es) wholes line from best → FindsPart (e ∷ []) line w from found → FindsPartOfAll (take (i + 1) es) wholes line from result
-  part_more from best found result next better reported part whole all =
-      let answer = answer_of whole w wholes i h at all in
-      rw next (better (take i es) (e ∷ []) line whole from (reported whole all) (rw answer at part))
-
   -- nor does one matcher more match
   pub none_more : take (i + 1) es ≡ take i es ++ e ∷ [] → DecidesMatchOfAll (take i es) wholes line false → (Matches e line w → ⊥) → DecidesMatchOfAll (take (i + 1) es) wholes line false
   none_more next reported not whole all =

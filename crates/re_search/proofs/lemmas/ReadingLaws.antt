@@ -1,6 +1,7 @@
 -- What the text of a pattern means, and why it is refused.
-use Rattle.re_search.proofs.Prelude.{◌≡◌, ℕ, ◌+◌, ◌*◌, ◌<◌, ◌^◌, List, [], ◌∷◌, ◌++◌, length, IsTrue, Bool, true, false, true≢false, inl, inr, map, refl, sym, ap, ◌∙◌, ◌≤◌, arith, if◌then◌else◌, PatternFault, Syntax, Basic, Extended, Fixed, Text, HasPositions, TooLarge, Expression, empty, one_of, none_of, begin, end, cat_none, cat_more, alt_none, alt_more, repeat, byte, cat, alt, sequence, folded, copies, positions, most_positions, IsMeant, as_fixed, has_limit, IsReadable, IsNotSpelled, IsRefusedFor}
+use Rattle.re_search.proofs.Prelude.{◌≡◌, ℕ, ◌+◌, ◌*◌, ◌<◌, ◌^◌, List, [], ◌∷◌, ◌++◌, length, IsTrue, Bool, true, false, true≢false, inl, inr, map, refl, sym, ap, ◌∙◌, ◌≤◌, arith, if◌then◌else◌, PatternFault, Syntax, Basic, Extended, Fixed, Text, HasPositions, TooLarge, Expression, empty, one_of, none_of, begin, end, cat_none, cat_more, alt_none, alt_more, repeat, byte, cat, alt, sequence, folded, copies, positions, most_positions, IsMeant, as_fixed, has_limit, IsReadable, IsRefusedFor}
 use Rattle.re_syntax.proofs.lemmas.SpelledUnique.{spells_one}
+use Rattle.re_syntax.proofs.lemmas.TokenLaws.{fault_spells_none}
 
 -- a string that is not folded means the sequence of its bytes
 pub string_means : (syntax : Syntax) (fold : Bool) (text : Text) → has_limit syntax fold ≡ false → IsMeant syntax fold text (sequence (map byte text))
@@ -12,12 +13,6 @@ string_means Extended fold text free = absurd (true≢false free)
 -- a text means one expression
 pub means_one : (syntax : Syntax) (fold : Bool) (text : Text) (d e : Expression) → IsMeant syntax fold text d → IsMeant syntax fold text e → d ≡ e
 means_one syntax fold text d e m n = m.2 ∙ ap (λ s. if fold then folded s else s) (spells_one text syntax m.0 n.0 m.1 n.1) ∙ sym n.2
-
--- a text that is not spelled means nothing
-means_none : (syntax : Syntax) (fold : Bool) (text : Text) (fault : PatternFault) (e : Expression) → IsNotSpelled syntax text fault → IsMeant syntax fold text e → ⊥
-means_none Basic fold text fault e refused m = refused.none m.0 m.1
-means_none Extended fold text fault e refused m = refused.none m.0 m.1
-means_none Fixed fold text fault e refused m = refused
 
 -- folding does not change the number of positions
 folded_positions : (e : Expression) → positions (folded e) ≡ positions e
@@ -89,7 +84,7 @@ fixed_positions t count e small = record { expression = sequence (map byte t); s
 
 -- a text that is refused is not readable
 pub refused_unreadable : (syntax : Syntax) (fold : Bool) (text : Text) (fault : PatternFault) → IsRefusedFor syntax fold text fault → IsReadable syntax fold text → ⊥
-refused_unreadable syntax fold text fault (inl none) readable = means_none syntax fold text fault readable.0 none readable.1
+refused_unreadable syntax fold text fault (inl none) readable = fault_spells_none none.is_fault readable.1.0 readable.1.1
 refused_unreadable syntax fold text fault (inr large) readable =
     let same : readable.0 ≡ large.meaning = means_one syntax fold text readable.0 large.meaning readable.1 large.meant in
     let few : positions readable.0 ≤ most_positions = readable.2 large.limited in

@@ -1,5 +1,5 @@
 -- The next line of a block that has a property, and how many lines have it.
-use Rattle.re_search.proofs.Prelude.{◌≡◌, ℕ, ◌+◌, ◌-◌, ◌*◌, ◌<◌, ◌≤◌, List, length, map, drop, refl, sym, ap, ◌∙◌, arith, length-drop, mul-le-mul_left, mul-le-mul_right, length-map, Text, IsLineFrom, StopsNear, left_for_all, AddsUpTo, Sweep, Stop, Unseen, Seen, Matched}
+use Rattle.re_search.proofs.Prelude.{◌≡◌, ℕ, ◌+◌, ◌-◌, ◌*◌, ◌<◌, ◌≤◌, length, drop, refl, ap, ◌∙◌, arith, length-drop, mul-le-mul_left, mul-le-mul_right, Text, IsLineFrom, StopsNear, left_for_all, AddsUpTo, Sweep, Stop, Unseen, Seen, Matched}
 use Rattle.re_auto.specs.Meters.{Steps}
 use Rattle.re_auto.specs.Searches.{AddsAtMost}
 use Rattle.re_meter.proofs.lemmas.Adding.{adds_both as bounds_both, adds_within as bounds_within}

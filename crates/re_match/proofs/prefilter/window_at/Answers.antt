@@ -1,4 +1,4 @@
-use Rattle.re_match.proofs.Prelude.{rules, ℕ, ◌+◌, ◌-◌, ◌<◌, ◌≤◌, inl, refl, length, slice_index, arith, past}
+use Rattle.re_match.proofs.Prelude.{rules, ℕ, ◌+◌, ◌-◌, ◌<◌, inl, refl, length, slice_index, arith, past}
 use Rattle.re_match.proofs.lemmas.StepSums.{adds_on}
 use Rattle.re_match.proofs.lemmas.WindowLaws.{later_by_needle, later_by_bytes}
 use Rattle.re_match.proofs.prefilter.window_at.Goals as goal

@@ -1,5 +1,6 @@
-use Rattle.re_search.proofs.Prelude.{◌∙◌, ◌+◌, inl, refl, arith, length}
-use Rattle.re_search.proofs.lemmas.LinePartsLaws.{from_place, part_later, none_later, parts_after, passed_right, stretch_steps, window_ends, window_known, window_steps}
+use Rattle.re_search.proofs.Prelude.{◌∙◌, inl, refl, arith, length}
+use Rattle.re_match.proofs.lemmas.WindowLaws.{from_place, part_later}
+use Rattle.re_search.proofs.lemmas.LinePartsLaws.{none_later, parts_after, passed_right, stretch_steps, window_ends, window_known, window_steps}
 use Rattle.re_search.proofs.line_parts.next_of_one.Goals as goal
 
 pub returns-in-Some-clause-reported : goal.returns-in-Some-clause-reported
@@ -15,13 +16,13 @@ returns-in-Some-clause-right g c =
 pub returns-then-at-line-clause-reported : goal.returns-then-at-line-clause-reported
 returns-then-at-line-clause-reported g c = λ k l f.
     let i = c.stretches.invariant in
-    omega (arith, none_later _ _ _ c.args.from c.stretches.at i.low i.later _ _ _ (c.in_default.ensures _ _ i.right) c.seen.ensures c.max-at.ensures k l f, f.not_empty, f.on_line, c.if-at-line.true)
+    omega (arith, none_later _ _ _ c.args.from c.stretches.at i.later _ _ _ (c.in_default.ensures _ _ i.right) c.seen.ensures c.max-at.ensures k l f, f.not_empty, f.on_line, c.if-at-line.true)
 
 pub returns-in-Part-clause-reported : goal.returns-in-Part-clause-reported
 returns-in-Part-clause-reported g c =
     let i = c.stretches.invariant in
-    let later = none_later _ _ _ c.args.from c.stretches.at i.low i.later _ _ _ (c.in_default.ensures _ _ i.right) c.seen.ensures c.max-at.ensures in
-    part_later _ _ _ c.args.from c.max-at.result (omega (arith, i.low, c.max-at.ensures)) later _ _ (rw (i.same.same_expression, i.same.same_whole) at c.in-Part.ensures.reported)
+    let later = none_later _ _ _ c.args.from c.stretches.at i.later _ _ _ (c.in_default.ensures _ _ i.right) c.seen.ensures c.max-at.ensures in
+    part_later _ _ _ c.args.from c.max-at.result (omega (arith, i.low, c.max-at.ensures)) later _ _ (rw i.same.same_expression at c.in-Part.ensures.reported)
 
 pub returns-in-Part-clause-right : goal.returns-in-Part-clause-right
 returns-in-Part-clause-right g c = rw c.pass.ensures (passed_right _ _ c.in-Part.part.end c.in-Part.part.end _ (inl refl) c.in-Part.ensures.reported.found.on_line (omega arith))
@@ -31,24 +32,21 @@ returns-in-Part-clause-steps g c = λ first before.
     let f = c.in-Part.ensures.reported.found in
     rw c.pass.ensures (stretch_steps c.stretches.parts.seen c.max-at.result c.in-Part.part.end first _ _ (omega (arith, c.max-at.ensures, c.seen.ensures)) (omega (arith, f.begins, f.not_empty)) (c.stretches.invariant.steps first before) c.in-Part.ensures.steps)
 
-pub look_at-requires-clause-high : goal.look_at-requires-clause-high
-look_at-requires-clause-high g c = (window_ends _ _ _ c.max-at.result c.in-In.window (omega arith) c.in-In.ensures.reported).0
-
 pub stretches-preserved : goal.stretches-preserved
 stretches-preserved g c =
     let i = c.stretches.invariant in
     let same = i.same in
     let next = c.in-In.ensures.same in
-    let is = rw (same.same_expression, same.same_whole) at c.in-In.ensures.reported in
-    let on = window_ends _ _ _ c.max-at.result c.in-In.window (omega arith) is in
+    let is = rw same.same_expression at c.in-In.ensures.reported in
+    let on = window_ends _ _ c.max-at.result c.in-In.window (omega arith) is in
     record {
       low = omega (arith, c.max-at.ensures, i.low);
       on_line = omega (arith, c.max-at.ensures, c.seen.ensures, i.on_line, i.right.on_line);
-      later = none_later _ _ _ c.args.from c.stretches.at i.low i.later _ _ _ (c.in_default.ensures _ _ i.right) c.seen.ensures c.max-at.ensures;
+      later = none_later _ _ _ c.args.from c.stretches.at i.later _ _ _ (c.in_default.ensures _ _ i.right) c.seen.ensures c.max-at.ensures;
       right = record {
         on_line = omega (arith, c.look_at.ensures.seen, on.2);
         at_once = inl refl;
-        are_ends = window_known _ _ _ c.max-at.result c.in-In.window (omega arith) is _ c.look_at.ensures.seen (rw (next.same_expression, next.same_whole, same.same_expression, same.same_whole) at c.look_at.ensures.right);
+        are_ends = window_known _ _ c.max-at.result c.in-In.window (omega arith) is _ c.look_at.ensures.seen (rw (next.same_expression, same.same_expression) at c.look_at.ensures.right);
       };
       room = c.look_at.ensures.room ∙ i.room;
       same = record {
@@ -63,8 +61,8 @@ stretches-preserved g c =
 pub returns-in-Nothing-clause-reported : goal.returns-in-Nothing-clause-reported
 returns-in-Nothing-clause-reported g c = λ k l f.
     let i = c.stretches.invariant in
-    let later = none_later _ _ _ c.args.from c.stretches.at i.low i.later _ _ _ (c.in_default.ensures _ _ i.right) c.seen.ensures c.max-at.ensures in
-    c.in-Nothing.ensures.reported k l (rw (i.same.same_expression, i.same.same_whole) (from_place _ _ _ c.args.from c.max-at.result k l (later k l f) f))
+    let later = none_later _ _ _ c.args.from c.stretches.at i.later _ _ _ (c.in_default.ensures _ _ i.right) c.seen.ensures c.max-at.ensures in
+    c.in-Nothing.ensures.reported k l (rw i.same.same_expression (from_place _ _ _ c.args.from c.max-at.result k l (later k l f) f))
 
 pub returns-in-Nothing-clause-steps : goal.returns-in-Nothing-clause-steps
 returns-in-Nothing-clause-steps g c = λ first before.

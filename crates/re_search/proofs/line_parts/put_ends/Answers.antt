@@ -1,40 +1,36 @@
-use Rattle.re_search.proofs.Prelude.{◌≡◌, ◌∙◌, ◌+◌, inl, map, take, arith, refl, length, take_all, length-map, length-replicate, get_or-replicate, ap, get_or}
-use Rattle.re_search.proofs.lemmas.OneMatcherMore.{one_more, value_at, within, steps_more}
+use Rattle.re_search.proofs.Prelude.{◌≡◌, ◌∙◌, ◌+◌, ◌-◌, map, take, arith, length, take_all, length-map, length-replicate, get_or-replicate, ap, get_or}
+use Rattle.re_search.proofs.lemmas.OneMatcherMore.{one_more, steps_more}
 use Rattle.re_search.proofs.lemmas.KeptMatchers.{none_asked, one_kept}
-use Rattle.re_search.proofs.lemmas.LinePartsLaws.{no_ends, ends_more, steps_of_line}
-use Rattle.re_meter.proofs.lemmas.Adding.{adds_none}
+use Rattle.re_search.proofs.lemmas.LinePartsLaws.{no_ends, ends_more}
+use Rattle.re_meter.proofs.lemmas.Adding.{adds_none, adds_within}
 use Rattle.re_search.proofs.line_parts.put_ends.Goals as goal
 
 pub loop-matcher-init : goal.loop-matcher-init
 loop-matcher-init g c = record {
-  right = no_ends c.args.line.now c.args.whole c.args.ends.now (λ i lt. ap (λ l. get_or l i 0) c.requires.zeros ∙ get_or-replicate _ i 0 0 lt);
+  right = no_ends c.args.line.now c.args.ends.now (λ i lt. ap (λ l. get_or l i 0) c.requires.zeros ∙ get_or-replicate _ i 0 0 lt);
   same_matchers = none_asked;
   room = ap length c.requires.zeros ∙ length-replicate _ _;
   spare = c.requires.spare;
   steps = adds_none _ _ _;
 }
 
-pub add_ends-requires-clause-window : goal.add_ends-requires-clause-window
-add_ends-requires-clause-window g c = rw c.whole_of.ensures (omega arith, inl refl)
-
 pub loop-matcher-preserved : goal.loop-matcher-preserved
 loop-matcher-preserved g c =
     let expression = g.M.LineMatch.expression in
-    let whole = g.M.LineMatch.whole in
     let old = c.args.matchers.now in
     let now = c.loop-matcher.matchers in
     let i = c.loop-matcher.matcher-index in
     let d = c.matcher-item.result in
     let same = c.loop-matcher.invariant.same_matchers in
-    let h = c.loop-matcher-test.true in
     record {
       right =
-          ends_more (map expression old) (map whole old) c.args.line.now i _ _ c.args.whole c.loop-matcher.ends c.add_ends.new.ends 0 refl c.loop-matcher.invariant.room (within whole old now same.same_wholes i d h).1 (value_at whole old now same.same_wholes i d h _)
-          (one_more expression old now same.same_expressions i d h) c.requires.alike c.loop-matcher.invariant.right (rw c.whole_of.ensures at c.add_ends.ensures.added);
+          ends_more (map expression old) c.args.line.now i _ c.loop-matcher.ends c.add_ends.new.ends c.loop-matcher.invariant.room (one_more expression old now same.same_expressions i d c.loop-matcher-test.true)
+          c.loop-matcher.invariant.right (rw c.rest_of.ensures at c.add_ends.ensures.added);
       same_matchers = one_kept same i d _ c.add_ends.ensures.same;
       room = c.add_ends.ensures.added.0 ∙ c.loop-matcher.invariant.room;
       spare = c.add_ends.ensures.same_spare ∙ c.loop-matcher.invariant.spare;
-      steps = steps_more i _ _ _ _ c.loop-matcher.invariant.steps (steps_of_line (length c.args.line.now) _ _ (rw c.whole_of.ensures at c.add_ends.ensures.steps));
+      steps = let long = length c.args.line.now in
+          steps_more i _ _ _ _ c.loop-matcher.invariant.steps (adds_within (long - 0) (long + 1) 0 (long + 1) _ _ (omega arith) (omega arith) (rw c.rest_of.ensures at c.add_ends.ensures.steps));
     }
 
 pub returns-clause-right : goal.returns-clause-right

@@ -1,4 +1,4 @@
-use Rattle.re_search.proofs.Prelude.{[], ◌∷◌, arith, map, subst, take_all, expression_of, AddsEach}
+use Rattle.re_search.proofs.Prelude.{[], ◌∷◌, subst, expression_of, AddsEach}
 use Rattle.re_search.proofs.lemmas.PlainLaws.{no_strings, next_string}
 use Rattle.re_search.proofs.plain.add_each.Goals as goal
 
@@ -12,6 +12,3 @@ trees-preserved c =
     let tree = c.index-trees-place.result in
     next_string expression_of c.args.trees.now c.trees.place tree c.args.strings.now.items old new c.trees-test.true c.trees.invariant
     (subst (λ t. AddsEach (expression_of t ∷ []) old new) c.index-trees-place.is c.in_ok-add_string.ensures)
-
-pub returns : goal.returns
-returns c = subst (λ trees. AddsEach (map expression_of trees) c.args.strings.now.items c.trees.strings.items) (take_all c.trees.place c.args.trees.now (omega (arith, c.trees-test.false))) c.trees.invariant

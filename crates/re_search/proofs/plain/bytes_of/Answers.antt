@@ -1,4 +1,4 @@
-use Rattle.re_search.proofs.Prelude.{rules, ◌≡◌, [], ◌∷◌, ◌++◌, map, subst, take_all, arith, byte, expression_of}
+use Rattle.re_search.proofs.Prelude.{rules, ◌≡◌, [], ◌∷◌, ◌++◌, subst, byte, expression_of}
 use Rattle.re_search.proofs.lemmas.PlainStrings.{byte_more}
 use Rattle.re_search.proofs.plain.bytes_of.Goals as goal
 
@@ -8,6 +8,3 @@ trees-preserved c =
     let added : c.push.new.self.items ≡ c.trees.text.items ++ b ∷ [] = search rules in
     rw added (byte_more expression_of c.args.trees.now c.trees.place c.index-trees-place.result c.trees.text.items b c.trees-test.true c.trees.invariant
     (subst (λ t. expression_of t ≡ byte b) c.index-trees-place.is c.in_ok-byte.ensures))
-
-pub returns : goal.returns
-returns c = subst (λ trees. map expression_of trees ≡ map byte c.trees.text.items) (take_all c.trees.place c.args.trees.now (omega (arith, c.trees-test.false))) c.trees.invariant

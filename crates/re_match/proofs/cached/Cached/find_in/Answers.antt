@@ -1,5 +1,5 @@
 use Rattle.re_match.proofs.Prelude.{◌-◌}
-use Rattle.re_match.proofs.lemmas.AheadLaws.{walked_adds}
+use Rattle.re_match.proofs.lemmas.StepSums.{walked_adds}
 use Rattle.re_match.proofs.cached.Cached.find_in.Goals as goal
 
 pub find-requires-clause-border : goal.find-requires-clause-border

@@ -1,4 +1,4 @@
-use Rattle.re_match.proofs.Prelude.{expression_of, mode_for, inl, inr, refl}
+use Rattle.re_match.proofs.Prelude.{expression_of, mode_for, inl, refl}
 use Rattle.re_needle.proofs.lemmas.NeedleLaws.{settled_says}
 use Rattle.re_steps.proofs.lemmas.StageLaws.{searches_say, searches_steps}
 use Rattle.re_match.proofs.lemmas.LookLaws.{looks_over, looks_and_steps}
@@ -22,6 +22,3 @@ pub returns-clause-steps : goal.returns-clause-steps
 returns-clause-steps c =
     looks_and_steps (expression_of c.args.self.now.tree) c.args.line.now _ _ _ c.settled.ensures.looked
     (searches_steps (expression_of c.args.self.now.tree) c.args.line.now (mode_for c.args.self.now.whole) c.args.self.now.cache c.searched.new.self.cache c.settled.new.meter c.searched.new.meter c.searched.result c.searched.ensures.searches)
-
-pub returns-clause-counted : goal.returns-clause-counted
-returns-clause-counted c = record { looked = c.settled.new.meter; looks = c.settled.ensures.looked; answers = inr c.searched.ensures.searches }

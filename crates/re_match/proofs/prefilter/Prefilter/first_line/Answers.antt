@@ -1,11 +1,8 @@
-use Rattle.re_match.proofs.Prelude.{◌≤◌, arith, subst, inl, inr, IfSome, runs_of}
+use Rattle.re_match.proofs.Prelude.{◌≤◌, subst, inl, inr, IfSome, runs_of}
 use Rattle.re_needle.proofs.lemmas.NeededLines.{passes_unmatched_run}
 use Rattle.re_needle.proofs.lemmas.NeededLines.{passes_unmatched_begun}
 use Rattle.re_match.proofs.lemmas.SweptLines.{stops_seen, stops_matched, stops_at_head}
 use Rattle.re_match.proofs.prefilter.Prefilter.first_line.Goals as goal
-
-pub of-requires : goal.of-requires
-of-requires c = c.first_line_beginning_with-swept.ensures.within
 
 pub returns-then-needle-clause-passes : goal.returns-then-needle-clause-passes
 returns-then-needle-clause-passes c = λ e is.
@@ -46,12 +43,4 @@ returns-clause-stops c = λ e is.
       | inr (first, any, free, place) ↦
           let low = subst (λ p. IfSome p (λ k. swept.start ≤ k)) place of.low in
           rw any (stops_at_head e (runs_of c.in-Some.needle.finder) block swept c.first_place-first.result (is.begin free) (needle.first first) needle.some place of.found low of.stops)
-    ])
-
-pub returns-clause-low : goal.returns-clause-low
-returns-clause-low c =
-    let swept = c.first_line_with_run-swept.result in
-    rw c.of-2.ensures (elim c.first_place-first.ensures [
-      | inl same ↦ omega (arith, same)
-      | inr head ↦ subst (λ p. IfSome p (λ k. swept.start ≤ k)) head.3 c.first_line_with_run-swept.ensures.low
     ])

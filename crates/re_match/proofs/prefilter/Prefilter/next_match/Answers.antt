@@ -1,19 +1,14 @@
-use Rattle.re_match.proofs.Prelude.{false, ◌+◌, ◌-◌, ◌≡◌, inl, refl, length, drop, None, Some, arith, length-drop, subst, take_rest, look_cost, FindsRun, runs_of}
+use Rattle.re_match.proofs.Prelude.{false, ◌+◌, ◌-◌, ◌≡◌, length, drop, None, Some, arith, length-drop, subst, take_rest, look_cost, FindsRun, runs_of}
 use Rattle.re_needle.proofs.lemmas.NeedleLaws.{lacks_part, all_is_part}
-use Rattle.re_meter.proofs.lemmas.Adding.{adds_none, only_passed}
+use Rattle.re_meter.proofs.lemmas.Adding.{only_passed}
 use Rattle.re_runs.proofs.lemmas.RunLaws.{run_whole}
+use Rattle.re_match.proofs.lemmas.StepSums.{passes}
 use Rattle.re_match.proofs.prefilter.Prefilter.next_match.Goals as goal
-
-pub returns-in_default : goal.returns-in_default
-returns-in_default c = λ e right edges. rw c.rest_of.ensures (((omega arith, λ i j f. f.begins), (omega (arith, c.requires), inl refl)), adds_none _ _ _)
-
-pub returns-then-needle : goal.returns-then-needle
-returns-then-needle c = λ e right edges. rw c.rest_of-then-needle.ensures (((omega arith, λ i j f. f.begins), (omega (arith, c.requires), inl refl)), adds_none _ _ _)
 
 pub returns-in_default-find : goal.returns-in_default-find
 returns-in_default-find c = λ e right edges. (
   lacks_part e c.in-Some.needle (rw c.in-Some.is at right.needle) c.args.line.now false c.args.from (rw take_rest at c.in_default-find.ensures.found),
-  only_passed (length c.args.line.now - c.args.from) (look_cost (drop c.args.from c.args.line.now) None) _ _ (omega (arith, length-drop c.args.from c.args.line.now)) (rw take_rest at c.in_default-find.ensures.counted),
+  passes (length c.args.line.now - c.args.from) (look_cost (drop c.args.from c.args.line.now) None) _ _ (omega (arith, length-drop c.args.from c.args.line.now)) (rw take_rest at c.in_default-find.ensures.counted),
 )
 
 pub window_at-requires-clause-next : goal.window_at-requires-clause-next
@@ -36,4 +31,4 @@ returns c = λ e right edges.
     let from = c.args.from in
     let part = all_is_part e c.in-Some.needle (rw c.in-Some.is at right.needle) line c.if-not-needle.false from c.in-Some-find.place c.in-Some-longest_end.end (omega (arith, c.requires)) (rw take_rest at c.in-Some-find.ensures.found) c.in-Some-longest_end.ensures in
     let some = part.found.not_empty in
-    (part, only_passed (c.in-Some-longest_end.end - from) (look_cost (drop from line) (Some c.in-Some-find.place)) _ _ (omega (arith, some)) (rw take_rest at c.in-Some-find.ensures.counted))
+    (part, passes (c.in-Some-longest_end.end - from) (look_cost (drop from line) (Some c.in-Some-find.place)) _ _ (omega (arith, some)) (rw take_rest at c.in-Some-find.ensures.counted))

@@ -1,12 +1,9 @@
-use Rattle.re_match.proofs.Prelude.{None, Some, refl, inl, inr, sym, ◌∙◌, slice_range, length-take-le, false≢true, lines_of, Literals}
+use Rattle.re_match.proofs.Prelude.{None, Some, refl, inl, inr, sym, ◌∙◌, slice_range, false≢true, lines_of, Literals}
 use Rattle.re_trees.proofs.lemmas.LinesLaws.{AreLines-lines_of}
 use Rattle.re_match.proofs.lemmas.SetAround.{set_around, stops_around}
 use Rattle.re_match.proofs.lemmas.SetMatches.{empty_matches}
 use Rattle.re_match.proofs.lemmas.SetBlocks.{passes_set_block, passes_set_front}
 use Rattle.re_match.proofs.string_set.StringSet.first_line.Goals as goal
-
-pub slice_bounds-line_start-end : goal.slice_bounds-line_start-end
-slice_bounds-line_start-end c = sym (length-take-le c.in-Some.end c.args.block.now c.in-Some.ensures.within.1)
 
 pub returns-then-self-clause-found : goal.returns-then-self-clause-found
 returns-then-self-clause-found c end cut =

@@ -1,4 +1,4 @@
-use Rattle.re_search.proofs.Prelude.{◌∙◌, ◌+◌, ◌-◌, ◌<◌, ◌↔◌, [], ◌∷◌, ap, subst, sym, FoundPast, LineEnds, with_items_is, length, slice_index}
+use Rattle.re_search.proofs.Prelude.{◌∙◌, ◌+◌, ◌-◌, ◌<◌, ◌↔◌, false, [], ◌∷◌, ap, subst, sym, FoundPast, LineEnds, with_items_is, length, slice_index}
 use Rattle.re_search.proofs.lemmas.LinePartsLaws.{zeros_added}
 use Rattle.re_search.proofs.line_parts.LineParts.look_at.Goals as goal
 
@@ -12,5 +12,5 @@ returns-clause-right g c =
       first = ap (λ (p : LineEnds). p.first) opened;
       long = ap length items ∙ added.0;
       are_ends = λ i m lt.
-          subst (λ l. (m < slice_index l i) ↔ FoundPast (g.M.LineMatch.expression c.args.matcher.now ∷ []) c.args.line.now (g.M.LineMatch.whole c.args.matcher.now) (c.args.window.start + i) m) (sym items) (added.1 i m lt);
+          subst (λ l. (m < slice_index l i) ↔ FoundPast (g.M.LineMatch.expression c.args.matcher.now ∷ []) c.args.line.now false (c.args.window.start + i) m) (sym items) (added.1 i m lt);
     }

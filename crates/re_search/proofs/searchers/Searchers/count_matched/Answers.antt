@@ -1,6 +1,7 @@
-use Rattle.re_search.proofs.Prelude.{◌≡◌, ◌+◌, None, Some, length, map, drop, get_or, slice_set, refl, ap, subst, arith, length-drop, take_rest, get_or_default, lines_of, expressions_by, sought_by, Sought, IsSought, FindsSought, SameMatchers}
+use Rattle.re_search.proofs.Prelude.{◌≡◌, ◌+◌, None, Some, length, drop, slice_set, refl, ap, subst, arith, length-drop, take_rest, lines_of, expressions_by, sought_by, Sought, IsSought, FindsSought, SameMatchers}
 use Rattle.re_search.proofs.lemmas.KeptMatchers.{none_asked, one_kept, asked_over, same_sought}
-use Rattle.re_search.proofs.lemmas.OneMatcher.{only_one, counts_of_one}
+use Rattle.re_search.proofs.lemmas.OneMatcher.{sought_alone}
+use Rattle.re_runs.proofs.lemmas.CountedBlocks.{counts_same}
 use Rattle.re_runs.proofs.lemmas.NextLines.{CountsTo, counts_next, counts_all}
 use Rattle.re_search.proofs.lemmas.SearchedBlocks.{adds_on_by}
 use Rattle.re_search.proofs.searchers.Searchers.count_matched.Goals as goal
@@ -40,10 +41,5 @@ invariant_of-self g c =
 
 pub returns-then-has_one_alone-clause-reported : goal.returns-then-has_one_alone-clause-reported
 returns-then-has_one_alone-clause-reported g c =
-    let e = g.M.LineMatch.expression in
-    let w = g.M.LineMatch.whole in
-    let ms = c.args.self.now.matchers.now in
-    let one : length ms ≡ 1 = c.if-has_one_alone.ensures refl in
-    let m = get_or ms 0 c.index-matchers-0.result in
-    let is : get_or ms 0 m ≡ m = get_or_default ms 0 m c.index-matchers-0.result (omega (arith, one)) in
-    counts_of_one (map e ms) (map w ms) (e m) (w m) (only_one e ms m one is) (only_one w ms m one is) (lines_of c.args.block.now) c.count_matched.result c.count_matched.ensures.reported c.args.self.now.whole c.args.self.now.alike
+    let alone = sought_alone g.M.LineMatch.expression g.M.LineMatch.whole c.args.self.now.matchers.now c.index-matchers-0.result c.args.self.now.whole (c.if-has_one_alone.ensures refl) c.args.self.now.alike in
+    counts_same _ _ (λ line. (alone line).0) (λ line. (alone line).1) (lines_of c.args.block.now) c.count_matched.result c.count_matched.ensures.reported

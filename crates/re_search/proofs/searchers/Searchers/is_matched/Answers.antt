@@ -22,9 +22,3 @@ pub invariant_of-self-2 : goal.invariant_of-self-2
 invariant_of-self-2 g c =
     let same = c.is_matched-2.ensures.same_matchers in
     record { alike = rw same.same_wholes c.args.self.now.alike; needed = λ x e. rw same.same_expressions (c.args.self.now.needed x e) }
-
-pub returns-then-is_empty-clause-reported : goal.returns-then-is_empty-clause-reported
-returns-then-is_empty-clause-reported g c = c.is_matched.ensures.reported c.args.self.now.whole c.args.self.now.alike
-
-pub returns-clause-reported : goal.returns-clause-reported
-returns-clause-reported g c = c.is_matched-2.ensures.reported c.args.self.now.whole c.args.self.now.alike

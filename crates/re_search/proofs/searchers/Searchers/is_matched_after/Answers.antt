@@ -9,9 +9,3 @@ pub invariant_of-self-in-Matched : goal.invariant_of-self-in-Matched
 invariant_of-self-in-Matched g c =
     let same = c.is_matched-in-Matched.ensures.same_matchers in
     record { alike = rw same.same_wholes c.args.self.now.alike; needed = λ x e. rw same.same_expressions (c.args.self.now.needed x e) }
-
-pub returns-in-Seen-clause-reported : goal.returns-in-Seen-clause-reported
-returns-in-Seen-clause-reported g c = c.is_matched-in-Seen.ensures.reported c.args.self.now.whole c.args.self.now.alike
-
-pub returns-in-Matched-clause-reported : goal.returns-in-Matched-clause-reported
-returns-in-Matched-clause-reported g c = c.is_matched-in-Matched.ensures.reported c.args.self.now.whole c.args.self.now.alike

@@ -1,6 +1,7 @@
-use Rattle.re_search.proofs.Prelude.{◌≡◌, length, map, get_or, slice_set, refl, arith, get_or_default, lines_of, SameMatchers}
+use Rattle.re_search.proofs.Prelude.{slice_set, refl, lines_of, SameMatchers}
 use Rattle.re_search.proofs.lemmas.KeptMatchers.{none_asked, one_kept}
-use Rattle.re_search.proofs.lemmas.OneMatcher.{only_one, finds_of_one}
+use Rattle.re_search.proofs.lemmas.OneMatcher.{sought_alone}
+use Rattle.re_runs.proofs.lemmas.NextLines.{finds_same}
 use Rattle.re_search.proofs.searchers.Searchers.next_matched.Goals as goal
 
 pub invariant_of-self : goal.invariant_of-self
@@ -11,10 +12,5 @@ invariant_of-self g c =
 
 pub returns-then-has_one_alone-clause-reported : goal.returns-then-has_one_alone-clause-reported
 returns-then-has_one_alone-clause-reported g c =
-    let e = g.M.LineMatch.expression in
-    let w = g.M.LineMatch.whole in
-    let ms = c.args.self.now.matchers.now in
-    let one : length ms ≡ 1 = c.if-has_one_alone.ensures refl in
-    let m = get_or ms 0 c.index-matchers-0.result in
-    let is : get_or ms 0 m ≡ m = get_or_default ms 0 m c.index-matchers-0.result (omega (arith, one)) in
-    finds_of_one (map e ms) (map w ms) (e m) (w m) c.args.self.now.whole (only_one e ms m one is) (only_one w ms m one is) c.args.self.now.alike (lines_of c.args.block.now) c.next_matched.result c.next_matched.ensures.reported
+    let alone = sought_alone g.M.LineMatch.expression g.M.LineMatch.whole c.args.self.now.matchers.now c.index-matchers-0.result c.args.self.now.whole (c.if-has_one_alone.ensures refl) c.args.self.now.alike in
+    finds_same _ _ (λ line. (alone line).0) (λ line. (alone line).1) (lines_of c.args.block.now) c.next_matched.result c.next_matched.ensures.reported

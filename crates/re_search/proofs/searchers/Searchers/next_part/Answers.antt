@@ -1,10 +1,6 @@
-use Rattle.re_search.proofs.Prelude.{length-map}
 use Rattle.re_search.proofs.searchers.Searchers.next_part.Goals as goal
 
 pub invariant_of-self : goal.invariant_of-self
 invariant_of-self g c =
     let same = c.next_part.ensures.same_matchers in
     record { alike = rw same.same_wholes c.args.self.now.alike; needed = λ x e. rw same.same_expressions (c.args.self.now.needed x e) }
-
-pub returns-clause-steps : goal.returns-clause-steps
-returns-clause-steps g c = rw (length-map c.args.self.now.matchers.now g.M.LineMatch.expression) c.next_part.ensures.steps

@@ -1,0 +1,23 @@
+use Rattle.re_match.proofs.Prelude.{◌-◌, ◌≤◌, length, inl, refl, arith, past}
+use Rattle.re_match.proofs.lemmas.StepSums.{look_and_built, looks_twice}
+use Rattle.re_meter.proofs.lemmas.Adding.{adds_within}
+use Rattle.re_match.proofs.strings.Look.next_part.Goals as goal
+
+pub returns-then-beyond-bytes-clause-reported : goal.returns-then-beyond-bytes-clause-reported
+returns-then-beyond-bytes-clause-reported c =
+    let found = c.in-Some.ensures.reported.found in
+    let within : c.in-Some.part.start ≤ length c.args.line.now = omega (arith, found.not_empty, found.on_line) in
+    rw c.rest_of.ensures ((found.begins, c.in-Some.ensures.reported.earliest), (within, inl refl))
+
+pub returns-then-beyond-bytes-clause-steps : goal.returns-then-beyond-bytes-clause-steps
+returns-then-beyond-bytes-clause-steps c =
+    let found = c.in-Some.ensures.reported.found in
+    let line = c.args.line.now in
+    let most = past line (length line) - c.args.from in
+    rw c.rest_of.ensures (adds_within 0 (c.in-Some.part.start - c.args.from) most most _ _ (omega arith) (omega arith)
+    (looks_twice (c.in-Some.part.end - c.args.from) c.min.result most _ _ _ (omega (arith, c.min.ensures, found.begins, found.not_empty, found.on_line)) c.add_passed-2.ensures c.add_passed-then-beyond-bytes.ensures))
+
+pub returns-clause-steps : goal.returns-clause-steps
+returns-clause-steps c =
+    let bytes = c.in-Some.part.end - c.args.from in
+    look_and_built bytes c.saturating_sub-beyond.result bytes bytes _ _ _ (omega (arith, c.if-beyond-bytes.false)) (omega arith) c.add_passed-2.ensures c.add_built.ensures

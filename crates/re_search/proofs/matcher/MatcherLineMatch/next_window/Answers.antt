@@ -1,7 +1,0 @@
-use Rattle.re_search.proofs.matcher.MatcherLineMatch.next_window.Goals as goal
-
-pub returns-in-Strings-clause-reported : goal.returns-in-Strings-clause-reported
-returns-in-Strings-clause-reported c = rw c.in-Strings.is c.next_window.ensures.reported
-
-pub returns-in-Cached-clause-reported : goal.returns-in-Cached-clause-reported
-returns-in-Cached-clause-reported c = rw c.in-Cached.is (rw c.deref_mut.ensures.value at c.next_window-in-Cached.ensures.reported)
