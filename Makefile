@@ -96,8 +96,8 @@ test-memory: build/grep build/occur
 # The tests run on the compiled client, as its users do.
 test-editor: build/grep build/occur
 	mkdir -p build/emacs
-	cp editors/emacs/live-occur.el build/emacs/
-	$(EMACS) -Q --batch -f batch-byte-compile build/emacs/live-occur.el
+	cp editors/emacs/*.el build/emacs/
+	$(EMACS) -Q --batch -L build/emacs -f batch-byte-compile build/emacs/*.el
 	OCCUR=$(CURDIR)/build/occur GREP=$(CURDIR)/build/grep tools/evidence.sh test-editor \
 	    $(EMACS) -Q --batch -L build/emacs -l editors/emacs/test/live-occur-test.el -f ert-run-tests-batch-and-exit
 
@@ -140,7 +140,7 @@ install-occur:
 	    install -m 644 $$folder/*.* "$(DESTDIR)$(NVIM_SITE)/$$folder/" || exit; done; fi
 
 # What of the clients is removed.
-EMACS_CLIENT = live-occur.el live-occur.elc live-occur-autoloads.el
+EMACS_CLIENT = live-occur.el live-occur.elc live-occur-track.el live-occur-track.elc live-occur-autoloads.el
 NVIM_CLIENT = plugin/live_occur.lua doc/live-occur.txt lua/live_occur
 
 uninstall:

@@ -28,6 +28,7 @@ def installed_of(name: str) -> list[str]:
 
 INSTALLED = sorted([*installed_of("grep"), *installed_of("occur"), *TEXTS])
 LUA = REPOSITORY / "editors/nvim/lua/live_occur"
+EMACS_CLIENT = ["live-occur-track.el", "live-occur.el"]
 NVIM_CLIENT = ["doc/live-occur.txt", *sorted(f"lua/live_occur/{file.name}" for file in LUA.iterdir()),
                "plugin/live_occur.lua"]
 CHECKED_OUT = ["CHANGELOG.md", "LICENSE-APACHE", "LICENSE-MIT", "Makefile", "README.md", "VERSION", "capi", "completions",
@@ -181,7 +182,7 @@ def clients(bench: Bench) -> Verdict:
     status = install(bench, f"DESTDIR={bench.folder / 'stage'}", "EMACS=no-such-emacs",
                      *(f"{name}={folder}" for name, folder in folders.items()))
     lisp, nvim = (files_in(bench.folder / "stage" / folder.relative_to("/")) for folder in folders.values())
-    wanted = Answer("\n".join(["live-occur.el", *NVIM_CLIENT]).encode())
+    wanted = Answer("\n".join([*EMACS_CLIENT, *NVIM_CLIENT]).encode())
     return Verdict(wanted, Answer(lisp + b"\n" + nvim, b"", status))
 
 
@@ -200,17 +201,17 @@ def compiled(bench: Bench) -> Verdict:
     ran = subprocess.run([emacs, "-Q", "--batch", "-L", lisp, "--eval", STARTED], timeout=SECONDS,
                          stdin=subprocess.DEVNULL, capture_output=True, check=False)
     names = files_in(lisp)
-    wanted = b"live-occur-autoloads.el\nlive-occur.el\nlive-occur.elc"
+    wanted = listed(["live-occur-autoloads.el", *EMACS_CLIENT, *(f"{name}c" for name in EMACS_CLIENT)])
     loads = ran.stdout.startswith(b"(autoload live-occur ") and ran.stdout.endswith(b"t")
     return Verdict(Answer(wanted + b"\nTrue"), Answer(names + f"\n{loads}".encode(), b"", status))
 
 
 @grep_case("`make install` without an Emacs leaves no Emacs client that another one compiled.")
 def not_compiled(bench: Bench) -> Verdict:
-    for name in ("live-occur.elc", "live-occur-autoloads.el"):
+    for name in (*(f"{name}c" for name in EMACS_CLIENT), "live-occur-autoloads.el"):
         bench.write(f"lisp/{name}", b"old")
     status = install(bench, f"SITE_LISP={bench.folder / 'lisp'}", "EMACS=no-such-emacs")
-    return Verdict(Answer(b"live-occur.el"), Answer(files_in(bench.folder / "lisp"), b"", status))
+    return Verdict(Answer(listed(EMACS_CLIENT)), Answer(files_in(bench.folder / "lisp"), b"", status))
 
 
 NAMED = listed([*installed_of("gaxgrep"), *installed_of("occur"), *TEXTS])

@@ -14,6 +14,7 @@ import tarfile
 from pathlib import Path
 
 from install import (
+    EMACS_CLIENT,
     INSTALLED,
     NVIM_CLIENT,
     OTHER_GREP,
@@ -34,7 +35,8 @@ PROGRAMS = f"gaxtrel-{VERSION}-x86_64-linux"
 """The folder in the archive of the programs, and in that of their symbols."""
 
 SOURCES = f"gaxtrel-{VERSION}"
-CLIENTS = ["share/emacs/site-lisp/live-occur.el", *(f"share/nvim/site/{name}" for name in NVIM_CLIENT)]
+CLIENTS = [*(f"share/emacs/site-lisp/{name}" for name in EMACS_CLIENT),
+           *(f"share/nvim/site/{name}" for name in NVIM_CLIENT)]
 DATE = "1700000000"
 """A time for the files in packages."""
 

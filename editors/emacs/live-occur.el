@@ -14,9 +14,8 @@
 ;; `live-occur' lists the lines of the current buffer, or of its region, that
 ;; match a pattern, as `occur' does, while the pattern is typed; other commands
 ;; take the files of a project, buffers by name or mode, marked files of Dired,
-;; and what isearch looks for.  The list is kept right while the buffers
-;; are edited, and its rows can be edited themselves.  C-h m in it describes the
-;; keys.
+;; and what isearch looks for.  The list is kept right while the buffers are
+;; edited, and its rows can be edited, too.  C-h m in it describes the keys.
 ;;
 ;; What matches is decided by the program `occur' of Gaxtrel, one process a
 ;; list: it is sent the lines that a change touched, and answers what changed
@@ -25,6 +24,7 @@
 ;;; Code:
 
 (require 'cl-lib)
+(require 'live-occur-track)
 (require 'seq)
 (require 'subr-x)
 
@@ -128,25 +128,20 @@ The whole line is searched."
 
 (defface live-occur-name '((t :inherit font-lock-function-name-face))
   "Face for the name of the buffer in a row.")
-
 (defface live-occur-line '((t :inherit shadow))
   "Face for the number of the line in a row, and for lines around matches.")
-
-(defface live-occur-match '((t :inherit match))
-  "Face for the matched parts of a row.")
-
+(defface live-occur-match '((t :inherit match)) "Face for the matched parts of a row.")
 (defface live-occur-changed '((t :inherit warning))
   "Face for name and number of a row that was changed, while rows are edited.")
-
 (defface live-occur-preview '((t :inherit highlight))
   "Face for the hit that is shown while a pattern is typed, and for its row.")
-
 (defface live-occur-fault '((t :inherit error :underline t))
   "Face for the place at which a pattern is refused.")
 
 (defvar live-occur-history nil "Patterns that were read from the minibuffer.")
 
-(defconst live-occur--mouse "mouse-2: go to this line" "The hint of rows.")
+;; What all rows have, as a category: of many rows the collector has less to look at.
+(setplist 'live-occur--row '(mouse-face highlight help-echo "mouse-2: go to this line"))
 
 ;;;; A list
 
@@ -154,82 +149,60 @@ The whole line is searched."
 (defvar-local live-occur--fault nil "What made this list wrong, or nil.")
 (defvar-local live-occur--sources nil "The sources, in their order.")
 (defvar-local live-occur--visited nil "The sources that have buffers.")
-(defvar-local live-occur--files nil
-  "The sources that are files, by their names, or nil where there are none.")
+(defvar-local live-occur--files nil "The sources by names of files, or nil.")
 (defvar-local live-occur--patterns nil "The patterns, in their order.")
-(defvar-local live-occur--sent nil
-  "The syntax that the program has, and its patterns.")
+(defvar-local live-occur--sent nil "Syntax and patterns of the program.")
 (defvar-local live-occur--flags-sent nil "The flags that the program has on.")
 (defvar-local live-occur--asked nil "Whether changes of hits are on their way.")
 (defvar-local live-occur--due nil "Whether to ask for changes of hits.")
-(defvar-local live-occur--slice nil
-  "What is being sent: see `live-occur--send-next'.")
+(defvar-local live-occur--slice nil "See `live-occur--send-next'.")
 (defvar-local live-occur--more nil "Whether more lines are to be searched.")
 (defvar-local live-occur--held nil "Whether the list gets no other rows now.")
-(defvar-local live-occur--kept nil
-  "Whether rows stay until a program that was started again has reported all.")
-(defvar-local live-occur--trying nil
-  "Whether patterns wait for a reply, or what is wanted after that.")
+(defvar-local live-occur--kept nil "Whether rows stay until all was reported.")
+(defvar-local live-occur--trying nil "If patterns wait, or what comes next.")
 (defvar-local live-occur--previewing nil "Whether a pattern is being typed.")
-(defvar-local live-occur--preview nil
-  "The `live-occur--preview' while a pattern is typed, or nil.")
+(defvar-local live-occur--preview nil "One while a pattern is typed, or nil.")
 (defvar-local live-occur--looking nil
-  "The patterns of the last look for a hit, and whether it goes on: a pair.
-Each look has another one.")
-(defvar-local live-occur--wanted nil
-  "The hit to whose row point goes when the hits have come, or nil.")
+  "The patterns of the last look for a hit, and whether it goes on: a new pair.")
+(defvar-local live-occur--wanted nil "The hit whose row is gone to later.")
 (defvar-local live-occur--page nil
   "Where the hits are not shown, how many to tell of, and where to go back to.")
 (defvar-local live-occur--made 0 "How many rows were made while idle.")
 (defvar-local live-occur--idle-timer nil "The timer that looks for edits.")
 (defvar-local live-occur--touched nil
-  "The buffers that rows have changed, each with its state and its text's hash.
-The hash is nil where the buffer was modified before.")
+  "The buffers that rows have changed, each with its state and its hash or nil.")
 (defvar-local live-occur--timer nil "The timer that does so once, or nil.")
 
 (defvar live-occur--sending nil "Whether edits are being sent.")
-(defvar live-occur--typing nil
-  "Whether settings count for a pattern that is typed, and isn't sent yet.")
+(defvar live-occur--typing nil "Whether settings count for what is typed.")
 (defvar live-occur-edit-mode)
 (defvar live-occur-mode-map)
 (defvar live-occur-preview-map)
 
-(defmacro live-occur--in (buffer &rest body)
-  "Run BODY in BUFFER, if it is alive."
-  (declare (indent 1) (debug t))
-  `(when (buffer-live-p ,buffer)
-     (with-current-buffer ,buffer ,@body)))
-
 (defun live-occur--text-after-point (&optional most)
   "The text from point to the end of the line, at most MOST characters of it."
-  (let ((end (line-end-position)))
-    (buffer-substring-no-properties
-     (point) (if most (min end (+ (point) most)) end))))
+  (buffer-substring-no-properties
+   (point) (min (line-end-position) (+ (point) (or most (buffer-size))))))
 
 (defun live-occur--look-later (list seconds)
   "Look at LIST in SECONDS, if Emacs is idle and no other timer does.
 It stays idle where the system tells that a file was written."
-  (when (or (current-idle-time)
-            (eq (car-safe last-input-event) 'file-notify))
+  (when (or (current-idle-time) (eq (car-safe last-input-event) 'file-notify))
     (live-occur--in list
       (unless live-occur--timer
-        (setq live-occur--timer
-              (run-with-timer seconds nil #'live-occur--look list))))))
+        (setq live-occur--timer (run-with-timer seconds nil #'live-occur--look list))))))
 
 ;;;; A program and its replies
 
-;; Commands are answered in their order, so it suffices to keep what waits
-;; for a reply in a queue.  It is the property `waiting' of the process: pairs
-;; of a length and a function.  What the program says to its standard error
-;; follows its last reply.
+;; Commands are answered in their order, so it suffices to keep what waits for a reply in a
+;; queue.  It is the property `waiting' of the process: pairs of a length and a function.  What
+;; the program says to its standard error follows its last reply.
 ;;
-;; Where a pipe is full Emacs sleeps, and far too long.  So commands on their
-;; way have few bytes in all, and others stay in the property `unsent'.  A long
-;; one goes alone and in parts: each when the program sleeps, since it has read
-;; all then.
+;; Where a pipe is full Emacs sleeps, and far too long.  So commands on their way have few bytes
+;; in all, and others stay in the property `unsent'.  A long one goes alone and in parts: each
+;; when the program sleeps, since it has read all then.
 
-(defconst live-occur--flight 45000
-  "How many bytes are on their way to a program at most.")
+(defconst live-occur--flight 45000 "How many bytes are on their way at most.")
 
 (defun live-occur--end ()
   "End the program of this list, if there is one."
@@ -238,33 +211,31 @@ It stays idle where the system tells that a file was written."
     (delete-process live-occur--process)
     (kill-buffer (process-buffer live-occur--process))))
 
-(defun live-occur--send (text function)
-  "Send the command TEXT, and call FUNCTION in this list with the reply.
+(defun live-occur--send (command function)
+  "Send COMMAND, a text or parts of one, and call FUNCTION here with the reply.
 FUNCTION gets the last line of the reply, and the blocks before it: each is a
-list of a line that says what comes, and of the rows in `live-occur--piece's.
-A program that has ended gives no reply, and one that can't be written to is
-ended; its sentinel reports either."
+list of a line that says what comes, and of the rows in `live-occur--piece's."
   (let ((inhibit-quit t))
     (cl-callf nconc (process-get live-occur--process 'unsent)
-      (list (cons text function)))
+      (list (cons (ensure-list command) function)))
     (live-occur--write live-occur--process)))
 
 (defun live-occur--write (process)
   "Send PROCESS what waits to be sent, as far as it fits."
-  (while (and (process-get process 'unsent)
-              (not (process-get process 'rest))
-              (live-occur--fits-p
-               process (length (caar (process-get process 'unsent)))))
-    (pcase-let ((`(,text . ,function) (pop (process-get process 'unsent))))
-      (cl-callf nconc (process-get process 'waiting)
-        (list (cons (length text) function)))
-      (if (length< text (1+ live-occur--flight))
-          (live-occur--write-text process text)
-        (process-put process 'rest (cons text 0))
-        ;; A timer that begins in another one would wait for a redisplay.
-        (process-put process 'timer
-                     (run-with-timer 0 0.002 #'live-occur--write-part
-                                     process))))))
+  (while (pcase-let* ((`(,parts . ,function) (car (process-get process 'unsent)))
+                      (length (apply #'+ (mapcar #'length parts))))
+           (when (and parts
+                      (not (process-get process 'rest))
+                      (live-occur--fits-p process length))
+             (pop (process-get process 'unsent))
+             (cl-callf nconc (process-get process 'waiting) (list (cons length function)))
+             (if (<= length live-occur--flight)
+                 (dolist (part parts) (live-occur--write-text process part))
+               (process-put process 'rest (cons (apply #'concat parts) 0))
+               ;; A timer that begins in another one would wait for a redisplay.
+               (process-put process 'timer
+                            (run-with-timer 0 0.002 #'live-occur--write-part process)))
+             t))))
 
 (defun live-occur--fits-p (process length)
   "Whether a command of LENGTH bytes more may be on its way to PROCESS."
@@ -279,18 +250,15 @@ ended; its sentinel reports either."
   "Write TEXT to PROCESS."
   (condition-case nil
       (process-send-string process (live-occur--bytes text))
-    (error (when (process-live-p process)
-             (delete-process process)))))
+    (error (when (process-live-p process) (delete-process process)))))
 
 (defun live-occur--write-part (process)
   "Send PROCESS the next part of a long command, if it sleeps.
 Where the system doesn't tell, it has slept since the part before."
   (pcase-let* ((`(,text . ,start) (process-get process 'rest))
-               (most (/ live-occur--flight
-                        (if (= (length text) (string-bytes text)) 1 4)))
+               (most (/ live-occur--flight (if (= (length text) (string-bytes text)) 1 4)))
                (end (min (length text) (+ start most))))
-    (when (member (alist-get 'state (process-attributes (process-id process)))
-                  '(nil "S" "I"))
+    (when (member (alist-get 'state (process-attributes (process-id process))) '(nil "S" "I"))
       (process-put process 'rest (and (length> text end) (cons text end)))
       (live-occur--write-text process (substring text start end)))
     (unless (and (process-get process 'rest) (process-live-p process))
@@ -298,17 +266,12 @@ Where the system doesn't tell, it has slept since the part before."
       (process-put process 'rest nil)
       (live-occur--write process))))
 
-;; A long reply is taken in pieces while it comes.
-
-(defvar-local live-occur--blocks nil
-  "The blocks of the reply that is coming, and their rows, the last first.")
+(defvar-local live-occur--blocks nil "Those of the reply, the last first.")
 (defvar-local live-occur--rows-left 0 "How many rows of the block are to come.")
 (defvar-local live-occur--lines-here 0 "How many lines are before point.")
 
 (defun live-occur--read (process text)
-  "Take TEXT from PROCESS, and hand out the replies in it.
-What takes a reply may send more, and so get here again: the reply is taken out
-of the buffer before."
+  "Take TEXT from PROCESS, and hand out the replies in it."
   (let ((output (process-buffer process)))
     (live-occur--in output
       (save-excursion (goto-char (point-max)) (insert text))
@@ -319,49 +282,36 @@ of the buffer before."
 
 (defun live-occur--take (process)
   "Take some rows or one line out of this buffer, the output of PROCESS.
-Answer whether they were there.  What is no part of a reply stays."
-  (let ((count (max 1 (min 500 live-occur--rows-left))))
-    (when (and (live-occur--came-p count)
+Answer whether they were there; point is where to look for lines later."
+  (let* ((count (max 1 (min 500 live-occur--rows-left)))
+         (start (point))
+         (wanted (- count live-occur--lines-here))
+         (short (forward-line wanted))
+         (begun (if (and (> (point) start) (not (bolp))) 1 0)))
+    (when (and (= count (cl-incf live-occur--lines-here (- wanted short begun)))
                (save-excursion
                  (goto-char (point-min))
-                 (looking-at-p
-                  "[rp] \\|h\\|ok$\\|refused\\|status\\|occur ")))
+                 (looking-at-p "[rp] \\|h\\|ok$\\|refused\\|status\\|occur ")))
       (let ((text (buffer-substring (point-min) (point)))
             (last (progn (forward-line -1) (- (point) (point-min)))))
         (delete-region (point-min) (+ (point-min) (length text)))
         (setq live-occur--lines-here 0)
         (cond ((eq (aref text 0) ?h)
                (push (list text) live-occur--blocks)
-               (let ((count (nth 5 (split-string text " "))))
-                 (setq live-occur--rows-left (string-to-number (or count "")))))
+               (setq live-occur--rows-left (string-to-number (or (nth 5 (split-string text)) ""))))
               ((eq (aref text 1) ?\s)
                (cl-callf - live-occur--rows-left count)
-               (push (live-occur--piece text count
-                                        (live-occur--place-in text last) 0)
+               (push (live-occur--piece text count (live-occur--place-in text last) 0)
                      (cdar live-occur--blocks)))
-              (t (live-occur--hand-out process (substring text 0 -1)))))
+              (t (let ((blocks (nreverse (cl-shiftf live-occur--blocks nil))))
+                   (dolist (block blocks) (cl-callf nreverse (cdr block)))
+                   (live-occur--in (process-get process 'list)
+                     ;; After a fault replies are out of step.
+                     (unless live-occur--fault
+                       (funcall (or (cdr (pop (process-get process 'waiting)))
+                                    #'live-occur--accepted)
+                                (substring text 0 -1) blocks)))))))
       t)))
-
-(defun live-occur--came-p (count)
-  "Whether COUNT lines are in this buffer.
-Point moves to their end, or to where to look for it later."
-  (let* ((start (point))
-         (wanted (- count live-occur--lines-here))
-         (short (forward-line wanted))
-         (begun (if (and (> (point) start) (not (bolp))) 1 0)))
-    (= count (cl-incf live-occur--lines-here (- wanted short begun)))))
-
-(defun live-occur--hand-out (process reply)
-  "Give REPLY of PROCESS, with the blocks before it, to what waits for it.
-After a fault replies are out of step with what waits for them."
-  (let ((blocks (nreverse (cl-shiftf live-occur--blocks nil))))
-    (dolist (block blocks)
-      (setcdr block (nreverse (cdr block))))
-    (live-occur--in (process-get process 'list)
-      (unless live-occur--fault
-        (funcall (or (cdr (pop (process-get process 'waiting)))
-                     #'live-occur--accepted)
-                 reply blocks)))))
 
 (defun live-occur--ended (process _event)
   "Report in the list of PROCESS that it has ended, if it has."
@@ -409,8 +359,7 @@ After a fault replies are out of step with what waits for them."
 (defun live-occur--begin ()
   "Start the program of this list, and send it all that it has to hold."
   (unless (executable-find live-occur-program)
-    (user-error "There is no program %s: set live-occur-program"
-                live-occur-program))
+    (user-error "There is no program %s: set live-occur-program" live-occur-program))
   (let ((default-directory temporary-file-directory)
         (process-adaptive-read-buffering nil)
         (output (generate-new-buffer " *live-occur replies*" t)))
@@ -422,8 +371,7 @@ After a fault replies are out of step with what waits for them."
            :name "live-occur" :buffer output :noquery t
            :connection-type 'pipe :coding 'binary
            :command `(,live-occur-program
-                      ,@(and live-occur-states
-                             (list "--states" (format "%d" live-occur-states))))
+                      ,@(and live-occur-states (list "--states" (format "%d" live-occur-states))))
            :filter #'live-occur--read :sentinel #'live-occur--ended)))
   (process-put live-occur--process 'list (current-buffer))
   (setq live-occur--fault nil live-occur--asked nil live-occur--due nil
@@ -431,196 +379,28 @@ After a fault replies are out of step with what waits for them."
         live-occur--sent '(basic) live-occur--flags-sent nil)
   (live-occur--order "flag o on\n")
   (mapc #'live-occur--open live-occur--sources)
-  (when live-occur--patterns
-    (live-occur--want live-occur--patterns #'ignore)))
+  (when live-occur--patterns (live-occur--want live-occur--patterns #'ignore)))
 
-(defun live-occur--command (words count lines)
-  "A command of WORDS with COUNT lines that are in the text LINES.
-It is bytes, or still a text where it is long."
-  (concat (format "%s %d\n" words count)
-          (if (length> lines live-occur--flight)
-              lines
-            (live-occur--bytes lines))
-          (if (or (= count 0) (string-suffix-p "\n" lines)) "" "\n")))
-
-(defun live-occur--patterns-command (patterns)
-  "A command with PATTERNS."
-  (live-occur--command "patterns" (length patterns)
-                       (concat (string-join patterns "\n") "\n")))
+(defun live-occur--command (words lines &optional count)
+  "A command of WORDS, in parts, with the text LINES, which are COUNT, or a list.
+To put a long text together would make garbage."
+  (let ((text (if count lines (concat (string-join lines "\n") "\n"))))
+    (cons (format "%s %d\n" words (or count (length lines)))
+          (unless (eql count 0) (cons text (unless (string-suffix-p "\n" text) '("\n")))))))
 
 (defun live-occur--bytes (text)
   "The bytes of TEXT: UTF-8, and bytes that are no character as they are."
-  (if (multibyte-string-p text)
-      (encode-coding-string text 'utf-8-emacs-unix t)
-    text))
+  (if (multibyte-string-p text) (encode-coding-string text 'utf-8-emacs-unix t) text))
 
 (defun live-occur--text (bytes)
   "The text that BYTES are, for people to read."
   (decode-coding-string bytes 'utf-8-emacs-unix t))
 
-;;;; Hunks
+;;;; Buffers and files that are searched
 
-;; A hunk is a list of where it begins now, how many lines there were, and how
-;; many there are.  Hunks are in order, with lines between them that did not
-;; change.  Those before the last one noted are kept in a list, the last one
-;; first, and those after it in another: so a note near the one before costs
-;; little.
-
-(cl-defstruct (live-occur--hunks
-               (:constructor live-occur--hunks (gap))
-               (:copier nil))
-  "Where a text differs from an older one."
-  before after
-  (shift 0)                             ; what to add to where those after begin
-  gap                         ; more lines than this are between two hunks
-  index)                                ; a vector of them, or nil
-
-(defun live-occur--note (hunks start old new)
-  "Note in HUNKS that NEW lines came in the place of OLD ones at START."
-  (live-occur--move-gap hunks start (+ start old))
-  (let ((gap (live-occur--hunks-gap hunks))
-        (shift (live-occur--hunks-shift hunks))
-        (low start) (high (+ start old)) (more 0))
-    (cl-flet ((join (at was is)
-                (setq low (min low at)
-                      high (max high (+ at is))
-                      more (+ more (- was is)))))
-      (while (pcase (car (live-occur--hunks-before hunks))
-               ((and `(,at ,was ,is) (guard (<= (- low at is) gap)))
-                (pop (live-occur--hunks-before hunks))
-                (join at was is))))
-      (while (pcase (car (live-occur--hunks-after hunks))
-               ((and `(,at ,was ,is) (guard (<= (- (+ at shift) high) gap)))
-                (pop (live-occur--hunks-after hunks))
-                (join (+ at shift) was is)))))
-    (push (list low (+ (- high low) more) (+ (- high low) (- new old)))
-          (live-occur--hunks-before hunks))
-    (cl-incf (live-occur--hunks-shift hunks) (- new old))
-    (setf (live-occur--hunks-index hunks) nil)))
-
-(defun live-occur--in-order (hunks)
-  "All of HUNKS in a list; nil has none."
-  (when hunks
-    (pcase-let (((cl-struct live-occur--hunks before after shift) hunks))
-      (unless (and (null before) (= shift 0))
-        (setf (live-occur--hunks-before hunks) nil
-              (live-occur--hunks-shift hunks) 0
-              (live-occur--hunks-after hunks)
-              (append (reverse before)
-                      (cl-loop for (at . counts) in after
-                               collect `(,(+ at shift) . ,counts)))))
-      (live-occur--hunks-after hunks))))
-
-(defun live-occur--cut-first (hunks new old)
-  "Take NEW lines of the first of HUNKS out of it, and OLD ones."
-  (pcase-let ((`((,at ,was ,is) . ,others) (live-occur--in-order hunks)))
-    (unless (and (= was old) (= is new))
-      (push (list (+ at new) (- was old) (- is new)) others))
-    (setf (live-occur--hunks-after hunks) others)))
-
-(defun live-occur--split (hunks new old)
-  "Let HUNKS say how lines moved since those before line NEW were sent.
-They are in the place of those before line OLD.  Answer the hunks that say how
-lines moved by that, in a list."
-  (let ((tail (live-occur--in-order hunks)) (shift 0) head next)
-    (while (pcase tail
-             (`((,at ,was ,is) . ,_)
-              (when (and (<= (+ at is) new) (<= (+ (- at shift) was) old))
-                (push (pop tail) head)
-                (cl-incf shift (- is was))))))
-    ;; The last line before the cut, and the first after it, that didn't change.
-    (let ((last (min old (- new shift)
-                     (if tail (- (caar tail) shift) old))))
-      (unless (= last old (- new shift))
-        (push (list (+ last shift) (- old last) (- new last shift)) head)))
-    (setq next (max old (- new shift)))
-    (while (and tail (> next (- (caar tail) shift)))
-      (pcase-let ((`(,at ,was ,is) (pop tail)))
-        (setq next (+ (- at shift) was))
-        (cl-incf shift (- is was))
-        (setq next (max next old (- new shift)))))
-    (unless (= next old (- new shift))
-      (push (list new (- next old) (- (+ next shift) new)) tail))
-    (setf (live-occur--hunks-after hunks) tail
-          (live-occur--hunks-index hunks) nil)
-    (nreverse head)))
-
-(defun live-occur--unmoved (line hunks)
-  "The line that LINE was before HUNKS, or the one in whose place it came."
-  (let ((shift 0))
-    (cl-loop for (at was is) in (live-occur--in-order hunks)
-             while (< at line)
-             do (cl-incf shift (if (< line (+ at is))
-                                   (max 0 (- line at was))
-                                 (- is was))))
-    (- line shift)))
-
-(defun live-occur--index (hunks)
-  "HUNKS as a vector, with where each begins in the old text first."
-  (or (live-occur--hunks-index hunks)
-      (setf (live-occur--hunks-index hunks)
-            (let ((shift 0))
-              (vconcat (cl-loop for (at was is) in (live-occur--in-order hunks)
-                                collect (list (- at shift) at was is)
-                                do (cl-incf shift (- is was))))))))
-
-(defun live-occur--hunk-of (line hunks)
-  "The last of HUNKS that begins at LINE of an old text or before, or nil.
-Where it begins in that text is in front of it."
-  (let* ((index (if hunks (live-occur--index hunks) []))
-         (low 0) (high (length index)))
-    (while (< low high)
-      (let ((middle (/ (+ low high) 2)))
-        (if (<= (car (aref index middle)) line)
-            (setq low (1+ middle))
-          (setq high middle))))
-    (and (> low 0) (aref index (1- low)))))
-
-(defun live-occur--moved (line hunks)
-  "Where LINE of an old text is now, as HUNKS say."
-  (pcase (live-occur--hunk-of line hunks)
-    (`(,from ,at ,was ,is)
-     (let ((after (- line from)))
-       (if (>= after was)
-           (+ at is (- after was))
-         (min (+ at after) (max at (+ at is -1))))))
-    (_ line)))
-
-(defun live-occur--move-gap (hunks start end)
-  "Let those of HUNKS that are before START, and not after END, be in `before'."
-  (let ((gap (live-occur--hunks-gap hunks)))
-    (cl-symbol-macrolet ((before (live-occur--hunks-before hunks))
-                         (after (live-occur--hunks-after hunks))
-                         (shift (live-occur--hunks-shift hunks)))
-      (while (and before (> (- (caar before) end) gap))
-        (cl-decf (caar before) shift)
-        (push (pop before) after))
-      (while (and after
-                  (> (- start (caar after) shift (nth 2 (car after))) gap))
-        (cl-incf (caar after) shift)
-        (push (pop after) before)))))
-
-;;;; Buffers that are searched
-
-;; Lines are counted as the gaps between newlines, from 0: a text that ends
-;; in a newline has an empty line after it, which is never sent.
-
-;; This is a plain vector, which is faster: a command may make many changes.
-
-(cl-defstruct (live-occur--trace (:type vector) (:copier nil))
-  "The last change of a text, or the one that is to come."
-  (place 1) (line 0)                    ; where it is, or where it was nearby
-  from                                  ; where it begins
-  tail                                  ; how far from the end it ends
-  size                                  ; the size of the text
-  span                                  ; how many lines it touches, nil for one
-  whole                                 ; whether they are whole lines
-  touched                               ; see `live-occur--stayed-p'
-  (rest most-positive-fixnum))
-
-(cl-defstruct (live-occur--source (:conc-name live-occur--) (:copier nil))
+(cl-defstruct (live-occur--source (:include live-occur--text)
+                                  (:conc-name live-occur--) (:copier nil))
   "A buffer or a file that is searched, and which of its lines the program has."
-  buffer                                ; nil for a file that isn't open
   list                                  ; the buffer with the rows
   file                                  ; its name, or nil for a buffer alone
   state                                 ; that of the file when it was read
@@ -628,307 +408,20 @@ Where it begins in that text is in front of it."
   unread                                ; whether the file is to be read
   opened                                ; whether the program has the source
   from to              ; markers of a region, or nil: see `live-occur--limit'
-  (lines 0)                             ; how many lines the program holds
-  edits                                 ; what changed since, or nil
-  moves                                 ; how lines moved since
-  sent                           ; how they moved before, but since the hits
-  pieces                                ; the hits, in `live-occur--piece's
-  tick            ; the buffer's tick when its edits were known, or nil if lost
-  trace                                 ; what is known of changes
-  stop)                ; a tick and a size, and where a line was then, and which
-
-(defvar-local live-occur--sources-here nil
-  "The sources that have this buffer's text.")
-
-;; A change of the major mode, as by `revert-buffer', leaves these in place.
-(put 'live-occur--sources-here 'permanent-local t)
-(put 'live-occur--before 'permanent-local-hook t)
-(put 'live-occur--after 'permanent-local-hook t)
+  pieces)                               ; the hits, in `live-occur--piece's
 
 (defmacro live-occur--in-text (source &rest body)
-  "Run BODY in the whole text of SOURCE, if its buffer is alive, and stay there.
-A cache of newlines would make it slower to walk over many lines.  A line goes
-on where a field ends."
+  "Run BODY in the whole text of SOURCE, if it is there, and stay here."
   (declare (indent 1) (debug t))
-  `(live-occur--in (live-occur--text-buffer ,source)
-     (save-excursion
-       (save-restriction
-         (widen)
-         (let ((cache-long-scans nil) (inhibit-field-text-motion t))
-           ,@body)))))
+  `(live-occur--in-whole (live-occur--text-buffer ,source) ,@body))
 
-(defun live-occur--base (buffer)
-  "The buffer that has the text of BUFFER, which may be an indirect one."
-  (or (buffer-base-buffer buffer) buffer))
+(defun live-occur--heard (source moved)
+  "Bring the list of SOURCE up to date later, and numbers now if lines MOVED."
+  (live-occur--look-later (live-occur--list source) live-occur-delay)
+  (when moved (live-occur--in (live-occur--list source) (force-mode-line-update))))
 
-(defun live-occur--track (source)
-  "Gather the edits of SOURCE, in all buffers that have its text."
-  (dolist (buffer (buffer-list))
-    (when (eq (live-occur--base buffer)
-              (live-occur--base (live-occur--buffer source)))
-      (with-current-buffer buffer
-        (cl-pushnew source live-occur--sources-here)
-        (add-hook 'before-change-functions #'live-occur--before nil t)
-        (add-hook 'after-change-functions #'live-occur--after nil t)))))
-
-(defun live-occur--untrack (source)
-  "Gather no more edits of SOURCE."
-  (dolist (buffer (buffer-list))
-    (when (memq source (buffer-local-value 'live-occur--sources-here buffer))
-      (with-current-buffer buffer
-        (unless (cl-callf2 remq source live-occur--sources-here)
-          (kill-local-variable 'live-occur--sources-here)
-          (remove-hook 'before-change-functions #'live-occur--before t)
-          (remove-hook 'after-change-functions #'live-occur--after t))))))
-
-(defun live-occur--count-newlines (from to)
-  "Answer how many newlines are from FROM to TO, below 0 if TO comes first."
-  (if (= from to) 0
-    (save-excursion                     ; to narrow a buffer moves point
-      (save-restriction
-        (narrow-to-region from to)
-        (* (if (< to from) -1 1) (1- (line-number-at-pos (point-max))))))))
-
-(defun live-occur--go-to-line (source line)
-  "Move to the beginning of LINE of SOURCE, from a line that is known."
-  (pcase-let* ((now (cons (buffer-chars-modified-tick) (buffer-size)))
-               (stop (live-occur--stop source))
-               (`(,place . ,at) (cond ((equal now (car stop)) (cdr stop))
-                                      ((and (live-occur--buffer source)
-                                            (live-occur--known-p source))
-                                       (live-occur--anchor source))
-                                      (t '(1 . 0)))))
-    (goto-char place)
-    (when (and (= 0 (forward-line (- line at))) (bolp))
-      (setf (live-occur--stop source) `(,now ,(point) . ,line)))))
-
-;;;; Changes
-
-;; A change is reported before and after it is made, but not always in pairs,
-;; and not always with the same bounds.  What is reported before is kept with
-;; the number of lines in it; what is reported after has to lie inside, and the
-;; size of the buffer has to be what both say.  Where it is not, or the tick or
-;; the size tells of a change that was not reported, the whole text is sent
-;; again.  A text that comes from a file or a program leaves the tick alone.
-;;
-;; A command may make many changes.  Those that are near one another and have
-;; no newline cost little: the text that they touched is kept, from `touched'
-;; to `rest' characters before the end, and its lines are counted later.
-
-(defun live-occur--known-p (source)
-  "Whether all edits of SOURCE are known, and none is lost."
-  (let ((buffer (live-occur--buffer source)))
-    (and (eql (live-occur--tick source) (buffer-chars-modified-tick buffer))
-         (eql (live-occur--trace-size (live-occur--trace source))
-              (buffer-size buffer)))))
-
-(defun live-occur--know (source)
-  "Note that all edits of SOURCE are known now."
-  (setf (live-occur--tick source) (buffer-chars-modified-tick)
-        (live-occur--trace-size (live-occur--trace source)) (buffer-size)))
-
-(defun live-occur--lose (source)
-  "Forget the edits of SOURCE: all of its text is to be sent."
-  (setf (live-occur--tick source) nil
-        (live-occur--edits source) (live-occur--hunks 50)
-        (live-occur--moves source) (live-occur--hunks 0)
-        (live-occur--trace source) (make-live-occur--trace))
-  (unless (live-occur--sent source)
-    (setf (live-occur--sent source) (live-occur--hunks 0))))
-
-(defmacro live-occur--in-hook (&rest body)
-  "Run BODY where a change is reported, and tell of an error in it.
-Emacs takes all functions out of a hook where one is broken off.  After an error
-no edit of this buffer is known."
-  (declare (indent 0) (debug t))
-  `(let ((inhibit-quit t))
-     (condition-case problem
-         (progn ,@body)
-       ((error quit)
-        (dolist (source live-occur--sources-here)
-          (setf (live-occur--tick source) nil))
-        (message "live-occur: %s; all is looked at again later"
-                 (error-message-string problem))))))
-
-(defmacro live-occur--gather (source &rest body)
-  "Run BODY in this buffer, all of it accessible, if it has the text of SOURCE.
-A copy of a buffer has its local variables, and another text."
-  (declare (indent 1) (debug t))
-  `(when (eq (live-occur--base (current-buffer))
-             (live-occur--base (live-occur--buffer ,source)))
-     (save-restriction
-       (widen)
-       ,@body)))
-
-(defun live-occur--newlines ()
-  "How many newlines this buffer has."
-  (save-restriction
-    (widen)
-    (1- (line-number-at-pos (point-max)))))
-
-(defun live-occur--before (start end)
-  "Take note of the text from START to END, which is about to change."
-  (live-occur--in-hook
-    (dolist (source live-occur--sources-here)
-      (unless (live-occur--near-p source start end)
-        (live-occur--gather source
-          (if (live-occur--known-p source)
-              (live-occur--expect source start end)
-            (live-occur--lose source)))))))
-
-(defun live-occur--near-p (source start end)
-  "Whether START to END is in a line, and near the change of SOURCE before it.
-Take note of it then."
-  (let ((trace (live-occur--trace source))
-        (size (buffer-size)))
-    (when (and (<= (live-occur--trace-place trace)
-                   start
-                   (+ 200 (- size (live-occur--trace-rest trace))))
-               (eq (live-occur--buffer source) (current-buffer))
-               (live-occur--known-p source)
-               (live-occur--no-newline-p start end))
-      (setf (live-occur--trace-from trace) start
-            (live-occur--trace-tail trace) (- size end)
-            (live-occur--trace-span trace) nil)
-      t)))
-
-(defun live-occur--no-newline-p (start end)
-  "Whether there is no newline from START to END.
-A search would lose the match data of the command that makes a change."
-  (or (= start end)
-      (let ((point (point)))
-        (goto-char start)
-        (skip-chars-forward "^\n" end)
-        (prog1 (= (point) end)
-          (goto-char point)))))
-
-(defun live-occur--expect (source start end)
-  "Take note of the text from START to END of SOURCE, and of its lines."
-  (live-occur--settle source)
-  (let ((trace (live-occur--trace source))
-        (tail (- (buffer-size) end)))
-    (cl-incf (live-occur--trace-line trace)
-             (live-occur--count-newlines (live-occur--trace-place trace)
-                                         start))
-    (setf (live-occur--trace-place trace) start
-          (live-occur--trace-from trace) start
-          (live-occur--trace-tail trace) tail
-          (live-occur--trace-rest trace) tail
-          (live-occur--trace-span trace)
-          (1+ (live-occur--count-newlines start end))
-          (live-occur--trace-whole trace)
-          (and (live-occur--begins-line-p start)
-               (live-occur--begins-line-p end)))))
-
-(defun live-occur--begins-line-p (position)
-  "Whether a line begins at POSITION."
-  (memq (char-before position) '(nil ?\n)))
-
-(defun live-occur--after (start end removed)
-  "Gather the change that put START to END in the place of REMOVED characters."
-  (live-occur--in-hook
-    (dolist (source live-occur--sources-here)
-      (live-occur--look-later (live-occur--list source) live-occur-delay)
-      (unless (live-occur--stayed-p source start end removed)
-        (live-occur--gather source
-          (if (live-occur--expected-p (live-occur--trace source)
-                                      start end removed)
-              (live-occur--took source)
-            (live-occur--lose source)))))))
-
-(defun live-occur--expected-p (trace start end removed)
-  "Whether TRACE expects that START to END replace REMOVED characters."
-  (let ((size (buffer-size))
-        (from (live-occur--trace-from trace)))
-    (and from
-         (<= from start end (- size (live-occur--trace-tail trace)))
-         (= size (+ (live-occur--trace-size trace) (- end start removed))))))
-
-(defun live-occur--stayed-p (source start end removed)
-  "Whether a change of SOURCE is in a line, and near the one before it.
-Gather it then: START to END replace REMOVED characters.  The lines are counted
-later in which such changes are, from `touched' to `rest' before the end."
-  (let ((trace (live-occur--trace source)))
-    (when (and (not (live-occur--trace-span trace))
-               (live-occur--expected-p trace start end removed)
-               (eq (live-occur--buffer source) (current-buffer))
-               (live-occur--no-newline-p
-                (live-occur--trace-from trace)
-                (- (buffer-size) (live-occur--trace-tail trace))))
-      (setf (live-occur--trace-touched trace)
-            (min (live-occur--trace-from trace)
-                 (or (live-occur--trace-touched trace)
-                     most-positive-fixnum))
-            (live-occur--trace-rest trace)
-            (min (live-occur--trace-tail trace)
-                 (live-occur--trace-rest trace)))
-      (live-occur--know source)
-      t)))
-
-(defun live-occur--settle (source)
-  "Note the lines of SOURCE that were touched."
-  (let* ((trace (live-occur--trace source))
-         (start (live-occur--trace-touched trace)))
-    (when (and start (live-occur--buffer source))
-      (live-occur--in-text source
-        (let ((end (- (buffer-size) (live-occur--trace-rest trace)))
-              (line (if (< start (live-occur--trace-place trace))
-                        (live-occur--count-newlines 1 start)
-                      (live-occur--line-at trace start))))
-          (let ((count (1+ (live-occur--count-newlines start end))))
-            (live-occur--note (live-occur--edits source) line count count))
-          (setf (live-occur--trace-place trace) start
-                (live-occur--trace-line trace) line)))
-      (setf (live-occur--trace-touched trace) nil))))
-
-(defun live-occur--line-at (trace position)
-  "The line of POSITION, where nothing before that of TRACE has changed since."
-  (+ (live-occur--trace-line trace)
-     (live-occur--count-newlines (live-occur--trace-place trace) position)))
-
-(defun live-occur--took (source)
-  "Note how the change of SOURCE that was expected changed its lines."
-  (let* ((trace (live-occur--trace source))
-         (from (live-occur--trace-from trace))
-         (to (- (buffer-size) (live-occur--trace-tail trace)))
-         (touched (live-occur--trace-touched trace))
-         (start (min from (or touched from)))
-         (end (if touched
-                  (max to (- (buffer-size) (live-occur--trace-rest trace)))
-                to))
-         (old (or (live-occur--trace-span trace) 1))
-         (new (1+ (live-occur--count-newlines from to)))
-         (all (1+ (live-occur--count-newlines start end)))
-         (line (live-occur--line-at trace from))
-         (whole (and (live-occur--begins-line-p from)
-                     (live-occur--begins-line-p to)))
-         (less (if (and whole (live-occur--trace-whole trace)
-                        (live-occur--trace-span trace) (not touched))
-                   1 0)))
-    (live-occur--note (live-occur--edits source)
-                      (live-occur--line-at trace start)
-                      (- all less (- new old)) (- all less))
-    (unless (= old new)
-      (live-occur--note (live-occur--moves source)
-                        (if (live-occur--begins-line-p from) line (1+ line))
-                        (1- old) (1- new))
-      ;; The numbers of rows in view are corrected when they are redrawn.
-      (live-occur--in (live-occur--list source) (force-mode-line-update)))
-    (setf (live-occur--trace source)
-          (make-live-occur--trace
-           :place from :line line :from from :tail (- (buffer-size) to)
-           :span new :whole whole :rest (- (buffer-size) to)))
-    (live-occur--know source)))
-
-(defun live-occur--anchor (source)
-  "A position and the line there, before which nothing of SOURCE changed."
-  (let ((trace (live-occur--trace source)))
-    (cons (live-occur--trace-place trace) (live-occur--trace-line trace))))
-
-;;;; Files
-
-;; A file that isn't open is read into a buffer for its text when it is sent,
-;; and when its lines are shown.  It has no edits, since nobody edits it there.
+;; A file that isn't open is read into a buffer for its text when it is sent, and when its lines
+;; are shown.  It has no edits, since nobody edits it there.
 
 (defvar-local live-occur--text-of nil "The source whose file this buffer has.")
 
@@ -936,8 +429,8 @@ later in which such changes are, from `touched' to `rest' before the end."
   "The buffer of SOURCE, or one of NAME that has the text of its file."
   (or (live-occur--buffer source)
       (with-current-buffer (get-buffer-create (or name " *live-occur text*") t)
-        (unless (eq source (cl-shiftf live-occur--text-of source))
-          (live-occur--insert-file source)
+        (unless (eq source live-occur--text-of)
+          (live-occur--insert-file source (live-occur--state source))
           (set-buffer-modified-p nil))
         (current-buffer))))
 
@@ -948,21 +441,17 @@ later in which such changes are, from `touched' to `rest' before the end."
           (file-attribute-size attributes)
           (file-attribute-type attributes))))
 
-(defun live-occur--insert-file (source)
+(defun live-occur--insert-file (source state)
   "Put the text of the file of SOURCE here, or answer why there is none.
-It is the text that a buffer would have.  No archive is unpacked, and nothing is
-asked for."
+It is what a buffer would have, but of no archive.  STATE is that of the file."
   (let* ((file (live-occur--file source))
-         (file-name-handler-alist (and (file-remote-p file)
-                                       file-name-handler-alist))
-         (inhibit-modification-hooks t)
-         (state (live-occur--file-state file)))
-    (setq buffer-undo-list t)
+         (file-name-handler-alist (and (file-remote-p file) file-name-handler-alist))
+         (inhibit-modification-hooks t))
+    (setq buffer-undo-list t live-occur--text-of source)
     (erase-buffer)
     (setf (live-occur--stop source) nil)
     (cond ((nth 2 state) "no file")
-          ((> (or (nth 1 state) 0)
-              (or large-file-warning-threshold most-positive-fixnum))
+          ((> (or (nth 1 state) 0) (or large-file-warning-threshold most-positive-fixnum))
            "too large")
           ((not (ignore-errors (insert-file-contents file))) "unreadable")
           ((search-forward "\0" nil t)
@@ -976,13 +465,8 @@ asked for."
     (unless (and state (equal state (live-occur--state source)))
       (setf (live-occur--state source) state)
       (with-current-buffer (get-buffer-create " *live-occur text*" t)
-        (setq live-occur--text-of source)
-        (setf (live-occur--why source) (live-occur--insert-file source)))
-      (live-occur--lose source)
-      (let ((lines (live-occur--lines source))
-            (now (live-occur--in-text source (line-number-at-pos (point-max)))))
-        (live-occur--note (live-occur--edits source) 0 lines now)
-        (live-occur--note (live-occur--moves source) 0 lines now)))))
+        (setf (live-occur--why source) (live-occur--insert-file source state))
+        (live-occur--replaced source (line-number-at-pos (point-max)))))))
 
 (defun live-occur--visited-buffer (source)
   "The buffer of SOURCE, whose file is visited if it isn't yet."
@@ -998,18 +482,15 @@ The program has its text already if the file is the same as when it was read."
                    (live-occur--opened source)
                    (not (live-occur--to-send-p source))
                    (equal (live-occur--state source)
-                          (live-occur--file-state
-                           (live-occur--file source))))))
+                          (live-occur--file-state (live-occur--file source))))))
     (setf (live-occur--buffer source) buffer
           (live-occur--stop source) nil
           (live-occur--unread source) nil
           (live-occur--why source) nil)
-    (with-current-buffer (live-occur--list source)
-      (push source live-occur--visited))
+    (with-current-buffer (live-occur--list source) (push source live-occur--visited))
     (live-occur--track source)
     (live-occur--lose source)
-    (with-current-buffer buffer
-      (when same (live-occur--know source)))
+    (with-current-buffer buffer (when same (live-occur--know source)))
     buffer))
 
 (defun live-occur--attach-visited ()
@@ -1018,66 +499,50 @@ The program has its text already if the file is the same as when it was read."
     (dolist (buffer (buffer-list))
       (when-let* ((file (buffer-file-name buffer))
                   (source (or (gethash file live-occur--files)
-                              (gethash (buffer-local-value
-                                        'buffer-file-truename buffer)
+                              (gethash (buffer-local-value 'buffer-file-truename buffer)
                                        live-occur--files))))
-        (unless (live-occur--buffer source)
-          (live-occur--attach source buffer))))))
+        (unless (live-occur--buffer source) (live-occur--attach source buffer))))))
 
 (defun live-occur--left-out ()
   "How many files of this list are left out, and why, for the header."
   (when-let* ((reasons (and live-occur--files
-                            (delq nil (mapcar #'live-occur--why
-                                              live-occur--sources)))))
+                            (cl-loop for source in live-occur--sources
+                                     for why = (live-occur--why source) when why collect why))))
     (format "  %d left out (%s)" (length reasons)
-            (mapconcat (pcase-lambda (`(,why . ,all))
-                         (format "%d %s" (length all) why))
+            (mapconcat (pcase-lambda (`(,why . ,all)) (format "%d %s" (length all) why))
                        (seq-group-by #'identity reasons) ", "))))
 
 ;;;; Sending lines
 
-;; A large text is sent block by block, and each block once few are on their
-;; way.  After a slice of lines the list asks what changed of the hits, and
-;; sends no line before that has come.  So hits are always those of the lines
-;; that the program holds, or of those before the slice.
+;; A large text is sent block by block, and each block once few are on their way.  After a slice
+;; of lines the list asks what changed of the hits, and sends no line before that has come.  So
+;; hits are always those of the lines that the program holds, or of those before the slice.
 
 (defvar live-occur--block 20000 "How many bytes of a text are sent at once.")
-(defvar live-occur--slice-lines 20000
-  "After how many lines to ask what changed of the hits.")
-(defconst live-occur--longest 0.03
-  "For how many seconds files are read until Emacs does what else there is.")
+(defvar live-occur--slice-lines 20000 "After how many to ask about the hits.")
+(defconst live-occur--longest 0.02 "For how many seconds to send at a time.")
 
 (defun live-occur--step ()
   "Send some of what changed, and ask what changed of the hits.
-It goes on when replies come.  To be broken off between, or begun again, would
-leave the program out of step."
+It goes on when replies come."
   (unless (or live-occur--sending live-occur--fault live-occur--held
               live-occur--asked live-occur-edit-mode)
-    (let ((inhibit-quit t) (live-occur--sending t))
+    (let ((inhibit-quit t) (live-occur--sending t) (end (+ (float-time) live-occur--longest)))
       (when (live-occur--close-killed) (setq live-occur--due t))
-      (mapc #'live-occur--take-stock live-occur--visited)
-      (let ((end (+ (float-time) live-occur--longest)))
-        (while (and (not live-occur--asked)
-                    (not (process-get live-occur--process 'unsent))
-                    (live-occur--fits-p live-occur--process live-occur--block)
-                    (or (< (float-time) end)
-                        (ignore (run-with-timer 0 nil #'live-occur--look
-                                                (current-buffer))))
-                    (live-occur--send-next)))))))
-
-(defun live-occur--take-stock (source)
-  "Note all that changed in SOURCE.
-Where it isn't known, hooks may have been taken away."
-  (unless (live-occur--known-p source)
-    (live-occur--lose source)
-    (live-occur--track source)
-    (live-occur--in-text source
-      (let ((lines (live-occur--lines source))
-            (now (line-number-at-pos (point-max))))
-        (live-occur--note (live-occur--edits source) 0 lines now)
-        (live-occur--note (live-occur--moves source) 0 lines now)
-        (live-occur--know source))))
-  (live-occur--settle source))
+      (dolist (source live-occur--visited)
+        ;; Where changes aren't known hooks may have been taken away.
+        (unless (live-occur--known-p source)
+          (live-occur--track source)
+          (live-occur--in-text source
+            (live-occur--replaced source (line-number-at-pos (point-max)))
+            (live-occur--know source)))
+        (live-occur--settle source))
+      (while (and (not live-occur--asked)
+                  (not (process-get live-occur--process 'unsent))
+                  (live-occur--fits-p live-occur--process live-occur--block)
+                  (live-occur--send-next)
+                  (or (< (float-time) end)
+                      (ignore (run-with-timer 0 nil #'live-occur--look (current-buffer)))))))))
 
 (defun live-occur--to-send-p (source)
   "Whether something of SOURCE is to be sent."
@@ -1095,18 +560,17 @@ The slice is a list of how many lines are left in it, the number of a source,
 and that and the sources whose turn comes later.  So the program gets them in
 order, and those that it has come first.  To read a file counts as some lines.
 The first slice is short, so that some hits come early."
-  (pcase-let* ((`(,left ,file . ,sources) live-occur--slice)
-               (source (car sources)))
+  (pcase-let* ((`(,left ,file . ,sources) live-occur--slice) (source (car sources)))
     (cond ((not live-occur--slice)
-           (when (or (live-occur--edited-p)
-                     (and live-occur--due (not live-occur--previewing)))
+           (when (or (live-occur--edited-p) (and live-occur--due (not live-occur--previewing)))
              (setq live-occur--slice
                    `(,(if live-occur--more live-occur--slice-lines
                         (max 1 (/ live-occur--slice-lines 10)))
                      0 . ,live-occur--sources))))
           ((or (not source) (<= left 0))
            (setq live-occur--slice nil)
-           (live-occur--end-slice)
+           (cond ((not live-occur--previewing) (live-occur--ask-for-changes))
+                 ((not live-occur--trying) (live-occur--ask-for-page)))
            t)
           ((not (live-occur--opened source))
            (live-occur--order "file buffer 0\n")
@@ -1115,50 +579,37 @@ The first slice is short, so that some hits come early."
            (live-occur--read-file source)
            (cl-decf (car live-occur--slice) 50))
           ((live-occur--first-edit source)
-           (cl-decf (car live-occur--slice)
-                    (live-occur--send-block source file left)))
+           (cl-decf (car live-occur--slice) (live-occur--send-block source file left)))
           (t (while (progn
                       (pop (cddr live-occur--slice))
                       (cl-incf (cadr live-occur--slice))
                       (and (cddr live-occur--slice)
-                           (not (live-occur--to-send-p
-                                 (caddr live-occur--slice))))))
+                           (not (live-occur--to-send-p (caddr live-occur--slice))))))
              t))))
 
 (defun live-occur--first-edit (source)
   "The first of the edits of SOURCE that are to be sent."
   (car (live-occur--in-order (live-occur--edits source))))
 
-(defun live-occur--end-slice ()
-  "Ask what changed of the hits, or for some of those of a pattern being typed."
-  (cond ((not live-occur--previewing) (live-occur--ask-for-changes))
-        ((not live-occur--trying) (live-occur--ask-for-page))))
-
 (defun live-occur--send-block (source file most)
   "Send the first of the lines of SOURCE that changed, at most MOST of them.
 The program knows it by the number FILE.  Answer how many they are."
   (pcase-let* ((`(,at ,was ,is) (live-occur--first-edit source))
+               (moves (live-occur--moves source))
                (`(,count ,added . ,text)
                 (live-occur--in-text source
                   (live-occur--go-to-line source at)
                   (live-occur--block-here (min most is))))
                (more (< count is))
-               (old (if more
-                        (- (live-occur--unmoved (+ at count)
-                                                (live-occur--moves source))
-                           at)
-                      was))
+               (old (if more (- (live-occur--unmoved (+ at count) moves) at) was))
                (removed (min old (- (live-occur--lines source) at))))
     (unless (= added removed 0)
       (live-occur--order
-       (live-occur--command
-        (format "splice %d %d %d" file at removed) added text)))
+       (live-occur--command (format "splice %d %d %d" file at removed) text added)))
     (cl-incf (live-occur--lines source) (- added removed))
     (live-occur--cut-first (live-occur--edits source) count old)
-    (pcase-dolist (`(,at ,was ,is)
-                   (live-occur--split (live-occur--moves source)
-                                      (+ at count) (+ at old)))
-      (live-occur--note (live-occur--sent source) at was is))
+    (dolist (hunk (live-occur--split moves (+ at count) (+ at old)))
+      (apply #'live-occur--note (live-occur--sent source) hunk))
     (when more (live-occur--tell-more))
     count))
 
@@ -1172,23 +623,19 @@ buffer's end there is none."
          (lines (live-occur--count-newlines start end))
          (count (min most (if (= end (point-max)) (1+ lines) (max lines 1))))
          (short (forward-line count)))
-    `(,count ,(- count short) . ,(buffer-substring-no-properties
-                                  start (point)))))
+    `(,count ,(- count short) . ,(buffer-substring-no-properties start (point)))))
 
 (defun live-occur--tell-more ()
   "Tell in the header whether more lines are to be searched."
-  (unless (eq live-occur--more
-              (setq live-occur--more (and (or (live-occur--edited-p)
-                                              live-occur--slice)
-                                          t)))
-    (force-mode-line-update)))
+  (let ((more (and (or (live-occur--edited-p) live-occur--slice) t)))
+    (unless (eq more (cl-shiftf live-occur--more more)) (force-mode-line-update))))
 
 ;;;; Hits
 
-;; Each source has the hits that the program has reported, in pieces of 500 at
-;; most.  A piece keeps its rows as the bytes that came.  They are read when
-;; they come into view, so a million hits cost little.  Where lines before a
-;; piece come or go, the number to add to the places in it changes, no byte.
+;; Each source has the hits that the program has reported, in pieces of 500 at most.  A piece
+;; keeps its rows as the bytes that came.  They are read when they come into view, so a million
+;; hits cost little.  Where lines before a piece come or go, the number to add to the places in it
+;; changes, no byte.
 
 (cl-defstruct (live-occur--piece
                (:constructor live-occur--piece (rows count last shift))
@@ -1209,19 +656,16 @@ buffer's end there is none."
 
 (defun live-occur--place-in (rows start)
   "The place of the hit in the bytes ROWS that begins at START."
-  (string-to-number
-   (substring rows (+ start 2) (string-search " " rows (+ start 2)))))
+  (string-to-number (substring rows (+ start 2) (string-search " " rows (+ start 2)))))
 
 (defun live-occur--after-rows (rows start count)
   "Where in the bytes ROWS the row begins that is COUNT rows after START."
-  (dotimes (_ count)
-    (setq start (1+ (string-search "\n" rows start))))
+  (dotimes (_ count) (setq start (1+ (string-search "\n" rows start))))
   start)
 
 (defun live-occur--count-below (piece line)
   "How many hits of PIECE have a place below LINE."
-  (let ((rows (live-occur--piece-rows piece))
-        (line (- line (live-occur--piece-shift piece))))
+  (let ((rows (live-occur--piece-rows piece)) (line (- line (live-occur--piece-shift piece))))
     (if (< (live-occur--piece-last piece) line)
         (live-occur--piece-count piece)
       (cl-loop for start = 0 then (live-occur--after-rows rows start 1)
@@ -1235,15 +679,13 @@ buffer's end there is none."
                    (live-occur--piece-count (car pieces))))
       (push (pop pieces) head))
     (when (and pieces (> some 0))
-      (pcase-let* (((cl-struct live-occur--piece rows count last shift)
-                    (pop pieces))
+      (pcase-let* (((cl-struct live-occur--piece rows count last shift) (pop pieces))
                    (before (live-occur--after-rows rows 0 (1- some)))
                    (cut (live-occur--after-rows rows before 1)))
         (push (live-occur--piece (substring rows 0 cut) some
                                  (live-occur--place-in rows before) shift)
               head)
-        (push (live-occur--piece (substring rows cut) (- count some) last shift)
-              pieces)))
+        (push (live-occur--piece (substring rows cut) (- count some) last shift) pieces)))
     (cons (nreverse head) pieces)))
 
 (defun live-occur--count (pieces &optional line)
@@ -1258,7 +700,7 @@ buffer's end there is none."
 (defun live-occur--row-of-source (source)
   "The number of the first row of SOURCE, or of all rows if it is nil."
   (cl-loop for other in live-occur--sources until (eq other source)
-           sum (live-occur--count (live-occur--pieces other))))
+           for pieces = (live-occur--pieces other) when pieces sum (live-occur--count pieces)))
 
 (defun live-occur--hit-in (source rows start shift)
   "The hit of SOURCE in the bytes ROWS that begins at START, with SHIFT."
@@ -1275,13 +717,13 @@ buffer's end there is none."
   (pcase-let (((cl-struct live-occur--hit rows start end) hit))
     (substring rows (+ start (or from 0)) (min end (+ start (or to end))))))
 
-(defun live-occur--hit-parts (hit &optional limit)
-  "The matched parts of HIT: pairs of places in its bytes.
-With LIMIT they are those that begin before that byte."
-  (let ((at (live-occur--hit-parts-at hit)) part all)
+(defun live-occur--hit-parts (hit &optional from to)
+  "The matched parts of HIT: pairs of places in its bytes, counted from FROM.
+They are those that begin before byte TO."
+  (let ((at (live-occur--hit-parts-at hit)) (from (or from 0)) part all)
     (while (and (setq part (live-occur--part-at hit at))
-                (< (car part) (or limit most-positive-fixnum)))
-      (push (cons (car part) (cadr part)) all)
+                (< (car part) (or to most-positive-fixnum)))
+      (push (cons (- (car part) from) (- (cadr part) from)) all)
       (setq at (cddr part)))
     (nreverse all)))
 
@@ -1290,10 +732,8 @@ With LIMIT they are those that begin before that byte."
 It is where it begins and ends, and then where the next is told of."
   (pcase-let (((cl-struct live-occur--hit rows start) hit))
     (unless (or (>= at start) (eq (aref rows at) ?-))
-      (let* ((hyphen (string-search "-" rows at))
-             (end (1+ hyphen)))
-        (while (<= ?0 (aref rows end) ?9)
-          (setq end (1+ end)))
+      (let* ((hyphen (string-search "-" rows at)) (end (1+ hyphen)))
+        (while (<= ?0 (aref rows end) ?9) (setq end (1+ end)))
         `(,(string-to-number (substring rows at hyphen))
           ,(string-to-number (substring rows (1+ hyphen) end))
           . ,(1+ end))))))
@@ -1301,8 +741,7 @@ It is where it begins and ends, and then where the next is told of."
 (defun live-occur--map-hits (function first most)
   "Call FUNCTION with each of MOST hits of this list, from number FIRST on."
   (dolist (source live-occur--sources)
-    (pcase-dolist ((cl-struct live-occur--piece rows count shift)
-                   (live-occur--pieces source))
+    (pcase-dolist ((cl-struct live-occur--piece rows count shift) (live-occur--pieces source))
       (let ((some (min most (- count first))))
         (when (> some 0)
           (let ((start (live-occur--after-rows rows 0 first)))
@@ -1318,19 +757,18 @@ It is where it begins and ends, and then where the next is told of."
     (catch 'hit
       (live-occur--map-hits (lambda (hit) (throw 'hit hit)) row 1))))
 
-(defun live-occur--line-of (hit)
-  "The line at which HIT is now."
+(defun live-occur--line-of (hit &optional page)
+  "The line at which HIT is now, which may be one of a PAGE."
   (let ((source (live-occur--hit-source hit)))
     (live-occur--moved (live-occur--moved (live-occur--hit-place hit)
-                                          (live-occur--sent source))
+                                          (unless page (live-occur--sent source)))
                        (live-occur--moves source))))
 
 (defmacro live-occur--at-line-of (hit &rest body)
   "Run BODY at the line of HIT in its buffer, unless that is gone."
   (declare (indent 1) (debug t))
   `(live-occur--in-text (live-occur--hit-source ,hit)
-     (live-occur--go-to-line (live-occur--hit-source ,hit)
-                             (live-occur--line-of ,hit))
+     (live-occur--go-to-line (live-occur--hit-source ,hit) (live-occur--line-of ,hit))
      ,@body))
 
 ;;;; Changes of hits
@@ -1352,8 +790,7 @@ It is where it begins and ends, and then where the next is told of."
   "Send what has changed, and ask for what changed of the hits.
 If nothing has changed ask for none, but with ALWAYS non-nil."
   (when always (setq live-occur--due t))
-  (unless live-occur--previewing
-    (live-occur--step)))
+  (unless live-occur--previewing (live-occur--step)))
 
 (defun live-occur--busy-p ()
   "Whether this list waits for replies, or has more to send."
@@ -1366,10 +803,7 @@ If nothing has changed ask for none, but with ALWAYS non-nil."
 (defun live-occur--close-killed ()
   "Close the sources of this list whose buffers were killed, and answer them.
 Those of files are read from there again."
-  (let (killed)
-    (dolist (source live-occur--visited)
-      (unless (buffer-live-p (live-occur--buffer source))
-        (push source killed)))
+  (let ((killed (cl-remove-if #'buffer-live-p live-occur--visited :key #'live-occur--buffer)))
     (dolist (source killed killed)
       (cl-callf2 remq source live-occur--visited)
       (if (not (live-occur--file source))
@@ -1382,11 +816,14 @@ Those of files are read from there again."
 (defun live-occur--ask-for-changes ()
   "Ask for what changed of the hits, and apply it when it comes."
   (setq live-occur--asked t live-occur--due nil)
-  (let ((sources live-occur--sources)
-        (bounds (live-occur--bounds-sent)))
+  (let* ((sources live-occur--sources)
+         (source (live-occur--region))
+         (bounds (and source
+                      (live-occur--known-p source)
+                      (not (live-occur--first-edit source))
+                      (live-occur--bounds source))))
     (live-occur--send "changes\n"
-                      (lambda (_ blocks)
-                        (live-occur--apply-all blocks sources bounds)))))
+                      (lambda (_ blocks) (live-occur--apply-all blocks sources bounds)))))
 
 (defun live-occur--apply-all (blocks sources bounds)
   "Apply BLOCKS, in which files are known by their numbers among SOURCES.
@@ -1403,11 +840,9 @@ BOUNDS are what was listed of the first one at the question, or nil."
         (unless (= file (cl-shiftf last file)) (setq shift 0))
         (when (and (or pieces (live-occur--pieces (car rest)))
                    (memq (car rest) live-occur--sources))
-          (let ((new (live-occur--apply (car rest) row
-                                        front removed added pieces)))
+          (let ((new (live-occur--apply (car rest) row front removed added pieces)))
             (pcase-dolist (`(,spot . ,_) new)
-              (when (live-occur--hit-p spot)
-                (cl-decf (live-occur--hit-place spot) shift)))
+              (when (live-occur--hit-p spot) (cl-decf (live-occur--hit-place spot) shift)))
             (cl-callf2 nconc new spots)))
         (cl-incf shift (- added removed))))
     (live-occur--clip bounds)
@@ -1425,45 +860,23 @@ BOUNDS are what was listed of the first one at the question, or nil."
   "Put the hits NEW in the place of those among REMOVED lines of SOURCE.
 They are among the ADDED lines from FRONT on, and its first row is ROW.  Answer
 the spots there."
-  (pcase-let* ((`(,head . ,rest)
-                (live-occur--cut (live-occur--pieces source) front))
+  (pcase-let* ((`(,head . ,rest) (live-occur--cut (live-occur--pieces source) front))
                (`(,gone . ,tail) (live-occur--cut rest (+ front removed)))
                (row (+ row (live-occur--count head)))
                (less (live-occur--count gone))
                (more (live-occur--count new))
                (spots (unless live-occur--page (live-occur--spots row less))))
-    (dolist (piece tail)
-      (cl-incf (live-occur--piece-shift piece) (- added removed)))
+    (dolist (piece tail) (cl-incf (live-occur--piece-shift piece) (- added removed)))
     (setf (live-occur--pieces source) (nconc head new tail))
     (live-occur--replace-rows row less more)
     spots))
 
 ;;;; Rows
 
-;; A row is a line of the list.  It is empty until it is made, which is when it
-;; comes into view.  So the list has all rows, and a million cost little.
+;; A row is a line of the list.  It is empty until it is made, which is when it comes into view.
+;; So the list has all rows, and a million cost little.
 
-(defmacro live-occur--at-row (row &rest body)
-  "Run BODY at ROW, counted from 0, in the whole list, and stay here."
-  (declare (indent 1) (debug t))
-  `(save-excursion
-     (save-restriction
-       (widen)
-       (live-occur--go-to-row ,row)
-       ,@body)))
-
-(defvar-local live-occur--row-stop nil
-  "A tick of the list, and the row and the place to which rows were put then.")
-
-(defun live-occur--go-to-row (row)
-  "Move to ROW of the whole list, from a row that is known."
-  (pcase live-occur--row-stop
-    ((and `(,tick ,at . ,place)
-          (guard (and (= tick (buffer-chars-modified-tick)) (<= at row))))
-     (goto-char place)
-     (forward-line (- row at)))
-    (_ (goto-char (point-min))
-       (forward-line row))))
+(defvar-local live-occur--row-stop nil "A tick, and a row and its place then.")
 
 (defmacro live-occur--at-row-start (position &rest body)
   "Run BODY at the beginning of the row at POSITION, in the whole list."
@@ -1474,6 +887,21 @@ the spots there."
        (goto-char ,position)
        (forward-line 0)
        ,@body)))
+
+(defmacro live-occur--at-row (row &rest body)
+  "Run BODY at ROW, counted from 0, in the whole list, and stay here."
+  (declare (indent 1) (debug t))
+  `(live-occur--at-row-start (point-min)
+     (live-occur--go-to-row ,row)
+     ,@body))
+
+(defun live-occur--go-to-row (row)
+  "Move to ROW of the whole list, from a row that is known."
+  (pcase live-occur--row-stop
+    ((and `(,tick ,at . ,place) (guard (and (= tick (buffer-chars-modified-tick)) (<= at row))))
+     (goto-char place)
+     (forward-line (- row at)))
+    (_ (goto-char (point-min)) (forward-line row))))
 
 (defun live-occur--row-at (position)
   "The number of the row at POSITION, from 0."
@@ -1486,8 +914,7 @@ the spots there."
       (live-occur--at-row row
         (delete-region (point) (line-beginning-position (1+ removed)))
         (insert-char ?\n added)
-        (setq live-occur--row-stop
-              `(,(buffer-chars-modified-tick) ,(+ row added) . ,(point)))))
+        (setq live-occur--row-stop `(,(buffer-chars-modified-tick) ,(+ row added) . ,(point)))))
     (when live-occur-edit-mode (setq buffer-undo-list nil))
     (cl-callf min live-occur--made row)))
 
@@ -1501,8 +928,7 @@ the spots there."
 
 (defun live-occur--spots (row count)
   "List where point and the windows are in the COUNT rows from ROW on.
-An element is a list of the hit, or the row where there is none, the column,
-the window or nil, and the function that moves it."
+An element has the hit, or else the row, the column, the window, and its mover."
   (unless (= count 0)
     (let ((positions
            (cons (list (point) nil (lambda (_ position) (goto-char position)))
@@ -1510,19 +936,16 @@ the window or nil, and the function that moves it."
                   for window in (get-buffer-window-list nil nil t)
                   collect (list (window-point window) window #'set-window-point)
                   collect (list (window-start window) window
-                                (lambda (window start)
-                                  (set-window-start window start t)))))))
+                                (lambda (window start) (set-window-start window start t)))))))
       (live-occur--at-row row
         (cl-loop
          with start = (point) and end = (line-beginning-position (1+ count))
          for (position . how) in positions
-         when (or (and (<= start position) (< position end))
-                  (= position end (point-max)))
-         collect (progn
+         when (or (and (<= start position) (< position end)) (= position end (point-max)))
+         collect (let ((row (live-occur--row-at position)))
                    (goto-char position)
-                   `(,(or (live-occur--hit (live-occur--row-at position))
-                          (live-occur--row-at position))
-                     ,(- position (line-beginning-position)) ,@how)))))))
+                   `(,(or (live-occur--hit row) row)
+                     ,(- position (line-beginning-position)) . ,how)))))))
 
 (defun live-occur--go-to-spots (spots &optional new)
   "Go back to SPOTS, or to rows after them.
@@ -1534,28 +957,22 @@ With NEW non-nil hits were reported since: places are others than before."
                     (+ (live-occur--row-of-source source)
                        (live-occur--count
                         (live-occur--pieces source)
-                        (if new
-                            (live-occur--moved place (live-occur--sent source))
-                          place))))
+                        (live-occur--moved place (and new (live-occur--sent source))))))
                    (_ spot))))
         (live-occur--make-rows row 1)
         (funcall mover window
-                 (live-occur--at-row row
-                   (min (+ (point) column) (line-end-position))))))))
+                 (live-occur--at-row row (min (+ (point) column) (line-end-position))))))))
 
 (defun live-occur--make-rows (first count)
   "Make COUNT rows from FIRST on, and bring their numbers up to date."
   (unless (or live-occur--page live-occur-edit-mode)
-    (with-silent-modifications
-      (live-occur--map-rows #'live-occur--make-row first count))))
+    (with-silent-modifications (live-occur--map-rows #'live-occur--make-row first count))))
 
 (defun live-occur--make-all-rows ()
   "Make all rows of this list, which can be quit."
-  (unless (or live-occur--page live-occur-edit-mode
-              (>= live-occur--made (live-occur--total)))
+  (unless (or live-occur--page live-occur-edit-mode (>= live-occur--made (live-occur--total)))
     (with-local-quit
-      (live-occur--in-steps "Making rows..." (live-occur--total)
-                            #'live-occur--make-rows)
+      (live-occur--in-steps "Making rows..." (live-occur--total) #'live-occur--make-rows)
       (setq live-occur--made (live-occur--total)))))
 
 (defun live-occur--copy (start end &optional delete)
@@ -1566,8 +983,7 @@ With DELETE it is taken out, too."
       (let ((first (live-occur--row-at start)))
         (live-occur--in-steps "Making rows..."
                               (- (live-occur--row-at end) first -1)
-                              (lambda (row count)
-                                (live-occur--make-rows (+ first row) count)))))
+                              (lambda (row count) (live-occur--make-rows (+ first row) count)))))
     (buffer-substring--filter start end delete)))
 
 (defun live-occur--map-rows (function first count)
@@ -1580,26 +996,41 @@ With DELETE it is taken out, too."
 
 (defun live-occur--make-row (hit)
   "Make the row of HIT at point, or correct its head, and lose point."
-  (let ((line (live-occur--line-of hit)))
+  (let ((head (live-occur--row-head hit (live-occur--line-of hit))))
     (if (eolp)
-        (live-occur--insert-row hit line)
-      (let ((head (live-occur--row-head hit line)))
-        (unless (equal head (buffer-substring-no-properties
-                             (point) (live-occur--after-head)))
-          (delete-region (point) (live-occur--after-head))
+        (live-occur--insert-row hit head)
+      (let ((end (live-occur--after-head)))
+        (unless (equal head (buffer-substring-no-properties (point) end))
+          (delete-region (point) end)
           (insert head))))))
 
-(defun live-occur--insert-row (hit line)
-  "Insert the row of HIT, which is at LINE."
-  (insert (live-occur--row-head hit line))
-  (live-occur--insert-text hit))
+(defun live-occur--insert-row (hit head)
+  "Insert the row of HIT: HEAD, and its text, with its parts highlighted.
+Of a long text a part is shown."
+  (insert head)
+  (let* ((most live-occur-max-columns)
+         (start (live-occur--shown-from hit))
+         (bytes (live-occur--hit-bytes hit start (+ start (* 5 (1+ most)))))
+         (text (live-occur--text bytes))
+         (cut (length> text most))
+         (mark (propertize "…" 'face 'shadow))
+         (from (point)))
+    (when cut (setq text (substring text 0 most)))
+    (when (= start 0) (live-occur--colour text hit))
+    (pcase-dolist (`(,start . ,end)
+                   (live-occur--in-characters
+                    bytes (live-occur--hit-parts hit start (+ start (length bytes)))))
+      (when (< start most)
+        (add-face-text-property start (min end most) 'live-occur-match nil text)))
+    (put-text-property 0 (length text) 'category 'live-occur--row text)
+    (insert (if (> start 0) mark "") text (if cut mark ""))
+    (when (or cut (> start 0)) (put-text-property from (point) 'live-occur-short t))))
 
 (defun live-occur--row-head (hit line)
   "The head of the row of HIT, which is at LINE."
-  (let ((name (live-occur--shown-name (live-occur--hit-source hit))))
-    (propertize (live-occur--head name (1+ line) ":")
-                'mouse-face 'highlight 'help-echo live-occur--mouse
-                'live-occur-number (1+ line))))
+  (propertize (live-occur--head (live-occur--shown-name (live-occur--hit-source hit))
+                                (1+ line) ":")
+              'category 'live-occur--row 'live-occur-number (1+ line)))
 
 (defun live-occur--source-name (source)
   "What rows call SOURCE."
@@ -1615,8 +1046,7 @@ With DELETE it is taken out, too."
 
 (defun live-occur--name-rows ()
   "Make the rows of this list anew: they get names, or have them no longer."
-  (unless (or live-occur--page live-occur-edit-mode live-occur--held)
-    (live-occur--show-hits)))
+  (unless (or live-occur--page live-occur-edit-mode live-occur--held) (live-occur--show-hits)))
 
 (defun live-occur--after-head ()
   "Where the text of the row at point begins."
@@ -1625,69 +1055,30 @@ With DELETE it is taken out, too."
 (defun live-occur--head (name number mark)
   "The head of a row of line NUMBER of NAME, with MARK after each part.
 Where NAME is nil the head has none."
-  (concat (and name (propertize (string-replace "\n" " " name)
-                                'face 'live-occur-name))
-          (and name mark)
-          (propertize (number-to-string number) 'face 'live-occur-line)
-          mark))
-
-(defun live-occur--insert-text (hit)
-  "Insert the text of HIT, with its parts highlighted, or what is shown of it."
-  (let* ((most live-occur-max-columns)
-         (start (live-occur--shown-from hit))
-         (bytes (live-occur--hit-bytes hit start (+ start (* 5 (1+ most)))))
-         (text (live-occur--text bytes))
-         (cut (length> text most))
-         (from (point)))
-    (when cut (setq text (substring text 0 most)))
-    (when (= start 0) (live-occur--colour text hit))
-    (pcase-dolist (`(,start . ,end)
-                   (live-occur--in-characters
-                    bytes
-                    (cl-loop for (from . to) in (live-occur--hit-parts
-                                                 hit (+ start (length bytes)))
-                             collect (cons (- from start) (- to start)))))
-      (when (< start most)
-        (add-face-text-property start (min end most) 'live-occur-match nil
-                                text)))
-    (when (> start 0) (live-occur--insert-mark))
-    (insert (propertize text
-                        'mouse-face 'highlight 'help-echo live-occur--mouse))
-    (when cut (live-occur--insert-mark))
-    (when (or cut (> start 0))
-      (put-text-property from (point) 'live-occur-short t))))
+  (concat (and name (propertize (string-replace "\n" " " name) 'face 'live-occur-name))
+          (propertize (format "%s%d%s" (if name mark "") number mark) 'face 'live-occur-line)))
 
 (defun live-occur--colour (text hit)
   "Give TEXT, which begins the line of HIT, the faces that it has there."
-  (let ((buffer (live-occur--buffer (live-occur--hit-source hit))))
-    (when (and (buffer-live-p buffer)
-               (buffer-local-value 'font-lock-mode buffer))
-      (live-occur--at-line-of hit
-        (let* ((start (point)) (at start)
-               (end (min (point-max) (+ start (length text)))))
-          (when (equal text (buffer-substring-no-properties start end))
-            (while (< at end)
-              (let ((next (next-single-property-change at 'face nil end)))
-                (put-text-property (- at start) (- next start) 'face
-                                   (get-text-property at 'face) text)
-                (setq at next)))))))))
-
-(defun live-occur--insert-mark ()
-  "Insert what stands for a part of a line that is not shown."
-  (insert (propertize "…" 'face 'shadow)))
+  (when (live-occur--in (live-occur--buffer (live-occur--hit-source hit)) font-lock-mode)
+    (live-occur--at-line-of hit
+      (let* ((start (point)) (at start) (end (min (point-max) (+ start (length text)))))
+        (when (equal text (buffer-substring-no-properties start end))
+          (while (< at end)
+            (let ((next (next-single-property-change at 'face nil end)))
+              (put-text-property (- at start) (- next start) 'face
+                                 (get-text-property at 'face) text)
+              (setq at next))))))))
 
 (defun live-occur--shown-from (hit)
   "From which byte on the line of HIT is shown.
-If its first match isn't in the beginning that would be shown, it is a little
-before the match."
+It is a little before the first match if that would not be shown else."
   (pcase-let ((most live-occur-max-columns)
-              (`(,from ,to . ,_)
-               (live-occur--part-at hit (live-occur--hit-parts-at hit))))
+              (`(,from ,to . ,_) (live-occur--part-at hit (live-occur--hit-parts-at hit))))
     (if (or (not from)
             (<= to most)
             (and (<= to (* 5 most))
-                 (length< (live-occur--text (live-occur--hit-bytes hit 0 to))
-                          (1+ most))))
+                 (length< (live-occur--text (live-occur--hit-bytes hit 0 to)) (1+ most))))
         0
       (live-occur--byte-before hit from (min 30 (/ most 2))))))
 
@@ -1698,8 +1089,7 @@ before the match."
                (first (max start (- at (* 5 count)))))
     (while (and (> count 0) (> at first))
       (setq at (1- at))
-      (unless (= #x80 (logand #xC0 (aref rows at)))
-        (setq count (1- count))))
+      (unless (= #x80 (logand #xC0 (aref rows at))) (setq count (1- count))))
     (- at start)))
 
 (defun live-occur--in-characters (line places)
@@ -1710,21 +1100,17 @@ A character of which only some bytes are in a place is in it."
          (numbers (unless (length= text last)
                     (vconcat (cl-loop
                               for character across text and number from 0
-                              nconc (make-list (length (live-occur--bytes
-                                                        (string character)))
+                              nconc (make-list (length (live-occur--bytes (string character)))
                                                number))))))
     (cl-flet ((number (byte) (if numbers (aref numbers byte) byte)))
       (cl-loop for (start . end) in places while (< start last)
-               collect (cons (number start)
-                             (1+ (number (1- (min end last)))))))))
+               collect (cons (number start) (1+ (number (1- (min end last)))))))))
 
 (defun live-occur--make-in-view (window)
   "Make the rows of this list in WINDOW and near it, before it is redrawn.
-It may be moved to its point then, so rows there are made, too.  Nothing is done
-where all is as it was at the last time."
+It may be moved to its point then, so rows there are made, too."
   (live-occur--close-killed)
-  (unless (equal (window-parameter window 'live-occur-seen)
-                 (live-occur--seen window))
+  (unless (equal (window-parameter window 'live-occur-seen) (live-occur--seen window))
     (dolist (position (list (window-start window) (window-point window)))
       (let* ((height (window-body-height window))
              (first (max 0 (- (live-occur--row-at position) height))))
@@ -1753,13 +1139,11 @@ that, from 0.  `live-occur' makes a list for a pattern and buffers."
   (let (hits)
     (live-occur--map-hits
      (lambda (hit)
-       (let ((source (live-occur--hit-source hit))
-             (bytes (live-occur--hit-bytes hit)))
+       (let ((source (live-occur--hit-source hit)) (bytes (live-occur--hit-bytes hit)))
          (push (list (or (live-occur--buffer source) (live-occur--file source))
                      (1+ (live-occur--line-of hit))
                      (live-occur--text bytes)
-                     (live-occur--in-characters bytes
-                                                (live-occur--hit-parts hit)))
+                     (live-occur--in-characters bytes (live-occur--hit-parts hit)))
                hits)))
      (or first 0) (or count most-positive-fixnum))
     (nreverse hits)))
@@ -1781,14 +1165,13 @@ that, from 0.  `live-occur' makes a list for a pattern and buffers."
 
 ;;;; Lines around
 
-;; Lines around a row are no rows.  They are strings of an overlay over it, and
-;; are read from the source when the row comes into view.
+;; Lines around a row are no rows.  They are strings of an overlay over it, and are read from the
+;; source when the row comes into view.
 
 (defun live-occur--show-around (first count)
   "Show the lines around COUNT rows from FIRST on."
   (live-occur--at-row first
-    (remove-overlays (point) (line-beginning-position (1+ count))
-                     'live-occur-around t))
+    (remove-overlays (point) (line-beginning-position (1+ count)) 'live-occur-around t))
   (when (and live-occur-context (not live-occur--page))
     (let ((before (and (> first 0) (live-occur--hit (1- first)))))
       (live-occur--map-rows
@@ -1821,15 +1204,16 @@ ABOVE is nil before the first hit of the list, and BELOW after the last one."
 (defun live-occur--lines-in (source from to)
   "The lines FROM to TO of SOURCE as they are shown around rows."
   (when (< from to)
-    (let ((name (live-occur--shown-name source)))
+    (pcase-let ((name (live-occur--shown-name source))
+                ((cl-struct live-occur--source (from first) (to end)) source))
       (live-occur--in-text source
         (live-occur--go-to-line source from)
         (cl-loop for number from (1+ from) to to until (eobp)
-                 unless (live-occur--outside-p source)
+                 unless (or (and first (< (line-beginning-position) first))
+                            (and end (<= end (line-end-position))))
                  concat (concat
                          (live-occur--head name number "-")
-                         (propertize (live-occur--text-after-point
-                                      live-occur-max-columns)
+                         (propertize (live-occur--text-after-point live-occur-max-columns)
                                      'face 'live-occur-line)
                          "\n")
                  do (forward-line 1))))))
@@ -1843,21 +1227,23 @@ The list keeps its window."
   (when (mouse-event-p event) (posn-set-point (event-end event)))
   (let* ((hit (or (live-occur--hit (live-occur--row-at (point)))
                   (user-error "There is no row here")))
-         (buffer (live-occur--visited-buffer (live-occur--hit-source hit)))
-         (column (live-occur--first-column hit))
-         (position (live-occur--at-line-of hit
-                     (min (line-end-position) (+ (point) column)))))
+         (source (live-occur--hit-source hit))
+         (buffer (live-occur--visited-buffer source))
+         (position (car (live-occur--place-of hit))))
     (unless position (user-error "The buffer of this row is gone"))
-    (live-occur--check-line hit)
+    (unless (or (live-occur--known-p source)
+                (live-occur--at-line-of hit
+                  (live-occur--line-is-p (live-occur--text (live-occur--hit-bytes hit)))))
+      ;; It was changed without a report.
+      (live-occur--update)
+      (user-error "The list was not up to date: try again"))
     (setq next-error-last-buffer (current-buffer))
     (pop-to-buffer buffer
                    (unless (eq (window-buffer) (current-buffer))
-                     '((display-buffer-reuse-window
-                        display-buffer-same-window))))
+                     '((display-buffer-reuse-window display-buffer-same-window))))
     (unless (<= (point-min) position (point-max))
       (unless widen-automatically
-        (user-error "The line is outside of the narrowed part of %s"
-                    (buffer-name)))
+        (user-error "The line is outside of the narrowed part of %s" (buffer-name)))
       (widen))
     (goto-char position)
     (live-occur--unfold t)
@@ -1867,46 +1253,24 @@ The list keeps its window."
   "Show the line at point where it is folded, FOR-GOOD or for a while.
 Answer a function that folds it again."
   (if (and (derived-mode-p 'org-mode) (fboundp 'org-fold-core-get-regions))
-      (let ((folds (org-fold-core-get-regions
-                    :with-markers t :from (point-min) :to (point-max))))
+      (let ((folds (org-fold-core-get-regions :with-markers t :from (point-min) :to (point-max))))
         (org-fold-show-set-visibility 'canonical)
         (lambda ()
           (pcase-dolist (`(,from ,to ,kind) (delq nil folds))
             (org-fold-core-region from to t kind))))
-    (let ((closers
-           (cl-loop
-            for fold in (overlays-in (line-beginning-position)
-                                     (line-end-position))
-            for open = (overlay-get fold 'isearch-open-invisible)
-            when (and open (invisible-p (overlay-get fold 'invisible)))
-            collect (if for-good (funcall open fold)
-                      (live-occur--open-fold fold)))))
-      (lambda () (mapc #'funcall closers)))))
-
-(defun live-occur--open-fold (fold)
-  "Open the overlay FOLD for a while, and answer a function that closes it."
-  (if-let* ((open (overlay-get fold 'isearch-open-invisible-temporary)))
-      (progn (funcall open fold nil)
-             (apply-partially open fold t))
-    (prog1 (apply-partially #'overlay-put fold 'invisible
-                            (overlay-get fold 'invisible))
-      (overlay-put fold 'invisible nil))))
-
-(defun live-occur--check-line (hit)
-  "Signal an error where the line of HIT isn't found, and look at its buffer.
-That was changed without a report then."
-  (unless (or (live-occur--known-p (live-occur--hit-source hit))
-              (live-occur--at-line-of hit
-                (live-occur--line-is-p
-                 (live-occur--text (live-occur--hit-bytes hit)))))
-    (live-occur--update)
-    (user-error "The list was not up to date: try again")))
-
-(defun live-occur--first-column (hit)
-  "How many characters are before the first matched part of HIT, or 0."
-  (pcase (live-occur--part-at hit (live-occur--hit-parts-at hit))
-    ('nil 0)
-    (`(,from . ,_) (live-occur--column hit from))))
+    (let* ((at (if (eolp) (max (point-min) (1- (point))) (point)))
+           (search-invisible 'open)
+           (isearch-hide-immediately nil)
+           (isearch-opened-overlays nil)
+           (folds (progn (isearch-range-invisible at (1+ at))
+                         isearch-opened-overlays))
+           (fold (lambda ()
+                   (let ((isearch-opened-overlays folds))
+                     (isearch-close-unnecessary-overlays 0 0)))))
+      (when for-good
+        (funcall fold)
+        (dolist (fold folds) (funcall (overlay-get fold 'isearch-open-invisible) fold)))
+      fold)))
 
 (defun live-occur--column (hit byte)
   "How many characters of the line of HIT are before the one that has BYTE."
@@ -1925,8 +1289,7 @@ That was changed without a report then."
   "Move COUNT rows on."
   (interactive "p" live-occur-mode)
   (let ((row (+ (live-occur--row-at (point)) (or count 1))))
-    (unless (< -1 row (live-occur--total))
-      (user-error "There are no more rows"))
+    (unless (< -1 row (live-occur--total)) (user-error "There are no more rows"))
     (goto-char (live-occur--at-row row (point)))))
 
 (defun live-occur-previous (&optional count)
@@ -1938,29 +1301,31 @@ That was changed without a report then."
   "Move COUNT rows on, or with RESET from the first row, and go to the line.
 This is the `next-error-function' of lists."
   (live-occur-next (if reset (- (live-occur--row-at (point))) count))
-  (when-let* ((window (get-buffer-window nil 0)))
-    (set-window-point window (point)))
+  (when-let* ((window (get-buffer-window nil 0))) (set-window-point window (point)))
   (live-occur-visit))
 
 ;;;; Patterns
 
-;; What a list searches for are its patterns, its syntax, flags, and whether the
-;; case is smart.  The program has what these are in its own terms: see
-;; `live-occur--sent'.
+;; What a list searches for are its patterns, its syntax, flags, and whether the case is smart.
+;; The program has what these are in its own terms: see `live-occur--sent'.
 
 (defun live-occur--for-program (patterns flags)
   "A syntax for the program, and PATTERNS in pieces, where FLAGS are in force."
   (let* ((fold (memq ?i flags))
-         (characters (live-occur--characters-p))
+         (characters
+          (and live-occur-characters
+               (not (cl-find-if (lambda (source)
+                                  (live-occur--in (live-occur--buffer source)
+                                    (not enable-multibyte-characters)))
+                                live-occur--visited))))
          (quoted (and characters fold (eq live-occur-syntax 'fixed)
-                      (string-match-p "[[:nonascii:]]"
-                                      (apply #'concat patterns))))
+                      (string-match-p "[[:nonascii:]]" (apply #'concat patterns))))
          (syntax (if quoted 'basic live-occur-syntax)))
     (cons syntax
           (mapcar (lambda (pattern)
-                    (if (or (not characters) (eq syntax 'fixed))
-                        (live-occur--in-pieces pattern)
-                      (live-occur--translated pattern quoted syntax fold)))
+                    (live-occur--translated
+                     pattern (or quoted (not characters) (eq syntax 'fixed))
+                     quoted syntax fold))
                   patterns))))
 
 (defun live-occur--want (patterns report)
@@ -1970,37 +1335,40 @@ Call REPORT with the fault, or nil.  Of several wishes the last one is kept."
       (setq live-occur--trying (list patterns report))
     (setq live-occur--trying t)
     (pcase-let* ((flags (live-occur--flags-for patterns))
-                 (`(,syntax . ,pieces)
-                  (live-occur--for-program patterns flags))
-                 (texts (mapcar #'live-occur--joined pieces))
+                 (`(,syntax . ,pieces) (live-occur--for-program patterns flags))
+                 (texts (mapcar (lambda (all) (mapconcat #'cdr all "")) pieces))
                  (before live-occur--sent)
                  (other (not (eq syntax (car before))))
-                 (place (unless other
-                          (live-occur--place-to-change texts (cdr before)))))
+                 (place (unless other (live-occur--place-to-change texts (cdr before)))))
       (cl-flet ((got (in-place reply)
                   (let ((fault (live-occur--fault-in reply pieces)))
-                    (if fault
-                        (when other (live-occur--put-syntax-back before))
-                      (live-occur--take-wish patterns flags (cons syntax texts)
-                                             in-place))
-                    (live-occur--end-wish fault report other))))
-        (cond ((or (null texts) (equal texts (and (not other) (cdr before))))
-               (got texts "ok"))
+                    (cond ((not fault)
+                           (live-occur--take-wish patterns flags (cons syntax texts) in-place))
+                          (other (live-occur--begin-syntax before)))
+                    (funcall report fault)
+                    (let ((wanted (cl-shiftf live-occur--trying nil)))
+                      (cond ((consp wanted) (apply #'live-occur--want wanted))
+                            ;; Perhaps hits were reported without patterns.
+                            ((and fault (not other)))
+                            (live-occur--previewing (live-occur--ask-for-page))
+                            (t (live-occur--update t)))))))
+        (cond ((or (null texts) (equal texts (and (not other) (cdr before)))) (got texts "ok"))
               (place
                (live-occur--send
                 (format "pattern %d\n%s\n" place (nth place texts))
                 (lambda (reply _)
-                  (got t (string-replace
-                          "Pattern 0" (format "Pattern %d" place) reply)))))
-              (t (when other (live-occur--begin-syntax syntax))
-                 (live-occur--send (live-occur--patterns-command texts)
+                  (got t (string-replace "Pattern 0" (format "Pattern %d" place) reply)))))
+              (t (when other (live-occur--begin-syntax (list syntax)))
+                 (live-occur--send (live-occur--command "patterns" texts)
                                    (lambda (reply _) (got nil reply)))))))))
 
-(defun live-occur--begin-syntax (syntax)
-  "Let the program have SYNTAX, and no patterns, which it might refuse by that."
+(defun live-occur--begin-syntax (wanted)
+  "Let the program have WANTED, a syntax and patterns that it takes.
+Before that it has no patterns, which it might refuse by that."
   (dolist (_ (cdr live-occur--sent)) (live-occur--order "drop 0\n"))
-  (live-occur--order (format "syntax %s\n" syntax))
-  (setq live-occur--sent (list syntax)))
+  (live-occur--order (format "syntax %s\n" (car wanted)))
+  (when (cdr wanted) (live-occur--order (live-occur--command "patterns" (cdr wanted))))
+  (setq live-occur--sent wanted))
 
 (defun live-occur--place-to-change (texts others)
   "The number of the only one of TEXTS that differs from OTHERS, or nil."
@@ -2010,56 +1378,33 @@ Call REPORT with the fault, or nil.  Of several wishes the last one is kept."
                     unless (equal new old) collect place)
       (`(,place) place))))
 
-(defun live-occur--put-syntax-back (before)
-  "Let the program have BEFORE again, a syntax and patterns."
-  (live-occur--begin-syntax (car before))
-  (when (cdr before)
-    (live-occur--order (live-occur--patterns-command (cdr before))))
-  (setq live-occur--sent before))
-
 (defun live-occur--take-wish (patterns flags sent in-place)
-  "Let this list have PATTERNS and FLAGS, by which the program has SENT.
-It drops its older ones unless SENT are IN-PLACE.  The patterns are other ones,
-also where they are equal, if hits may be others."
-  (unless in-place
-    (dolist (_ (cdr live-occur--sent)) (live-occur--order "drop 0\n")))
+  "Let this list have PATTERNS and FLAGS: SENT was accepted, perhaps IN-PLACE.
+Where hits may be others the patterns are not `eq' to those before."
+  (unless in-place (dolist (_ (cdr live-occur--sent)) (live-occur--order "drop 0\n")))
   (setq live-occur-flags flags)
   (unless (and (equal sent live-occur--sent)
                (equal flags live-occur--flags-sent)
                (equal patterns live-occur--patterns))
+    (dolist (letter (cl-set-exclusive-or flags live-occur--flags-sent))
+      (live-occur--order (format "flag %c %s\n" letter
+                                 (if (memq letter flags) "on" "off"))))
     (setq live-occur--patterns (copy-sequence patterns)
-          live-occur--sent sent)
-    (live-occur--send-flags)))
-
-(defun live-occur--end-wish (fault report again)
-  "Call REPORT with FAULT, and go on with the wish that came meanwhile, if any.
-With AGAIN the hits may be others where there is a fault, too: some were perhaps
-reported while the program had no patterns."
-  (funcall report fault)
-  (let ((wanted (cl-shiftf live-occur--trying nil)))
-    (cond ((consp wanted) (apply #'live-occur--want wanted))
-          ((and fault (not again)))
-          (live-occur--previewing (live-occur--ask-for-page))
-          (t (live-occur--update t)))))
-
-(defun live-occur--send-flags ()
-  "Let the program have the flags of this list."
-  (dolist (letter '(?i ?v ?x))
-    (let ((on (memq letter live-occur-flags)))
-      (unless (eq (null on) (null (memq letter live-occur--flags-sent)))
-        (live-occur--order (format "flag %c %s\n" letter (if on "on" "off"))))))
-  (setq live-occur--flags-sent live-occur-flags))
+          live-occur--sent sent
+          live-occur--flags-sent flags)))
 
 (defun live-occur--fault-in (reply pieces)
   "The fault that REPLY reports in patterns sent as PIECES, or nil.
-It is a list of a kind, the number of a pattern and the place in it.  Where
-something else is refused the kind is REPLY itself."
+It is a list of a kind, or REPLY, the number of a pattern and the place in it."
   (pcase (split-string reply " ")
     ('("ok") nil)
     (`("refused" "Pattern" ,number ,kind ,at)
-     (let ((number (string-to-number number)))
-       (list kind number (live-occur--place-back (nth number pieces)
-                                                 (string-to-number at)))))
+     (let ((number (string-to-number number)) (at (string-to-number at)))
+       (list kind number
+             (cl-loop for (place . bytes) in (nth number pieces)
+                      while (>= at (length bytes))
+                      do (cl-decf at (length bytes))
+                      finally return place))))
     (_ (list reply 0 0))))
 
 (defun live-occur--fault-in-text (fault text first)
@@ -2082,57 +1427,21 @@ TEXT has the patterns from number FIRST on, one a line."
 
 ;;;; Characters
 
-;; The program takes each byte as a character.  So what a pattern says of
-;; characters beyond ASCII is said of their bytes in UTF-8.  What is sent is
-;; kept in pieces, pairs of a place in the pattern and bytes, by which the place
-;; of a fault is found in the pattern.
+;; The program takes each byte as a character.  So what a pattern says of characters beyond ASCII
+;; is said of their bytes in UTF-8.  What is sent is kept in pieces, pairs of a place in the
+;; pattern and bytes, by which the place of a fault is found in the pattern.
 
-(defun live-occur--characters-p ()
-  "Whether patterns of this list speak of characters, and not of bytes."
-  (and live-occur-characters
-       (cl-every (lambda (source)
-                   (let ((buffer (live-occur--buffer source)))
-                     (or (not (buffer-live-p buffer))
-                         (buffer-local-value 'enable-multibyte-characters
-                                             buffer))))
-                 live-occur--sources)))
-
-(defun live-occur--in-pieces (pattern)
-  "PATTERN as it is, in pieces."
-  (append (cl-loop for character across pattern for place from 0
-                   collect (cons place
-                                 (live-occur--bytes (string character))))
-          (list (list (length pattern)))))
-
-(defun live-occur--joined (pieces)
-  "The bytes of PIECES."
-  (mapconcat #'cdr pieces ""))
-
-(defun live-occur--place-back (pieces at)
-  "The place in a pattern of which PIECES have byte AT."
-  (cl-loop for (place . bytes) in pieces
-           while (>= at (length bytes))
-           do (cl-decf at (length bytes))
-           finally return place))
-
-(defun live-occur--translated (pattern fixed syntax fold)
-  "PATTERN, read by SYNTAX, or FIXED, in pieces that speak of its bytes.
-With FOLD both cases match."
+(defun live-occur--translated (pattern plain quoted syntax fold)
+  "PATTERN, read by SYNTAX, in pieces that speak of its bytes.
+A PLAIN one isn't translated, but with FOLD, for both cases, if it is QUOTED."
   (with-temp-buffer
     (insert pattern)
     (goto-char (point-min))
     (append (cl-loop until (eobp)
-                     nconc (if fixed
-                               (live-occur--next-fixed syntax fold)
-                             (live-occur--next-pieces syntax fold)))
+                     nconc (cond ((and plain (or (not quoted) (looking-at "[][\\.*^$]")))
+                                  (live-occur--as-it-is (1+ (point)) (and quoted "\\")))
+                                 (t (live-occur--next-pieces syntax fold))))
             (list (list (length pattern))))))
-
-(defun live-occur--next-fixed (syntax fold)
-  "Pieces by SYNTAX of the character at point of a fixed string; move over it.
-FOLD is as in `live-occur--translated'."
-  (if (looking-at "[][\\.*^$]")
-      (live-occur--as-it-is (1+ (point)) "\\")
-    (live-occur--next-pieces syntax fold)))
 
 (defun live-occur--next-pieces (syntax fold)
   "Pieces of what is at point of a pattern, which is of SYNTAX; move over it.
@@ -2150,16 +1459,13 @@ FOLD is as in `live-occur--translated'."
           (t (skip-chars-forward "\\\\")
              (forward-char)
              (live-occur--choice
-              place syntax (mapcar (lambda (one)
-                                     (live-occur--bytes (string one)))
+              place syntax (mapcar (lambda (one) (live-occur--bytes (string one)))
                                    (live-occur--cases (char-before) fold)))))))
 
 (defun live-occur--as-it-is (end &optional before)
   "Pieces of the text from point to END, with BEFORE in front; move over it."
   (cl-loop while (< (point) end)
-           collect (cons (1- (point))
-                         (live-occur--bytes
-                          (concat before (string (char-after)))))
+           collect (cons (1- (point)) (live-occur--bytes (concat before (string (char-after)))))
            do (forward-char)))
 
 (defun live-occur--choice (place syntax texts)
@@ -2196,9 +1502,7 @@ all that follows, but a descending range of characters as one of letters."
          (live-occur--choice
           (1- start) syntax
           (live-occur--alternatives
-           complement texts
-           (let ((all (live-occur--with-cases ranges fold)))
-             (if complement (live-occur--other-ranges all) all))))))
+           complement texts (live-occur--all-ranges ranges fold complement)))))
       (dash
        (goto-char start)
        (if (not dash)
@@ -2208,8 +1512,8 @@ all that follows, but a descending range of characters as one of letters."
 
 (defun live-occur--read-set ()
   "Move over the bracket expression at point, and answer its elements.
-It is whether it is a complement, its elements in ASCII as texts, and the ranges
-of others.  Throw nil to `fault', or where a range beyond ASCII descends."
+They are whether it is a complement, texts for ASCII, and ranges of others.
+Throw nil to `fault', or where a range beyond ASCII descends."
   (let (texts ranges (complement (looking-at "\\[\\^")) (first t))
     (forward-char (if complement 2 1))
     (while (or (cl-shiftf first nil) (not (eq (char-after) ?\])))
@@ -2222,15 +1526,14 @@ of others.  Throw nil to `fault', or where a range beyond ASCII descends."
         (let* ((single (looking-at-p "\\[="))
                (from (live-occur--read-point))
                (dash (and (not single) (looking-at-p "-[^]]") (point)))
-               (to (if (not dash) from
-                     (forward-char)
-                     (live-occur--read-point))))
-          (when (< to from)
-            (throw 'fault (and (>= from #x80) dash)))
+               (to (if (not dash) from (forward-char) (live-occur--read-point))))
+          (when (< to from) (throw 'fault (and (>= from #x80) dash)))
           (when (< from #x80)
-            (push (live-occur--range-text from (min to #x7f)) texts))
-          (when (>= to #x80)
-            (push (cons (max from #x80) to) ranges)))))
+            (push (mapconcat (lambda (one)
+                               (format (if (memq one '(?\[ ?\] ?^ ?-)) "[.%c.]" "%c") one))
+                             (seq-uniq (list from (min to #x7f))) "-")
+                  texts))
+          (when (>= to #x80) (push (cons (max from #x80) to) ranges)))))
     (forward-char)
     (list complement (nreverse texts) (nreverse ranges))))
 
@@ -2240,56 +1543,44 @@ of others.  Throw nil to `fault', or where a range beyond ASCII descends."
          (goto-char (match-end 0))
          (string-to-char (match-string 2)))
         ((or (eobp) (looking-at-p "\\[[.=:]")) (throw 'fault nil))
-        (t (forward-char)
-           (char-before))))
+        (t (forward-char) (char-before))))
 
-(defun live-occur--range-text (from to)
-  "The element of a bracket expression for the characters FROM to TO."
-  (cl-flet ((text (character)
-              (format (if (memq character '(?\[ ?\] ?^ ?-)) "[.%c.]" "%c")
-                      character)))
-    (if (= from to) (text from) (concat (text from) "-" (text to)))))
-
-(defun live-occur--with-cases (ranges fold)
-  "RANGES, and with FOLD what differs by case from those that aren't long."
-  (append ranges
-          (when fold
-            (cl-loop for (from . to) in ranges
-                     when (< (- to from) 2000)
-                     nconc (cl-loop
-                            for one from from to to
-                            nconc (mapcar (lambda (other) (cons other other))
-                                          (cdr (live-occur--cases one t))))))))
-
-(defun live-occur--other-ranges (ranges)
-  "The ranges of characters beyond ASCII that are in none of RANGES."
-  (let ((next #x80) others)
-    (pcase-dolist (`(,from . ,to) (sort (copy-sequence ranges)
-                                        #'car-less-than-car))
-      (when (< next from) (push (cons next (1- from)) others))
-      (setq next (max next (1+ to))))
-    (nreverse (if (<= next #x10ffff)
-                  (cons (cons next #x10ffff) others)
-                others))))
+(defun live-occur--all-ranges (ranges fold complement)
+  "RANGES, and with FOLD what differs by case from those that aren't long.
+With COMPLEMENT it is what is in none of them, of the characters beyond ASCII."
+  (pcase-dolist (`(,from . ,to) (and fold (copy-sequence ranges)))
+    (when (< (- to from) 2000)
+      (cl-loop for one from from to to
+               do (dolist (other (cdr (live-occur--cases one t)))
+                    (push (cons other other) ranges)))))
+  (if (not complement) ranges
+    (let ((next #x80) others)
+      (pcase-dolist (`(,from . ,to) (sort (copy-sequence ranges) #'car-less-than-car))
+        (when (< next from) (push (cons next (1- from)) others))
+        (setq next (max next (1+ to))))
+      (nreverse (if (<= next #x10ffff) (cons (cons next #x10ffff) others) others)))))
 
 (defun live-occur--alternatives (complement texts ranges)
   "What matches a character of a set, as expressions for bytes.
 It has the elements TEXTS, or with COMPLEMENT others of ASCII, and RANGES."
-  (append (cond (complement (list (concat "[^" (string-join texts)
-                                          "\200-\377]")))
-                (texts (list (concat "[" (string-join texts) "]"))))
-          (cl-loop
-           for (from . to) in ranges
-           nconc (cl-loop
-                  for (low . high) in '((#x80 . #x7ff) (#x800 . #xffff)
-                                        (#x10000 . #x3fffff))
-                  for first = (max low from) for last = (min high to)
-                  when (<= first last)
-                  nconc (mapcar #'live-occur--byte-text
-                                (live-occur--byte-ranges
-                                 (append (live-occur--bytes (string first)) nil)
-                                 (append (live-occur--bytes (string last))
-                                         nil)))))))
+  (append
+   (cond (complement (list (concat "[^" (string-join texts) "\200-\377]")))
+         (texts (list (concat "[" (string-join texts) "]"))))
+   (cl-loop
+    for (from . to) in ranges
+    nconc (cl-loop
+           for (low . high) in '((#x80 . #x7ff) (#x800 . #xffff) (#x10000 . #x3fffff))
+           for first = (max low from) for last = (min high to)
+           when (<= first last)
+           nconc (mapcar
+                  (lambda (ranges)
+                    (mapconcat (pcase-lambda (`(,low . ,high))
+                                 (if (= low high) (unibyte-string low)
+                                   (unibyte-string ?\[ low ?- high ?\])))
+                               ranges ""))
+                  (live-occur--byte-ranges
+                   (append (live-occur--bytes (string first)) nil)
+                   (append (live-occur--bytes (string last)) nil)))))))
 
 (defun live-occur--byte-ranges (from to)
   "Lists of ranges, each for a byte, that have all bytes between FROM and TO.
@@ -2309,21 +1600,12 @@ FROM and TO are the bytes of characters that have equally many."
                    (live-occur--byte-ranges (cons last lowest) to)))
           (t `(((,first . ,last) . ,(cl-mapcar #'cons lowest highest)))))))
 
-(defun live-occur--byte-text (ranges)
-  "The expression for bytes that are each in one of RANGES."
-  (mapconcat (pcase-lambda (`(,low . ,high))
-               (if (= low high) (unibyte-string low)
-                 (unibyte-string ?\[ low ?- high ?\])))
-             ranges ""))
-
 ;;;; The prompt
 
-(defvar-local live-occur--typing-list nil
-  "The list for which a pattern is typed in this minibuffer.")
+(defvar-local live-occur--typing-list nil "The list that a pattern is for.")
 (defvar-local live-occur--typing-what nil "What that is, unless the list's use.")
 (defvar-local live-occur--try-now nil
-  "A function that lets the list follow what is typed in this minibuffer.
-Unless its argument is t it does so where that has changed.")
+  "A function that lets the list follow what is typed, if new or with t.")
 
 (defun live-occur--show-fault (fault)
   "Show FAULT in this minibuffer, or that there is none where it is nil."
@@ -2336,10 +1618,8 @@ Unless its argument is t it does so where that has changed.")
        (dolist (one (list fault end)) (overlay-put one 'live-occur-fault t))
        (overlay-put fault 'face 'live-occur-fault)
        (overlay-put end 'after-string
-                    (concat (when (= at (point-max))
-                              (propertize " " 'face 'live-occur-fault))
-                            (propertize (format " [%s]" kind)
-                                        'face 'error 'cursor t)))))))
+                    (concat (when (= at (point-max)) (propertize " " 'face 'live-occur-fault))
+                            (propertize (format " [%s]" kind) 'face 'error 'cursor t)))))))
 
 (defun live-occur--follow-typing (list before after)
   "Let LIST follow what is typed in this minibuffer, between BEFORE and AFTER."
@@ -2358,11 +1638,9 @@ Unless its argument is t it does so where that has changed.")
     (add-hook 'minibuffer-exit-hook (lambda () (cancel-timer timer)) nil t)
     (add-hook 'post-command-hook
               (lambda ()
-                (unless (equal
-                         seen (setq seen (minibuffer-contents-no-properties)))
+                (unless (equal seen (setq seen (minibuffer-contents-no-properties)))
                   (cancel-timer timer)
-                  (setq timer (run-with-timer live-occur-typing-delay nil
-                                              live-occur--try-now))))
+                  (setq timer (run-with-timer live-occur-typing-delay nil live-occur--try-now))))
               nil t)))
 
 (defun live-occur--try (list minibuffer text before after)
@@ -2372,14 +1650,11 @@ Unless its argument is t it does so where that has changed.")
       (setq live-occur--previewing t)
       (live-occur--step)
       (live-occur--want
-       (append before
-               (unless (string-empty-p text) (split-string text "\n"))
-               after)
+       (append before (unless (string-empty-p text) (split-string text "\n")) after)
        (lambda (fault)
          (live-occur--in minibuffer
            (when (equal text (minibuffer-contents-no-properties))
-             (live-occur--show-fault
-              (live-occur--fault-in-text fault text (length before))))))))))
+             (live-occur--show-fault (live-occur--fault-in-text fault text (length before))))))))))
 
 (defun live-occur--symbol-at-point (syntax)
   "The symbol at point as a pattern in SYNTAX that matches it, or nil."
@@ -2392,7 +1667,10 @@ Unless its argument is t it does so where that has changed.")
 (defun live-occur--prompt (list what)
   "A prompt of WHAT, or of the use of LIST, with its syntax and flags."
   (with-current-buffer list
-    (format "%s (%s): " (or what (live-occur--purpose list))
+    (format "%s (%s): "
+            (or what (if (memq ?v live-occur-flags)
+                         "List lines that don't match"
+                       "List lines that match"))
             (string-join
              `(,(symbol-name live-occur-syntax)
                ,@(cond (live-occur-smart-case '("smart case"))
@@ -2404,16 +1682,14 @@ Unless its argument is t it does so where that has changed.")
   "While a pattern is typed, do what the last key does in the list.
 It changes a flag or the syntax; the prompt has those in force."
   (interactive)
-  (let ((command (lookup-key live-occur-mode-map
-                             (vector last-command-event))))
+  (let ((command (lookup-key live-occur-mode-map (vector last-command-event))))
     (live-occur--in live-occur--typing-list
       (let ((live-occur--typing t)) (call-interactively command)))
     (remove-overlays (point-min) (minibuffer-prompt-end) 'live-occur-prompt t)
     (let ((prompt (make-overlay (point-min) (minibuffer-prompt-end))))
       (overlay-put prompt 'live-occur-prompt t)
       (overlay-put prompt 'display
-                   (propertize (live-occur--prompt live-occur--typing-list
-                                                   live-occur--typing-what)
+                   (propertize (live-occur--prompt live-occur--typing-list live-occur--typing-what)
                                'face 'minibuffer-prompt)))
     (when live-occur--try-now (funcall live-occur--try-now t))))
 
@@ -2421,10 +1697,8 @@ It changes a flag or the syntax; the prompt has those in force."
   "Read patterns in a prompt of WHAT, with TEXT at first, until LIST takes them.
 WHAT is nil for the use of the list.  They go between the patterns BEFORE and
 AFTER."
-  (let ((offered (live-occur--symbol-at-point
-                  (buffer-local-value 'live-occur-syntax list)))
-        (old (with-current-buffer list
-               (cons live-occur--patterns (live-occur--settings))))
+  (let ((offered (live-occur--symbol-at-point (buffer-local-value 'live-occur-syntax list)))
+        (old (with-current-buffer list (cons live-occur--patterns (live-occur--settings))))
         fault done)
     (live-occur--begin-showing list (selected-window))
     (unwind-protect
@@ -2432,12 +1706,9 @@ AFTER."
           (minibuffer-with-setup-hook
               (lambda ()
                 (live-occur--show-fault fault)
-                (setq live-occur--typing-list list
-                      live-occur--typing-what what)
-                (when live-occur-typing-delay
-                  (live-occur--follow-typing list before after))
-                (use-local-map (make-composed-keymap live-occur-preview-map
-                                                     (current-local-map))))
+                (setq live-occur--typing-list list live-occur--typing-what what)
+                (when live-occur-typing-delay (live-occur--follow-typing list before after))
+                (use-local-map (make-composed-keymap live-occur-preview-map (current-local-map))))
             (setq text (read-from-minibuffer
                         (concat (and fault (apply #'format "%s at %d; " fault))
                                 (live-occur--prompt list what))
@@ -2445,24 +1716,20 @@ AFTER."
                         nil nil 'live-occur-history offered)))
           (with-current-buffer list
             (setq fault (live-occur--fault-in-text
-                         (live-occur--put
-                          (append before (split-string text "\n") after))
+                         (live-occur--put (append before (split-string text "\n") after))
                          text (length before))
                   done (not fault))))
       (live-occur--in list
         (unwind-protect
             (live-occur--end-showing done)
-          (unless done (apply #'live-occur--use (cdr old)))
-          (live-occur--end-preview
-           (if done live-occur--patterns (car old))))))))
+          (unless done (live-occur--use (cdr old)))
+          (live-occur--end-preview (if done live-occur--patterns (car old))))))))
 
 (defun live-occur--end-preview (patterns)
   "Keep PATTERNS, and show again what the list had where they are the old ones."
   (when live-occur--previewing
     (setq live-occur--previewing nil)
-    (when (and live-occur--page
-               (or live-occur--fault
-                   (not (equal patterns live-occur--patterns))))
+    (when (and live-occur--page (or live-occur--fault (not (equal patterns live-occur--patterns))))
       (live-occur--show-hits (cdr live-occur--page)))
     (if live-occur--fault
         (setq live-occur--patterns patterns)
@@ -2497,12 +1764,8 @@ AFTER."
 
 ;;;; Pages
 
-;; While a pattern is typed the list shows a page: the first hits, and the
-;; number of all.  The hits that the program reported before are kept.
-
-(defun live-occur--hits-in (block)
-  "How many hits there are, by the first line of BLOCK, which is a page."
-  (string-to-number (substring (car block) (length "hits "))))
+;; While a pattern is typed the list shows a page: the first hits, and the number of all.  The
+;; hits that the program reported before are kept.
 
 (defun live-occur--hit-on-page (piece)
   "The hit in PIECE, which is a row of a page."
@@ -2510,9 +1773,10 @@ AFTER."
     (live-occur--hit-in (nth (live-occur--place-in row 0) live-occur--sources)
                         row (1- (string-search " " row 2)) 0)))
 
-(defun live-occur--page-size ()
-  "How many hits a page has."
-  (max 50 (frame-height)))
+(defun live-occur--move-windows (position)
+  "Move point, and that of windows of this list, to POSITION."
+  (goto-char position)
+  (dolist (window (get-buffer-window-list nil nil t)) (set-window-point window position)))
 
 (defun live-occur--show-page (block total)
   "Show the hits in BLOCK, which is a page, instead of the rows, of TOTAL ones."
@@ -2523,18 +1787,16 @@ AFTER."
     (erase-buffer)
     (dolist (piece (cdr block))
       (let ((hit (live-occur--hit-on-page piece)))
-        (live-occur--insert-row hit (live-occur--hit-place hit))
+        (live-occur--insert-row hit (live-occur--row-head hit (live-occur--hit-place hit)))
         (insert "\n"))))
-  (goto-char (point-min))
-  (dolist (window (get-buffer-window-list nil nil t))
-    (set-window-point window (point-min)))
+  (live-occur--move-windows (point-min))
   (force-mode-line-update))
 
 ;;;; A hit that is shown while a pattern is typed
 
-;; It is the first one at point or after it, in the window in which the pattern
-;; was asked for; keys go through those of all buffers.  Its number is found by
-;; halving: the program is asked for pages of one hit.
+;; It is the first one at point or after it, in the window in which the pattern was asked for;
+;; keys go through those of all buffers.  Its number is found by halving: the program is asked for
+;; pages of one hit.
 
 (cl-defstruct (live-occur--preview (:copier nil))
   "A window in which hits are shown."
@@ -2544,15 +1806,13 @@ AFTER."
   start
   source                                ; that of this buffer, or nil
   (line 0)                              ; that of this point
-  patterns                              ; for which a hit was looked for
-  keyed                                 ; for which keys moved to a hit
+  keyed                                 ; patterns for which keys moved to a hit
   number                                ; that of the hit shown, or asked for
   after                                 ; whether it is at this point or after it
   hit                                   ; that is shown, or nil
   (page 0)                              ; the number of the first row shown
   (low 0) (high 0)                      ; those of the hits that are listed
-  mark                                  ; overlays over the hit and its row
-  row
+  mark row                              ; overlays over the hit and its row
   (fold #'ignore))                      ; folds again what is unfolded
 
 (defvar live-occur-preview-map
@@ -2575,29 +1835,24 @@ Where that shows the list itself it is another one that shows a source."
                                 (get-buffer-window buffer)))
                             live-occur--sources)))
     (when (and window live-occur-preview live-occur-typing-delay)
-      (let* ((source (live-occur--source-of (window-buffer window)))
-             (point (window-point window)))
+      (let* ((source (live-occur--source-of (window-buffer window))) (point (window-point window)))
         (setq live-occur--preview
               (make-live-occur--preview
                :window window :buffer (window-buffer window) :source source
                :point point :start (window-start window)
                :line (if (not source) 0
-                       (live-occur--in-text source
-                         (1- (line-number-at-pos point))))))))))
+                       (live-occur--in-text source (1- (line-number-at-pos point))))))))))
 
-(defun live-occur--ask-about-hits (preview first count function &optional bare)
-  "Ask for a page of COUNT hits from number FIRST on, for PREVIEW.
-Call FUNCTION with its block, unless it isn't wanted any more then.  With BARE
+(defun live-occur--ask-about-hits (first count function &optional bare)
+  "Ask for a page of COUNT hits from number FIRST on.
+Call FUNCTION with its block, unless another look has begun by then.  With BARE
 it needs no text of lines, which may be long."
-  (let ((patterns live-occur--patterns)
-        (looking live-occur--looking)
-        (sources live-occur--sources))
+  (let ((looking live-occur--looking) (sources live-occur--sources))
     (when bare (live-occur--order "text off\n"))
     (live-occur--send (format "page %d %d\n" first count)
                       (lambda (_ blocks)
-                        (when (and (eq preview live-occur--preview)
-                                   (eq patterns live-occur--patterns)
-                                   (eq looking live-occur--looking)
+                        (when (and (eq looking live-occur--looking)
+                                   (eq (car looking) live-occur--patterns)
                                    (eq sources live-occur--sources))
                           (funcall function (car blocks)))))
     (when bare (live-occur--order "text on\n"))))
@@ -2605,139 +1860,105 @@ it needs no text of lines, which may be long."
 (defun live-occur--ask-for-page ()
   "Ask how many hits there are, and for some, while a pattern is typed.
 What is looked for or shown stays if it can."
-  (let ((preview live-occur--preview)
-        (stays (and live-occur--page (live-occur--stays-p))))
-    (unless stays (live-occur--begin-look))
+  (let ((stays (live-occur--stays-p)))
+    (unless stays (setq live-occur--looking (cons live-occur--patterns t)))
     (live-occur--with-part
-     preview
      (lambda (low high)
        (live-occur--tell-more)
        (cond ((not live-occur--previewing))
              (stays (setcar live-occur--page (- high low))
-                    (when preview
-                      (setf (live-occur--preview-high preview) high))
+                    (when live-occur--preview
+                      (setf (live-occur--preview-high live-occur--preview) high))
                     (force-mode-line-update))
              (t (live-occur--ask-about-hits
-                 preview low (min (live-occur--page-size) (- high low))
+                 low (min (max 50 (frame-height)) (- high low))
                  (lambda (block)
                    (live-occur--show-page block (- high low))
-                   (live-occur--look-between preview low high)))))))))
-
-(defun live-occur--begin-look ()
-  "Begin a look for a hit, and give up the one before."
-  (setq live-occur--looking (cons live-occur--patterns t)))
+                   (live-occur--look-between low high)))))))))
 
 (defun live-occur--stays-p ()
   "Whether more is to come, and what is looked for or shown stays until then.
 It is the first hit after point, or one that keys have moved to: lines that come
 after it change nothing."
-  (and live-occur--more
-       (pcase live-occur--looking
-         (`(,patterns . ,goes-on)
-          (and (eq patterns live-occur--patterns)
-               (or goes-on (live-occur--shows-p patterns)))))))
+  (and live-occur--page live-occur--more
+       (eq (car live-occur--looking) live-occur--patterns)
+       (or (cdr live-occur--looking)
+           (pcase live-occur--preview
+             ((cl-struct live-occur--preview keyed after hit)
+              (and hit (or after (eq keyed live-occur--patterns))))))))
 
-(defun live-occur--shows-p (patterns)
-  "Whether a hit of PATTERNS is shown that is after point, or was moved to."
+(defun live-occur--look-between (low high)
+  "Show a hit from number LOW on and below HIGH, if hits are shown.
+It is the first at point or after it, or else the first of all.  Once keys have
+moved it is the one of the same number: what comes later has greater ones."
   (pcase live-occur--preview
-    ((and preview (cl-struct live-occur--preview keyed after hit))
-     (and hit
-          (eq patterns (live-occur--preview-patterns preview))
-          (or (eq patterns keyed) after)))))
-
-(defun live-occur--look-for-hit ()
-  "Show the first hit at point or after it, or else the first of all."
-  (when-let* ((preview live-occur--preview))
-    (live-occur--begin-look)
-    (live-occur--with-part
-     preview (apply-partially #'live-occur--look-between preview))))
-
-(defun live-occur--look-between (preview low high)
-  "Show in PREVIEW, unless it is nil, a hit from number LOW on and below HIGH.
-Once keys have moved it is the one of the same number: what comes later has
-greater ones."
-  (pcase preview
     ('nil (setcdr live-occur--looking nil))
-    ((cl-struct live-occur--preview source line keyed number)
+    ((and preview (cl-struct live-occur--preview source line keyed number))
      (setf (live-occur--preview-page preview) low
            (live-occur--preview-low preview) low
            (live-occur--preview-high preview) high)
-     (cond ((= low high) (live-occur--show-no-hit preview))
+     (cond ((= low high)
+            (setf (live-occur--preview-number preview) nil)
+            (live-occur--show-found nil))
            ((and number (eq keyed live-occur--patterns))
-            (live-occur--show-number preview (min number (1- high))))
+            (live-occur--show-number (min number (1- high))))
            (t (live-occur--find-number
-               preview (or (seq-position live-occur--sources source #'eq) 0)
+               (or (seq-position live-occur--sources source #'eq) 0)
                line low high
                (lambda (number)
-                 (let ((after (< number high)))
-                   (setf (live-occur--preview-after preview) after)
-                   (live-occur--show-number preview
-                                            (if after number low))))))))))
+                 (setf (live-occur--preview-after preview) (< number high))
+                 (live-occur--show-number (if (< number high) number low)))))))))
 
-(defun live-occur--with-part (preview function)
-  "Call FUNCTION with which hits are listed, for PREVIEW.
+(defun live-occur--with-part (function)
+  "Call FUNCTION with which hits are listed.
 It is the number of the first one, and that of the first after them."
   (live-occur--ask-about-hits
-   preview 0 0
+   0 0
    (lambda (block)
-     (let ((total (live-occur--hits-in block)))
-       (pcase (live-occur--region)
-         ('nil (funcall function 0 total))
-         (source
-          (pcase-let ((`(,from . ,to) (live-occur--bounds source)))
-            (live-occur--find-number
-             preview 0 from 0 total
-             (lambda (low)
-               (live-occur--find-number
-                preview 0 to low total
-                (lambda (high) (funcall function low high))))))))))))
+     (let ((total (string-to-number (substring (car block) (length "hits "))))
+           (source (live-occur--region)))
+       (if (not source)
+           (funcall function 0 total)
+         (pcase-let ((`(,from . ,to) (live-occur--bounds source)))
+           (live-occur--find-number
+            0 from 0 total
+            (lambda (low)
+              (live-occur--find-number 0 to low total (apply-partially function low))))))))))
 
-(defun live-occur--find-number (preview file line low high function)
+(defun live-occur--find-number (file line low high function)
   "Call FUNCTION with the number of the first hit from LINE of FILE on.
-It is known that hits before number LOW come before it, and none from HIGH on.
-It is asked for as long as PREVIEW is there."
+It is known that hits before number LOW come before it, and none from HIGH on."
   (if (= low high)
       (funcall function low)
     (let ((middle (/ (+ low high) 2)))
       (live-occur--ask-about-hits
-       preview middle 1
+       middle 1
        (lambda (block)
-         (if (live-occur--page-before-p block file line)
-             (setq low (1+ middle))
-           (setq high middle))
-         (live-occur--find-number preview file line low high function))
+         (if (live-occur--page-before-p block file line) (setq low (1+ middle)) (setq high middle))
+         (live-occur--find-number file line low high function))
        t))))
 
 (defun live-occur--page-before-p (block file line)
   "Whether the page BLOCK has a hit, and that comes before LINE of FILE."
-  (when-let* ((piece (nth 1 block))
-              (row (live-occur--piece-rows piece))
-              (there (live-occur--place-in row 0)))
-    (or (< there file)
-        (and (= there file)
-             (< (live-occur--place-in row (1- (string-search " " row 2)))
-                line)))))
+  (pcase (cdr block)
+    (`(,(cl-struct live-occur--piece rows))
+     (let ((there (live-occur--place-in rows 0)))
+       (or (< there file)
+           (and (= there file)
+                (< (live-occur--place-in rows (1- (string-search " " rows 2))) line)))))))
 
-(defun live-occur--show-number (preview number)
-  "Show the hit of NUMBER in PREVIEW."
-  (pcase-let* (((cl-struct live-occur--preview low high) preview)
-               (size (live-occur--page-size))
+(defun live-occur--show-number (number)
+  "Show the hit of NUMBER."
+  (pcase-let* (((and preview (cl-struct live-occur--preview low high)) live-occur--preview)
+               (size (max 50 (frame-height)))
                (first (if (< (- number low) size) low (- number (/ size 2)))))
     (setf (live-occur--preview-number preview) number)
     (live-occur--ask-about-hits
-     preview first (min size (- high first))
+     first (min size (- high first))
      (lambda (block)
        (let ((piece (nth (1+ (- number first)) block)))
-         (live-occur--show-found
-          preview (and piece (live-occur--hit-on-page piece)))
-         (live-occur--show-row preview block first))))))
-
-(defun live-occur--show-no-hit (preview)
-  "Show in the window of PREVIEW what it showed before."
-  (setf (live-occur--preview-patterns preview) live-occur--patterns
-        (live-occur--preview-number preview) nil
-        (cdr live-occur--looking) nil)
-  (live-occur--go-back preview))
+         (live-occur--show-found (and piece (live-occur--hit-on-page piece)))
+         (live-occur--show-row block first))))))
 
 (defun live-occur--show-in (preview buffer point start)
   "Let the window of PREVIEW show BUFFER from START on, if it can.
@@ -2745,62 +1966,46 @@ Move its POINT there, and answer whether it could."
   (let ((window (live-occur--preview-window preview)))
     (when (and (window-live-p window)
                (buffer-live-p buffer)
-               (or (eq (window-buffer window) buffer)
-                   (not (window-dedicated-p window))))
-      (unless (eq (window-buffer window) buffer)
-        (set-window-buffer window buffer))
+               (or (eq (window-buffer window) buffer) (not (window-dedicated-p window))))
+      (unless (eq (window-buffer window) buffer) (set-window-buffer window buffer))
       (when start (set-window-start window start t))
       (set-window-point window point)
       t)))
 
 (defun live-occur--go-back (preview)
   "Let the window of PREVIEW be as it was."
-  (pcase-let (((cl-struct live-occur--preview buffer point start mark row)
-               preview))
+  (pcase-let (((cl-struct live-occur--preview buffer point start mark row) preview))
     (setf (live-occur--preview-hit preview) nil)
-    (live-occur--fold-again preview)
+    (funcall (cl-shiftf (live-occur--preview-fold preview) #'ignore))
     (dolist (overlay (list mark row)) (when overlay (delete-overlay overlay)))
     (live-occur--show-in preview buffer point start)))
 
-(defun live-occur--fold-again (preview)
-  "Fold what PREVIEW has unfolded."
-  (funcall (live-occur--preview-fold preview))
-  (setf (live-occur--preview-fold preview) #'ignore))
-
-(defun live-occur--show-found (preview hit)
-  "Show HIT in the window of PREVIEW, if it is not outside of what is narrowed."
-  (setf (live-occur--preview-patterns preview) live-occur--patterns
-        (cdr live-occur--looking) nil)
-  (live-occur--fold-again preview)
-  (let* ((source (and hit (live-occur--hit-source hit)))
-         (buffer (and source (live-occur--text-buffer
-                              source " *live-occur preview*"))))
+(defun live-occur--show-found (hit)
+  "Show HIT in the window, unless it is nil or outside of what is narrowed."
+  (setcdr live-occur--looking nil)
+  (funcall (cl-shiftf (live-occur--preview-fold live-occur--preview) #'ignore))
+  (let* ((preview live-occur--preview)
+         (window (live-occur--preview-window preview))
+         (buffer (and hit (live-occur--text-buffer (live-occur--hit-source hit)
+                                                   " *live-occur preview*"))))
     (unless (live-occur--in buffer
-              (pcase-let ((`(,place . ,end)
-                           (live-occur--place-of source hit)))
+              (pcase-let ((`(,place . ,end) (live-occur--place-of hit t)))
                 (when (and (<= (point-min) place end (point-max))
                            (live-occur--show-in preview buffer place nil))
-                  (live-occur--mark-found preview hit place end))))
+                  (let ((mark (live-occur--overlay (live-occur--preview-mark preview) place end)))
+                    (overlay-put mark 'window window)
+                    (setf (live-occur--preview-mark preview) mark
+                          (live-occur--preview-hit preview) hit
+                          (live-occur--preview-fold preview)
+                          (save-excursion (goto-char place)
+                                          (live-occur--unfold)))))))
       (live-occur--go-back preview))))
 
-(defun live-occur--mark-found (preview hit place end)
-  "Mark HIT of PREVIEW, which is from PLACE to END of this buffer."
-  (save-excursion
-    (goto-char place)
-    (setf (live-occur--preview-fold preview) (live-occur--unfold)
-          (live-occur--preview-hit preview) hit
-          (live-occur--preview-mark preview)
-          (live-occur--overlay (live-occur--preview-mark preview) place end))
-    (overlay-put (live-occur--preview-mark preview)
-                 'window (live-occur--preview-window preview))
-    t))
-
-(defun live-occur--place-of (source hit)
-  "Where in SOURCE the first part of HIT begins and ends, or else its line."
-  (live-occur--in-text source
-    (live-occur--go-to-line source
-                            (live-occur--moved (live-occur--hit-place hit)
-                                               (live-occur--moves source)))
+(defun live-occur--place-of (hit &optional page)
+  "Where the first part of HIT, or else its line, begins and ends in its text.
+The hit may be one of a PAGE."
+  (live-occur--in-text (live-occur--hit-source hit)
+    (live-occur--go-to-line (live-occur--hit-source hit) (live-occur--line-of hit page))
     (let ((start (point)) (last (line-end-position)))
       (pcase (live-occur--part-at hit (live-occur--hit-parts-at hit))
         ('nil (cons start last))
@@ -2816,22 +2021,20 @@ Move its POINT there, and answer whether it could."
     (overlay-put overlay 'priority 1)
     overlay))
 
-(defun live-occur--show-row (preview block first)
-  "Show the row of the hit of PREVIEW.
-The page BLOCK begins with hit number FIRST."
-  (when live-occur--previewing
-    (unless (= first (live-occur--preview-page preview))
-      (live-occur--show-page block
-                             (- (live-occur--preview-high preview)
-                                (live-occur--preview-low preview)))
-      (setf (live-occur--preview-page preview) first))
-    (goto-char (point-min))
-    (forward-line (- (live-occur--preview-number preview) first))
-    (setf (live-occur--preview-row preview)
-          (live-occur--overlay (live-occur--preview-row preview)
-                               (point) (line-beginning-position 2)))
-    (dolist (window (get-buffer-window-list nil nil t))
-      (set-window-point window (point)))))
+(defun live-occur--show-row (block first)
+  "Show the row of the hit.  The page BLOCK begins with hit number FIRST."
+  (pcase-let (((and preview (cl-struct live-occur--preview number page low high))
+               live-occur--preview))
+    (when live-occur--previewing
+      (unless (= first page)
+        (live-occur--show-page block (- high low))
+        (setf (live-occur--preview-page preview) first))
+      (goto-char (point-min))
+      (forward-line (- number first))
+      (setf (live-occur--preview-row preview)
+            (live-occur--overlay (live-occur--preview-row preview)
+                                 (point) (line-beginning-position 2)))
+      (live-occur--move-windows (point)))))
 
 (defun live-occur-preview-next (&optional count)
   "While a pattern is typed, show the hit that is COUNT hits on.
@@ -2840,14 +2043,14 @@ It is waited for the one from which this counts."
   (when live-occur--try-now (funcall live-occur--try-now))
   (live-occur--in live-occur--typing-list
     (when-let* ((preview live-occur--preview))
-      (live-occur--wait-for-hit preview t)
+      (live-occur--wait-for-hit t)
       (pcase-let* (((cl-struct live-occur--preview number low high) preview)
                    (new (and number (+ number (or count 1)))))
         (if (not (and new (<= low new (1- high))))
             (message "There are no more hits")
           (setf (live-occur--preview-keyed preview) live-occur--patterns)
-          (live-occur--begin-look)
-          (live-occur--show-number preview new))))))
+          (setq live-occur--looking (cons live-occur--patterns t))
+          (live-occur--show-number new))))))
 
 (defun live-occur-preview-previous (&optional count)
   "While a pattern is typed, show the hit that is COUNT hits back."
@@ -2860,67 +2063,57 @@ It is waited for the one from which this counts."
     (let (hit)
       (unwind-protect
           (when (and done (not live-occur--fault))
-            (live-occur--wait-for-hit preview)
+            (live-occur--wait-for-hit)
             (setq hit (live-occur--preview-hit preview)))
-        (setq live-occur--preview nil)
+        (setq live-occur--preview nil live-occur--looking nil)
         (live-occur--go-back preview))
       (when hit (live-occur--go-to-shown preview hit)))))
 
-(defun live-occur--wait-for-hit (preview &optional always)
-  "Let PREVIEW show a hit of the patterns that this list has, if there is one.
+(defun live-occur--wait-for-hit (&optional always)
+  "Show a hit of the patterns that this list has, if there is one.
 With ALWAYS wait for it while more is to come."
   (cl-flet ((shown-p ()
               (and (not live-occur--trying)
                    (not (cdr live-occur--looking))
                    (or (null live-occur--patterns)
-                       (and (eq live-occur--patterns
-                                (live-occur--preview-patterns preview))
-                            (or (live-occur--preview-hit preview)
+                       (and (eq live-occur--patterns (car live-occur--looking))
+                            (or (live-occur--preview-hit live-occur--preview)
                                 (not (and always live-occur--more))))))))
     (unless (or (shown-p) live-occur--previewing)
-      (live-occur--look-for-hit))
+      (setq live-occur--looking (cons live-occur--patterns t))
+      (live-occur--with-part #'live-occur--look-between))
     (live-occur--wait-for #'shown-p)))
 
 (defun live-occur--go-to-shown (preview hit)
   "Go to HIT in the window of PREVIEW, and to its row here."
   (let* ((source (live-occur--hit-source hit))
          (buffer (live-occur--visited-buffer source))
-         (window (live-occur--preview-window preview)))
-    (when (live-occur--in buffer
-            (let ((place (car (live-occur--place-of source hit))))
-              (when (window-live-p window)
-                (with-selected-window window
-                  (unless (eq (current-buffer) buffer)
-                    (switch-to-buffer buffer nil t))
-                  (unless (= (point) place)
-                    (push-mark nil t)
-                    (goto-char place))
-                  (live-occur--unfold t)
-                  (run-hooks 'live-occur-visit-hook)
-                  t))))
+         (window (live-occur--preview-window preview))
+         (place (and (window-live-p window) (car (live-occur--place-of hit t)))))
+    (when place
+      (with-selected-window window
+        (unless (eq (current-buffer) buffer) (switch-to-buffer buffer nil t))
+        (unless (= (point) place)
+          (push-mark nil t)
+          (goto-char place))
+        (live-occur--unfold t)
+        (run-hooks 'live-occur-visit-hook))
       (setq live-occur--wanted
-            (make-live-occur--hit
-             :source source
-             :place (live-occur--moved (live-occur--hit-place hit)
-                                       (live-occur--moves source))))
-      (unless (or live-occur--asked live-occur--due live-occur--slice
-                  live-occur--previewing)
+            (make-live-occur--hit :source source :place (live-occur--line-of hit t)))
+      (unless (or live-occur--asked live-occur--due live-occur--slice live-occur--previewing)
         (live-occur--go-to-wanted)))))
 
 (defun live-occur--go-to-wanted ()
   "Go to the row of the hit that is wanted here, if there is one."
-  (when-let* ((hit (and (not live-occur--page)
-                        (cl-shiftf live-occur--wanted nil))))
+  (when-let* ((hit (and (not live-occur--page) (cl-shiftf live-occur--wanted nil))))
     (live-occur--go-to-spots
-     (cons (list hit 0 nil (lambda (_ position) (goto-char position)))
-           (cl-loop for window in (get-buffer-window-list nil nil t)
-                    collect (list hit 0 window #'set-window-point))))))
+     `((,hit 0 nil ,(lambda (_ place) (live-occur--move-windows place)))))))
 
 ;;;; A list of a region
 
-;; The program has the whole buffer, and hits outside of the region are left
-;; out.  Its first line is the first one that begins at the marker `from' or
-;; after it, and the line that has the marker `to' follows the last one.
+;; The program has the whole buffer, and hits outside of the region are left out.  Its first line
+;; is the first one that begins at the marker `from' or after it, and the line that has the marker
+;; `to' follows the last one.
 
 (defun live-occur--limit (source start end)
   "List the lines of SOURCE from START to END alone."
@@ -2929,13 +2122,11 @@ With ALWAYS wait for it while more is to come."
     (unless (and (bolp) (< start end)) (forward-line 1))
     (setf (live-occur--to source) (and (bolp) (copy-marker (point) t)))
     (goto-char start)
-    (setf (live-occur--from source)
-          (copy-marker (line-beginning-position)))))
+    (setf (live-occur--from source) (copy-marker (line-beginning-position)))))
 
 (defun live-occur--region ()
   "The source of this list if a region of it is listed, or nil."
-  (when-let* ((source (car live-occur--sources)))
-    (and (live-occur--from source) source)))
+  (when-let* ((source (car live-occur--sources))) (and (live-occur--from source) source)))
 
 (defun live-occur--bounds (source)
   "The first line of the region of SOURCE, and the first one after it."
@@ -2943,36 +2134,19 @@ With ALWAYS wait for it while more is to come."
     (live-occur--in-text source
       (goto-char from)
       (let ((first (- (line-number-at-pos) (if (bolp) 1 0))))
-        (cons first (if to
-                        (max first (1- (line-number-at-pos to)))
-                      most-positive-fixnum))))))
-
-(defun live-occur--bounds-sent ()
-  "The bounds of the region that is listed, if all edits were sent, or nil."
-  (when-let* ((source (live-occur--region)))
-    (and (live-occur--known-p source)
-         (not (live-occur--first-edit source))
-         (live-occur--bounds source))))
+        (cons first (if to (max first (1- (line-number-at-pos to))) most-positive-fixnum))))))
 
 (defun live-occur--clip (bounds)
   "Leave out the hits of this list outside of BOUNDS, unless they are nil."
   (pcase bounds
     (`(,from . ,to)
      (pcase-let* ((source (car live-occur--sources))
-                  (`(,head . ,rest)
-                   (live-occur--cut (live-occur--pieces source) from))
+                  (`(,head . ,rest) (live-occur--cut (live-occur--pieces source) from))
                   (`(,kept . ,tail) (live-occur--cut rest to))
                   (before (live-occur--count head)))
        (setf (live-occur--pieces source) kept)
-       (live-occur--replace-rows (+ before (live-occur--count kept))
-                                 (live-occur--count tail) 0)
+       (live-occur--replace-rows (+ before (live-occur--count kept)) (live-occur--count tail) 0)
        (live-occur--replace-rows 0 before 0)))))
-
-(defun live-occur--outside-p (source)
-  "Whether the line at point of SOURCE is outside of the region listed."
-  (pcase-let (((cl-struct live-occur--source from to) source))
-    (or (and from (< (line-beginning-position) from))
-        (and to (<= to (line-end-position))))))
 
 ;;;; Syntax and flags
 
@@ -2980,68 +2154,57 @@ With ALWAYS wait for it while more is to come."
   "How patterns are read here: syntax, flags, and whether the case is smart."
   (list live-occur-syntax live-occur-flags live-occur-smart-case))
 
-(defun live-occur--use (syntax flags smart)
-  "Read patterns by SYNTAX, FLAGS, and SMART case when they are sent next."
-  (setq live-occur-syntax syntax
-        live-occur-flags flags
-        live-occur-smart-case smart))
+(defun live-occur--use (settings)
+  "Read patterns by SETTINGS, as `live-occur--settings' has them, from now on."
+  (cl-mapc #'set '(live-occur-syntax live-occur-flags live-occur-smart-case) settings))
 
 (defun live-occur--set (syntax flags smart)
   "Read patterns by SYNTAX, FLAGS and SMART case, or tell what is refused."
   (live-occur--check)
-  (let ((old (live-occur--settings))
-        (text (string-join live-occur--patterns "\n"))
-        done)
-    (live-occur--use syntax flags smart)
+  (let ((old (live-occur--settings)) done)
+    (live-occur--use (list syntax flags smart))
     (unwind-protect
-        (pcase (unless live-occur--typing
-                 (live-occur--fault-in-text
-                  (live-occur--put live-occur--patterns) text 0))
-          ('nil (setq done t))
-          (`(,kind ,place)
-           (message "%s at %d: %s" kind place
-                    (live-occur--underlined text place))))
-      (unless done (apply #'live-occur--use old)))))
+        (let ((refused (unless live-occur--typing
+                         (live-occur--refused
+                          (live-occur--put live-occur--patterns)
+                          (string-join live-occur--patterns "\n")))))
+          (if refused (message "%s" refused) (setq done t)))
+      (unless done (live-occur--use old)))))
 
-(defun live-occur--underlined (text place)
-  "TEXT with the character at PLACE underlined, or a space after it."
-  (let ((text (concat text (when (= place (length text)) " "))))
-    (add-face-text-property place (1+ place) 'live-occur-fault nil text)
-    text))
-
-(defun live-occur--set-syntax (syntax)
-  "Read the patterns by SYNTAX."
-  (live-occur--set syntax live-occur-flags live-occur-smart-case))
+(defun live-occur--refused (fault text)
+  "What to tell of FAULT in the patterns TEXT, or nil where there is none."
+  (pcase (live-occur--fault-in-text fault text 0)
+    (`(,kind ,place)
+     (let ((text (concat text (when (= place (length text)) " "))))
+       (add-face-text-property place (1+ place) 'live-occur-fault nil text)
+       (format "%s at %d: %s" kind place text)))))
 
 (defun live-occur-basic ()
   "Read the patterns as basic regular expressions."
   (interactive nil live-occur-mode)
-  (live-occur--set-syntax 'basic))
+  (live-occur--set 'basic live-occur-flags live-occur-smart-case))
 
 (defun live-occur-extended ()
   "Read the patterns as extended regular expressions."
   (interactive nil live-occur-mode)
-  (live-occur--set-syntax 'extended))
+  (live-occur--set 'extended live-occur-flags live-occur-smart-case))
 
 (defun live-occur-fixed ()
   "Read the patterns as fixed strings."
   (interactive nil live-occur-mode)
-  (live-occur--set-syntax 'fixed))
+  (live-occur--set 'fixed live-occur-flags live-occur-smart-case))
 
 (defun live-occur--toggle (letter &optional smart)
   "Turn the flag LETTER on or off, and let the case be smart if SMART is t."
   (live-occur--set live-occur-syntax
-                   (sort (cl-set-exclusive-or (list letter) live-occur-flags)
-                         #'<)
+                   (sort (cl-set-exclusive-or (list letter) live-occur-flags) #'<)
                    smart))
 
 (defun live-occur--flags-for (patterns)
   "The flags of this list while it has PATTERNS."
-  (let ((others (remq ?i live-occur-flags))
-        (escapes (not (eq live-occur-syntax 'fixed))))
+  (let ((others (remq ?i live-occur-flags)) (escapes (not (eq live-occur-syntax 'fixed))))
     (cond ((not live-occur-smart-case) live-occur-flags)
-          ((cl-loop for pattern in patterns
-                    always (isearch-no-upper-case-p pattern escapes))
+          ((cl-loop for pattern in patterns always (isearch-no-upper-case-p pattern escapes))
            (cons ?i others))
           (t others))))
 
@@ -3050,9 +2213,7 @@ With ALWAYS wait for it while more is to come."
 With a prefix argument SMART let it follow the patterns from now on, as
 `live-occur-smart-case' says."
   (interactive "P" live-occur-mode)
-  (if smart
-      (live-occur--set live-occur-syntax live-occur-flags t)
-    (live-occur--toggle ?i)))
+  (if smart (live-occur--set live-occur-syntax live-occur-flags t) (live-occur--toggle ?i)))
 
 (defun live-occur-toggle-inverse ()
   "List the lines that are not matched, or no longer: flag v."
@@ -3114,8 +2275,7 @@ rows are edited, \\[live-occur-edit-mode] ends it, \
   (interactive nil live-occur-mode)
   (live-occur--check)
   (dolist (source live-occur--sources)
-    (unless (live-occur--buffer source)
-      (setf (live-occur--unread source) t)))
+    (unless (live-occur--buffer source) (setf (live-occur--unread source) t)))
   (live-occur--update t))
 
 (defun live-occur-restart ()
@@ -3132,26 +2292,21 @@ rows are edited, \\[live-occur-edit-mode] ends it, \
   (buffer-local-value 'live-occur--process buffer))
 
 (defun live-occur--add-sources (things)
-  "Search THINGS in this list as well, which are buffers and names of files.
-A file that is visited is searched in its buffer, whose edits are gathered from
-now on."
+  "Search THINGS in this list as well, which are buffers and names of files."
   (let ((sources (mapcar #'live-occur--new-source things)))
     (cl-callf append live-occur--sources sources)
-    (when (length= live-occur--sources (1+ (length sources)))
-      (live-occur--name-rows))
+    (when (length= live-occur--sources (1+ (length sources))) (live-occur--name-rows))
     (mapc #'live-occur--open sources)
     (live-occur--attach-visited)))
 
 (defun live-occur--new-source (thing)
   "A new source of this list for THING, a buffer or the name of a file."
-  (let ((source (make-live-occur--source :list (current-buffer))))
+  (let ((source (make-live-occur--source :list (current-buffer) :tell #'live-occur--heard)))
     (cond ((stringp thing)
-           (unless live-occur--files
-             (setq live-occur--files (make-hash-table :test #'equal)))
+           (unless live-occur--files (setq live-occur--files (make-hash-table :test #'equal)))
            (puthash thing source live-occur--files)
            (setf (live-occur--file source) thing))
-          ((live-occur--list-p thing)
-           (user-error "%s is a list itself" (buffer-name thing)))
+          ((live-occur--list-p thing) (user-error "%s is a list itself" (buffer-name thing)))
           (t (setf (live-occur--buffer source) thing)
              (push source live-occur--visited)
              (live-occur--track source)))
@@ -3159,11 +2314,9 @@ now on."
 
 (defun live-occur--open (source)
   "Let SOURCE be one that the program doesn't have yet."
-  (setf (live-occur--lines source) 0
-        (live-occur--opened source) nil
-        (live-occur--state source) nil
-        (live-occur--unread source) (not (live-occur--buffer source))
-        (live-occur--sent source) nil)
+  (setf (live-occur--lines source) 0 (live-occur--opened source) nil
+        (live-occur--state source) nil (live-occur--sent source) nil
+        (live-occur--unread source) (not (live-occur--buffer source)))
   (when (or (live-occur--buffer source) (live-occur--first-edit source))
     (live-occur--lose source)))
 
@@ -3171,8 +2324,7 @@ now on."
   "Take SOURCE out of this list."
   (when (live-occur--buffer source) (live-occur--untrack source))
   (cl-callf2 remq source live-occur--visited)
-  (when live-occur--files
-    (remhash (live-occur--file source) live-occur--files))
+  (when live-occur--files (remhash (live-occur--file source) live-occur--files))
   (live-occur--replace-rows (live-occur--row-of-source source)
                             (live-occur--count (live-occur--pieces source)) 0)
   (let ((file (seq-position live-occur--sources source #'eq)))
@@ -3181,8 +2333,7 @@ now on."
           live-occur--slice nil
           live-occur--due t)
     (when (length= live-occur--sources 1) (live-occur--name-rows))
-    (when (live-occur--opened source)
-      (live-occur--order (format "close %d\n" file)))))
+    (when (live-occur--opened source) (live-occur--order (format "close %d\n" file)))))
 
 (defun live-occur--discard ()
   "End the program of this list, which is killed."
@@ -3198,10 +2349,8 @@ now on."
 (defun live-occur-add-buffer (buffer)
   "Search BUFFER as well."
   (interactive "bSearch buffer: " live-occur-mode)
-  (when (live-occur--source-of buffer)
-    (user-error "%s is searched already" buffer))
-  (when (live-occur--region)
-    (user-error "The list of a region has no other buffers"))
+  (when (live-occur--source-of buffer) (user-error "%s is searched already" buffer))
+  (when (live-occur--region) (user-error "The list of a region has no other buffers"))
   (live-occur--add-sources (list (get-buffer buffer)))
   (live-occur--want live-occur--patterns #'ignore))
 
@@ -3227,11 +2376,9 @@ now on."
     ("f" next-error-follow-minor-mode "Show Lines as Point Moves"
      :style toggle :selected next-error-follow-minor-mode)
     ("e" live-occur-edit-mode "Edit Rows")
-    ("s" live-occur-save "Save Buffers Changed in Rows"
-     :active live-occur--touched)
+    ("s" live-occur-save "Save Buffers Changed in Rows" :active live-occur--touched)
     ("a" live-occur-add-pattern "Add Pattern...")
-    ("c" live-occur-change-pattern "Change Pattern..."
-     :active live-occur--patterns)
+    ("c" live-occur-change-pattern "Change Pattern..." :active live-occur--patterns)
     ("d" live-occur-drop-pattern "Drop Pattern..." :active live-occur--patterns)
     ("i" live-occur-toggle-case "Both Cases of Letters"
      :style toggle :selected (memq ?i live-occur-flags))
@@ -3243,8 +2390,7 @@ now on."
      :style radio :selected (eq live-occur-syntax 'basic))
     ("E" live-occur-extended "Extended Expressions"
      :style radio :selected (eq live-occur-syntax 'extended))
-    ("F" live-occur-fixed "Fixed Strings"
-     :style radio :selected (eq live-occur-syntax 'fixed))
+    ("F" live-occur-fixed "Fixed Strings" :style radio :selected (eq live-occur-syntax 'fixed))
     ("C" live-occur-set-context "Lines Around...")
     ("+" live-occur-add-buffer "Add Buffer...")
     ("-" live-occur-remove-buffer "Leave Out Buffer...")
@@ -3255,22 +2401,20 @@ now on."
 
 (defvar live-occur-mode-map
   (let ((map (make-sparse-keymap)))
-    (define-key map (kbd "C-o") #'live-occur-display)
-    (define-key map (kbd "o") #'live-occur-visit)
-    (define-key map [mouse-2] #'live-occur-visit)
-    (define-key map [remap save-buffer] #'live-occur-save)
-    (define-key map [remap read-only-mode] #'live-occur-edit-mode)
-    (pcase-dolist (`(,key ,command . ,_) live-occur--commands)
+    (pcase-dolist (`(,key ,command . ,_)
+                   `(("C-o" live-occur-display) ("o" live-occur-visit)
+                     ("<mouse-2>" live-occur-visit) ("<follow-link>" mouse-face)
+                     ("<remap> <save-buffer>" live-occur-save)
+                     ("<remap> <read-only-mode>" live-occur-edit-mode)
+                     ,@live-occur--commands))
       (define-key map (kbd key) command))
-    (define-key map [follow-link] 'mouse-face)
     map)
   "Keys in lists of `live-occur'.")
 
 (easy-menu-define live-occur-menu live-occur-mode-map
   "Menu of lists of `live-occur'."
   (cons "Live-Occur"
-        (mapcar (pcase-lambda (`(,_ ,command ,label . ,how))
-                  `[,label ,command ,@how])
+        (mapcar (pcase-lambda (`(,_ ,command ,label . ,how)) `[,label ,command ,@how])
                 live-occur--commands)))
 
 (define-derived-mode live-occur-mode special-mode "Live-Occur"
@@ -3282,15 +2426,14 @@ now on."
               live-occur-flags (sort (copy-sequence live-occur-flags) #'<)
               revert-buffer-function #'live-occur-refresh
               next-error-function #'live-occur--next-error
-              next-error-find-buffer-function (lambda (&rest _)
-                                                (current-buffer))
+              next-error-find-buffer-function (lambda (&rest _) (current-buffer))
               header-line-format '((:eval (live-occur--header)))
               filter-buffer-substring-function #'live-occur--copy
               imenu-create-index-function #'live-occur--imenu
               truncate-lines t buffer-undo-list t inhibit-field-text-motion t
+              bidi-paragraph-direction 'left-to-right ; Emacs looks far back in empty rows
               live-occur--idle-timer
-              (run-with-idle-timer live-occur-delay t #'live-occur--look
-                                   (current-buffer)))
+              (run-with-idle-timer live-occur-delay t #'live-occur--look (current-buffer)))
   (when live-occur-follow (next-error-follow-minor-mode))
   (add-hook 'kill-buffer-hook #'live-occur--discard nil t)
   (add-hook 'change-major-mode-hook #'live-occur--discard nil t)
@@ -3311,15 +2454,24 @@ now on."
 
 ;;;; Editing rows
 
-;; While rows are edited, each change of one is made in its line as well, and
-;; the list gets no other rows.  Heads and newlines are read-only.  A head
-;; keeps the text that the row and its line had last, so that a line that
-;; has changed otherwise is not overwritten.  At the end all rows are looked at:
-;; one may have been changed without a report, or not been written then.
+;; While rows are edited, each change of one is made in its line as well, and the list gets no
+;; other rows.  Heads and newlines are read-only.  A head keeps the text that the row and its line
+;; had last, so that a line that has changed otherwise is not overwritten.  At the end all rows
+;; are looked at: one may have been changed without a report, or not been written then.
 
 (defvar live-occur--giving-up nil "Whether an edit of rows is given up.")
-(defvar-local live-occur--alone 0
-  "How many rows were edited and not their lines, at the end of an edit of rows.")
+(defvar-local live-occur--alone 0 "How many rows were edited alone at the end.")
+
+(defmacro live-occur--for-all-rows (what &rest body)
+  "Run BODY at each row, some at a time, and tell WHAT meanwhile."
+  (declare (indent 1) (debug t))
+  `(live-occur--in-steps
+    ,what (live-occur--row-at (1+ (buffer-size)))
+    (lambda (first count)
+      (live-occur--at-row first
+        (dotimes (_ count)
+          ,@body
+          (forward-line 1))))))
 
 (define-minor-mode live-occur-edit-mode
   "Edit the rows of this list, and with each its line.
@@ -3332,16 +2484,16 @@ Undo works in the list, and in the buffers."
             ([remap read-only-mode] . live-occur-edit-mode)
             ([remap save-buffer] . live-occur-save))
   (let ((on live-occur-edit-mode))
-    (setq live-occur-edit-mode (not on)
-          live-occur--alone 0)
+    (setq live-occur-edit-mode (not on) live-occur--alone 0)
     (cond (on
            (live-occur--check)
            (live-occur--update)
-           (live-occur--wait-for (lambda ()
-                                   (live-occur--check)
-                                   (not (live-occur--busy-p))))
+           (live-occur--wait-for (lambda () (not (live-occur--busy-p))))
+           (live-occur--check)
            (live-occur--make-all-to-edit))
-          ((not live-occur--giving-up) (live-occur--write-all-rows)))
+          ((not live-occur--giving-up)
+           (live-occur--for-all-rows "Looking at all rows..."
+             (unless (live-occur--write-row) (cl-incf live-occur--alone)))))
     (setq live-occur-edit-mode on
           buffer-read-only (not on)
           buffer-undo-list (not on))
@@ -3353,8 +2505,7 @@ Undo works in the list, and in the buffers."
       (live-occur--unmodify)
       (live-occur--show-hits)
       (live-occur--update)
-      (when (> live-occur--alone 0)
-        (message "%s" (live-occur--rows-alone))))))
+      (live-occur--tell-alone))))
 
 (easy-menu-define live-occur-edit-menu live-occur-edit-mode-map
   "Menu of lists whose rows are edited."
@@ -3374,23 +2525,21 @@ Where that is quit the list is as before."
     (setq live-occur--held t)
     (unwind-protect
         (progn
-          (live-occur--in-steps "Making rows to edit them..." total
-                                #'live-occur--make-rows-to-edit)
+          (live-occur--in-steps
+           "Making rows to edit them..." total
+           (lambda (first count)
+             (live-occur--make-rows first count)
+             (with-silent-modifications
+               (live-occur--map-rows #'live-occur--protect-row first count))))
           (setq done t))
       (setq live-occur--held nil)
       (unless done (live-occur--show-hits)))))
 
-(defun live-occur--make-rows-to-edit (first count)
-  "Make COUNT rows from FIRST on, and let only their texts be edited."
-  (live-occur--make-rows first count)
-  (with-silent-modifications
-    (live-occur--map-rows #'live-occur--protect-row first count)))
-
 (defun live-occur--in-steps (what total function)
   "Call FUNCTION with the first one and the number of some of TOTAL things.
-It is called until all had their turn.  Between the calls WHAT is told with how
-far it is, and Emacs does what else there is to do."
-  (let ((reporter (make-progress-reporter what 0 total)) (first 0) (some 100))
+Between the calls tell WHAT with how far it is, and do what else there is."
+  (let ((reporter (make-progress-reporter what 0 total)) (first 0) (some 100)
+        (gc-cons-threshold (max gc-cons-threshold 20000000)))
     (while (< first total)
       (funcall function first (min some (- total first)))
       (progress-reporter-update reporter (cl-incf first some))
@@ -3409,15 +2558,12 @@ All of it is where its buffer is read-only, or its text is shortened."
                      (format "buffer %s" (buffer-name buffer)))
                     (short "a row that is shortened"))))
     (add-text-properties (point) head
-                         (list 'read-only (or why "the head of a row")
-                               'live-occur-hit hit
-                               'live-occur-text text
-                               'live-occur-first text
-                               'front-sticky '(read-only)
-                               'rear-nonsticky (not why)))
-    (put-text-property end (1+ end) 'read-only (or why "the end of a row"))
-    (when why
-      (put-text-property head end 'read-only why))))
+                         `(read-only ,(or why "the head of a row")
+                           live-occur-hit ,hit live-occur-text ,text
+                           live-occur-first ,text front-sticky (read-only)
+                           rear-nonsticky ,(not why)))
+    (when why (put-text-property head end 'read-only why))
+    (put-text-property end (1+ end) 'read-only (or why "the end of a row"))))
 
 (defun live-occur--row-changed (start end removed)
   "Make the change of rows from START to END in their lines as well.
@@ -3425,36 +2571,22 @@ What came in the place of REMOVED characters becomes plain text of one line."
   (live-occur--in-hook
     (save-match-data
       ;; Heads and ends of rows are read-only; what is new may be a copy of one.
-      (when (or (= removed 0)
-                (not (text-property-not-all start end 'read-only nil)))
+      (when (or (= removed 0) (not (text-property-not-all start end 'read-only nil)))
         (with-silent-modifications
           (subst-char-in-region start end ?\n ?\s t)
           (set-text-properties start end nil)))
-      (live-occur--write-rows start end))))
+      (live-occur--at-row-start start
+        (while (progn
+                 (unless (live-occur--write-row) (cl-incf live-occur--alone))
+                 (forward-line 1)
+                 (< (point) end)))))))
 
-(defun live-occur--write-rows (start end)
-  "Make what changed of the rows from START to END in their lines as well."
-  (live-occur--at-row-start start
-    (while (progn
-             (unless (live-occur--write-row)
-               (cl-incf live-occur--alone))
-             (forward-line 1)
-             (< (point) end)))))
-
-(defun live-occur--write-all-rows ()
-  "Make what changed of all rows in their lines as well."
-  (live-occur--in-steps
-   "Looking at all rows..." (live-occur--newlines)
-   (lambda (first count)
-     (live-occur--at-row first
-       (live-occur--write-rows (point)
-                               (line-beginning-position (1+ count)))))))
-
-(defun live-occur--rows-alone ()
-  "What to tell of rows that were edited, and not their lines."
-  (format "%d row%s not written: the line is gone, can't be edited, \
+(defun live-occur--tell-alone ()
+  "Tell of rows that were edited, and not their lines, if there are any."
+  (unless (= live-occur--alone 0)
+    (message "%d row%s not written: the line is gone, can't be edited, \
 or was edited in its buffer"
-          live-occur--alone (if (= live-occur--alone 1) " is" "s are")))
+             live-occur--alone (if (= live-occur--alone 1) " is" "s are"))))
 
 (defun live-occur--write-row ()
   "Make what changed of the row at point in its line as well, or tell why not.
@@ -3467,12 +2599,8 @@ Answer whether the row and its line are the same."
           ((equal old text))
           (t (condition-case problem
                  (or (with-local-quit
-                       (live-occur--touch hit)
                        (live-occur--change-line hit old text)
                        (live-occur--note-text text)
-                       ;; Emacs may have asked whether to change the line, and
-                       ;; a buffer that isn't modified is forgotten meanwhile.
-                       (live-occur--touch hit)
                        t)
                      (user-error "Quit"))
                (error (message "%s; the row alone is edited"
@@ -3484,18 +2612,22 @@ Answer whether the row and its line are the same."
   (buffer-substring-no-properties (live-occur--after-head) (line-end-position)))
 
 (defun live-occur--change-line (hit old new)
-  "Put the text NEW in the place of OLD in the line of HIT, or signal an error."
-  (live-occur--visited-buffer (live-occur--hit-source hit))
-  (unless (live-occur--at-line-of hit
-            (when buffer-read-only
-              (user-error "Buffer %s is read-only" (buffer-name)))
-            (unless (live-occur--line-is-p old)
-              (user-error "The line of this row in %s is gone, \
+  "Put the text NEW in the place of OLD in the line of HIT, or signal an error.
+Take note of its buffer, with its text if it wasn't modified."
+  (let* ((buffer (live-occur--visited-buffer (live-occur--hit-source hit)))
+         (before (live-occur--in buffer
+                   (list (live-occur--base buffer) (live-occur--visited-state)
+                         (unless (buffer-modified-p) (buffer-hash))))))
+    (live-occur--changed-buffers)
+    (unless (live-occur--at-line-of hit
+              (when buffer-read-only (user-error "Buffer %s is read-only" (buffer-name)))
+              (unless (live-occur--line-is-p old)
+                (user-error "The line of this row in %s is gone, \
 or was edited there" (buffer-name)))
-            (let ((inhibit-modification-hooks nil))
-              (live-occur--replace old new))
-            t)
-    (user-error "The buffer of this row is gone")))
+              (let ((inhibit-modification-hooks nil)) (live-occur--replace old new))
+              t)
+      (user-error "The buffer of this row is gone"))
+    (unless (assq (car before) live-occur--touched) (push before live-occur--touched))))
 
 (defun live-occur--line-is-p (text)
   "Whether TEXT, which may be nil, is what is from point to the line's end."
@@ -3508,8 +2640,7 @@ or was edited there" (buffer-name)))
   "Put the text NEW in the place of OLD, which is after point.
 What they have in common at both ends stays, so that point and markers do."
   (let* ((front (live-occur--same old new))
-         (back (live-occur--same (reverse (substring old front))
-                                 (reverse (substring new front)))))
+         (back (live-occur--same (reverse (substring old front)) (reverse (substring new front)))))
     (save-excursion
       (forward-char front)
       (delete-char (- (length old) front back))
@@ -3521,43 +2652,34 @@ What they have in common at both ends stays, so that point and markers do."
     (if (eq same t) (length old) (1- (abs same)))))
 
 (defun live-occur--follow-lines ()
-  "Bring rows in view up to date with their lines.
-Rows that were edited alone, or are shortened, stay as they are."
+  "Bring rows in view up to date with their lines, and show their numbers.
+Undo knows places in the text, so numbers in that stay."
   (add-hook 'after-change-functions #'live-occur--row-changed nil t)
   (dolist (window (get-buffer-window-list nil nil t))
     (live-occur--at-row-start (window-start window)
       (dotimes (_ (window-body-height window))
-        (live-occur--follow-line)
-        (live-occur--follow-number)
+        (when-let* ((hit (get-text-property (point) 'live-occur-hit)))
+          (live-occur--follow-line hit)
+          (let ((old (get-text-property (point) 'live-occur-number))
+                (new (1+ (live-occur--line-of hit)))
+                (end (1- (live-occur--after-head))))
+            (with-silent-modifications
+              (put-text-property
+               (save-excursion (goto-char end)
+                               (skip-chars-backward "0-9")
+                               (point))
+               end 'display (unless (= old new) (number-to-string new))))))
         (forward-line 1)))))
 
-(defun live-occur--follow-number ()
-  "Show the number that the line of the row at point has now.
-The text stays, since undo knows places in it."
-  (when-let* ((hit (get-text-property (point) 'live-occur-hit))
-              (number (1+ (live-occur--line-of hit)))
-              (end (1- (live-occur--after-head))))
-    (with-silent-modifications
-      (put-text-property
-       (save-excursion (goto-char end) (skip-chars-backward "0-9") (point)) end
-       'display (unless (= number (get-text-property (point)
-                                                     'live-occur-number))
-                  (number-to-string number))))))
-
-(defun live-occur--follow-line ()
-  "Bring the row at point up to date with its line, unless that is too long now.
+(defun live-occur--follow-line (hit)
+  "Bring the row of HIT at point up to date, unless its line is too long now.
 A row that is far too long itself, as it was edited so, stays as it is."
-  (when-let* ((hit (get-text-property (point) 'live-occur-hit))
-              (old (get-text-property (point) 'live-occur-text))
+  (when-let* ((old (get-text-property (point) 'live-occur-text))
               (most (max live-occur-max-columns (length old)))
               ((<= most (* 10 live-occur-max-columns)))
-              (new (live-occur--at-line-of hit
-                     (live-occur--text-after-point (1+ most)))))
-    (when (and (not (equal old new))
-               (not (length> new most))
-               (equal old (live-occur--row-text)))
-      (let ((inhibit-modification-hooks t)
-            (inhibit-read-only t))
+              (new (live-occur--at-line-of hit (live-occur--text-after-point (1+ most)))))
+    (when (and (not (equal new old)) (not (length> new most)) (equal old (live-occur--row-text)))
+      (let ((inhibit-modification-hooks t) (inhibit-read-only t))
         (save-excursion
           (goto-char (live-occur--after-head))
           (live-occur--replace old new)))
@@ -3565,69 +2687,47 @@ A row that is far too long itself, as it was edited so, stays as it is."
 
 ;;;; What edits of rows have changed
 
-;; Each row keeps the text that its line had before, so that its changes can be
-;; given up.  The buffers are kept until they are saved.
+;; Each row keeps the text that its line had before, so that its changes can be given up.  The
+;; buffers are kept until they are saved.
 
 (defun live-occur--visited-state ()
   "What is another value once this buffer was saved, or visits another file."
   (list buffer-file-name (visited-file-modtime) buffer-file-coding-system))
 
-(defun live-occur--touch (hit)
-  "Take note of the buffer of HIT, whose line is about to change."
-  (live-occur--forget-saved)
-  (let* ((source (live-occur--hit-source hit))
-         (buffer (live-occur--base (live-occur--visited-buffer source))))
-    (live-occur--in buffer
-      (let ((state (live-occur--visited-state))
-            (hash (unless (buffer-modified-p) (buffer-hash))))
-        (with-current-buffer (live-occur--list source)
-          (unless (assq buffer live-occur--touched)
-            (push (list buffer state hash) live-occur--touched)))))))
-
-(defun live-occur--forget-saved ()
-  "Forget touched buffers that are gone, not modified, or were saved since."
+(defun live-occur--changed-buffers ()
+  "The buffers that rows have changed and that weren't saved since.
+Forget those that are gone or were, or are not modified."
   (cl-callf2 cl-remove-if-not
       (pcase-lambda (`(,buffer ,state . ,_))
         (live-occur--in buffer
-          (and (buffer-modified-p)
-               (equal state (live-occur--visited-state)))))
+          (and (buffer-modified-p) (equal state (live-occur--visited-state)))))
       live-occur--touched))
 
 (defun live-occur--unmodify ()
   "Mark touched buffers as not modified if their text is what it was then."
-  (pcase-dolist (`(,buffer ,state ,hash) live-occur--touched)
-    (live-occur--in buffer
-      (when (and hash
-                 (equal state (live-occur--visited-state))
-                 (verify-visited-file-modtime)
-                 (equal hash (buffer-hash)))
+  (pcase-dolist (`(,buffer ,_ ,hash) (live-occur--changed-buffers))
+    (with-current-buffer buffer
+      (when (and hash (verify-visited-file-modtime) (equal hash (buffer-hash)))
         (set-buffer-modified-p nil))))
-  (live-occur--forget-saved))
+  (live-occur--changed-buffers))
 
 (defun live-occur--note-text (text &optional followed)
   "Keep that the row at point and its line have TEXT, and mark what rows changed.
 If the row FOLLOWED its line that stays where changes are given up."
-  (let* ((end (live-occur--after-head))
-         (first (get-text-property (point) 'live-occur-first))
-         (last (get-text-property (point) 'live-occur-text)))
+  (let ((at (point)) (end (live-occur--after-head))
+        (first (get-text-property (point) 'live-occur-first)))
     (with-silent-modifications
-      (put-text-property (point) end 'live-occur-text text)
       (when followed
-        (unless (equal first last)
-          (put-text-property (point) end 'live-occur-stays t))
-        (put-text-property (point) end 'live-occur-first (setq first text))))
-    (live-occur--mark-row end (not (equal first text)))))
-
-(defun live-occur--mark-row (end changed)
-  "Mark the row at point, whose head ends at END, as CHANGED or not.
-Overlays would be slow where they are many."
-  (with-silent-modifications
-    (let ((at (point)))
+        (unless (equal first (get-text-property at 'live-occur-text))
+          (put-text-property at end 'live-occur-stays t))
+        (put-text-property at end 'live-occur-first (setq first text)))
+      (put-text-property at end 'live-occur-text text)
+      ;; Overlays would be slow where they are many.
       (while (< at end)
         (let ((next (next-single-property-change at 'face nil end))
               (face (car (last (ensure-list (get-text-property at 'face))))))
           (put-text-property at next 'face
-                             (if changed (list 'live-occur-changed face) face))
+                             (if (equal first text) face (list 'live-occur-changed face)))
           (setq at next))))))
 
 (defun live-occur-abort-changes ()
@@ -3639,18 +2739,12 @@ What was edited in the buffers themselves stays."
                         nconc (live-occur--in buffer
                                 (undo-boundary)
                                 (prepare-change-group))))
-        (stay 0))
+        (stay 0) (live-occur--giving-up t))
     (unwind-protect
-        (live-occur--in-steps
-         "Giving changes up..." (live-occur--newlines)
-         (lambda (first count)
-           (live-occur--at-row first
-             (dotimes (_ count)
-               (unless (live-occur--put-back) (cl-incf stay))
-               (forward-line 1)))))
+        (live-occur--for-all-rows "Giving changes up..."
+          (unless (live-occur--put-back) (cl-incf stay)))
       (undo-amalgamate-change-group steps))
-    (let ((live-occur--giving-up t))
-      (live-occur-edit-mode -1))
+    (live-occur-edit-mode -1)
     (message (pcase stay
                (0 "The rows and their lines are as they were")
                (1 "1 line stays changed: it was edited in its buffer, too")
@@ -3664,8 +2758,7 @@ too"))
         (first (get-text-property (point) 'live-occur-first))
         (last (get-text-property (point) 'live-occur-text)))
     (and (or (equal first last)
-             (not (buffer-live-p (live-occur--buffer
-                                  (live-occur--hit-source hit))))
+             (not (buffer-live-p (live-occur--buffer (live-occur--hit-source hit))))
              (ignore-errors
                (live-occur--change-line hit last first)
                (live-occur--note-text first)
@@ -3678,11 +2771,10 @@ An edit of rows is ended before that."
   (interactive nil live-occur-mode)
   (setq live-occur--alone 0)
   (when live-occur-edit-mode (live-occur-edit-mode -1))
-  (let ((buffers (mapcar #'car live-occur--touched)))
+  (let ((buffers (mapcar #'car (live-occur--changed-buffers))))
     (save-some-buffers t (lambda () (memq (current-buffer) buffers))))
-  (live-occur--forget-saved)
-  (when (> live-occur--alone 0)
-    (message "%s" (live-occur--rows-alone))))
+  (live-occur--changed-buffers)
+  (live-occur--tell-alone))
 
 ;;;; Commands to begin a list
 
@@ -3698,23 +2790,29 @@ One whose rows are edited is left alone."
                             (not live-occur-edit-mode)))))
               (buffer-list)))
 
-(defun live-occur--fill (list buffers pattern &optional region)
-  "Let LIST search BUFFERS for PATTERN, or for one that is asked for.
-Of the first one it lists REGION alone, if that is a pair of positions.
-Without BUFFERS it keeps those that it has.  If that is broken off, it is again
-as it was, and is killed where it is new."
-  (let ((window (get-buffer-window list t)) done)
+(defun live-occur--fill (list things pattern &optional region settings)
+  "Let LIST search for PATTERN by SETTINGS, or for one that is asked for.
+Without a LIST a new one is made for THINGS, or for the REGION of the first one.
+If that is broken off, LIST is again as it was, and a new one is killed."
+  (let* ((new (not list))
+         (list (or list (live-occur--new-list things)))
+         (old (with-current-buffer list (live-occur--settings)))
+         (window (get-buffer-window list t)) done)
     (unwind-protect
         (progn
           (with-current-buffer list
-            (cond (buffers (live-occur-mode)
-                           (live-occur--begin)
-                           (live-occur--add-sources buffers)
-                           (when region
-                             (live-occur--limit (car live-occur--sources)
-                                                (car region) (cdr region))))
+            (cond (new (live-occur-mode)
+                       (live-occur--begin)
+                       (live-occur--add-sources things)
+                       (when region
+                         (live-occur--limit (car live-occur--sources) (car region) (cdr region))))
                   (live-occur--fault (live-occur-restart)))
-            (when pattern (live-occur--search-for pattern)))
+            (when settings (live-occur--use settings))
+            (when-let* ((refused (and pattern
+                                      (live-occur--refused
+                                       (live-occur--put (split-string pattern "\n"))
+                                       pattern))))
+              (user-error "%s" refused)))
           (unless pattern
             (when live-occur-typing-delay (live-occur--show list))
             (live-occur--ask list nil))
@@ -3722,8 +2820,8 @@ as it was, and is killed where it is new."
       (unless done
         (unless window
           (when-let* ((window (get-buffer-window list t)))
-            (quit-restore-window window (if buffers 'kill 'bury))))
-        (when buffers (kill-buffer list))))
+            (quit-restore-window window (if new 'kill 'bury))))
+        (if new (kill-buffer list) (live-occur--in list (live-occur--use old)))))
     (setq next-error-last-buffer list)
     (live-occur--show list)
     list))
@@ -3731,22 +2829,11 @@ as it was, and is killed where it is new."
 (defun live-occur--show (list)
   "Show LIST, and not in this window if there is another one.
 This window may have shown it before."
-  (display-buffer list (unless (one-window-p t)
-                         '(nil (inhibit-same-window . t)))))
+  (display-buffer list (unless (one-window-p t) '(nil (inhibit-same-window . t)))))
 
-(defun live-occur--purpose (list)
-  "What LIST is for."
-  (if (memq ?v (buffer-local-value 'live-occur-flags list))
-      "List lines that don't match"
-    "List lines that match"))
-
-(defun live-occur--search-for (pattern)
-  "Search for PATTERN in this list, or signal an error."
-  (pcase (live-occur--fault-in-text
-          (live-occur--put (split-string pattern "\n")) pattern 0)
-    (`(,kind ,place)
-     (user-error "%s at %d: %s" kind place
-                 (live-occur--underlined pattern place)))))
+(defun live-occur--accessible ()
+  "What is accessible of this buffer, a pair, if that alone is to be listed."
+  (and live-occur-narrowed (buffer-narrowed-p) (cons (point-min) (point-max))))
 
 ;;;###autoload
 (defun live-occur (&optional pattern buffers another region)
@@ -3767,36 +2854,24 @@ whatever it is narrowed to, unless `live-occur-narrowed' says otherwise."
                      (and (use-region-p)
                           (not (live-occur--list-p (current-buffer)))
                           (cons (region-beginning) (region-end)))))
-  (when (and live-occur-narrowed (buffer-narrowed-p) (not buffers))
-    (cl-callf or region (cons (point-min) (point-max))))
-  (if (and (live-occur--list-p (current-buffer)) (not (or pattern buffers)))
-      (live-occur--change-here)
-    (live-occur--list-lines pattern buffers another region)))
-
-(defun live-occur--change-here ()
-  "Ask for another pattern in the place of one that this list has."
-  (when live-occur-edit-mode (user-error "End the edit of rows first"))
-  (call-interactively (if live-occur--patterns #'live-occur-change-pattern
-                        #'live-occur-add-pattern))
-  (current-buffer))
-
-(defun live-occur--list-lines (pattern buffers another region)
-  "List lines as `live-occur' does for PATTERN, BUFFERS, ANOTHER and REGION."
-  (if-let* ((list (and (not (or pattern buffers another region))
-                       (live-occur--list-of (current-buffer)))))
-      (live-occur--fill list nil nil)
-    (when region (deactivate-mark))
-    (let ((buffers (or buffers (list (current-buffer)))))
-      (live-occur--fill (live-occur--new-list buffers) buffers
-                        pattern region))))
+  (let ((here (current-buffer)) (region (or region (and (not buffers) (live-occur--accessible)))))
+    (cond ((or pattern buffers (not (live-occur--list-p here)))
+           (when region (deactivate-mark))
+           (live-occur--fill (unless (or pattern buffers another region)
+                               (live-occur--list-of here))
+                             (or buffers (list here)) pattern region))
+          (live-occur-edit-mode (user-error "End the edit of rows first"))
+          (t (call-interactively (if live-occur--patterns
+                                     #'live-occur-change-pattern
+                                   #'live-occur-add-pattern))
+             here))))
 
 (defun live-occur--new-list (buffers)
   "A new buffer for the list of BUFFERS, named by them."
   (generate-new-buffer
    (format "*Live Occur: %s*"
            (cond ((cl-some #'stringp buffers)
-                  (file-name-nondirectory
-                   (directory-file-name default-directory)))
+                  (file-name-nondirectory (directory-file-name default-directory)))
                  ((cdr buffers) (format "%d buffers" (length buffers)))
                  (t (buffer-name (car buffers)))))))
 
@@ -3810,10 +2885,12 @@ for the names of buffers."
           "Buffers, modes or regexps: "
           (append (mapcar #'buffer-name (buffer-list))
                   (seq-uniq (mapcar (lambda (buffer)
-                                      (symbol-name (buffer-local-value
-                                                    'major-mode buffer)))
+                                      (symbol-name (buffer-local-value 'major-mode buffer)))
                                     (buffer-list)))))))
-  (live-occur--in-buffers (seq-uniq (mapcan #'live-occur--buffers-of names))))
+  (live-occur--in-things
+   (seq-remove (lambda (buffer)
+                 (or (string-prefix-p " " (buffer-name buffer)) (live-occur--list-p buffer)))
+               (seq-uniq (mapcan #'live-occur--buffers-of names)))))
 
 (defun live-occur--buffers-of (name)
   "The buffers of NAME, as `live-occur-in-buffers' has it."
@@ -3826,15 +2903,9 @@ for the names of buffers."
                       (string-match-p name (buffer-name)))))
                 (buffer-list))))
 
-(defun live-occur--in-buffers (buffers)
-  "List lines of those of BUFFERS that may be searched, or are files."
-  (live-occur nil (or (cl-loop for buffer in buffers
-                               unless (and (bufferp buffer)
-                                           (or (string-prefix-p
-                                                " " (buffer-name buffer))
-                                               (live-occur--list-p buffer)))
-                               collect buffer)
-                      (user-error "There is no such buffer or file"))))
+(defun live-occur--in-things (things)
+  "List lines of THINGS, buffers and names of files, if there are any."
+  (live-occur nil (or things (user-error "There is no such buffer or file"))))
 
 ;;;###autoload
 (defun live-occur-in-project ()
@@ -3845,14 +2916,13 @@ edited."
   (interactive)
   (let* ((project (project-current t))
          (default-directory (expand-file-name (project-root project))))
-    (live-occur--in-buffers (project-files project))))
+    (live-occur--in-things (project-files project))))
 
 ;;;###autoload
 (defun live-occur-in-dired ()
   "List the lines that match in the marked files of this Dired buffer."
   (interactive nil dired-mode)
-  (live-occur--in-buffers
-   (seq-filter #'file-regular-p (dired-get-marked-files))))
+  (live-occur--in-things (seq-filter #'file-regular-p (dired-get-marked-files))))
 
 ;;;###autoload
 (defun live-occur-isearch ()
@@ -3860,39 +2930,21 @@ edited."
 A regexp, and what isearch makes one of, is translated into an extended regular
 expression, and any other text is a fixed string."
   (interactive)
-  (pcase-let* ((fold (and isearch-case-fold-search '(?i)))
-               (list (cond ((live-occur--list-p (current-buffer))
-                            (current-buffer))
-                           ((not (and live-occur-narrowed (buffer-narrowed-p)))
-                            (live-occur--list-of (current-buffer)))))
-               (`(,syntax . ,pattern) (live-occur--from-isearch)))
-    (isearch-done)
-    (if (not list)
-        (let ((live-occur-syntax syntax)
-              (live-occur-flags fold)
-              (live-occur-smart-case nil))
-          (live-occur pattern))
-      (let ((old (with-current-buffer list (live-occur--settings))) done)
-        (with-current-buffer list (live-occur--use syntax fold nil))
-        (unwind-protect
-            (setq done (live-occur--fill list nil pattern))
-          (unless done
-            (live-occur--in list (apply #'live-occur--use old))))))))
-
-(defun live-occur--from-isearch ()
-  "The syntax and the pattern for the text of isearch."
   (when (string-search "\n" isearch-string)
     (user-error "A list has lines, and what is searched for has several"))
-  (cond (isearch-regexp-function
-         (cons 'extended
-               (live-occur--from-regexp
-                (funcall (if (functionp isearch-regexp-function)
-                             isearch-regexp-function
-                           #'word-search-regexp)
-                         isearch-string))))
-        (isearch-regexp
-         (cons 'extended (live-occur--from-regexp isearch-string)))
-        (t (cons 'fixed isearch-string))))
+  (let* ((here (current-buffer))
+         (region (live-occur--accessible))
+         (regexp (cond ((functionp isearch-regexp-function)
+                        (funcall isearch-regexp-function isearch-string))
+                       (isearch-regexp-function (word-search-regexp isearch-string))
+                       (isearch-regexp isearch-string)))
+         (pattern (if regexp (live-occur--from-regexp regexp) isearch-string)))
+    (isearch-done)
+    (live-occur--fill (cond ((live-occur--list-p here) here)
+                            ((not region) (live-occur--list-of here)))
+                      (list here) pattern region
+                      (list (if regexp 'extended 'fixed)
+                            (and isearch-case-fold-search '(?i)) nil))))
 
 (defun live-occur--from-regexp (regexp)
   "REGEXP as an extended regular expression, or signal an error.
@@ -3909,27 +2961,22 @@ Of repetitions that aren't greedy the lines are the same."
 (defun live-occur--next-of-regexp (first)
   "What is at point of a regexp, for an extended expression; move over it.
 FIRST says whether an item begins there, which nothing can repeat."
-  (cl-flet ((found (regexp)
-              (when (looking-at regexp) (goto-char (match-end 0)))))
+  (cl-flet ((found (regexp) (when (looking-at regexp) (goto-char (match-end 0)))))
     (cond ((found "\\\\(\\(?:\\?[0-9]*:\\)?") "(")
           ((found "\\\\\\([|)]\\)") (match-string 1))
           ((found "\\\\{\\([0-9,]*\\)\\\\}")
            (format "{%s}" (match-string 1)))
-          ((found "\\\\\\([^[:alnum:]_<>`'={}]\\)")
-           (live-occur--quoted (match-string 1)))
+          ((found "\\\\\\([^[:alnum:]_<>`'={}]\\)") (live-occur--quoted (match-string 1)))
           ((looking-at "\\\\_?.?")
-           (user-error "%s in a regexp can't be said in a pattern of lines"
-                       (match-string 0)))
+           (user-error "%s in a regexp can't be said in a pattern of lines" (match-string 0)))
           ((and (not first) (found "\\([*+?]\\)\\??")) (match-string 1))
-          ((found "\\[\\^?]?\\(?:\\[:[a-z]+:]\\|[^]]\\)*]")
-           (match-string 0))
+          ((found "\\[\\^?]?\\(?:\\[:[a-z]+:]\\|[^]]\\)*]") (match-string 0))
           ((and first (found "\\^")) "^")
           ((found "\\$\\(?:\\'\\|\\(?:\\\\[|)]\\)\\)")
            (goto-char (1+ (match-beginning 0)))
            "$")
           ((found "\\.") ".")
-          (t (forward-char)
-             (live-occur--quoted (string (char-before)))))))
+          (t (forward-char) (live-occur--quoted (string (char-before)))))))
 
 (defun live-occur--quoted (text)
   "TEXT, which is one character, as an extended expression that matches it."

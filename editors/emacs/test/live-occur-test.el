@@ -116,6 +116,11 @@ All buffers and processes that it makes are taken away after it."
   (live-occur--at-line-of hit
     (live-occur--text-after-point)))
 
+(defun live-occur-test--first-column (hit)
+  "How many characters of the line of HIT are before its first part."
+  (live-occur--at-line-of hit
+    (- (car (live-occur--place-of hit)) (point))))
+
 (defun live-occur-test--tell (&rest words)
   "Tell WORDS, as `message' does, though messages may be off."
   (let ((inhibit-message nil))
@@ -150,7 +155,11 @@ All buffers and processes that it makes are taken away after it."
      (cl-letf* ((send (symbol-function 'process-send-string))
                 ((symbol-function 'process-send-string)
                  (lambda (process text)
-                   (push text sent)
+                   ;; Lines are sent after their command, and a last newline after them.
+                   (if (string-match-p "\\`\\(splice\\|patterns\\)[^\n]* [1-9][0-9]*\n?\\'\\|[^\n]\\'"
+                                       (or (car sent) "\n"))
+                       (setcar sent (concat (car sent) text))
+                     (push text sent))
                    (funcall send process text))))
        ,@body)
      (nreverse sent)))
@@ -887,8 +896,8 @@ Text that comes into an empty buffer so is reported after it has come alone."
 
 (ert-deftest live-occur-gathers-edits-after-an-error ()
   "No error takes the hooks of a buffer away, or an edit from the list."
-  (dolist (function '(live-occur--near-p live-occur--known-p live-occur--expect live-occur--settle
-                      live-occur--expected-p live-occur--took live-occur--stayed-p))
+  (dolist (function '(live-occur--known-p live-occur--expect live-occur--settle live-occur--took
+                      live-occur--line-at live-occur--count-newlines live-occur--know))
     (dolist (fault '(error quit))
       (live-occur-test--with '("ab\nb\nab\n")
         (live-occur-test--in-windows
@@ -957,7 +966,7 @@ Text that comes into an empty buffer so is reported after it has come alone."
       (should-not (buffer-modified-p))
       ;; A timer of Emacs may have put a boundary there.
       (should (equal (remq nil buffer-undo-list) (remq nil undo)))
-      (should-not (local-variable-p 'live-occur--sources-here))
+      (should-not (local-variable-p 'live-occur--texts-here))
       (should (equal hooks
                      (list before-change-functions after-change-functions kill-buffer-hook)))
       (should-not (overlays-in (point-min) (point-max))))))
@@ -1130,12 +1139,13 @@ Text that comes into an empty buffer so is reported after it has come alone."
 
 (ert-deftest live-occur-underlines-the-fault ()
   (should (equal-including-properties
-           (live-occur--underlined "a(b" 1)
-           #("a(b" 1 2 (face live-occur-fault))))
+           (live-occur--refused '("K" 0 1) "a(b")
+           #("K at 1: a(b" 9 10 (face live-occur-fault))))
   (should (equal-including-properties
-           (live-occur--underlined "ab" 2)
-           #("ab " 2 3 (face live-occur-fault))))
-  (let ((pieces (mapcar #'live-occur--in-pieces '("a" "b" "" "é[z-a]"))))
+           (live-occur--refused '("K" 0 2) "ab")
+           #("K at 2: ab " 10 11 (face live-occur-fault))))
+  (let ((pieces (mapcar (lambda (pattern) (live-occur--translated pattern t nil 'basic nil))
+                        '("a" "b" "" "é[z-a]"))))
     (cl-flet ((fault (reply first)
                 (live-occur--fault-in-text (live-occur--fault-in reply pieces) "\né[z-a]" first)))
       (should (equal (fault "refused Pattern 3 BadRange 3" 2) '("BadRange" 3)))
@@ -1275,7 +1285,7 @@ Text that comes into an empty buffer so is reported after it has come alone."
     (let ((list (live-occur "a")))
       (live-occur-test--rows list)
       (with-current-buffer (clone-buffer "copy")
-        (should live-occur--sources-here)
+        (should live-occur--texts-here)
         (insert "a\na\n"))
       (should (equal (live-occur-test--rows list) "1:a\n"))
       (insert "a\n")
@@ -1326,6 +1336,8 @@ Text that comes into an empty buffer so is reported after it has come alone."
                            found))))))))
 
 (ert-deftest live-occur-speaks-of-bytes-where-that-is-wanted ()
+  (should (equal (live-occur--translated (unibyte-string #x80) t nil 'fixed nil)
+                 (list (cons 0 (unibyte-string #x80)) (list 1))))
   (let ((live-occur-characters nil))
     (should (equal (live-occur-test--found 'basic "-" "^..$" "é") "é"))
     (should (equal (live-occur-test--found 'basic "i" "é" "É") "none")))
@@ -1740,6 +1752,11 @@ It is the line at its point, and the row at that of the list."
           (should (equal (mapcar #'car (live-occur-test--shown "C-c t 7 RET")) '("2000"))))
         (should (looking-at "2000$"))))))
 
+(defun live-occur-test--look ()
+  "Look for a hit again."
+  (setq live-occur--looking (cons live-occur--patterns t))
+  (live-occur--with-part #'live-occur--look-between))
+
 (ert-deftest live-occur-shows-the-hit-after-point-while-more-is-to-come ()
   "A look that began later counts, also if one before it takes longer."
   (live-occur-test--with '("")
@@ -1767,10 +1784,10 @@ It is the line at its point, and the row at that of the list."
                 (should (looking-at-p (format "%d:two" (1+ (cdr place)))))
                 (should (= wanted (window-point (live-occur--preview-window preview))))
                 (setf (live-occur--preview-line preview) 40000)
-                (live-occur--look-for-hit)
+                (live-occur-test--look)
                 (accept-process-output live-occur--process 1)
                 (setf (live-occur--preview-line preview) (car place))
-                (live-occur--look-for-hit)))
+                (live-occur-test--look)))
             (live-occur--end-showing nil)
             (live-occur--end-preview '("one")))
           (kill-buffer list))))))
@@ -1846,7 +1863,7 @@ It is nil where the pattern is refused."
 
 (ert-deftest live-occur-follows-random-typing ()
   "After each key the list has what grep writes, or is as it was."
-  (random "live-occur typing")
+  (random "live-occur keys")
   (let ((folder (make-temp-file "live-occur" t)) (accepted 0) (refused 0)
         (live-occur-characters nil))
     (unwind-protect
@@ -2035,7 +2052,7 @@ Where BODY reports that it was killed, that is as it has to be."
                        (setq live-occur--previewing t))
                      "o"))
                   ((symbol-function 'live-occur--wait-for-hit)
-                   (lambda (_)
+                   (lambda (&rest _)
                      (live-occur-test--kill list)
                      (live-occur--check))))
           (should-error (call-interactively #'live-occur) :type 'user-error))
@@ -3504,9 +3521,9 @@ Its rows are there, and can be edited."
 
 (ert-deftest live-occur-writes-rows-after-an-error ()
   "No error ends that rows are written, and what it has kept from its line is written later."
-  (dolist (function '(live-occur--row-text live-occur--touch live-occur--change-line
-                      live-occur--replace live-occur--mark-row live-occur--row-changed
-                      live-occur--write-rows live-occur--write-row))
+  (dolist (function '(live-occur--row-text live-occur--visited-state live-occur--change-line
+                      live-occur--replace live-occur--same live-occur--changed-buffers live-occur--row-changed
+                      live-occur--write-row))
     (dolist (fault '(error quit))
       (live-occur-test--with '("one\ntwo\nfour\n")
         (live-occur-test--in-windows
@@ -4017,7 +4034,7 @@ up what the rows changed alone."
       (8 (live-occur-set-context (random 3) (random 3)))
       ((or 0 1 2 3) (live-occur--toggle (nth (random 3) '(?i ?v ?x))))
       (4 (let ((syntax (nth (random 3) '(basic extended fixed))))
-           (live-occur--set-syntax syntax)))
+           (live-occur--set syntax live-occur-flags live-occur-smart-case)))
       (5 (live-occur-test--add (nth (random 6) '("a" "b$" "^" "a*b" "\\(a" "[ab]B"))))
       (6 (when live-occur--patterns
            (live-occur-drop-pattern (random (length live-occur--patterns)))))
@@ -4103,7 +4120,7 @@ The answer is how many they are."
          (let ((source (live-occur--hit-source hit))
                (line (live-occur--line-of hit)))
            (unless (or (not (live-occur--known-p source))
-                       (ignore (live-occur--take-stock source))
+                       (ignore (live-occur--settle source))
                        (cl-loop for (at _ is) in (live-occur--in-order (live-occur--edits source))
                                 thereis (<= at line (+ at is))))
              (cl-incf checked)
@@ -4323,11 +4340,11 @@ The answer is the seconds until then, and those of the longest step."
     (let ((list (live-occur "[\x3fffa9]")))
       (live-occur-test--rows list)
       (with-current-buffer list
-        (should (= 51 (live-occur--first-column (live-occur--hit 0))))))
+        (should (= 51 (live-occur-test--first-column (live-occur--hit 0))))))
     (let ((list (live-occur "[\x3fffac]")))
       (live-occur-test--rows list)
       (with-current-buffer list
-        (should (= 52 (live-occur--first-column (live-occur--hit 0))))))))
+        (should (= 52 (live-occur-test--first-column (live-occur--hit 0))))))))
 
 (defun live-occur-test--refuses-text (position)
   "Check that no text can be put or deleted at POSITION of this list."
@@ -4754,6 +4771,16 @@ TEXT is what is in each line."
           (should (= 100900 (live-occur--total)))))
       (should (<= most 2)))))
 
+(ert-deftest live-occur-sends-something-however-late ()
+  "Also where the time for a step is over before it has begun."
+  (live-occur-test--with '("one\ntwo\n")
+    (let ((list (live-occur "o")))
+      (live-occur-test--rows list)
+      (goto-char (point-max))
+      (insert "so\n")
+      (let ((live-occur--longest -1))
+        (should (equal (live-occur-test--rows list) "1:one\n2:two\n3:so\n"))))))
+
 (ert-deftest live-occur-sends-few-commands-at-once ()
   "Many small commands cost no more than their number."
   (let ((live-occur--block 20) (most 0) list)
@@ -4975,18 +5002,22 @@ TEXT is what is in each line."
   (dolist (entry live-occur--commands)
     (should (where-is-internal (nth 1 entry) (list (list 'keymap live-occur-menu))))))
 
-;;;; The file
+;;;; The files
 
 (defun live-occur-test--file ()
-  "The file that is tested."
+  "The main file that is tested."
   (expand-file-name "../live-occur.el" (file-name-directory (symbol-file 'live-occur-test--file))))
+
+(defun live-occur-test--files ()
+  "The files that are tested."
+  (list (live-occur-test--file) (live-occur-test--beside "live-occur-track.el")))
 
 (ert-deftest live-occur-loads-what-it-needs ()
   "In another Emacs, which has loaded nothing else."
   (with-temp-buffer
     (should (eql 0 (call-process
                     (expand-file-name invocation-name invocation-directory) nil t nil
-                    "-Q" "--batch" "-l" (live-occur-test--file) "--eval"
+                    "-Q" "--batch" "-L" (live-occur-test--beside "") "-l" (live-occur-test--file) "--eval"
                     (format "%S" `(with-temp-buffer
                                     (run-with-timer 20 nil #'kill-emacs 1)
                                     (rename-buffer "a")
@@ -5051,7 +5082,8 @@ TEXT is what is in each line."
          (byte-compile-dest-file-function
           (lambda (_) (expand-file-name "live-occur.elc" folder))))
     (unwind-protect
-        (should (eq (byte-compile-file (live-occur-test--file)) t))
+        (dolist (file (live-occur-test--files))
+          (should (eq (byte-compile-file file) t)))
       (delete-directory folder t))))
 
 (ert-deftest live-occur-passes-checkdoc ()
@@ -5061,12 +5093,14 @@ TEXT is what is in each line."
           (lambda (text start &rest _)
             (push (format "%d: %s" (line-number-at-pos start) text) told)
             nil)))
-    (with-current-buffer (find-file-noselect (live-occur-test--file))
-      (checkdoc-current-buffer t)
-      (kill-buffer))
+    (dolist (file (live-occur-test--files))
+      (with-current-buffer (find-file-noselect file)
+        (checkdoc-current-buffer t)
+        (kill-buffer)))
     (should-not told)))
 
 (defvar package-directory-list)
+(defvar package-lint-main-file)
 (declare-function package-lint-buffer "package-lint")
 (declare-function package-activate "package")
 (declare-function package-load-all-descriptors "package")
@@ -5078,13 +5112,15 @@ TEXT is what is in each line."
   (package-load-all-descriptors)
   (package-activate 'package-lint)
   (skip-unless (require 'package-lint nil t))
-  (with-current-buffer (find-file-noselect (live-occur-test--file))
-    (unwind-protect
-        (should-not (cl-remove-if
-                     (lambda (text)
-                       (string-match-p "in all released Emacs versions" text))
-                     (mapcar (lambda (found) (nth 3 found)) (package-lint-buffer))))
-      (kill-buffer))))
+  (dolist (file (live-occur-test--files))
+    (with-current-buffer (find-file-noselect file)
+      (unwind-protect
+          (let ((package-lint-main-file (live-occur-test--file)))
+            (should-not (cl-remove-if
+                         (lambda (text)
+                           (string-match-p "in all released Emacs versions" text))
+                         (mapcar (lambda (found) (nth 3 found)) (package-lint-buffer)))))
+        (kill-buffer)))))
 
 (provide 'live-occur-test)
 
