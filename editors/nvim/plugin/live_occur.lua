@@ -12,15 +12,26 @@ end, options)
 vim.api.nvim_create_user_command("LiveOccurQuickfix", function()
   require("live_occur").quickfix()
 end, { desc = "Make a quickfix list of a list of LiveOccur" })
+vim.api.nvim_create_user_command("LiveOccurResume", function()
+  require("live_occur").resume()
+end, { desc = "Show the last list of LiveOccur again" })
+
+local group = vim.api.nvim_create_augroup("live_occur", {})
+vim.api.nvim_create_autocmd({ "BufReadCmd", "BufFilePost" }, {
+  group = group,
+  pattern = "live-occur://*",
+  callback = function(event)
+    require("live_occur").not_kept(event.buf)
+  end,
+})
 
 -- What is typed for a list has a preview.
-local group = vim.api.nvim_create_augroup("live_occur", {})
 vim.api.nvim_create_autocmd({ "CmdlineEnter", "CmdlineChanged" }, {
   group = group,
   callback = function()
-    local preview = package.loaded["live_occur.preview"]
-    if preview and (preview.now or preview.prompt) or vim.fn.getcmdline():find("LiveOccur", 1, true) then
-      require("live_occur.preview").changed()
+    local prompt = package.loaded["live_occur.prompt"]
+    if prompt and (prompt.now or prompt.prompt) or vim.fn.getcmdline():find("LiveOccur", 1, true) then
+      require("live_occur.prompt").changed()
     end
   end,
 })
@@ -30,9 +41,9 @@ local function tell(event, name)
   vim.api.nvim_create_autocmd(event, {
     group = group,
     callback = function()
-      local preview = package.loaded["live_occur.preview"]
-      if preview then
-        preview[name]()
+      local prompt = package.loaded["live_occur.prompt"]
+      if prompt then
+        prompt[name]()
       end
     end,
   })

@@ -24,6 +24,39 @@ function vim.wait(...)
   return unpack(results)
 end
 
+-- Changes of what a list wants.
+local List = require("live_occur.list")
+
+function List:set_flag(flag, on, done)
+  self:change(function(wish)
+    wish.flags[flag] = on or nil
+  end, done)
+end
+
+function List:add_pattern(pattern, done)
+  self:change(function(wish)
+    table.insert(wish.patterns, pattern)
+  end, done)
+end
+
+function List:change_pattern(number, pattern, done)
+  self:change(function(wish)
+    wish.patterns[number] = wish.patterns[number] and pattern
+  end, done)
+end
+
+function List:set_syntax(syntax, done)
+  self:change(function(wish)
+    wish.syntax = syntax
+  end, done)
+end
+
+function List:drop_pattern(number)
+  self:change(function(wish)
+    table.remove(wish.patterns, number)
+  end)
+end
+
 -- Calls the client, as a key does, and counts it as a time without an answer.
 function M.call(body)
   M.stall = math.max(M.stall, watch.time(body))
@@ -90,6 +123,35 @@ function M.list(pattern, buffers, options)
   return assert(list, fault)
 end
 
+-- The hits that a list shows: for each its buffer or path, its line from 1, the text of its row and its parts.
+function M.hits(list)
+  local hits, texts = {}, api.nvim_buf_get_lines(list.buffer, 0, -1, false)
+  list:each_hit(1, math.huge, function(file, line, parts, row)
+    hits[#hits + 1] = { file.path or file.buffer, line, texts[row + 1], parts }
+  end)
+  return hits
+end
+
+-- The rows of a list and the lines around them, as `grep` writes them without names.
+function M.around(list)
+  local texts, found = api.nvim_buf_get_lines(list.buffer, 0, -1, false), {}
+  local draw = require("live_occur.draw")
+  local function add(row)
+    for _, line in ipairs(list:around() and list:between(row) or {}) do
+      found[#found + 1] = line and line[1] + 1 .. "-" .. line[2] or "--"
+    end
+  end
+  add(0)
+  for row = 1, #texts - 1 do
+    if not list:at(row).heading then
+      local number = vim.trim(draw.marks(list, row, texts[row + 1])[1][4])
+      found[#found + 1] = number .. ":" .. texts[row + 1]
+    end
+    add(row)
+  end
+  return found
+end
+
 -- The rows of a list that is up to date, as `number:line`, with the buffer's place among those of
 -- the list before it where it has several.
 function M.rows(list)
@@ -97,11 +159,11 @@ function M.rows(list)
   assert(not list.ended, list.ended)
   local index = {}
   for number, file in ipairs(list.files) do
-    index[file.buffer] = #list.files > 1 and number .. ":" or ""
+    index[file.path or file.buffer] = #list.files > 1 and number .. ":" or ""
   end
   return vim.tbl_map(function(row)
     return index[row[1]] .. row[2] .. ":" .. row[3]
-  end, list:rows())
+  end, M.hits(list))
 end
 
 -- Types keys in the list's window.
@@ -128,22 +190,25 @@ end
 function M.grep(list, more)
   local words = { vim.env.GREP or "grep", "-n" }
   local letters = { extended = "-E", fixed = "-F" }
-  words[#words + 1] = letters[list.syntax]
-  for flag in pairs(list.flags) do
+  words[#words + 1] = letters[list.known.syntax]
+  for flag in pairs(list.known.flags) do
     words[#words + 1] = "-" .. flag
   end
   vim.list_extend(words, more or {})
-  for _, pattern in ipairs(list.patterns) do
-    vim.list_extend(words, { "-e", pattern })
-  end
-  if #list.patterns == 0 then
-    vim.list_extend(words, { "-f", "/dev/null" })
-  end
   local folder = fn.tempname()
   fn.mkdir(folder)
+  local patterns = assert(io.open(folder .. "/patterns", "wb")) -- They may have bytes that no word has.
+  for _, text in ipairs(list.known.texts) do
+    patterns:write(text .. "\n")
+  end
+  patterns:close()
+  vim.list_extend(words, { "-f", "patterns" })
   for number, file in ipairs(list.files) do
     local lines = {}
-    if api.nvim_buf_is_loaded(file.buffer) then
+    if file.path then
+      lines = fn.readfile(file.path)
+      lines = #lines > 0 and lines or { "" } -- as its buffer would have it
+    elseif api.nvim_buf_is_loaded(file.buffer) then
       lines = api.nvim_buf_get_lines(file.buffer, file.ranged and file.from or 0, file.ranged and file.to or -1, false)
     end
     local out = assert(io.open(folder .. "/" .. number, "wb"))
@@ -167,7 +232,7 @@ function M.compare(list, what)
     return
   end
   local parts = {}
-  for _, row in ipairs(list:rows()) do
+  for _, row in ipairs(M.hits(list)) do
     for first, last in row[4]:gmatch("(%d+)%-(%d+)") do
       parts[#parts + 1] = row[2] .. ":" .. row[3]:sub(first + 1, last)
     end
@@ -198,16 +263,6 @@ function M.commands(run)
       return sent
     ]])
   end
-end
-
--- A program that knows only the first version of the script, and otherwise is the one under test.
-function M.old_program()
-  local name = fn.tempname()
-  local words = "s/^version$/no &/; s/^text off$/no &/; s/^pattern [0-9]*$/no &/"
-  local program = fn.shellescape(require("live_occur.settings").program)
-  fn.writefile({ "#!/bin/sh", ("sed -u '%s' | %s \"$@\""):format(words, program) }, name)
-  fn.setfperm(name, "rwx------")
-  return name
 end
 
 -- A second Neovim, with a terminal of 60 columns and 20 lines: the body gets functions that run Lua in

@@ -69,7 +69,7 @@ test("context, buffers and following have keys", function()
     bench.type(list, "C")
   end)
   equal(list.context, { 1, 0 })
-  equal(api.nvim_buf_line_count(list.buffer), 3)
+  equal(bench.around(list), { "1-x", "2:one" })
   answering({ "first" }, function()
     bench.type(list, "+")
   end)
@@ -184,12 +184,12 @@ test("numbers and parts are drawn over the rows", function()
   local list = bench.list("one")
   rows(list)
   local draw = require("live_occur.draw")
-  local wanted = { { 0, nil, "LiveOccurNumber", "      2" }, { 8, 11, "LiveOccurMatch" }, { 13, 16, "LiveOccurMatch" } }
+  local wanted = { { 0, nil, "LiveOccurNumber", "      2 " }, { 0, 3, "LiveOccurMatch" }, { 5, 8, "LiveOccurMatch" } }
   equal(draw.marks(list, 1, (" "):rep(16)), wanted)
   api.nvim_buf_set_lines(buffer, 0, 0, false, { "new" })
-  wanted[1][4] = "      3" -- before the program is asked
+  wanted[1][4] = "      3 " -- before the program is asked
   equal(draw.marks(list, 1, (" "):rep(16)), wanted)
-  equal(draw.marks(list, 0, "basic"), { { 0, 5, "LiveOccurHeader" } })
+  equal(draw.marks(list, 0, "basic"), { { 0, nil, "LiveOccurHeader", "basic        " } })
   equal(draw.marks(list, 2, "basic"), {})
 end)
 

@@ -9,7 +9,7 @@ test("a list has the lines that match", function()
   local list = bench.list("e")
   equal(rows(list), { "1:one", "3:three" })
   local shown = api.nvim_buf_get_lines(list.buffer, 0, -1, false)
-  equal(shown, { "basic  e  2 hits, 1 buffer", "        one", "        three" })
+  equal(shown, { "basic  e  2 hits, 1 buffer", "one", "three" })
 end)
 
 test("a list of several buffers has a row with the name before those of each", function()
@@ -18,10 +18,10 @@ test("a list of several buffers has a row with the name before those of each", f
   local c = bench.buffer({ "x", "one:1" })
   local list = bench.list("one", { a, b, c })
   equal(rows(list), { "1:1:one", "3:2:one:1" })
-  equal(api.nvim_buf_get_lines(list.buffer, 1, -1, false), { "a.txt", "        one", "[No Name]", "        one:1" })
+  equal(api.nvim_buf_get_lines(list.buffer, 1, -1, false), { "a.txt", "one", "[No Name]", "one:1" })
   api.nvim_buf_set_lines(a, 0, -1, false, { "two" })
   equal(rows(list), { "3:2:one:1" })
-  equal(api.nvim_buf_get_lines(list.buffer, 1, -1, false), { "[No Name]", "        one:1" })
+  equal(api.nvim_buf_get_lines(list.buffer, 1, -1, false), { "[No Name]", "one:1" })
   api.nvim_buf_set_lines(b, 0, -1, false, { "one" })
   equal(api.nvim_buf_get_lines(list.buffer, 1, -1, false)[1], "[No Name]")
   equal(rows(list), { "2:1:one", "3:2:one:1" })
@@ -32,7 +32,7 @@ test("a buffer's name is the one that it has", function()
   local list = bench.list("one", { a, b })
   rows(list)
   vim.cmd("silent file first")
-  equal(api.nvim_buf_get_lines(list.buffer, 1, -1, false), { "[No Name]", "        one", "first", "        one" })
+  equal(api.nvim_buf_get_lines(list.buffer, 1, -1, false), { "[No Name]", "one", "first", "one" })
   bench.type(list, "v")
   equal(rows(list), {})
   equal(api.nvim_buf_get_lines(list.buffer, 1, -1, false), {})
@@ -130,7 +130,19 @@ test("a buffer that is unloaded has no rows until it is loaded again", function(
   vim.cmd("bwipeout! " .. buffer)
   vim.wait(50)
   equal(rows(list), { "1:o" })
-  equal(api.nvim_buf_get_lines(list.buffer, 1, -1, false), { "        o" })
+  equal(api.nvim_buf_get_lines(list.buffer, 1, -1, false), { "o" })
+end)
+
+test("a buffer that is edited and wiped at once leaves the list", function()
+  local a, b = bench.buffer({ "one" }), bench.buffer({ "one" })
+  local list = bench.list("one", { a, b })
+  rows(list)
+  api.nvim_buf_set_lines(a, 0, 0, false, { "one", "one" })
+  vim.cmd("bwipeout! " .. a)
+  list:step()
+  vim.wait(50)
+  equal(rows(list), { "1:one" })
+  equal(api.nvim_buf_get_lines(list.buffer, 1, -1, false), { "one" })
 end)
 
 test("a range is there again when its buffer is loaded again", function()
@@ -152,11 +164,12 @@ test("a hidden buffer and a hidden list are followed", function()
   bench.buffer({ "other" })
   api.nvim_buf_set_lines(buffer, -1, -1, false, { "o" })
   equal(rows(list), { "1:one", "2:o" })
-  bench.type(list, "q")
+  api.nvim_win_close(fn.win_findbuf(list.buffer)[1], false)
   equal(#fn.win_findbuf(list.buffer), 0)
   api.nvim_buf_set_lines(buffer, 0, 1, false, {})
   equal(rows(list), { "1:o" })
-  vim.cmd("sbuffer " .. list.buffer)
+  vim.cmd("LiveOccurResume")
+  equal(api.nvim_get_current_buf(), list.buffer)
 end)
 
 test("a list that is wiped ends its program and leaves nothing", function()
@@ -180,7 +193,7 @@ test("bytes are sent and shown as they are", function()
   local long = string.rep("\195\164", 3000) .. "end"
   api.nvim_buf_set_lines(0, 0, -1, false, { long })
   list:wait()
-  equal(list:rows()[1][3], string.rep("\195\164", 500) .. "…")
+  equal(bench.hits(list)[1][3], string.rep("\195\164", 500) .. "…")
 end)
 
 -- The text of the first row of a list, and the texts that are highlighted in it.
@@ -202,9 +215,9 @@ test("a shortened row shows the text around its first match", function()
   local buffer = bench.buffer({ ("ä"):rep(2000) .. "one" .. ("ö"):rep(100) .. "one" .. ("ü"):rep(2000) })
   local list = bench.list("one")
   local text, parts = first_row(list)
-  equal(text, (" "):rep(8) .. "…" .. ("ä"):rep(20) .. "one" .. ("ö"):rep(100) .. "one" .. ("ü"):rep(377) .. "…")
+  equal(text, "…" .. ("ä"):rep(20) .. "one" .. ("ö"):rep(100) .. "one" .. ("ü"):rep(377) .. "…")
   equal(parts, { "one", "one" })
-  equal(list:rows()[1][4]:match("%d+%-"), "4000-")
+  equal(bench.hits(list)[1][4]:match("%d+%-"), "4000-")
   api.nvim_set_current_win(fn.win_findbuf(list.buffer)[1])
   api.nvim_win_set_cursor(0, { 2, 0 })
   require("live_occur.keys").visit(list)
@@ -217,60 +230,36 @@ test("a shortened row shows the text around its first match", function()
   }) do
     api.nvim_buf_set_lines(buffer, 0, -1, false, { each[1] })
     text, parts = first_row(list)
-    equal(text:sub(9), each[2])
+    equal(text, each[2])
     equal({ parts[1], parts[2] }, { "one", parts[2] and "one" })
   end
   settings.max_columns = 10
   api.nvim_buf_set_lines(buffer, 0, -1, false, { "0123456789abc one def" })
-  equal({ first_row(list) }, { (" "):rep(8) .. "…c one def", { "one" } })
+  equal({ first_row(list) }, { "…c one def", { "one" } })
   settings.max_columns = most
 end)
 
-test("context shows the lines around", function()
+-- The rows of a list with what is around them: lines that match have a colon after their number.
+local function around(list)
+  rows(list)
+  return bench.around(list)
+end
+
+test("context shows the lines around, which are no rows", function()
   bench.buffer({ "a", "b-1:c", "c", "d", "a" })
   local list = bench.list("a")
   rows(list)
   list:set_context(0, 1)
-  equal(api.nvim_buf_get_lines(list.buffer, 1, -1, false), { "        a", "        b-1:c", "--", "        a" })
+  equal(around(list), { "1:a", "2-b-1:c", "--", "5:a" })
   equal(rows(list), { "1:a", "5:a" })
   api.nvim_buf_set_lines(0, 1, 2, false, { "B", "a" })
   equal(rows(list), { "1:a", "3:a", "6:a" })
-  equal(api.nvim_buf_get_lines(list.buffer, 1, -1, false),
-    { "        a", "        B", "        a", "        c", "--", "        a" })
+  equal(around(list), { "1:a", "2-B", "3:a", "4-c", "--", "6:a" })
+  equal(api.nvim_buf_get_lines(list.buffer, 1, -1, false), { "a", "a", "a" })
+  list:set_context(2, 2)
+  equal(around(list), { "1:a", "2-B", "3:a", "4-c", "5-d", "6:a" })
   list:set_context(0, 0)
-  equal(api.nvim_buf_get_lines(list.buffer, 1, -1, false), { "        a", "        a", "        a" })
-end)
-
-test("lines around are right while a long reply comes", function()
-  local settings = require("live_occur.settings")
-  local slice, lines = settings.slice, {}
-  for number = 1, 2000 do
-    lines[number] = number .. (number % 3 == 0 and " a" or " b"):rep(200)
-  end
-  local buffer = bench.buffer(lines)
-  local list = bench.list("a")
-  list:set_context(1, 0)
-  rows(list)
-  settings.slice = 10
-  local function check()
-    for row, text in ipairs(api.nvim_buf_get_lines(list.buffer, 1, -1, false)) do
-      local place = list:at(row).place
-      equal(text:sub(9), place and lines[list:line_of(list.files[1], place) + 1] or "", "row " .. row)
-    end
-  end
-  local pause, paused = list.pause, 0
-  list.pause = function(...)
-    paused = paused + 1
-    if paused % 20 == 1 then
-      check()
-    end
-    pause(...)
-  end
-  list:set_flag("i", true)
-  equal(#rows(list), 666)
-  check()
-  settings.slice = slice
-  assert(paused > 0 and buffer > 0, "the reply came at once")
+  equal(around(list), { "1:a", "3:a", "6:a" })
 end)
 
 test("a reply waits while a command is typed, since a buffer may show a preview then", function()
@@ -279,11 +268,11 @@ test("a reply waits while a command is typed, since a buffer may show a preview 
       vim.api.nvim_buf_set_lines(0, 0, -1, false, { "one", "O" })
       list = require("live_occur").open("o", { vim.api.nvim_get_current_buf() })
       list:wait()
-      list:set_flag("i", true)
+      list:toggle("i")
       vim.api.nvim_feedkeys(":", "n", false)
     ]])
     vim.wait(200)
-    equal(run("return { vim.fn.mode(), list.asked, list:total() }"), { "c", 1, 1 })
+    equal(run("return { vim.fn.mode(), list.asked, list:total() }"), { "c", true, 1 })
     type("<Esc>")
     assert(vim.wait(10000, function()
       return run("return list:settled()")

@@ -4,9 +4,9 @@ local bench = require("bench")
 local test, equal = bench.test, bench.equal
 local fn = vim.fn
 
--- The lines of the window above the command line, if there is one.
+-- The lines of the window above the command line, if there is one, without the options in the first.
 local function previewed(run)
-  return run([[
+  local lines = run([[
     for _, window in ipairs(vim.api.nvim_list_wins()) do
       if vim.api.nvim_win_get_config(window).relative ~= "" then
         return vim.api.nvim_buf_get_lines(vim.api.nvim_win_get_buf(window), 0, -1, false)
@@ -14,6 +14,8 @@ local function previewed(run)
     end
     return {}
   ]])
+  lines[1] = lines[1] and lines[1]:gsub("  %l+[^ ]*.*", "")
+  return lines
 end
 
 -- Waits until lines that a function gives have this text, and returns them from there on.
@@ -37,7 +39,7 @@ local function left(run)
     vim.wait(20)
     local marks = 0
     for _, buffer in ipairs(vim.api.nvim_list_bufs()) do
-      marks = marks + #vim.api.nvim_buf_get_extmarks(buffer, require("live_occur.preview").space, 0, -1, {})
+      marks = marks + #vim.api.nvim_buf_get_extmarks(buffer, require("live_occur.prompt").space, 0, -1, {})
     end
     local children = #vim.api.nvim_get_proc_children(vim.fn.getpid())
     return { #vim.api.nvim_list_wins(), #vim.api.nvim_list_bufs(), marks, vim.bo.modified and 1 or 0, children }
@@ -205,7 +207,7 @@ test("a preview of 1,000,000 lines keeps Neovim answering, also where its progra
     local all = (vim.loop.hrtime() - start) / 1e6
     type("$")
     await(hits, "      3 ")
-    run([[vim.loop.kill(require("live_occur.preview").now.session.pid, "sigkill")]])
+    run([[vim.loop.kill(require("live_occur.prompt").now.list.session.pid, "sigkill")]])
     vim.wait(100)
     equal(hits(), {})
     type("<BS>")
@@ -227,7 +229,7 @@ test("a preview ends with its program, and where there is none", function()
     local before = left(run)
     type(":LiveOccur o")
     await(hits, "1 hit")
-    run([[vim.loop.kill(require("live_occur.preview").now.session.pid, "sigkill")]])
+    run([[vim.loop.kill(require("live_occur.prompt").now.list.session.pid, "sigkill")]])
     vim.wait(100)
     equal(hits(), {})
     equal(left(run), before)
@@ -257,5 +259,127 @@ test("a pattern that isn't typed by hand starts no program for a preview", funct
     type(":LiveOccur one<CR>")
     vim.wait(100)
     equal(run([[return started]]), 1)
+  end)
+end)
+
+test("the text is sent once, and at Enter the list is the one of the preview", function()
+  bench.with_screen(function(run, screen, type)
+    text(run, { "one", "two", "one two" })
+    local ended = bench.commands(run)
+    type(":LiveOccur tw")
+    await(function()
+      return previewed(run)
+    end, "2 hits")
+    local pid = run([[return require("live_occur.prompt").now.list.session.pid]])
+    type("<CR>")
+    await(screen, "basic  tw  2 hits, 1 buffer")
+    local sent = table.concat(ended(), "; ")
+    equal(select(2, sent:gsub("splice", "")), 1, sent)
+    equal(run([[return vim.api.nvim_get_proc_children(vim.fn.getpid())]]), { pid })
+    equal(run([[return require("live_occur").list_of().session.unbounded]]), false)
+  end)
+end)
+
+-- A screen with two buffers of hits, and the number of the second one.
+local function with_two(run)
+  return run([[
+    vim.api.nvim_buf_set_lines(0, 0, -1, false, { "One", "x", "one two" })
+    local first = vim.api.nvim_get_current_buf()
+    local second = vim.api.nvim_create_buf(true, false)
+    local lines = {}
+    for number = 1, 40 do
+      lines[number] = "one " .. number
+    end
+    vim.api.nvim_buf_set_lines(second, 0, -1, false, lines)
+    return { first, second }
+  ]])
+end
+
+test("case, syntax and whole lines are switched while a pattern is typed", function()
+  bench.with_screen(function(run, screen, type)
+    local function head(text)
+      await(function()
+        return { run([[return ((require("live_occur.prompt").now or {}).shown or { "" })[1] ]]) }
+      end, text)
+    end
+    local buffers = with_two(run)
+    type(":LiveOccur one")
+    head("1 hit  basic")
+    type("<M-s>i")
+    head("2 hits  basic -i")
+    type("<M-s>x")
+    head("1 hit  basic -ix")
+    type("<M-s>x<M-s>v")
+    head("1 hit  basic -iv")
+    type("<M-s>v<M-s>i<M-s>I")
+    head("2 hits  basic, smart case -i")
+    type("<M-s>I<M-s>F<BS>.")
+    head("0 hits  fixed")
+    type("<M-s>E")
+    head("1 hit  extended")
+    type("<M-s>i")
+    head("2 hits  extended -i")
+    type("<CR>")
+    await(screen, "extended -i  on.  2 hits, 1 buffer")
+    -- Also in a prompt of the list, where nothing is left of it without Enter.
+    type("c<M-s>i")
+    vim.wait(200)
+    head("1 hit  extended")
+    type("<Esc>")
+    await(screen, "extended -i  on.  2 hits, 1 buffer")
+    type("c<M-s>i")
+    vim.wait(200)
+    type("<CR>")
+    await(screen, "extended  on.  1 hit, 1 buffer")
+    equal(run([[return #vim.api.nvim_buf_get_keymap(...)]], buffers[1], "c"), 0)
+  end)
+end)
+
+test("any hit of all buffers is chosen from a preview, or all go to the quickfix list", function()
+  bench.with_screen(function(run, screen, type)
+    local function hits()
+      return previewed(run)
+    end
+    local buffers = with_two(run)
+    type(":LiveOccur ++buffers=all one")
+    await(hits, "41 hits")
+    type("<C-p>")
+    await(hits, "     40 one 40")
+    type("<C-n><C-n><C-n>")
+    await(hits, "      1 one 1")
+    type("<C-n>")
+    vim.wait(200)
+    type("<CR>")
+    vim.wait(500)
+    equal(run([[return { vim.api.nvim_get_current_buf(), vim.api.nvim_win_get_cursor(0)[1] }]]), { buffers[2], 3 })
+    local shown = run([[
+      for _, window in ipairs(vim.api.nvim_list_wins()) do
+        local list = require("live_occur.list").all[vim.api.nvim_win_get_buf(window)]
+        if list then
+          return vim.fn.getbufline(list.buffer, vim.api.nvim_win_get_cursor(window)[1])
+        end
+      end]])
+    equal(shown, { "one 3" })
+    type(":LiveOccur ++buffers=all one")
+    await(hits, "41 hits")
+    type("<M-s>Q")
+    vim.wait(500)
+    equal(run([[return vim.fn.getqflist({ size = 0 }).size]]), 41)
+    equal(run([[return vim.fn.mode()]]), "n")
+  end)
+end)
+
+test("a user's keys for the command line win", function()
+  bench.with_screen(function(run, _, type)
+    local function hits()
+      return previewed(run)
+    end
+    text(run, { "one" })
+    run([[vim.cmd("cnoremap <C-n> o")]])
+    type(":LiveOccur n")
+    await(hits, "1 hit")
+    type("<C-n>")
+    await(hits, "0 hits")
+    type("<Esc>")
   end)
 end)

@@ -135,30 +135,11 @@ end
 
 -- All rows as they are drawn: numbers, and lines around.
 local function compare_drawn(list)
-  local draw = require("live_occur.draw")
-  local given = {}
-  local texts = api.nvim_buf_get_lines(list.buffer, 0, -1, false)
-  local before
-  for row = 1, #texts - 1 do
-    local at = list:at(row)
-    if at.heading then
-      before = #given > 0 and list:around()
-    elseif not at.place then
-      given[#given + 1] = "--"
-    else
-      if before then
-        given[#given + 1], before = "--", false
-      end
-      local mark = at.near and "-" or ":"
-      local number = vim.trim(draw.marks(list, row, texts[row + 1])[1][4])
-      given[#given + 1] = number .. mark .. texts[row + 1]:sub(9)
-    end
-  end
   local more = list:around() and { "-B", list.context[1], "-A", list.context[2] } or {}
   local wanted = vim.tbl_map(function(line)
     return #list.files > 1 and line:gsub("^%d+[:-]", "", 1) or line
   end, bench.grep(list, more))
-  bench.equal(given, wanted, "drawn")
+  bench.equal(bench.around(list), wanted, "drawn")
 end
 
 -- Whether a place of the old text is among the lines that a hunk replaced.
@@ -183,7 +164,7 @@ local function check_numbers(list)
     local known = place and api.nvim_buf_is_loaded(file.buffer) and file.attached
     if known and not is_replaced(file.sent, place) and not is_replaced(file.pending, hunks.place(file.sent, place)) then
       local line = list:line_of(file, place)
-      bench.equal(texts[row + 1]:sub(9), api.nvim_buf_get_lines(file.buffer, line, line + 1, false)[1], "number")
+      bench.equal(texts[row + 1], api.nvim_buf_get_lines(file.buffer, line, line + 1, false)[1], "number")
       numbers = numbers + 1
     end
   end

@@ -20,7 +20,8 @@ vim.api.nvim_echo = function(chunks) -- Messages would be between the lines of t
 end
 require("live_occur").setup({ program = vim.fn.fnamemodify(vim.env.OCCUR or "occur", ":p"), delay = 20 })
 local ran, fault = xpcall(function()
-  for _, name in ipairs(vim.split(vim.env.ONLY or "pure lists keys edit preview states random script large", " ")) do
+  local all = "pure characters lists keys edit preview faults project states random script large"
+  for _, name in ipairs(vim.split(vim.env.ONLY or all, " ")) do
     dofile(here .. "/" .. name .. "_test.lua")
   end
 end, debug.traceback)

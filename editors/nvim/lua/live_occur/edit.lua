@@ -6,12 +6,11 @@
 -- waits: no edit is sent, and no reply is on its way.
 
 local Identity = require("live_occur.identity")
-local List = require("live_occur.list")
 local marks = require("live_occur.marks")
 local row_texts = require("live_occur.row")
 local settings = require("live_occur.settings")
 
-local api = vim.api
+local api, fn, uv = vim.api, vim.fn, vim.uv or vim.loop
 local M = { head = "rows are edited: :w writes them, :e! gives them up" }
 local SLICE = 2000 -- how many rows are made ready at once
 local NAMED = 3 -- how many rows a message names
@@ -25,51 +24,26 @@ local function count_of(number, what)
   return number .. " " .. what .. (number == 1 and " is" or "s are")
 end
 
--- Windows
-
--- Shows the numbers of rows in a window: in the place of a column for folds.
-function M.set_window(list, window)
-  local kept = list.edit.windows
-  local options = { foldcolumn = tostring(row_texts.margin), winhighlight = "FoldColumn:LiveOccurNumber" }
-  local before = List.set_options(window, options)
-  kept[window] = kept[window] or before
-end
-
-local function restore_windows(kept)
-  for window, options in pairs(kept) do
-    if api.nvim_win_is_valid(window) then
-      List.set_options(window, options)
-    end
-  end
-end
-
--- Moves the cursors of a list's windows to other columns.
-local function shift_cursors(list, columns)
-  for _, window in ipairs(list:windows()) do
-    local cursor = api.nvim_win_get_cursor(window)
-    api.nvim_win_set_cursor(window, { cursor[1], math.max(0, cursor[2] + columns) })
-  end
-end
-
 -- The beginning
 
--- Makes rows ready from `first` on: their text is the line alone, and marks are put on lines.
+-- Makes rows ready from `first` on: marks are put on lines. Heads are empty, and their texts drawn over them.
 local function make_ready(list, edit, first, last)
-  local shown = {}
   for row = first, last do
     local at, text = list:at(row), edit.texts[row + 1]
-    edit.files[row + 1] = false
+    edit.files[row + 1], edit.shown[row + 1] = false, ""
     if at and at.place then
       local line = list:line_of(at.file, at.place)
-      local whole = api.nvim_buf_get_lines(at.file.buffer, line, line + 1, false)[1] or ""
-      text = row_texts.bare(text)
-      edit.files[row + 1], edit.cut[row + 1] = at.file, text ~= whole or nil
-      marks.pin(at.file.buffer, edit.space, row + 1, line)
+      edit.files[row + 1], edit.shown[row + 1] = at.file, text
+      if at.file.path then
+        edit.lines[row + 1] = line
+        edit.cut[row + 1] = #text > settings.max_columns - 4 or nil
+      else
+        edit.cut[row + 1] = text ~= list:text_of(at.file, at.place) or nil
+        marks.pin(at.file.buffer, edit.space, row + 1, line)
+      end
     end
-    shown[#shown + 1] = row == 0 and M.head .. "  " .. text or text
-    edit.shown[row + 1] = shown[#shown]
   end
-  list:put(first, last + 1, shown)
+  list:put(first, last + 1, vim.list_slice(edit.shown, first + 1, last + 1))
   edit.done = last + 1
 end
 
@@ -78,7 +52,7 @@ local function read_only(list)
   local names = {}
   for _, file in ipairs(list.files) do
     if file.hits:count() > 0 and M.refusal(file) then
-      names[#names + 1] = list.name_of(file.buffer)
+      names[#names + 1] = list:name_of(file)
     end
   end
   return names
@@ -93,11 +67,8 @@ local function open(list, edit)
   edit.identity = Identity.new(buffer, edit.shown, function()
     return list.edit == edit
   end)
-  for _, window in ipairs(list:windows()) do
-    M.set_window(list, window)
-  end
-  shift_cursors(list, -row_texts.margin)
   edit.ready = true
+  list:redraw()
   local names = read_only(list)
   if #names > 0 then
     say("rows of " .. table.concat(names, ", ") .. " can't be written", "WarningMsg")
@@ -132,12 +103,46 @@ function M.start(list)
   if list:total() == 0 then
     return say("there is no row")
   end
-  local edit = { files = {}, cut = {}, shown = {}, lost = {}, windows = {}, done = 0 }
+  local edit = { files = {}, cut = {}, shown = {}, lost = {}, lines = {}, done = 0 }
   edit.texts = api.nvim_buf_get_lines(list.buffer, 0, -1, false)
+  edit.texts[1] = M.head .. "  " .. edit.texts[1]
   edit.space = api.nvim_create_namespace("live_occur_rows_" .. list.buffer)
+  -- The line of the row of this number, from 0, or nil.
+  function edit.line_of(number)
+    local buffer = edit.files[number].buffer
+    local valid = buffer and api.nvim_buf_is_valid(buffer)
+    return edit.lines[number] or valid and marks.line(buffer, edit.space, number) or nil
+  end
   list.edit = edit
   require("live_occur.keys").unset(list)
   go_on(list, edit)
+end
+
+-- A file whose rows are edited was opened: marks are put on those of their lines that have the same text.
+function M.opened(list, file)
+  local edit = list.edit
+  list:attach(file)
+  for number, line in pairs(edit.lines) do
+    if edit.files[number] == file then
+      if api.nvim_buf_get_lines(file.buffer, line, line + 1, false)[1] == edit.shown[number] then
+        marks.pin(file.buffer, edit.space, number, line)
+      end
+      edit.lines[number] = nil
+    end
+  end
+end
+
+-- Opens the files of changed rows.
+local function open_files(list, edit, changes)
+  for _, change in ipairs(changes) do
+    local file = edit.files[change.number]
+    if file.path and not M.refusal(file) then
+      fn.bufload(list:open_buffer(file))
+      if file.path then
+        M.opened(list, file)
+      end
+    end
+  end
 end
 
 -- The key: begins an edit as soon as the list is right.
@@ -165,14 +170,12 @@ function M.finish(list, texts)
   end
   list:put(0, -1, texts)
   for _, file in ipairs(list.files) do
-    marks.clear(file.buffer, edit.space)
+    if file.buffer then
+      marks.clear(file.buffer, edit.space)
+    end
   end
   list:restore_windows(windows)
-  if edit.ready then
-    shift_cursors(list, row_texts.margin)
-  end
   require("live_occur.keys").set(list)
-  restore_windows(edit.windows)
   list.shown_header = nil
   list:go_on()
 end
@@ -187,7 +190,9 @@ end
 -- Why rows of a file can't be written, or nil.
 function M.refusal(file)
   local buffer = file.buffer
-  if not api.nvim_buf_is_valid(buffer) or not api.nvim_buf_is_loaded(buffer) then
+  if file.path then
+    return not uv.fs_access(file.path, "W") and "is read-only" or nil
+  elseif not api.nvim_buf_is_valid(buffer) or not api.nvim_buf_is_loaded(buffer) then
     return "isn't loaded"
   elseif not vim.bo[buffer].modifiable or vim.bo[buffer].readonly then
     return "is read-only"
@@ -265,13 +270,16 @@ end
 function M.named(list, edit, change, reason)
   local file = edit.files[change.number]
   local buffer = file.buffer
-  local place = api.nvim_buf_is_valid(buffer) and api.nvim_buf_get_extmark_by_id(buffer, edit.space, change.number, {})
-  local line = place and place[1] and ":" .. place[1] + 1 or ""
+  local line = edit.lines[change.number]
+  if buffer and api.nvim_buf_is_valid(buffer) then
+    line = line or api.nvim_buf_get_extmark_by_id(buffer, edit.space, change.number, {})[1]
+  end
+  line = line and ":" .. line + 1 or ""
   local text = edit.cut[change.number] and "" or vim.trim(change.text)
   if #text > SHOWN then
     text = text:sub(1, row_texts.whole(text, SHOWN)) .. "…"
   end
-  return list.name_of(buffer) .. line .. " " .. reason .. (text == "" and "" or ": " .. text)
+  return list:name_of(file) .. line .. " " .. reason .. (text == "" and "" or ": " .. text)
 end
 
 -- Saves a buffer's file. Returns whether it did, and a fault.
@@ -304,22 +312,33 @@ local function note_clean(edit, changes)
     local file = edit.files[change.number]
     local buffer = file.buffer
     if edit.clean[file] == nil then
-      local loaded = api.nvim_buf_is_loaded(buffer)
+      local loaded = buffer and not file.path and api.nvim_buf_is_loaded(buffer)
       local has_file = loaded and vim.bo[buffer].buftype == "" and api.nvim_buf_get_name(buffer) ~= ""
       edit.clean[file] = has_file and not vim.bo[buffer].modified and not changed_outside(buffer)
     end
   end
 end
 
+-- Why a text can't be written in an encoding, or nil. `encoding` is nil for one that has all characters.
+local function conversion_fault(encoding, text)
+  if encoding and text:find("[\128-\255]") then
+    local back = fn.iconv(fn.iconv(text, "utf-8", encoding), encoding, "utf-8")
+    return back ~= text and "has a character that " .. encoding .. " doesn't have" or nil
+  end
+end
+
 -- The changes of each file that can be written; others are added to `left`.
 local function by_file(list, edit, changes, left)
-  local of_files, refused = {}, {}
+  local of_files, refused, encodings = {}, {}, {}
   for _, change in ipairs(changes) do
     local file = edit.files[change.number]
     if refused[file] == nil then
       refused[file] = edit.lost[file] or M.refusal(file) or false
+      local encoding = not refused[file] and vim.bo[file.buffer].fileencoding or ""
+      encodings[file] = encoding ~= "" and not encoding:find("^u[tc][fs]") and encoding or nil
     end
     local reason = edit.cut[change.number] and "is shortened" or refused[file]
+      or conversion_fault(encodings[file], change.text)
     if reason then
       table.insert(left, M.named(list, edit, change, reason))
     else
@@ -344,7 +363,7 @@ local function write_file(list, edit, file, changes, result)
   if edit.clean[file] then
     saved, fault = save(buffer)
   end
-  table.insert(saved and result.saved or result.modified, list.name_of(buffer))
+  table.insert(saved and result.saved or result.modified, list:name_of(file))
   if fault then
     table.insert(result.faults, (tostring(fault):gsub("^.-(E%d+:)", "%1")))
   end
@@ -392,6 +411,7 @@ function M.write(list, name)
   end
   vim.bo[list.buffer].bufhidden = "hide" -- For :wq, after which there may be such rows.
   local compared = compare(list, edit)
+  open_files(list, edit, compared.changes)
   note_clean(edit, compared.changes)
   local result = { written = 0, saved = {}, modified = {}, faults = {}, left = {} }
   local of_files = by_file(list, edit, compared.changes, result.left)

@@ -10,8 +10,8 @@ end
 
 local start, ok, fail = reporter("start"), reporter("ok"), reporter("error")
 
-local SCRIPT = { "file 0 1", "ab", "flag o on", "patterns 1", "b", "changes" }
-local REPLIES = { "ok", "ok", "ok", "h 0 0 0 1 1", "r 0 1-2 ab", "status 0" }
+local SCRIPT = { "text off", "file 0 1", "ab", "flag o on", "patterns 1", "b", "changes" }
+local REPLIES = { "ok", "ok", "ok", "ok", "h 0 0 0 1 1", "r 0 1-2", "status 0" }
 
 function M.check()
   local program = vim.fn.expand(require("live_occur.settings").program)
@@ -27,8 +27,7 @@ function M.check()
   ok("the program is " .. vim.fn.exepath(program))
   local replies = vim.fn.systemlist({ program }, SCRIPT)
   if vim.deep_equal(replies, REPLIES) then
-    local version = vim.fn.systemlist({ program }, { "version" })[1]
-    ok("it answers the command changes, and version by: " .. version)
+    ok("it answers as it should; its version is " .. vim.fn.systemlist({ program }, { "version" })[1])
   else
     fail("it doesn't answer as it should: " .. table.concat(replies, ", "), { "Install a newer Gaxtrel" })
   end

@@ -1,10 +1,14 @@
--- The commands: :LiveOccur, :LiveOccurQuickfix.
+-- The commands, and what other code can call.
+
+local settings = require("live_occur.settings")
+local shared = require("live_occur.shared")
 
 local api, fn = vim.api, vim.fn
+local blame = shared.blame
 local M = {}
 
+-- Changes settings.
 function M.setup(options)
-  local settings = require("live_occur.settings")
   for name, value in pairs(options or {}) do
     if settings[name] == nil and name ~= "states" then
       error("live_occur has no setting " .. name, 2)
@@ -13,171 +17,234 @@ function M.setup(options)
   end
 end
 
--- The buffers that `++buffers=` names.
-local function buffers_of(names)
-  local buffers = {}
-  if names == "all" then
-    for _, info in ipairs(fn.getbufinfo({ buflisted = 1 })) do
-      buffers[#buffers + 1] = info.bufnr
+-- Runs the autocommands of users for an event, in a buffer.
+function M.tell(event, buffer)
+  if api.nvim_buf_is_valid(buffer) and fn.exists("#User#" .. event) == 1 then
+    local ran, problem = pcall(api.nvim_buf_call, buffer, function()
+      api.nvim_exec_autocmds("User", { pattern = event, modeline = false })
+    end)
+    blame(not ran and problem)
+  end
+end
+
+-- Shows a list in a window of its own, where `mods` say. Returns a fault, where there is no room.
+local function show_window(list, mods)
+  local has_place = mods and mods:find("%l")
+  local ran, problem = pcall(function()
+    vim.cmd(has_place and mods .. " split" or "botright " .. settings.height .. "split")
+    api.nvim_win_set_buf(0, list.buffer)
+    if has_place and (mods:find("vert") or mods:find("tab")) then
+      vim.wo.winfixheight = false
     end
-    return buffers
-  end
-  for name in names:gmatch("[^,]+") do
-    local buffer = tonumber(name) and fn.bufnr(tonumber(name)) or fn.bufnr(name)
-    if buffer < 1 then
-      return nil, "there is no buffer " .. name
+  end)
+  return not ran and shared.short(problem) or nil
+end
+
+-- Ends a list, and notes what it was, so that it can be resumed.
+local function finish(list, group)
+  if not list.closed then
+    M.last = { buffers = {}, syntax = list.syntax, smart = list.smart, context = list.context, root = list.root,
+      flags = table.concat(vim.tbl_keys(list.flags)), patterns = list.patterns }
+    for _, file in ipairs(list.root and {} or list.files) do
+      if shared.is_valid(file.buffer) then
+        table.insert(M.last.buffers, file.buffer)
+        M.last.range = M.last.range or file.ranged and { file.from + 1, file.to } or nil
+      end
     end
-    buffers[#buffers + 1] = buffer
   end
-  return buffers
-end
-
--- What the words of :LiveOccur say: the pattern, the buffers and, for an error, a text.
-function M.read_words(words)
-  local names, pattern = words:match("^%+%+buffers=(%S+) ?(.*)$")
-  if not names then
-    return words, { api.nvim_get_current_buf() }
-  end
-  local buffers, fault = buffers_of(names)
-  return pattern, buffers, fault
-end
-
-local function show_window(list)
-  local settings = require("live_occur.settings")
-  vim.cmd("botright " .. settings.height .. "split")
-  api.nvim_win_set_buf(0, list.buffer)
-end
-
--- :e and :e! in a list
-function M.read(list)
-  if list.edit then
-    require("live_occur.edit").give_up(list)
-  else
-    list:renew_rows()
-  end
+  list:close()
+  vim.schedule(function()
+    pcall(api.nvim_del_augroup_by_id, group)
+    pcall(api.nvim_buf_delete, list.buffer, { force = true })
+  end)
 end
 
 local function watch(list)
-  local group = api.nvim_create_augroup("live_occur_" .. list.buffer, {})
-  local function on(events, buffer, callback, nested)
-    api.nvim_create_autocmd(events, { group = group, callback = callback, buffer = buffer, nested = nested })
+  local edit, keys = require("live_occur.edit"), require("live_occur.keys")
+  local buffer = list.buffer
+  local group = api.nvim_create_augroup("live_occur_" .. buffer, {})
+  local function on(events, callback, everywhere)
+    local options = { group = group, callback = callback, buffer = not everywhere and buffer or nil }
+    options.nested = events == "BufWriteCmd" -- Files are saved, which other plugins follow.
+    api.nvim_create_autocmd(events, options)
   end
   local function close()
-    list:close()
-    vim.schedule(function()
-      pcall(api.nvim_del_augroup_by_id, group)
-      pcall(api.nvim_buf_delete, list.buffer, { force = true })
-    end)
+    finish(list, group)
   end
-  on("BufWipeout", list.buffer, close)
-  on("BufUnload", list.buffer, function()
-    local quit = vim.bo[list.buffer].bufhidden == "unload"
+  on("BufWipeout", close)
+  on("VimLeavePre", close, true)
+  on("BufUnload", function()
+    local quit = vim.bo[buffer].bufhidden == "unload"
     vim.schedule(function() -- `:e` unloads it, too, and has loaded it again by then.
-      if not list.closed and not api.nvim_buf_is_loaded(list.buffer) then -- After `:q!` it goes on.
-        (quit and fn.bufload or close)(list.buffer)
+      if not list.closed and not api.nvim_buf_is_loaded(buffer) then -- After `:q!` it goes on.
+        (quit and fn.bufload or close)(buffer)
       end
     end)
   end)
-  on("QuitPre", list.buffer, function()
+  on("QuitPre", function()
     if list.edit then -- Vim asks about a buffer that isn't just hidden.
-      vim.bo[list.buffer].bufhidden = "unload"
+      vim.bo[buffer].bufhidden = "unload"
       vim.schedule(function()
-        if api.nvim_buf_is_valid(list.buffer) then
-          vim.bo[list.buffer].bufhidden = "hide"
+        if api.nvim_buf_is_valid(buffer) then
+          vim.bo[buffer].bufhidden = "hide"
         end
       end)
     end
   end)
-  on("VimLeavePre", nil, close)
-  on("BufReadCmd", list.buffer, function()
-    M.read(list)
-  end)
-  on("BufWriteCmd", list.buffer, function(event)
-    require("live_occur.edit").write(list, event.file)
-  end, true) -- Files are saved, which other plugins follow.
-  on("BufWinEnter", list.buffer, function()
-    M.set_window(list)
-  end)
-  on("CursorMoved", list.buffer, function()
-    require("live_occur.keys").moved(list)
-  end)
-  on("BufFilePost", nil, function()
-    list:rename()
-  end)
-  on({ "BufReadPost", "BufNewFile", "BufWinEnter" }, nil, function(event)
-    list:loaded(event.buf)
-  end)
+  on("BufReadCmd", function() (list.edit and edit.give_up or list.renew_rows)(list) end)
+  on("BufWriteCmd", function(event) edit.write(list, event.file) end)
+  on("BufWinEnter", list.set_window)
+  on("CursorMoved", function() keys.moved(list) end)
+  on("BufLeave", function() keys.leave(list) end)
+  on("BufFilePost", function() list:rename() end, true)
+  on({ "BufReadPost", "BufNewFile", "BufWinEnter" }, function(event) list:loaded(event.buf) end, true)
 end
 
--- What a window of a list has, whatever the global values are.
-local WINDOW = {
-  wrap = false, number = false, relativenumber = false, cursorline = true, spell = false, list = false,
-  foldenable = false, foldmethod = "manual", foldcolumn = "0", signcolumn = "no", conceallevel = 0,
-  scrollbind = false, cursorbind = false, diff = false, winfixheight = true,
-}
-
-function M.set_window(list)
-  require("live_occur.list").set_options(api.nvim_get_current_win(), WINDOW)
-  if list.edit and list.edit.ready then
-    require("live_occur.edit").set_window(list, api.nvim_get_current_win())
-  end
-end
-
--- Opens a list. Returns it, or nil and a fault with, for a refused pattern, the place.
-function M.open(pattern, buffers, options)
-  local List = require("live_occur.list")
+-- Shows a list that was made, with its keys. Returns a fault where there is no room.
+local function show(list, mods)
   require("live_occur.draw").start()
-  local list, fault, place = List.new(pattern, buffers, options or {})
+  list:make_buffer()
+  watch(list)
+  local fault = show_window(list, mods)
+  if fault then
+    list:close()
+    api.nvim_buf_delete(list.buffer, { force = true })
+    return fault
+  end
+  require("live_occur.keys").set(list)
+  vim.bo[list.buffer].filetype = "live_occur" -- A user's own keys for it come after these.
+  list:step()
+end
+
+-- Opens a list of the lines of buffers that match a pattern, or several with newlines between. The options
+-- are `syntax`, `flags`, `range`, `root` and `mods`. Returns it, or nil and a fault with, for a refused
+-- pattern, the place.
+function M.open(pattern, buffers, options)
+  local wanted = vim.tbl_extend("force", { buffers = buffers, pattern = pattern }, options or {})
+  if fn.getcmdwintype() ~= "" then
+    return nil, "there can be no list while the window of the command line is open"
+  end
+  local prompt = require("live_occur.prompt")
+  local switch, preview = prompt.switch, prompt.take(wanted)
+  local list, fault, place
+  if preview then
+    list = preview.list
+  else
+    list, fault = require("live_occur.list").new(buffers, wanted)
+  end
   if not list then
+    return nil, fault
+  end
+  fault, place = list:change_now(function(wish)
+    wish.patterns, wish.syntax = wanted.patterns or vim.split(pattern, "\n"), wanted.syntax or wish.syntax
+    wish.smart = wanted.smart == nil and wish.smart or wanted.smart
+    switch(wish)
+  end)
+  if fault then
+    list:close()
     return nil, fault, place
   end
-  watch(list)
-  show_window(list)
-  require("live_occur.keys").set(list)
+  list.context = wanted.context or list.context
+  fault = show(list, wanted.mods)
+  if fault then
+    return nil, fault
+  end
+  require("live_occur.keys").take_up(list, preview)
   return list
+end
+
+-- Opens a list, or says why there is none.
+local function open_or_tell(wanted, mods)
+  wanted.mods = mods
+  local list, fault, place = M.open(wanted.pattern, wanted.buffers, wanted)
+  if not list then
+    require("live_occur.keys").show_fault(fault, place and wanted.pattern, place)
+  end
 end
 
 -- :LiveOccur
 function M.command(call)
-  local pattern, buffers, fault = M.read_words(call.args)
-  if fault then
-    return api.nvim_echo({ { "LiveOccur: " .. fault, "ErrorMsg" } }, true, {})
-  end
+  local prompt = require("live_occur.prompt")
   local range = call.range > 0 and { call.line1, call.line2 } or nil
-  local syntax = call.bang and "extended" or require("live_occur.settings").syntax
-  if pattern ~= "" then
-    return M.open_or_tell(pattern, buffers, { range = range, syntax = syntax })
+  local wanted, fault = prompt.read_words(call.args, range, call.bang)
+  if fault then
+    return blame(fault)
+  elseif wanted.pattern ~= "" then
+    return open_or_tell(wanted, call.mods)
   end
-  local preview = require("live_occur.preview")
-  preview.ask({ prompt = "List lines that match: " }, function(text)
-    return preview.target(buffers, range, syntax, text)
-  end, function(text)
-    if text and text ~= "" then
-      M.open_or_tell(text, buffers, { range = range, syntax = syntax })
-    end
-  end)
+  local function with(text)
+    return vim.tbl_extend("force", wanted, { pattern = text })
+  end
+  prompt.ask({ prompt = "List lines that match: " }, with, function(text) open_or_tell(with(text), call.mods) end)
 end
 
--- Opens a list, or says why there is none.
-function M.open_or_tell(pattern, buffers, options)
-  local list, fault, place = M.open(pattern, buffers, options)
-  if not list then
-    require("live_occur.keys").show_fault(fault, place and pattern, place)
+-- The list of a buffer, else the current one, else one in view.
+function M.list_of(buffer)
+  local all = require("live_occur.list").all
+  local list = all[buffer or api.nvim_get_current_buf()]
+  for _, window in ipairs(not buffer and api.nvim_tabpage_list_wins(0) or {}) do
+    list = list or all[api.nvim_win_get_buf(window)]
   end
   return list
 end
 
+-- The hits of a list, which is that of a buffer, the current one, or one in view: at most `count` from
+-- number `first` on, or all. Each has `buffer` (or none, while its file isn't open), `file`, `line` from 1,
+-- `text`, which may be shortened, and `parts`, the pairs of bytes before each matched part and up to its end.
+-- Also returns whether all hits have come.
+function M.hits(buffer, first, count)
+  local list, hits = M.list_of(buffer), {}
+  if not list then
+    return nil
+  end
+  first = first or 1
+  list:each_hit(first, count and first + count - 1 or math.huge, function(file, line, parts, row)
+    local hit = { line = line, parts = {}, text = shared.line(list.buffer, row) }
+    hit.buffer = not file.path and file.buffer or nil
+    hit.file = file.path or api.nvim_buf_get_name(file.buffer)
+    for from, to in shared.each_part(parts) do
+      table.insert(hit.parts, { from, to })
+    end
+    hits[#hits + 1] = hit
+  end)
+  return hits, list:settled()
+end
+
 -- :LiveOccurQuickfix
 function M.quickfix()
-  local keys = require("live_occur.keys")
-  local list = keys.current()
-  for _, window in ipairs(api.nvim_tabpage_list_wins(0)) do
-    list = list or require("live_occur.list").all[api.nvim_win_get_buf(window)]
-  end
+  local list = M.list_of()
   if not list then
-    return api.nvim_echo({ { "LiveOccur: there is no list in view", "ErrorMsg" } }, true, {})
+    return blame("there is no list in view")
   end
-  keys.quickfix(list)
+  require("live_occur.keys").quickfix(list)
+end
+
+-- :LiveOccurResume
+function M.resume()
+  local hidden, last = nil, M.last
+  for buffer, list in pairs(require("live_occur.list").all) do
+    hidden = #list:windows() == 0 and (not hidden or buffer > hidden.buffer) and list or hidden
+  end
+  if hidden then
+    return blame(show_window(hidden))
+  elseif not last then
+    return blame("there was no list")
+  end
+  local buffers = vim.tbl_filter(api.nvim_buf_is_valid, last.buffers)
+  if #buffers == 0 and not last.root then
+    return blame("its buffers are gone")
+  end
+  local pattern = table.concat(last.patterns, "\n")
+  open_or_tell(vim.tbl_extend("force", last, { buffers = buffers, pattern = pattern }))
+end
+
+-- A list that a session of Vim had is shown: it can't be had again by that.
+function M.not_kept(buffer)
+  if not require("live_occur.list").all[buffer] then
+    vim.bo[buffer].buftype, vim.bo[buffer].bufhidden, vim.bo[buffer].swapfile = "nofile", "wipe", false
+    api.nvim_buf_set_lines(buffer, 0, -1, false, { "A session keeps no list: :LiveOccur makes a new one" })
+    vim.bo[buffer].modifiable, vim.bo[buffer].modified = false, false
+  end
 end
 
 return M

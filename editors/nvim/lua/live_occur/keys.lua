@@ -2,103 +2,146 @@
 
 local List = require("live_occur.list")
 local row_texts = require("live_occur.row")
+local shared = require("live_occur.shared")
 
 local api, fn = vim.api, vim.fn
+local blame, say = shared.blame, shared.say
+local space = api.nvim_create_namespace("live_occur_shown")
+local PIECE = 5000 -- how many hits are put into the quickfix list at once
+local MINE = "LiveOccur: " -- what the description of each key begins with
 local M = {}
-
-local function say(text, kind)
-  api.nvim_echo({ { "LiveOccur: " .. text, kind } }, true, {})
-end
 
 function M.current()
   return List.all[api.nvim_get_current_buf()]
 end
 
--- Going to lines
-
--- The buffer, the line from 1 and the column from 0 of the row at the cursor, or nil.
-local function target(list)
-  local row = api.nvim_win_get_cursor(0)[1] - 1
-  local at = list:at(row)
-  if not at then
-    return nil
-  elseif at.heading then
-    return at.file.buffer, 1, 0
-  elseif not at.place then
-    return nil
-  end
-  local line = list:line_of(at.file, at.place) + 1
-  local column = row_texts.column(at.parts or "")
-  return at.file.buffer, math.min(line, api.nvim_buf_line_count(at.file.buffer)), column
+-- Asks for a text, and takes one that isn't empty.
+local function ask(options, take)
+  require("live_occur.prompt").ask(options, nil, take)
 end
+
+-- Going to lines
 
 -- A window for a buffer: one that shows it, else the previous one, else a new one.
 local function window_for(buffer)
-  local list_window = api.nvim_get_current_win()
-  local previous = fn.win_getid(fn.winnr("#"))
-  local candidates = { previous }
-  vim.list_extend(candidates, api.nvim_tabpage_list_wins(0))
+  local list_window, usable = api.nvim_get_current_win(), nil
+  local candidates = { fn.win_getid(fn.winnr("#")), unpack(api.nvim_tabpage_list_wins(0)) }
   for _, window in ipairs(candidates) do
-    if window ~= 0 and window ~= list_window and api.nvim_win_get_buf(window) == buffer then
+    local shown = window ~= 0 and window ~= list_window and api.nvim_win_get_buf(window)
+    if shown == buffer then
       return window
+    elseif shown and not List.all[shown] and api.nvim_win_get_config(window).relative == "" then
+      usable = usable or window
     end
   end
-  for _, window in ipairs(candidates) do
-    local usable = window ~= 0 and window ~= list_window and api.nvim_win_get_config(window).relative == ""
-    if usable and not List.all[api.nvim_win_get_buf(window)] then
-      return window
-    end
+  if not usable then
+    vim.cmd("aboveleft split")
   end
-  vim.cmd("aboveleft split")
-  return api.nvim_get_current_win()
+  return usable or api.nvim_get_current_win()
 end
 
-local function put_cursor(buffer, line, column)
+-- The list is left.
+function M.leave(list)
+  if not M.visiting then
+    M.unmark()
+    list.jumped = nil
+  end
+end
+
+-- The line that is shown is marked for as long as the list stays the current window.
+function M.unmark()
+  if M.marked and api.nvim_buf_is_valid(M.marked) then
+    api.nvim_buf_clear_namespace(M.marked, space, 0, -1)
+  end
+  M.marked = nil
+end
+
+-- Goes to a line of a file, from 0, in a window for it.
+function M.go_to(list, file, line, column, split, stay)
+  local buffer = list:open_buffer(file)
+  api.nvim_set_current_win(window_for(buffer))
+  if split then
+    vim.cmd("split")
+  end
   if api.nvim_get_current_buf() ~= buffer and not pcall(vim.cmd, "buffer " .. buffer) then
     vim.cmd("sbuffer " .. buffer) -- The window's own buffer can't be left.
   end
-  vim.cmd("normal! m'")
-  local text = api.nvim_buf_get_lines(buffer, line - 1, line, false)[1] or ""
-  api.nvim_win_set_cursor(0, { line, math.max(0, math.min(column, #text - 1)) })
+  local window = api.nvim_get_current_win()
+  if not stay or list.jumped ~= window then -- Many lines that are shown one after the other are one jump.
+    vim.cmd("normal! m'")
+  end
+  list.jumped = stay and window or nil
+  line = math.min(line, api.nvim_buf_line_count(buffer) - 1)
+  column = math.min(column, #shared.line(buffer, line) - 1)
+  api.nvim_win_set_cursor(0, { line + 1, math.max(0, column) })
   vim.cmd("normal! zv")
+  require("live_occur").tell("LiveOccurVisit", buffer)
+end
+
+-- Does what was chosen in a preview: makes a quickfix list, or goes to a hit.
+function M.take_up(list, preview)
+  if preview and preview.quickfix then
+    M.quickfix(list)
+  elseif preview and preview.chosen then
+    list.chosen = preview.hit
+    M.go_to(list, preview.hit.file, preview.hit.file.from + preview.hit.place, 0)
+  end
 end
 
 -- Goes to the line of the row: in a new window, where `split`; and comes back, where `stay`.
 function M.visit(list, split, stay)
-  local buffer, line, column = target(list)
-  if not buffer then
+  local at = list:at(api.nvim_win_get_cursor(0)[1] - 1)
+  if not at or at.stale then
     return
   end
-  local list_window = api.nvim_get_current_win()
-  local window = window_for(buffer)
-  api.nvim_set_current_win(window)
-  if split then
-    vim.cmd("split")
+  local line, column = 0, 0
+  if at.place then
+    line, column = list:line_of(at.file, at.place), row_texts.column(at.parts)
   end
-  put_cursor(buffer, line, column)
+  local list_window = api.nvim_get_current_win()
+  M.unmark()
+  M.visiting = stay
+  M.go_to(list, at.file, line, column, split, stay)
   if stay then
     if fn.line(".") < fn.line("w0") + 1 or fn.line(".") > fn.line("w$") - 1 then
       vim.cmd("normal! zz")
     end
+    line, M.marked = fn.line(".") - 1, at.file.buffer
+    local options = { end_row = line + 1, hl_group = "LiveOccurChosen", hl_eol = true, strict = false }
+    api.nvim_buf_set_extmark(M.marked, space, line, 0, options)
     api.nvim_set_current_win(list_window)
+  end
+  M.visiting = false
+end
+
+-- Shows the line of the row, if the list follows, as the cursor moves.
+function M.moved(list)
+  local row = api.nvim_win_get_cursor(0)[1]
+  if list.follow and not list.edit and row ~= list.followed then
+    list.followed = row
+    M.visit(list, false, true)
   end
 end
 
 -- Patterns
 
--- Asks for a pattern until one is taken: the prompt then says why the one before was refused. Where
--- nothing is typed the list stays as it is.
-local function ask_pattern(prompt, text, listed, take, fault)
+-- Asks for a pattern until one is taken, which is then that of this number: the prompt says why the one
+-- before was refused. Where nothing is typed the list stays as it is.
+local function ask_pattern(list, prompt, text, number, fault)
+  local typing = require("live_occur.prompt")
   local options = { prompt = (fault and fault .. "; " or "") .. prompt, default = text }
-  require("live_occur.preview").ask(options, listed, function(pattern)
-    if pattern == nil or pattern == "" then
-      return
-    end
-    take(pattern, function(problem, place)
+  typing.ask(options, function(pattern)
+    return { list = list, pattern = pattern, number = number }
+  end, function(pattern)
+    local preview, switch = typing.left, typing.switch
+    list:change(function(wish)
+      wish.patterns[number or #wish.patterns + 1] = pattern
+      switch(wish)
+    end, function(problem, place)
       if problem then
-        local kind = place and problem:sub(1, #problem - #pattern - #" in: ") or problem
-        ask_pattern(prompt, pattern, listed, take, kind)
+        return ask_pattern(list, prompt, pattern, number, place and problem:gsub(" in: .*", "") or problem)
       end
+      M.take_up(list, preview)
     end)
   end)
 end
@@ -106,15 +149,14 @@ end
 -- Shows a fault; the byte of the pattern where it is has the group ErrorMsg.
 function M.show_fault(fault, pattern, place)
   if not pattern then
-    return say(fault, "ErrorMsg")
+    return blame(fault)
   end
-  local before, at, after = pattern:sub(1, place), pattern:sub(place + 1, place + 1), pattern:sub(place + 2)
-  local kind = fault:sub(1, #fault - #pattern)
+  local at = pattern:sub(place + 1, place + 1)
   api.nvim_echo({
-    { "LiveOccur: " .. kind },
-    { before },
+    { MINE .. fault:sub(1, #fault - #pattern) },
+    { pattern:sub(1, place) },
     { at == "" and " " or at, "ErrorMsg" },
-    { after },
+    { pattern:sub(place + 2) },
   }, true, {})
 end
 
@@ -124,92 +166,57 @@ local function choose_pattern(list, prompt, take)
   elseif #list.patterns == 1 then
     return take(1)
   end
-  vim.ui.select(list.patterns, { prompt = prompt }, function(_, number)
+  shared.ask(vim.ui.select, list.patterns, { prompt = prompt }, function(_, number)
     if number then
       take(number)
     end
   end)
 end
 
-function M.add_pattern(list)
-  local function listed(pattern)
-    return require("live_occur.preview").target_of_list(list, pattern)
-  end
-  ask_pattern("Add pattern: ", "", listed, function(pattern, done)
-    list:add_pattern(pattern, done)
-  end)
-end
-
-function M.drop_pattern(list)
+local function drop_pattern(list)
   choose_pattern(list, "Drop pattern", function(number)
-    list:drop_pattern(number)
+    list:change(function(wish) table.remove(wish.patterns, number) end)
   end)
 end
 
-function M.change_pattern(list)
+local function change_pattern(list)
   choose_pattern(list, "Change pattern", function(number)
-    local function listed(pattern)
-      return require("live_occur.preview").target_of_list(list, pattern, number)
-    end
-    ask_pattern("Change pattern: ", list.patterns[number], listed, function(pattern, done)
-      list:change_pattern(number, pattern, done)
-    end)
+    ask_pattern(list, "Change pattern: ", list.patterns[number], number)
   end)
 end
 
--- Options
+-- Options and buffers
 
-local function report(fault)
-  if fault then
-    say(fault, "ErrorMsg")
-  end
-end
-
-function M.toggle(list, flag)
-  list:set_flag(flag, not list.flags[flag], report)
-end
-
-function M.set_syntax(list, syntax)
-  list:set_syntax(syntax, report)
-end
-
-function M.ask_context(list)
-  local shown = ("%d %d"):format(list.context[1], list.context[2])
-  vim.ui.input({ prompt = "Lines before and after: ", default = shown }, function(text)
-    local before, after = (text or ""):match("^%s*(%d+)%s+(%d+)%s*$")
-    if before then
-      list:set_context(tonumber(before), tonumber(after))
-    elseif text and text ~= "" then
-      say("two numbers are needed", "ErrorMsg")
+local function ask_context(list)
+  ask({ prompt = "Lines before and after: ", default = table.concat(list.context, " ") }, function(text)
+    local before, after = text:match("^%s*(%d+)%s+(%d+)%s*$")
+    if not before then
+      return blame("two numbers are needed")
     end
+    list:set_context(tonumber(before), tonumber(after))
   end)
 end
 
-function M.toggle_follow(list)
+local function toggle_follow(list)
   list.follow = not list.follow
   say("following is " .. (list.follow and "on" or "off"))
 end
 
--- Buffers
-
-function M.add_buffer(list)
-  vim.ui.input({ prompt = "Add buffer: ", completion = "buffer" }, function(text)
-    local buffer = text and text ~= "" and fn.bufnr(text) or 0
-    if buffer > 0 then
-      list:add_buffer(buffer)
-    elseif text and text ~= "" then
-      say("there is no one buffer " .. text, "ErrorMsg")
+local function add_buffer(list)
+  ask({ prompt = "Add buffer: ", completion = "buffer" }, function(text)
+    local buffer = fn.bufnr(text)
+    if buffer < 1 then
+      return blame("there is no one buffer " .. text)
     end
+    list:add_buffer(buffer)
   end)
 end
 
-function M.remove_buffer(list)
-  vim.ui.select(list.files, {
-    prompt = "Leave out buffer",
-    format_item = function(file)
-      return List.name_of(file.buffer)
-    end,
-  }, function(file)
+local function remove_buffer(list)
+  local function format(file)
+    return list:name_of(file)
+  end
+  shared.ask(vim.ui.select, list.files, { prompt = "Leave out buffer", format_item = format }, function(file)
     if file then
       list:remove_file(file)
     end
@@ -218,74 +225,112 @@ end
 
 -- Quickfix
 
--- Makes a quickfix list of the hits as they are now.
+-- Puts hits from number `first` on into the quickfix list of this number, and all others after it. It
+-- begins again where rows were changed meanwhile.
+local function fill(list, id, first, tick)
+  if list.closed or fn.getqflist({ id = id }).id ~= id then
+    return
+  end
+  local now = api.nvim_buf_get_changedtick(list.buffer)
+  first = now == tick and first or 1
+  local items = {}
+  list:each_hit(first, first + PIECE - 1, function(file, line, parts, row)
+    items[#items + 1] = { lnum = line, col = row_texts.column(parts) + 1, filename = file.path,
+      bufnr = not file.path and file.buffer or nil, text = shared.line(list.buffer, row) }
+  end)
+  local title = "LiveOccur " .. table.concat(list.patterns, "  ")
+  local more = #items == PIECE or not list:settled()
+  title = title .. (more and ("  %d so far"):format(first + #items - 1) or "")
+  fn.setqflist({}, first == 1 and "r" or "a", { id = id, title = title, items = items })
+  if more then
+    vim.defer_fn(function() fill(list, id, first + #items, now) end, #items == PIECE and 1 or 50)
+  end
+end
+
+-- Makes a quickfix list of the hits as they are now, in pieces.
 function M.quickfix(list)
   if list.edit then
-    return say("rows are edited; :w or :e! ends that", "ErrorMsg")
+    return blame("rows are edited; :w or :e! ends that")
   end
-  list:wait()
-  local items = {}
-  for number, row in ipairs(list:rows()) do
-    items[number] = { bufnr = row[1], lnum = row[2], col = row_texts.column(row[4]) + 1, text = row[3] }
-  end
-  fn.setqflist({}, " ", { title = "LiveOccur " .. table.concat(list.patterns, "  "), items = items })
+  list:wait(100)
+  fn.setqflist({}, " ", { title = "LiveOccur" })
+  fill(list, fn.getqflist({ id = 0 }).id, 1, api.nvim_buf_get_changedtick(list.buffer))
+  local first = fn.getqflist({ items = 1, size = 1 }).items[1]
   if M.current() then -- So that :cnext takes another window than the list's.
-    api.nvim_set_current_win(window_for(items[1] and items[1].bufnr or 0))
+    api.nvim_set_current_win(window_for(first and first.bufnr or 0))
   end
   vim.cmd("botright copen")
 end
 
+-- Ends
+
+-- Ends a list: its windows, its buffer, its process.
+local function quit(list)
+  for _, window in ipairs(list:windows()) do
+    pcall(api.nvim_win_close, window, true) -- The last one can't be closed, and shows another buffer.
+  end
+  vim.cmd("silent! bwipeout! " .. list.buffer)
+end
+
+-- Reads no more files.
+local function stop(list)
+  local count = list:stop_reading()
+  list:step()
+  list:show_header()
+  say(count > 0 and count .. " files are not read" or "all files were read")
+end
+
 -- The keys
 
+-- For each what it does, as a text and as a function. One without switches an option of what matches.
 M.keys = {
   { "<CR>", "goes to the line", function(list) M.visit(list) end },
-  { "<2-LeftMouse>", "goes to the line", function(list) M.visit(list) end },
+  { "<2-LeftMouse>", "goes to the line, by the mouse", function(list) M.visit(list) end },
   { "<C-w><CR>", "goes to the line in a new window", function(list) M.visit(list, true) end },
   { "<Space>", "shows the line", function(list) M.visit(list, false, true) end },
-  { "f", "following on or off", M.toggle_follow },
+  { "f", "following on or off", toggle_follow },
   { "e", "edits the rows", function(list) require("live_occur.edit").begin(list) end },
-  { "a", "adds a pattern", M.add_pattern },
-  { "c", "changes a pattern", M.change_pattern },
-  { "d", "drops a pattern", M.drop_pattern },
-  { "B", "basic expressions", function(list) M.set_syntax(list, "basic") end },
-  { "E", "extended expressions", function(list) M.set_syntax(list, "extended") end },
-  { "F", "fixed strings", function(list) M.set_syntax(list, "fixed") end },
-  { "i", "both cases", function(list) M.toggle(list, "i") end },
-  { "v", "lines that don't match", function(list) M.toggle(list, "v") end },
-  { "x", "whole lines", function(list) M.toggle(list, "x") end },
-  { "C", "lines around", M.ask_context },
-  { "+", "one more buffer", M.add_buffer },
-  { "-", "one buffer less", M.remove_buffer },
-  { "R", "brings the list up to date at once", function(list) list:wait() end },
+  { "a", "adds a pattern", function(list) ask_pattern(list, "Add pattern: ", "") end },
+  { "c", "changes a pattern", change_pattern },
+  { "d", "drops a pattern", drop_pattern },
+  { "B", "basic expressions" },
+  { "E", "extended expressions" },
+  { "F", "fixed strings" },
+  { "i", "both cases" },
+  { "v", "lines that don't match" },
+  { "x", "whole lines" },
+  { "I", "smart case" },
+  { "C", "lines around", ask_context },
+  { "+", "one more buffer", add_buffer },
+  { "-", "one buffer less", remove_buffer },
+  { "R", "brings the list up to date at once", function(list) list:read_again() list:step() end },
   { "r", "starts the program again", function(list) list:restart() end },
   { "Q", "makes a quickfix list", M.quickfix },
-  { "q", "hides the list", function() pcall(vim.cmd, "hide") end },
+  { "<C-c>", "reads no more files", stop },
+  { "q", "ends the list", quit },
 }
 
--- Puts the keys aside.
+-- Puts the keys aside, but for those that a user has set.
 function M.unset(list)
-  for _, key in ipairs(M.keys) do
-    pcall(vim.keymap.del, "n", key[1], { buffer = list.buffer })
+  list.unset = {}
+  for _, map in ipairs(api.nvim_buf_get_keymap(list.buffer, "n")) do
+    if (map.desc or ""):sub(1, #MINE) == MINE then
+      list.unset[map.desc] = true
+      vim.keymap.del("n", map.lhs, { buffer = list.buffer })
+    end
   end
 end
 
+-- Sets the keys, or those that were put aside.
 function M.set(list)
   for _, key in ipairs(M.keys) do
-    vim.keymap.set("n", key[1], function()
-      local fault, problem = pcall(key[3], list)
-      if not fault then
-        say(tostring(problem), "ErrorMsg")
-      end
-    end, { buffer = list.buffer, nowait = true, silent = true, desc = key[2] })
-  end
-end
-
--- Shows the line of the row, if the list follows, as the cursor moves.
-function M.moved(list)
-  local row = api.nvim_win_get_cursor(0)[1]
-  if list.follow and not list.edit and row ~= list.followed then
-    list.followed = row
-    M.visit(list, false, true)
+    local text = MINE .. key[2]
+    if not list.unset or list.unset[text] then
+      vim.keymap.set("n", key[1], function()
+        local ran, problem = pcall(key[3] or list.toggle, list, key[1])
+        blame(not ran and problem)
+      end, { buffer = list.buffer, nowait = true, silent = true, desc = text })
+    end
   end
 end
 

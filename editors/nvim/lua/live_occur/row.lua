@@ -1,12 +1,11 @@
--- The text of a row: a margin, over which its number is drawn, and its line, or a part of that.
+-- The text of a row: its line, or a part of that.
 
 local settings = require("live_occur.settings")
 
-local MARGIN = string.rep(" ", 8)
 local CUT = "…" -- what a row has in place of the bytes that are cut off
 local LEAD = 40 -- how many bytes before its first match a row has, if its line's beginning is cut off
 
-local M = { margin = #MARGIN }
+local M = { margin = 8 } -- the columns of the margin, in which numbers of lines are
 
 -- A place in a line, or one before it, where a character begins.
 function M.whole(line, place)
@@ -32,12 +31,12 @@ end
 function M.text(line, parts)
   local most = settings.max_columns
   if #line <= most then
-    return MARGIN .. line, 0
+    return line, 0
   end
   local start = start_of(line, parts or "", most)
   local finish = start + most < #line and M.whole(line, start + most) or #line
   local text = line:sub(start + 1, finish)
-  return MARGIN .. (start > 0 and CUT or "") .. text .. (finish < #line and CUT or ""), start
+  return (start > 0 and CUT or "") .. text .. (finish < #line and CUT or ""), start
 end
 
 -- The parts of a row, as they are kept: before them is what is cut off, if that is more than none.
@@ -45,10 +44,10 @@ function M.kept_parts(parts, start)
   return start > 0 and "@" .. start .. " " .. parts or parts
 end
 
--- How many columns a part of a row is further right than in its line.
+-- How many bytes a part of a row is further right than in its line.
 function M.shift(parts)
   local start = parts:match("^@(%d+) ")
-  return #MARGIN + (start and #CUT - tonumber(start) or 0)
+  return start and #CUT - tonumber(start) or 0
 end
 
 -- The column in its line, from 0, of a row's first part.
@@ -56,9 +55,9 @@ function M.column(parts)
   return tonumber(parts:match("(%d+)%-")) or 0
 end
 
--- The text of a row without its margin.
-function M.bare(text)
-  return text:sub(#MARGIN + 1)
+-- The number of a line, as the margin has it.
+function M.number(line)
+  return ("%7d "):format(line)
 end
 
 return M

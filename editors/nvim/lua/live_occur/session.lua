@@ -13,7 +13,7 @@ Session.__index = Session
 -- A reply is a table: `kind` is ok, refused, status or occur, `text` what follows it. The reply to
 -- changes has `blocks`, one for each h line, with pieces: each has arrays of the places, parts and lines
 -- of some hits. The reply to page has `total` and one such piece as `page`, with the numbers of files
--- too. A program that can leaves the lines out, which are in buffers.
+-- too. After `text off` the lines are left out.
 --
 -- A long reply to changes is given out before it is whole: it has no `kind` then. A block is whole
 -- when it is `done`, and a piece when there is another one after it. `waits` is called when more of
@@ -22,12 +22,8 @@ local function new_piece()
   return { count = 0, files = {}, places = {}, parts = {}, lines = {} }
 end
 
-local function numbers_of(text)
-  local numbers = {}
-  for number in text:gmatch("%d+") do
-    numbers[#numbers + 1] = tonumber(number)
-  end
-  return numbers
+local function new_reply()
+  return { blocks = {}, ahead = 0 }
 end
 
 -- Reads a number in a text, from `start` on, and returns the place after it. No string is made for
@@ -51,9 +47,8 @@ local function read_hit(piece, text, start, finish)
   else
     parts_end = finish + 1
   end
-  piece.places[count] = place
+  piece.count, piece.places[count] = count, place
   piece.parts[count] = text:sub(place_end + 1, parts_end - 1)
-  piece.count = count
 end
 
 -- The piece of a reply for the next hit.
@@ -68,68 +63,52 @@ local function piece_of(reply)
   return last
 end
 
--- Notes that the last block of a reply has all its hits.
-local function end_block(reply)
-  local last = reply.blocks[#reply.blocks]
-  if last then
-    last.done = true
-  end
-end
-
-local function new_reply()
-  return { blocks = {}, ahead = 0 }
-end
-
 -- Reads one line of a reply, and returns whether the reply ends with it.
 local function read_line(reply, text, start, finish)
   local first, second = text:byte(start, start + 1)
   if second == 32 and first == 114 then -- r
-    read_hit(piece_of(reply), text, start + 2, finish)
+    return read_hit(piece_of(reply), text, start + 2, finish)
   elseif second == 32 and first == 112 then -- p
     local page = reply.page
     local file, file_end = read_number(text, start + 2)
     page.files[page.count + 1] = file
-    read_hit(page, text, file_end + 1, finish)
-  elseif second == 32 and first == 104 then -- h
-    end_block(reply)
-    table.insert(reply.blocks, { words = numbers_of(text:sub(start + 2, finish)), pieces = {} })
-  else
-    local kind, rest = text:sub(start, finish):match("^(%l+) ?(.*)$")
-    if kind == "hits" then
-      reply.total = tonumber(rest)
-      reply.page = new_piece()
-    else
-      end_block(reply)
-      reply.kind, reply.text = kind, rest
-      return true
-    end
+    return read_hit(page, text, file_end + 1, finish)
   end
-  return false
+  local kind, rest = text:sub(start, finish):match("^(%l+) ?(.*)$")
+  if kind == "hits" then
+    reply.total, reply.page = tonumber(rest), new_piece()
+    return false
+  end
+  local last = reply.blocks[#reply.blocks]
+  if last then
+    last.done = true
+  end
+  if kind == "h" then
+    table.insert(reply.blocks, { words = vim.tbl_map(tonumber, vim.split(rest, " ")), pieces = {} })
+    return false
+  end
+  reply.kind, reply.text = kind, rest
+  return true
 end
 
 -- Reads what came: whole lines, and keeps the beginning of the last one.
 function Session:read(text)
-  local newline = text:find("\n", 1, true)
-  if not newline then
-    table.insert(self.rest, text)
+  table.insert(self.rest, text)
+  if not text:find("\n", 1, true) then
     return
   end
-  if #self.rest > 0 then
-    table.insert(self.rest, text)
-    text, self.rest = table.concat(self.rest), {}
-    newline = text:find("\n", 1, true)
-  end
-  local start = 1
+  text = table.concat(self.rest)
+  local start, newline = 1, text:find("\n", 1, true)
   while newline do
     if read_line(self.reply, text, start, newline - 1) then
-      self:hand_over()
+      self:give(self.reply)
+      self.waiting[self.answered + 1] = nil
+      self.answered, self.reply = self.answered + 1, new_reply()
     end
     start = newline + 1
     newline = text:find("\n", start, true)
   end
-  if start <= #text then
-    self.rest = { text:sub(start) }
-  end
+  self.rest = { text:sub(start) }
   if #self.reply.blocks > 0 then
     self:give(self.reply)
   end
@@ -149,19 +128,10 @@ function Session:give(reply)
       end
     end)
   end
-  if not reply.kind and not reply.all and reply.ahead > AHEAD then
+  if not reply.kind and not self.unbounded and reply.ahead > AHEAD then
     self.stopped = true
     self.output:read_stop()
   end
-end
-
--- A reply is whole.
-function Session:hand_over()
-  local reply = self.reply
-  self:give(reply)
-  self.waiting[self.answered + 1] = nil
-  self.answered = self.answered + 1
-  self.reply = new_reply()
 end
 
 -- A piece of a reply was taken.
@@ -172,9 +142,9 @@ function Session:taken(reply)
   end
 end
 
--- All of a reply is read, even if no piece is taken.
-function Session:read_all(reply)
-  reply.all = true
+-- Whether all is read from now on, even if no piece is taken.
+function Session:read_all(on)
+  self.unbounded = on
   self:go_on()
 end
 
@@ -196,62 +166,48 @@ end
 -- The process
 
 -- Starts the program. `ended` is called with a text when it ends by itself. Returns nothing and a
--- text where it can't be started. `script` is the number of its script's version: an older program
--- refuses what it is asked here, and has 1.
+-- text where it can't be started.
 function Session.start(program, states, ended)
-  local self = setmetatable({ rest = {}, reply = new_reply(), waiting = {}, sent = 0, answered = 0 }, Session)
-  self.script = 1
+  local self = { rest = {}, reply = new_reply(), waiting = {}, sent = 0, answered = 0 }
+  setmetatable(self, Session)
   self.input, self.output, self.errors = uv.new_pipe(false), uv.new_pipe(false), uv.new_pipe(false)
   local said = {}
-  local words = states and { "--states", tostring(states) } or {}
-  local fault
-  self.process, fault = uv.spawn(vim.fn.expand(program), {
-    args = words,
+  self.process, self.pid = uv.spawn(vim.fn.expand(program), {
+    args = states and { "--states", tostring(states) } or {},
     stdio = { self.input, self.output, self.errors },
-  }, function(status, signal)
-    vim.schedule(function()
-      self:finish(status, signal, table.concat(said), ended)
-    end)
-  end)
+  }, vim.schedule_wrap(function(status, signal)
+    local by_itself = not self.closed
+    self:close()
+    self.process:close()
+    if by_itself then
+      local how = signal ~= 0 and "was killed by signal " .. signal or "ended with status " .. status
+      local message = table.concat(said):gsub("%s+$", "")
+      ended("occur " .. how .. (message ~= "" and " (" .. message .. ")" or ""))
+    end
+  end))
   if not self.process then
     self:close()
-    return nil, program .. " can't be started: " .. tostring(fault)
+    return nil, program .. " can't be started: " .. tostring(self.pid)
   end
-  self.pid = fault
   self:read_output()
   self.errors:read_start(function(_, text)
     said[#said + 1] = text
   end)
-  self:send("version", nil, function(reply)
-    self.script = tonumber(reply.text:match(" script (%d+)$")) or 1
-  end)
-  self:send("text off")
   return self
 end
 
-function Session:finish(status, signal, said, ended)
-  local by_itself = not self.closed
-  self:close()
-  self.process:close()
-  if by_itself then
-    local how = signal ~= 0 and "was killed by signal " .. signal or "ended with status " .. status
-    local message = said:gsub("%s+$", "")
-    ended("occur " .. how .. (message ~= "" and " (" .. message .. ")" or ""))
-  end
-end
-
--- Sends a command with its counted lines. `wanted` is called with the reply.
+-- Sends a command with its counted lines, which are a list or one text with the newline of each. `wanted`
+-- is called with the reply.
 function Session:send(command, lines, wanted)
   if self.closed then
     return
   end
   self.sent = self.sent + 1
   self.waiting[self.sent] = wanted
-  local text = command .. "\n"
-  if lines and #lines > 0 then
-    text = text .. table.concat(lines, "\n") .. "\n"
+  if type(lines) == "table" then
+    lines = table.concat(lines, "\n") .. (#lines > 0 and "\n" or "")
   end
-  self.input:write(text)
+  self.input:write(command .. "\n" .. (lines or ""))
 end
 
 -- Whether a reply is still to come.
