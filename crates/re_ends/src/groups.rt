@@ -1,5 +1,6 @@
 //! Groups of positions by their greatest ends at a place of a line, and a step back on them.
-ghost use Rattle.std.specs.Prelude.{◌≡◌, ℕ, suc, Bool, List, ◌+◌, ◌*◌, ◌^◌, ◌<◌, ◌≤◌, ◌↔◌, ◌⊎◌, IfOk, IsTrue, length, slice_index, vec_capacity};
+ghost use Rattle.std.specs.Prelude.{◌≡◌, ℕ, suc, Bool, List, ◌+◌, ◌-◌, ◌*◌, ◌^◌, ◌<◌, ◌≤◌, ◌↔◌, ◌⊎◌, [], ◌∷◌, ◌++◌};
+ghost use Rattle.std.specs.Prelude.{IfOk, IsTrue, length, slice_index, vec_capacity};
 ghost use Rattle.std.specs.Int.{bit_at};
 ghost use Rattle.re_trees.specs.Expression.{Expression};
 ghost use Rattle.re_trees.specs.Holds.{positions};
@@ -9,8 +10,9 @@ ghost use Rattle.re_auto.specs.Working.Positions.{part_of};
 ghost use Rattle.re_auto.specs.Working.Ranges.{Covers};
 ghost use Rattle.re_auto.specs.Working.Tables.{most_words};
 ghost use Rattle.re_ends.specs.Working.Closing.{AreClosed, AreMembers, AreMet, AreNoneMet, Byte, CanEnd};
-ghost use Rattle.re_ends.specs.Working.Groups.{group_of, AreGroupsFor, HasGroups, In, IsFirstIn, IsRow, IsStep};
+ghost use Rattle.re_ends.specs.Working.Groups.{group_of, AreGroupsFor, HasGroups, In, IsFirstIn, IsRow, IsStep, numbers_of};
 
+use crate::list::Run;
 use re_auto::{Automaton, Preceding, WordRange, bits};
 use re_trees::MOST_POSITIONS;
 use std::alloc::{AllocError, Global};
@@ -29,9 +31,11 @@ pub struct Groups {
     met: Vec<u64>,
     /// The members of the groups.
     pub row: Vec<u32>,
-    /// For each group the number of the group after the byte whose end it has. Where that is their
-    /// number, the end is the place after the byte.
-    pub kept: Vec<u16>,
+    /// For each group in turn the number of the group after the byte whose end it has. Where that is
+    /// their number, the end is the place after the byte.
+    pub runs: Vec<Run>,
+    /// How many groups there are.
+    pub count: u16,
     /// A number that equal rows share.
     pub hash: u64,
 }
@@ -49,13 +53,14 @@ impl Groups {
         let left = Vec::from_slice(alloc, automaton.taking(0))?;
         let met = vec![in alloc; 0u64; left.len()]?;
         let row = Vec::with_capacity(alloc, size)?;
-        let kept = Vec::with_capacity(alloc, size)?;
+        let runs = Vec::with_capacity(alloc, size)?;
         Ok(Groups {
             preceding,
             left,
             met,
             row,
-            kept,
+            runs,
+            count: 0,
             hash: 0,
         })
     }
@@ -67,7 +72,8 @@ impl Groups {
         ensures made { AreGroupsFor (expression_of automaton.now) self.new }
         ensures row { IsRow (positions (expression_of automaton.now)) self.new.row.items }
         ensures right { IsStep (part_of (expression_of automaton.now) 0) at_end after.now byte
-            self.new.kept.items self.new.row.items }
+            (numbers_of self.new.runs.items) self.new.row.items }
+        ensures count { self.new.count ≡ length (numbers_of self.new.runs.items) }
     {
         self.begin(automaton, byte);
         let count = self.close_all(after);
@@ -96,7 +102,8 @@ impl Groups {
         bits::copy(&mut self.left, automaton.taking(byte));
         bits::clear(&mut self.met);
         self.row.clear();
-        self.kept.clear();
+        self.runs.clear();
+        self.count = 0;
     }
 
     // Closes the groups after the byte in turn. Returns their number.
@@ -145,10 +152,11 @@ impl Groups {
             ((q : ℕ) → Has self.old.met.items q ↔ CanEnd b group q) →
             AreClosed b (suc group) self.new }
     {
-        let number = self.kept.len() as u16;
-        take_met(&mut self.met, &mut self.left, range, number, &mut self.row);
-        if has_last(&self.row, number) {
-            let _ = self.kept.push(group);
+        let left = &mut self.left;
+        take_met(&mut self.met, left, range, self.count, &mut self.row);
+        if has_last(&self.row, self.count) {
+            add_number(&mut self.runs, group);
+            self.count += 1;
         }
     }
 }
@@ -161,6 +169,25 @@ fn has_last(row: &[u32], group: u16) -> bool
 {
     let count = row.len();
     count > 0 && row[count - 1] / GROUP == group as u32
+}
+
+// Puts a number after those of the runs.
+#[inline(always)]
+fn add_number(runs: &mut Vec<Run>, number: u16)
+    ensures added { length (numbers_of runs.old.items) < vec_capacity runs.old →
+        numbers_of runs.new.items ≡ numbers_of runs.old.items ++ number ∷ [] }
+    ensures room { vec_capacity runs.old ≤ vec_capacity runs.new }
+{
+    let count = runs.len();
+    if count > 0 {
+        let last = runs[count - 1];
+        if last.first as usize + last.more as usize + 1 == number as usize {
+            runs[count - 1].more += 1;
+            return;
+        }
+    }
+    let first = number;
+    let _ = runs.push(Run { first, more: 0 });
 }
 
 // Takes those left that are met out of both sets, and makes them members of the group.

@@ -5,11 +5,11 @@ ghost use Rattle.re_trees.specs.Expression.{Expression};
 ghost use Rattle.re_trees.specs.Holds.{positions};
 ghost use Rattle.re_trees.specs.Working.Trees.{expression_of};
 ghost use Rattle.re_auto.specs.Working.Positions.{part_of};
-ghost use Rattle.re_ends.specs.Working.Groups.{AreGroupsFor, Follow, Leaves, IsRow, IsStep};
+ghost use Rattle.re_ends.specs.Working.Groups.{AreGroupsFor, Fits, Leaves, IsRow, IsStep, numbers_of};
 ghost use Rattle.re_ends.specs.Working.KeptSteps.{listed, unknown, no_step, cell_at, rows_of, AreLonger, AreRowsFor, AreStepsFor, IsOperation, IsRowIn};
 
 use crate::groups::{Groups, first_in};
-use crate::list::EndList;
+use crate::list::{EndList, Run};
 use re_auto::Automaton;
 use std::alloc::{AllocError, Global};
 use std::collections::HashMap;
@@ -23,8 +23,8 @@ const MOST_BYTES: usize = 1 << 24;
 // The most cells.
 const MOST_CELLS: usize = 1 << 30;
 
-// From this operation on, an operation is the number of a list of ends that stay, plus this. Below it
-// is the first end that stays, as do those after it.
+// From this operation on, an operation is the number of a list of runs of ends that stay, plus this.
+// Below it is the first end that stays, as do those after it, or 0 where none stays.
 const LISTED: u16 = 1 << 15;
 
 // No operation.
@@ -61,7 +61,7 @@ pub struct KeptSteps {
     width: usize,
     rows: Vec<Vec<u32>>,
     cells: Vec<Step>,
-    lists: Vec<Vec<u16>>,
+    lists: Vec<Vec<Run>>,
     numbers: HashMap<u64, usize>,
     held: usize,
     bytes: usize,
@@ -156,10 +156,11 @@ impl KeptSteps {
         self.cells[row + self.classes[byte as usize] as usize]
     }
 
-    /// Does with the ends what an operation says. `false`, and nothing is done, if there is no such
-    /// operation or no room for it.
+    /// Does with the ends what an operation says. `false`, and nothing is done, if there is none.
     #[inline(always)]
     pub fn apply(&self, step: Step, list: &mut EndList, place: usize) -> bool
+        requires { step.op < unknown → (kept : List ℕ) × IsOperation self.now.lists.items step.op kept ×
+            (length kept ≡ step.count) × Fits kept list.old }
         ensures none { result ≡ false → list.new ≡ list.old }
         ensures moved { (kept : List ℕ) → IsOperation self.now.lists.items step.op kept →
             (length kept ≡ step.count) → IsTrue result →
@@ -168,20 +169,13 @@ impl KeptSteps {
         ensures most { list.new.most ≡ list.old.most }
     {
         if step.op < LISTED {
-            return list.cut(step.op, step.count, place);
+            list.cut(step.op, step.count, place);
+            return true;
         }
         if step.op == UNKNOWN {
             return false;
         }
-        let number = (step.op - LISTED) as usize;
-        if number >= self.lists.len() {
-            return false;
-        }
-        let kept = &self.lists[number];
-        if !list.holds(kept.len()) {
-            return false;
-        }
-        list.pick(kept, place);
+        list.pick(&self.lists[(step.op - LISTED) as usize], place);
         true
     }
 
@@ -270,14 +264,15 @@ impl KeptSteps {
         requires made { AreGroupsFor (expression_of automaton.now) groups.now }
         requires row { IsRow (positions (expression_of automaton.now)) groups.now.row.items }
         requires from { (end : Bool) × (of : List ℕ) × IsRowIn self.old from end of ×
-            IsStep (part_of (expression_of automaton.now) 0) end of byte groups.now.kept.items
-            groups.now.row.items }
+            IsStep (part_of (expression_of automaton.now) 0) end of byte
+            (numbers_of groups.now.runs.items) groups.now.row.items }
+        requires count { groups.now.count ≡ length (numbers_of groups.now.runs.items) }
         requires to { IsRowIn self.old to false groups.now.row.items }
         ensures sound { AreStepsFor (expression_of automaton.now) self.new }
         ensures kept { (row : ℕ) (end : Bool) (of : List ℕ) → IsRowIn self.old row end of →
             IsRowIn self.new row end of }
     {
-        let Ok(op) = operation_of(alloc, &mut self.lists, &groups.kept) else {
+        let Ok(op) = operation_of(alloc, &mut self.lists, &groups.runs) else {
             return;
         };
         let inside = first_in(&groups.row, automaton.beginning(false));
@@ -286,48 +281,36 @@ impl KeptSteps {
             row: to as u32,
             inside,
             op,
-            count: groups.kept.len() as u16,
+            count: groups.count,
         };
         self.held = self.held.saturating_add(1);
         if op < LISTED {
             return;
         }
-        self.count_bytes(groups.kept.len(), 2);
+        self.count_bytes(groups.runs.len(), 4);
     }
 }
 
-// The operation that leaves these ends. They are listed if they don't follow each other.
-fn operation_of(alloc: Global, lists: &mut Vec<Vec<u16>>, kept: &[u16]) -> Result<u16, AllocError>
+// The operation that leaves the ends of these runs. They are listed if there is more than one.
+fn operation_of(alloc: Global, lists: &mut Vec<Vec<Run>>, runs: &[Run]) -> Result<u16, AllocError>
     ensures kept { AreLonger lists.old.items lists.new.items }
-    ensures op { IfOk result (λ op. (op < unknown) × IsOperation lists.new.items op kept.now) }
+    ensures op { IfOk result (λ op. (op < unknown) ×
+        IsOperation lists.new.items op (numbers_of runs.now)) }
 {
-    let op = run_of(kept);
-    if op < LISTED {
-        return Ok(op);
+    let count = runs.len();
+    if count == 0 {
+        return Ok(0);
+    }
+    if count == 1 && runs[0].first < LISTED {
+        return Ok(runs[0].first);
     }
     let number = lists.len();
     if number >= MOST_STEPS {
         return Err(AllocError);
     }
-    let list = Vec::from_slice(alloc, kept)?;
+    let list = Vec::from_slice(alloc, runs)?;
     lists.push(list)?;
     Ok(LISTED + number as u16)
-}
-
-// The first of these numbers, if they follow each other, else `LISTED`.
-fn run_of(kept: &[u16]) -> u16
-    ensures { result < listed → Follow result kept.now }
-{
-    if kept.is_empty() {
-        return 0;
-    }
-    let first = kept[0];
-    'ends: for k in 0..kept.len() {
-        if kept[k] as usize != first as usize + k {
-            return LISTED;
-        }
-    }
-    first
 }
 
 // Makes the cells those before place `from`, and then `count` without steps. If an allocation

@@ -1,11 +1,21 @@
 //! The ends of groups, the greatest first.
 ghost use Rattle.std.specs.Prelude.{◌≡◌, ℕ, ◌+◌, ◌*◌, ◌^◌, ◌<◌, ◌≤◌, List, [], ◌∷◌, ◌++◌, take};
-ghost use Rattle.std.specs.Prelude.{IsTrue, IfOk, false, length, max, set, slice_index};
-ghost use Rattle.re_ends.specs.Working.Groups.{Follow, Leaves, end_of};
+ghost use Rattle.std.specs.Prelude.{IfOk, drop, length, max, set, slice_index};
+ghost use Rattle.std.specs.List.{range_with_len};
+ghost use Rattle.re_ends.specs.Working.Groups.{Fits, Leaves, end_of, numbers_of};
 
 use std::alloc::{AllocError, Global};
 use std::marker::Model;
 use std::mem;
+
+/// Numbers that follow each other.
+#[derive(Clone, Copy, Drop)]
+pub struct Run {
+    /// The first of them.
+    pub first: u16,
+    /// How many come after it.
+    pub more: u16,
+}
 
 /// The ends of groups, the greatest first, in a part of a buffer: the greatest ends go and lesser ones
 /// come without a move of the others.
@@ -60,13 +70,6 @@ impl EndList {
         self.count = 0;
     }
 
-    /// Whether there is room for this number of ends.
-    pub fn holds(&self, count: usize) -> bool
-        ensures { IsTrue result → count ≤ self.now.most }
-    {
-        count <= self.buffer.len()
-    }
-
     /// Puts the end at its place, if it is greater than the end there: the one with this number,
     /// counted from 1 on; 0 is none.
     #[inline(always)]
@@ -81,64 +84,74 @@ impl EndList {
         ends[at] = ends[at].max(self.buffer[self.base + number as usize - 1]);
     }
 
-    /// Puts the place last, and leaves `count` ends from this one on. `false`, and nothing is done,
-    /// where there are fewer or no room for them.
+    /// Puts the place last, and leaves `count` ends from this one on.
     #[inline(always)]
-    pub fn cut(&mut self, first: u16, count: u16, place: usize) -> bool
-        ensures none { result ≡ false → self.new ≡ self.old }
-        ensures cut { (kept : List ℕ) → Follow first kept → (length kept ≡ count) →
-            IsTrue result → Leaves kept (self.old.ends ++ place ∷ []) self.new.ends }
+    pub fn cut(&mut self, first: u16, count: u16, place: usize)
+        requires room { length self.old.ends < self.old.most }
+        requires few { first + count ≤ length self.old.ends + 1 }
+        ensures cut { Leaves (range_with_len first count) (self.old.ends ++ place ∷ [])
+            self.new.ends }
+        ensures most { self.new.most ≡ self.old.most }
+    {
+        self.put_last(place);
+        self.base += first as usize;
+        self.count = count as usize;
+    }
+
+    // Puts the place last.
+    #[inline(always)]
+    fn put_last(&mut self, place: usize)
+        requires { length self.old.ends < self.old.most }
+        ensures last { self.new.ends ≡ self.old.ends ++ place ∷ [] }
         ensures most { self.new.most ≡ self.old.most }
     {
         if self.base + self.count == self.buffer.len() {
-            self.move_back();
+            move_back(&mut self.buffer, self.base, self.count);
+            self.base = 0;
         }
-        let last = self.base + self.count;
-        if last == self.buffer.len() || first as usize + count as usize > self.count + 1 {
-            return false;
-        }
-        self.buffer[last] = place;
-        self.base += first as usize;
-        self.count = count as usize;
-        true
+        self.buffer[self.base + self.count] = place;
+        self.count += 1;
     }
 
-    // Moves the ends to the beginning of the buffer.
-    #[inline(never)]
-    fn move_back(&mut self)
-        ensures { self.new ≡ self.old }
-    {
-        self.buffer
-            .copy_within(self.base..self.base + self.count, 0);
-        self.base = 0;
-    }
-
-    /// Puts the place last, and leaves the ends with these numbers.
-    pub fn pick(&mut self, kept: &[u16], place: usize)
-        requires { length kept.now ≤ self.old.most }
-        ensures picked { Leaves kept.now (self.old.ends ++ place ∷ []) self.new.ends }
+    /// Puts the place last, and leaves the ends with the numbers of these runs.
+    pub fn pick(&mut self, runs: &[Run], place: usize)
+        requires { Fits (numbers_of runs.now) self.old }
+        ensures picked { Leaves (numbers_of runs.now) (self.old.ends ++ place ∷ []) self.new.ends }
         ensures most { self.new.most ≡ self.old.most }
     {
+        self.put_last(place);
         let ends = &self.buffer[self.base..self.base + self.count];
-        pick_ends(ends, place, kept, &mut self.spare);
+        self.count = copy_runs(ends, runs, &mut self.spare);
         mem::swap(&mut self.buffer, &mut self.spare);
         self.base = 0;
-        self.count = kept.len();
     }
 }
 
-// Puts the ends with these numbers first, where the place comes after the other ends.
-fn pick_ends(ends: &[usize], place: usize, kept: &[u16], into: &mut [usize])
-    requires room { length kept.now ≤ length into.old }
-    ensures len { length into.new ≡ length into.old }
-    ensures picked { Leaves kept.now (ends.now ++ place ∷ []) (take (length kept.now) into.new) }
+// Moves some elements to the beginning.
+#[inline(never)]
+fn move_back(buffer: &mut [usize], from: usize, count: usize)
+    requires { from + count ≤ length buffer.old }
+    ensures len { length buffer.new ≡ length buffer.old }
+    ensures moved { take count buffer.new ≡ take count (drop from buffer.old) }
 {
-    'ends: for k in 0..kept.len() {
-        let number = kept[k] as usize;
-        into[k] = if number < ends.len() {
-            ends[number]
-        } else {
-            place
-        };
+    buffer.copy_within(from..from + count, 0);
+}
+
+// Puts the ends with the numbers of these runs first. Returns how many they are.
+fn copy_runs(ends: &[usize], runs: &[Run], into: &mut [usize]) -> usize
+    requires room { length (numbers_of runs.now) ≤ length into.old }
+    requires within { (k : ℕ) → k < length (numbers_of runs.now) →
+        slice_index (numbers_of runs.now) k < length ends.now }
+    ensures len { length into.new ≡ length into.old }
+    ensures fits { result ≤ length into.new }
+    ensures picked { Leaves (numbers_of runs.now) ends.now (take result into.new) }
+{
+    let mut at = 0;
+    'runs: for k in 0..runs.len() {
+        let first = runs[k].first as usize;
+        let count = runs[k].more as usize + 1;
+        into[at..at + count].copy_from_slice(&ends[first..first + count]);
+        at += count;
     }
+    at
 }

@@ -145,7 +145,7 @@ impl Pass {
         *built = built.saturating_add(1);
         let after = self.steps.row(from.row);
         self.groups.step(asked.automaton, after, byte, at_end);
-        self.list.pick(&self.groups.kept, from.place);
+        self.list.pick(&self.groups.runs, from.place);
         let Some(to) = self
             .steps
             .row_of(asked.alloc, asked.automaton, &self.groups)
@@ -193,6 +193,7 @@ fn walk_rows(
         list.old from.place from.row }
     requires some { stop < from.place }
     requires room { from.place ≤ stop + length ends.old }
+    requires most { positions (expression_of asked.now.automaton.now) < list.old.most }
     ensures at { IsAtRow (expression_of asked.now.automaton.now) asked.now.line.now steps.now
         list.new result.place result.row }
     ensures on { result.place ≤ from.place }

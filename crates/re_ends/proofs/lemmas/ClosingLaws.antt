@@ -301,17 +301,20 @@ module _ {b : Byte} {i group : ℕ} {range : WordRange} {groups : Groups} (m : A
         | inr last ↦ subst (λ n. group_of (slice_index b.after i) ≤ group_of (slice_index b.after n)) (let same : i ≡ j = omega (arith, ge, last) in same) (omega arith)
       ];
       met = λ q. ((λ h. absurd (none q h)), (λ (j, before, is, follow). absurd (let le = m.over j before in let more = later i (omega arith) lt in omega (arith, le, more, is))));
-      closed = skip (group_of (slice_index b.after i)) closed (let more = later i (omega arith) lt in more)
-          (λ k q low high can. elim can [
-            | inl (r, follow, (j, less, is, at)) ↦ elim (cases_lt j i) [
-              | inl before ↦ let le = m.over j before in omega (arith, le, is, low)
-              | inr ge ↦ elim (cases_lt i j) [
-                | inl after ↦ let le = m.row.in_turn i j after less in omega (arith, le, is, high)
-                | inr last ↦ let same : group_of (slice_index b.after i) ≡ group_of (slice_index b.after j) = ap (λ n. group_of (slice_index b.after n)) (let e : i ≡ j = omega (arith, ge, last) in e) in omega (arith, same, is, high)
+      closed = (
+        skip (group_of (slice_index b.after i)) closed.0 (let more = later i (omega arith) lt in more)
+            (λ k q low high can. elim can [
+              | inl (r, follow, (j, less, is, at)) ↦ elim (cases_lt j i) [
+                | inl before ↦ let le = m.over j before in omega (arith, le, is, low)
+                | inr ge ↦ elim (cases_lt i j) [
+                  | inl after ↦ let le = m.row.in_turn i j after less in omega (arith, le, is, high)
+                  | inr last ↦ let same : group_of (slice_index b.after i) ≡ group_of (slice_index b.after j) = ap (λ n. group_of (slice_index b.after n)) (let e : i ≡ j = omega (arith, ge, last) in e) in omega (arith, same, is, high)
+                ]
               ]
-            ]
-            | inr (same, ends) ↦ let less = group_below _ _ (member b.after i lt) in omega (arith, same, less, high)
-          ]);
+              | inr (same, ends) ↦ let less = group_below _ _ (member b.after i lt) in omega (arith, same, less, high)
+            ]),
+        closed.1,
+      );
     }
 
   -- the next member is met
@@ -397,7 +400,7 @@ closed_step {b} groups closed = record {
 
 -- another set of those met
 pub with_met : {e : Expression} {groups : Groups} (met : Vec ℕ Global) → AreGroupsFor e groups → length met.items ≡ length groups.met.items → AreGroupsFor e (record groups { met = met })
-with_met met made len = record { few = made.few; preceding = made.preceding; left = made.left; met = len ∙ made.met; row = made.row; kept = made.kept }
+with_met met made len = record { few = made.few; preceding = made.preceding; left = made.left; met = len ∙ made.met; row = made.row; runs = made.runs }
 
 -- positions that can end here are those that can have the place's end
 pub is_own : (b : Byte) (set : List ℕ) → HasGroups b.after b.count → ((q : ℕ) → Has set q ↔ (part_of b.e 0).last b.at_end q) → (q : ℕ) → Has set q ↔ CanEnd b b.count q

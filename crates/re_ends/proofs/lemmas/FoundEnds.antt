@@ -1,5 +1,5 @@
 -- The greatest ends of the parts that begin at each place.
-use Rattle.re_ends.proofs.Prelude.{◌≡◌, ℕ, ◌<◌, inl, inr, ◌⊎◌, Bool, true, false, IsTrue, List, [], ◌∷◌, ◌++◌, length, refl, sym, subst, arith, ◌↔◌, Text, Expression, Holds, Matches, IsFound, MatchesPast, FoundPast, AddsEnds}
+use Rattle.re_ends.proofs.Prelude.{ℕ, ◌<◌, inl, inr, ◌⊎◌, Bool, false, List, [], ◌∷◌, ◌++◌, length, arith, ◌↔◌, Text, Expression, Holds, IsFound, MatchesPast, FoundPast, AddsEnds}
 use Rattle.std.specs.List.{Any}
 use Rattle.re_trees.proofs.lemmas.Decisions.{Any-first}
 use Rattle.re_trees.proofs.lemmas.SomeOfJoined.{Any-single, Any-left, Any-right, Any-append-cases}

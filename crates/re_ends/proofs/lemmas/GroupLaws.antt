@@ -1,5 +1,6 @@
 -- A step back on groups is right at each place of a line where they stand for its ends.
-use Rattle.re_ends.proofs.Prelude.{◌≡◌, ℕ, zero, suc, ◌+◌, ◌<◌, ◌≤◌, inl, inr, Bool, List, [], ◌∷◌, ◌++◌, length, length-append, slice_index, get_or_append_left, sym, subst, refl, arith, cases_lt, ◌↔◌, Text, Expression, Part, part_of, is_end, Leads, LeadsPast}
+use Rattle.re_ends.proofs.Prelude.{◌≡◌, ℕ, zero, suc, ◌+◌, ◌<◌, ◌≤◌, inl, inr, Bool, List, [], ◌∷◌, ◌++◌, length, length-append, slice_index, get_or_append_left, ap, sym, subst, ◌∙◌, refl, arith, cases_lt, ◌↔◌, Text, Expression, Part, part_of, is_end, Leads, LeadsPast}
+use Rattle.std.proofs.lemmas.List.{get_or-map, length-map}
 use Rattle.std.proofs.Math.Seq.{get_or-append_seam}
 use Rattle.re_ends.specs.Working.GreatestEnds.{IsBorder}
 use Rattle.re_ends.specs.Working.Groups.{CanHave, Fall, HasGroups, In, IsFirstIn, IsStep, Leaves, StandAt}
@@ -7,6 +8,9 @@ use Rattle.re_ends.proofs.lemmas.ListLaws.{end_cases}
 
 no_more : (row : List ℕ) (a b : ℕ) → HasGroups row a → HasGroups row b → a ≤ b
 no_more row a b these those = elim (cases_lt b a) [ inl lt ↦ absurd (let less = (those b).1 ((these b).0 lt) in omega (arith, less)) | inr ge ↦ ge ]
+
+pub as_many : (row : List ℕ) (a b : ℕ) → HasGroups row a → HasGroups row b → a ≡ b
+as_many row a b these those = let low = no_more row a b these those in let high = no_more row b a those these in omega (arith, low, high)
 
 -- an earlier end is no less
 pub no_less : (ends : List ℕ) (i k m : ℕ) → Fall ends → i ≤ k → k < length ends → m < slice_index ends k → m < slice_index ends i
@@ -21,16 +25,19 @@ no_less_before ends p i k m fall le lt past =
     subst (λ y. m < y) (get_or_append_left ends (p ∷ []) 0 i (omega (arith, le, lt))) (no_less (ends ++ p ∷ []) i k m fall le (omega (arith, lt, length-append ends (p ∷ []))) (subst (λ y. m < y) (sym (get_or_append_left ends (p ∷ []) 0 k lt)) past))
 
 module _ (part : Part) (line : Text) (p : ℕ) (at_end : Bool) (groups ends kept new now : List ℕ) (lt : p < length line) (is : at_end ≡ is_end line (suc p)) (step : IsStep part at_end groups (slice_index line p) kept new) (stand : StandAt part line (suc p) groups ends) (left : Leaves kept (ends ++ suc p ∷ []) now) where
+  long : length now ≡ length kept
+  long = ap length left ∙ length-map kept _
+
   all : length (ends ++ suc p ∷ []) ≡ length ends + 1
   all = length-append ends (suc p ∷ [])
 
   same_count : step.count ≡ length ends
-  same_count = let low = no_more groups step.count (length ends) step.groups stand.groups in let high = no_more groups (length ends) step.count stand.groups step.groups in omega (arith, low, high)
+  same_count = as_many groups step.count (length ends) step.groups stand.groups
 
   now_at : (j : ℕ) → j < length kept → (slice_index kept j < length (ends ++ suc p ∷ [])) × (slice_index now j ≡ slice_index (ends ++ suc p ∷ []) (slice_index kept j))
   now_at j less =
       let few = step.few j less in
-      let within : slice_index kept j < length (ends ++ suc p ∷ []) = omega (arith, few, same_count, all) in (within, left.1 j less within)
+      let within : slice_index kept j < length (ends ++ suc p ∷ []) = omega (arith, few, same_count, all) in (within, ap (λ l. slice_index l j) left ∙ get_or-map _ kept j 0 0 less)
 
   -- what an end after the byte is past, an end that stays in its place or before it is
   past_on : (j k m : ℕ) → j < length kept → slice_index kept j ≤ k → k < length (ends ++ suc p ∷ []) → m < slice_index (ends ++ suc p ∷ []) k → m < slice_index now j
@@ -57,10 +64,10 @@ module _ (part : Part) (line : Text) (p : ℕ) (at_end : Bool) (groups ends kept
   falls : (j k : ℕ) → j < k → k < length (now ++ p ∷ []) → slice_index (now ++ p ∷ []) k < slice_index (now ++ p ∷ []) j
   falls j k less within = elim (end_cases now p k within) [
     | inl at ↦
-        let more = stand.fall (slice_index kept j) (slice_index kept k) (step.grow j k less (omega (arith, at.0, left.0))) (now_at k (omega (arith, at.0, left.0))).0 in
-        omega (arith, more, at.1, (now_at k (omega (arith, at.0, left.0))).1, (now_at j (omega (arith, at.0, left.0, less))).1, get_or_append_left now (p ∷ []) 0 j (omega (arith, at.0, less)))
+        let more = stand.fall (slice_index kept j) (slice_index kept k) (step.grow j k less (omega (arith, at.0, long))) (now_at k (omega (arith, at.0, long))).0 in
+        omega (arith, more, at.1, (now_at k (omega (arith, at.0, long))).1, (now_at j (omega (arith, at.0, long, less))).1, get_or_append_left now (p ∷ []) 0 j (omega (arith, at.0, less)))
     | inr at ↦
-        let before : j < length kept = omega (arith, at.0, left.0, less) in
+        let before : j < length kept = omega (arith, at.0, long, less) in
         let more = past_on j (length ends) p before (let few = step.few j before in omega (arith, few, same_count)) (omega (arith, all)) (let seam = get_or-append_seam ends (suc p) [] 0 in omega (arith, seam)) in
         omega (arith, more, at.1, get_or_append_left now (p ∷ []) 0 j (omega (arith, at.0, less)))
   ]
@@ -68,7 +75,7 @@ module _ (part : Part) (line : Text) (p : ℕ) (at_end : Bool) (groups ends kept
   pub steps_on : StandAt part line p new now
   steps_on = record {
     right = λ q m. (λ (n, le, leads). from q m n le leads, λ (k, in_k, past). let (takes, can) = step.members k q in_k in to q m k takes can (subst (λ y. m < y) (now_at k ((step.made k).1 (q, in_k))).1 past));
-    groups = subst (HasGroups new) (sym left.0) step.made;
+    groups = subst (HasGroups new) (sym long) step.made;
     fall = falls;
   }
 

@@ -2,15 +2,18 @@
 use Rattle.re_ends.proofs.Prelude.{◌≡◌, ℕ, zero, suc, ◌+◌, ◌-◌, ◌*◌, ◌/◌, ◌<◌, ◌≤◌, inl, inr, ◌⊎◌, Bool, false, List, [], ◌∷◌, ◌++◌, length, length-append, get_or, get_or-set_same, get_or-set_other, set, length-set, replicate, slice_get, slice_index, nat_eq, Some, refl, sym, subst, ap, ◌∙◌, arith, cases_eq, Expression, part_of, positions}
 use Rattle.std.specs.Prelude.{Vec, vec_capacity, ◌^◌}
 use Rattle.std.specs.Global.{Global}
-use Rattle.std.proofs.Common.{ne_eqb}
+use Rattle.std.specs.List.{range_with_len}
+use Rattle.std.proofs.Common.{append-nil, ne_eqb}
 use Rattle.std.proofs.lemmas.List.{get_or_read_under}
+use Rattle.std.proofs.lemmas.List.FromFn.{length-range_with_len}
 use Rattle.std.proofs.lemmas.Nat.{div-mul-add}
 use Rattle.std.proofs.lemmas.Option.{get_or_from_slice_get, slice_get_within}
 use Rattle.re_auto.proofs.lemmas.RowLemmas.{row_within}
 use Rattle.re_auto.specs.Working.StateSets.{TakenAlike}
 use Rattle.re_ends.specs.declared.kept.Step.{Step}
-use Rattle.re_ends.specs.Working.Groups.{IsRow, IsStep}
-use Rattle.re_ends.specs.Working.KeptSteps.{unknown, no_step, Lists, Rows, IsOperation, AreLonger, IsRowOf, IsKeptStep, cell_at, AreClasses, AreRight}
+use Rattle.re_ends.specs.declared.list.Run.{Run}
+use Rattle.re_ends.specs.Working.Groups.{IsRow, IsStep, numbers, numbers_of}
+use Rattle.re_ends.specs.Working.KeptSteps.{listed, unknown, no_step, AllRuns, Lists, Rows, IsOperation, AreLonger, IsRowOf, IsKeptStep, cell_at, AreClasses, AreRight}
 
 -- elements of a list that is longer by one
 pub get_left : {X : Type 0} (xs ys : List X) (k : ℕ) (x : X) → slice_get xs k ≡ Some x → slice_get (xs ++ ys) k ≡ Some x
@@ -50,9 +53,18 @@ step_taken e alike s = record {
 }
 
 -- lists after the others change no operation
-op_longer : (old new : Lists) {op : ℕ} {kept : List ℕ} → AreLonger old new → IsOperation old op kept → IsOperation new op kept
-op_longer old new longer (inl first) = inl first
-op_longer old new {op} longer (inr (list, ge, is, same)) = inr (list, ge, longer (op - 2 ^ 15) list is, same)
+op_longer : (old new : AllRuns) {op : ℕ} {kept : List ℕ} → AreLonger old new → IsOperation old op kept → IsOperation new op kept
+op_longer old new {op} longer (first, rest) = (first, λ le. let (runs, is, same) = rest le in (runs, longer (op - 2 ^ 15) runs is, same))
+
+-- runs that are not listed
+pub no_run : (lists : AllRuns) (runs : List Run) → length runs ≡ 0 → IsOperation lists 0 (numbers_of runs)
+no_run lists [] none = (λ low. (refl, refl), λ le. absurd (omega (arith, le)))
+no_run lists (r ∷ rs) none = absurd (omega (arith, none))
+
+pub one_run : (lists : AllRuns) (runs : List Run) (d : Run) → length runs ≡ 1 → (get_or runs 0 d).first < listed → IsOperation lists (get_or runs 0 d).first (numbers_of runs)
+one_run lists [] d one less = absurd (omega (arith, one))
+one_run lists (r ∷ []) d one less = (λ low. (refl, append-nil (numbers r) ∙ ap (range_with_len r.first) (sym (ap length (append-nil (numbers r)) ∙ length-range_with_len r.first (suc r.more)))), λ le. absurd (omega (arith, less, le)))
+one_run lists (r ∷ s ∷ rs) d one less = absurd (omega (arith, one))
 
 pub row_longer : {width : ℕ} {rows : Lists} (more : Lists) {r : ℕ} {end : Bool} {groups : List ℕ} → IsRowOf width rows r end groups → IsRowOf width (rows ++ more) r end groups
 row_longer {rows = rows} more row = record { number = row.number; list = row.list; row = row.row; is = get_left rows more row.number row.list row.is; same = row.same; last = row.last }
@@ -141,7 +153,7 @@ module _ {e : Expression} {known : Rows} (right : AreRight e known) where
       longer kept = record { into = kept.into; row = row_longer (list ∷ []) kept.row; kept = kept.kept; op = kept.op; count = kept.count; right = kept.right; inside = kept.inside }
 
   -- lists come after the others
-  pub right_lists : {lists : Lists} → AreLonger known.lists lists → AreRight e (record { classes = known.classes; width = known.width; rows = known.rows; cells = known.cells; lists = lists })
+  pub right_lists : {lists : AllRuns} → AreLonger known.lists lists → AreRight e (record { classes = known.classes; width = known.width; rows = known.rows; cells = known.cells; lists = lists })
   right_lists {lists} longer = record { rows = right.rows; filled = right.filled; kept = λ r end groups c row low held. listed (right.kept r end groups c row low held) }
     where
       listed : {last : Bool} {groups : List ℕ} {c : ℕ} {s : Step} → IsKeptStep (part_of e 0) known.width known.rows known.lists last groups c s → IsKeptStep (part_of e 0) known.width known.rows lists last groups c s
@@ -180,7 +192,7 @@ no_groups n = record {
 }
 
 -- there are three rows, the first two without groups, and no step is kept
-pub right_three : {e : Expression} {classes : List ℕ} {width : ℕ} (x y z : Vec ℕ Global) (lists : Lists) {cells : List Step} → AreClasses e classes width → x.items ≡ [] → y.items ≡ [] → IsRow (positions e) z.items → positions e ≤ vec_capacity z → 3 * width ≤ length cells → ((k : ℕ) → get_or cells k no_step ≡ no_step)
+pub right_three : {e : Expression} {classes : List ℕ} {width : ℕ} (x y z : Vec ℕ Global) (lists : AllRuns) {cells : List Step} → AreClasses e classes width → x.items ≡ [] → y.items ≡ [] → IsRow (positions e) z.items → positions e ≤ vec_capacity z → 3 * width ≤ length cells → ((k : ℕ) → get_or cells k no_step ≡ no_step)
     → AreRight e (record { classes = classes; width = width; rows = x ∷ y ∷ z ∷ []; cells = cells; lists = lists })
 right_three {e} {classes} x y z lists {cells} are none none-2 row room filled blank = record {
   rows = record { classes = are; rows = each; begin = (x, y, z, [], refl, none, none-2, room); small = omega (arith, are.narrow) };

@@ -1,15 +1,17 @@
 -- A pass by steps that are kept.
-use Rattle.re_ends.proofs.Prelude.{◌≡◌, ℕ, suc, ◌+◌, ◌-◌, ◌<◌, ◌≤◌, inl, inr, ◌⊎◌, false, List, [], ◌∷◌, ◌++◌, length, length-set, max, get_or-set_other, set, ap, slice_index, refl, sym, subst, ◌∙◌, arith, cases_eq, cases_lt, ◌↔◌, Text, Expression, part_of, is_begin, is_end, LeadsPast, MatchesPast}
+use Rattle.re_ends.proofs.Prelude.{◌≡◌, ℕ, suc, ◌+◌, ◌-◌, ◌<◌, ◌≤◌, inl, inr, ◌⊎◌, Bool, false, List, [], ◌∷◌, ◌++◌, length, length-set, max, get_or-set_other, set, ap, slice_index, refl, sym, subst, ◌∙◌, arith, cases_eq, cases_lt, ◌↔◌, Text, Expression, Part, part_of, positions, is_begin, is_end, LeadsPast, MatchesPast}
 use Rattle.std.proofs.Common.{ne_eqb}
 use Rattle.std.proofs.lemmas.Grind.{get_or-set_at}
 use Rattle.re_ends.specs.declared.kept.KeptSteps.{KeptSteps}
 use Rattle.re_ends.specs.declared.kept.Step.{Step}
-use Rattle.re_ends.specs.Working.Groups.{end_of, Ends, IsFirstIn, IsStep, Leaves, StandAt}
+use Rattle.re_ends.specs.Working.Groups.{end_of, Ends, Fits, IsFirstIn, IsRow, IsStep, Leaves, StandAt}
 use Rattle.re_ends.specs.Working.KeptSteps.{unknown, cell_at, rows_of, AreStepsFor, IsKeptStep, IsOperation, IsRowIn}
 use Rattle.re_trees.specs.declared.span.Span.{Span}
 use Rattle.re_ends.specs.Working.EndTables.{IsAtRow, AddsFrom, IsFirstFrom}
 use Rattle.re_ends.proofs.lemmas.EndLaws.{ends_decide, max_past}
-use Rattle.re_ends.proofs.lemmas.GroupLaws.{no_less_before, steps_on}
+use Rattle.re_ends.proofs.lemmas.GroupLaws.{as_many, no_less_before, steps_on}
+use Rattle.re_ends.proofs.lemmas.ClosingLaws.{few_groups}
+use Rattle.re_ends.proofs.lemmas.KeptLaws.{row_is}
 
 -- the end of the first group with a position that a stretch can begin with is the greatest end
 module _ (e : Expression) {line : Text} {p : ℕ} {groups ends : List ℕ} (stand : StandAt (part_of e 0) line p groups ends) {number : ℕ} (is : IsFirstIn ((part_of e 0).first (is_begin p)) groups number) where
@@ -61,21 +63,33 @@ step_stands {e} {line} {steps} {ends} {groups} {kept} {into} new place {row} som
           (steps_on (part_of e 0) line (place - 1) (is_end line (suc (place - 1))) groups ends kept into new.ends lt refl) step stand left;
     }
 
+-- and there is room for its ends
+pub step_fits : {n : ℕ} {part : Part} {at_end : Bool} {line : Text} {place c : ℕ} {groups kept into : List ℕ} (list : Ends) → IsRow n groups → IsRow n into → IsStep part at_end groups c kept into → StandAt part line place groups list.ends → n < list.most → Fits kept list
+step_fits {groups = groups} {kept = kept} {into = into} list row new step stand room =
+    let same = as_many groups step.count (length list.ends) step.groups stand.groups in (
+      omega (arith, few_groups groups (length list.ends) row.in_turn stand.groups, row.few, room),
+      omega (arith, few_groups into (length kept) new.in_turn step.made, new.few, room),
+      λ k lt. let few = step.few k lt in omega (arith, few, same),
+    )
+
 -- a step that is kept
-module _ {e : Expression} {line : Text} {steps : KeptSteps} {list : Ends} (new : Ends) {place row : ℕ} {step : Step} (right : AreStepsFor e steps) (at : IsAtRow e line steps list place row) (some : 0 < place) (byte : slice_index line (place - 1) < 256) (is : step ≡ cell_at (rows_of steps) row (slice_index line (place - 1))) (held : step.op < unknown)
-    (moved : (kept : List ℕ) → IsOperation steps.lists.items step.op kept → length kept ≡ step.count → Leaves kept (list.ends ++ place ∷ []) new.ends) where
+module _ {e : Expression} {line : Text} {steps : KeptSteps} {list : Ends} {place row : ℕ} {step : Step} (right : AreStepsFor e steps) (at : IsAtRow e line steps list place row) (byte : slice_index line (place - 1) < 256) (is : step ≡ cell_at (rows_of steps) row (slice_index line (place - 1))) (held : step.op < unknown) where
   kept_step : IsKeptStep (part_of e 0) steps.width steps.rows.items steps.lists.items (is_end line place) at.groups (slice_index line (place - 1)) step
   kept_step = subst (λ (s : Step). IsKeptStep (part_of e 0) steps.width steps.rows.items steps.lists.items (is_end line place) at.groups (slice_index line (place - 1)) s) (sym is) (right.kept row (is_end line place) at.groups (slice_index line (place - 1)) at.row byte (subst (λ (s : Step). s.op < unknown) is held))
 
-  pub walked : IsAtRow e line steps new (place - 1) step.row
-  walked = step_stands new place some at.within kept_step.right at.stands (moved kept_step.kept kept_step.op kept_step.count) kept_step.row
+  pub kept_fits : positions e < list.most → (kept : List ℕ) × IsOperation steps.lists.items step.op kept × (length kept ≡ step.count) × Fits kept list
+  kept_fits room = (kept_step.kept, kept_step.op, kept_step.count, step_fits _ (row_is right at.row) (row_is right kept_step.row) kept_step.right at.stands room)
 
-  -- the place before it is not the line's first, and is given its end
-  pub walked_ends : (start end : ℕ) (old now next : List ℕ) → 1 < place → start < place → place - 1 - start < length now → next ≡ set now (place - 1 - start) (max (slice_index now (place - 1 - start)) (end_of new.ends step.inside)) → AddsFrom e line start end place old now → AddsFrom e line start end (place - 1) old next
-  unfolding walked kept_step step_stands
-  walked_ends start end old now next inside low room put after =
-      place_marked e walked.stands (subst (λ b. IsFirstIn ((part_of e 0).first b) walked.groups step.inside) (sym (ne_eqb (place - 1) 0 (λ (first : place - 1 ≡ 0). omega (arith, first, inside)))) kept_step.inside)
-      start end old now next (omega (arith, low)) room put (subst (λ n. AddsFrom e line start end n old now) (let one : place ≡ suc (place - 1) = omega (arith, some) in one) after)
+  module _ (new : Ends) (some : 0 < place) (moved : (kept : List ℕ) → IsOperation steps.lists.items step.op kept → length kept ≡ step.count → Leaves kept (list.ends ++ place ∷ []) new.ends) where
+    pub walked : IsAtRow e line steps new (place - 1) step.row
+    walked = step_stands new place some at.within kept_step.right at.stands (moved kept_step.kept kept_step.op kept_step.count) kept_step.row
+
+    -- the place before it is not the line's first, and is given its end
+    pub walked_ends : (start end : ℕ) (old now next : List ℕ) → 1 < place → start < place → place - 1 - start < length now → next ≡ set now (place - 1 - start) (max (slice_index now (place - 1 - start)) (end_of new.ends step.inside)) → AddsFrom e line start end place old now → AddsFrom e line start end (place - 1) old next
+    unfolding walked kept_step step_stands
+    walked_ends start end old now next inside low room put after =
+        place_marked e walked.stands (subst (λ b. IsFirstIn ((part_of e 0).first b) walked.groups step.inside) (sym (ne_eqb (place - 1) 0 (λ (first : place - 1 ≡ 0). omega (arith, first, inside)))) kept_step.inside)
+        start end old now next (omega (arith, low)) room put (subst (λ n. AddsFrom e line start end n old now) (let one : place ≡ suc (place - 1) = omega (arith, some) in one) after)
 
 -- the first stretch from a place before, where the ends of the places between are listed
 module _ (e : Expression) (line : Text) (stop place end : ℕ) (zeros ends : List ℕ) (seen found : Span) (low : stop ≤ place) (none : (i : ℕ) → slice_index zeros i ≡ 0) (added : AddsFrom e line stop place stop zeros ends) where

@@ -7,7 +7,7 @@ use Rattle.re_auto.specs.Working.Bits.{Has}
 use Rattle.re_auto.specs.Working.Positions.{part_of}
 use Rattle.re_auto.specs.Working.Ranges.{Covers}
 use Rattle.re_ends.specs.declared.groups.Groups.{Groups}
-use Rattle.re_ends.specs.Working.Groups.{group_of, position_of, AreGroupsFor, AreInTurn, CanHave, Grow, HasGroups, In, IsRow}
+use Rattle.re_ends.specs.Working.Groups.{group_of, position_of, AreGroupsFor, AreInTurn, CanHave, Grow, HasGroups, In, IsRow, numbers_of}
 
 -- the expression, the byte and whether it is the line's last, the groups after it and their number
 pub record Byte : Type 0 where
@@ -44,7 +44,9 @@ pub record IsClosed (b : Byte) (k : ℕ) (left kept row : List ℕ) : Type 0 whe
   pub made_of : AreMembers (length kept) row
 
 abbrev pub AreClosed : Byte → ℕ → Groups → Type 0
-AreClosed b k groups = IsClosed b k groups.left.items groups.kept.items groups.row.items
+AreClosed b k groups =
+    IsClosed b k groups.left.items (numbers_of groups.runs.items) groups.row.items ×
+    (groups.count ≡ length (numbers_of groups.runs.items))
 
 -- Of the members after the byte those before i were met: the groups below this one are closed, and the
 -- positions that can have its end by them are marked.

@@ -1,6 +1,7 @@
 -- Groups of positions at a place of a line: those of a group have the same greatest end, and the groups
 -- with greater ends come first. A row has the members of all groups, and a list has the groups' ends.
-use Rattle.std.specs.Prelude.{◌≡◌, ℕ, zero, suc, ◌+◌, ◌/◌, ◌%◌, ◌^◌, ◌<◌, ◌≤◌, ◌↔◌, ◌⊎◌, Bool, List, [], ◌∷◌, ◌++◌, length, slice_index, vec_capacity}
+use Rattle.std.specs.Prelude.{◌≡◌, ℕ, zero, suc, ◌/◌, ◌%◌, ◌^◌, ◌<◌, ◌≤◌, ◌↔◌, ◌⊎◌, Bool, List, [], ◌∷◌, ◌++◌, flat_map, length, map, slice_index, vec_capacity}
+use Rattle.std.specs.List.{range_with_len}
 use Rattle.re_trees.specs.Bytes.{Text}
 use Rattle.re_trees.specs.Expression.{Expression}
 use Rattle.re_trees.specs.Holds.{positions}
@@ -9,6 +10,7 @@ use Rattle.re_auto.specs.Working.Positions.{Part}
 use Rattle.re_auto.specs.Working.Preceding.{ArePrecedingFor}
 use Rattle.re_auto.specs.Working.Tables.{words_for}
 use Rattle.re_ends.specs.declared.groups.Groups.{Groups}
+use Rattle.re_ends.specs.declared.list.Run.{Run}
 use Rattle.re_ends.specs.Working.GreatestEnds.{LeadsPast}
 
 -- the ends of groups, and how many there is room for
@@ -23,14 +25,20 @@ end_of ends (suc k) = slice_index ends k
 
 -- the ends with these numbers stay
 abbrev pub Leaves : List ℕ → List ℕ → List ℕ → Type 0
-Leaves kept old new =
-    (length new ≡ length kept) ×
-    ((k : ℕ) → k < length kept → slice_index kept k < length old →
-    slice_index new k ≡ slice_index old (slice_index kept k))
+Leaves kept old new = new ≡ map (λ k. slice_index old k) kept
 
--- the numbers follow each other, from this one on
-abbrev pub Follow : ℕ → List ℕ → Type 0
-Follow first xs = (k : ℕ) → k < length xs → slice_index xs k ≡ first + k
+-- they are among those of the list and one more, and there is room
+abbrev pub Fits : List ℕ → Ends → Type 0
+Fits kept list =
+    (length list.ends < list.most) × (length kept ≤ list.most)
+    × ((k : ℕ) → k < length kept → slice_index kept k ≤ length list.ends)
+
+-- the numbers of runs
+abbrev pub numbers : Run → List ℕ
+numbers r = range_with_len r.first (suc r.more)
+
+abbrev pub numbers_of : List Run → List ℕ
+numbers_of runs = flat_map numbers runs
 
 -- a member of a row: the number of its group times 2^16, plus its position
 abbrev pub group_of : ℕ → ℕ
@@ -112,4 +120,4 @@ pub record AreGroupsFor (e : Expression) (groups : Groups) : Type 0 where
   pub left : length groups.left.items ≡ words_for (positions e)
   pub met : length groups.met.items ≡ words_for (positions e)
   pub row : positions e ≤ vec_capacity groups.row
-  pub kept : positions e ≤ vec_capacity groups.kept
+  pub runs : positions e ≤ vec_capacity groups.runs

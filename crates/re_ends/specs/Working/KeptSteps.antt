@@ -1,5 +1,6 @@
 -- Steps between rows of groups, as far as they are kept.
-use Rattle.std.specs.Prelude.{◌≡◌, ℕ, ◌+◌, ◌-◌, ◌*◌, ◌^◌, ◌<◌, ◌≤◌, ◌⊎◌, Bool, false, List, [], ◌∷◌, nat_eq, Some, length, get_or, slice_get, slice_index, Vec, vec_capacity}
+use Rattle.std.specs.Prelude.{◌≡◌, ℕ, ◌+◌, ◌-◌, ◌*◌, ◌^◌, ◌<◌, ◌≤◌, Bool, false, List, [], ◌∷◌, nat_eq, Some, length, get_or, slice_get, slice_index, Vec, vec_capacity}
+use Rattle.std.specs.List.{range_with_len}
 use Rattle.std.specs.declared.alloc.Global.{Global}
 use Rattle.re_trees.specs.Expression.{Expression}
 use Rattle.re_trees.specs.Holds.{positions}
@@ -7,41 +8,47 @@ use Rattle.re_auto.specs.Working.Positions.{Part, part_of}
 use Rattle.re_auto.specs.Working.StateSets.{AreAlikeInClasses}
 use Rattle.re_ends.specs.declared.kept.Step.{Step}
 use Rattle.re_ends.specs.declared.kept.KeptSteps.{KeptSteps}
-use Rattle.re_ends.specs.Working.Groups.{Follow, IsFirstIn, IsRow, IsStep}
+use Rattle.re_ends.specs.declared.list.Run.{Run}
+use Rattle.re_ends.specs.Working.Groups.{IsFirstIn, IsRow, IsStep, numbers_of}
 
 -- lists of numbers
 abbrev pub Lists : Type 0
 Lists = List (Vec ℕ Global)
 
--- Operations from this one on are numbers of lists of ends that stay, plus this. The last is none.
+-- lists of runs
+abbrev pub AllRuns : Type 0
+AllRuns = List (Vec Run Global)
+
+-- Operations from this one on are numbers of lists of runs of ends that stay, plus this. The last is
+-- none.
 abbrev pub listed : ℕ
 listed = 2 ^ 15
 
 abbrev pub unknown : ℕ
 unknown = 2 ^ 16 - 1
 
--- An operation says which ends stay: those from one on, or the listed ones.
-abbrev pub IsOperation : Lists → ℕ → List ℕ → Type 0
+-- An operation says which ends stay: those from one on, or those of runs. It is 0 where none stays.
+abbrev pub IsOperation : AllRuns → ℕ → List ℕ → Type 0
 IsOperation lists op kept =
-    ((op < listed) × Follow op kept)
-    ⊎ ((list : Vec ℕ Global) × (listed ≤ op) × (slice_get lists (op - listed) ≡ Some list) ×
-    (kept ≡ list.items))
+    (op < listed → (op ≡ slice_index kept 0) × (kept ≡ range_with_len op (length kept))) ×
+    (listed ≤ op → (runs : Vec Run Global) × (slice_get lists (op - listed) ≡ Some runs) ×
+    (kept ≡ numbers_of runs.items))
 
 -- the lists stay, and others may come after them
-abbrev pub AreLonger : Lists → Lists → Type 0
+abbrev pub AreLonger : AllRuns → AllRuns → Type 0
 AreLonger old new =
-    (k : ℕ) (list : Vec ℕ Global) → slice_get old k ≡ Some list → slice_get new k ≡ Some list
+    (k : ℕ) (runs : Vec Run Global) → slice_get old k ≡ Some runs → slice_get new k ≡ Some runs
 
 abbrev pub no_step : Step
 no_step = record { row = 0; inside = 0; op = unknown; count = 0 }
 
--- the classes of bytes and their number, rows, cells, and lists of ends that stay
+-- the classes of bytes and their number, rows, cells, and runs of ends that stay
 pub record Rows : Type 0 where
   pub classes : List ℕ
   pub width : ℕ
   pub rows : Lists
   pub cells : List Step
-  pub lists : Lists
+  pub lists : AllRuns
 
 abbrev pub rows_of : KeptSteps → Rows
 rows_of s =
@@ -67,8 +74,8 @@ abbrev pub IsRowIn : KeptSteps → ℕ → Bool → List ℕ → Type 0
 IsRowIn s = IsRowOf s.width s.rows.items
 
 -- what a cell says of the step over a byte from these groups
-pub record IsKeptStep (part : Part) (width : ℕ) (rows lists : Lists) (end : Bool) (from : List ℕ)
-    (c : ℕ) (step : Step) : Type 0 where
+pub record IsKeptStep (part : Part) (width : ℕ) (rows : Lists) (lists : AllRuns) (end : Bool)
+    (from : List ℕ) (c : ℕ) (step : Step) : Type 0 where
   pub into : List ℕ
   pub row : IsRowOf width rows step.row false into
   pub kept : List ℕ

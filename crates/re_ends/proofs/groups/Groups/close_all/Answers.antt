@@ -24,7 +24,7 @@ members-preserved c = record {
         left = m.made.left;
         met = ap length met ∙ c.add_to-range.ensures.len ∙ ap length c.deref_mut.ensures.value ∙ m.made.met;
         row = m.made.row;
-        kept = m.made.kept;
+        runs = m.made.runs;
       }) m.closed (rw met c.add_to-range.ensures.covers) (λ p. rw (met, same) (rw c.deref_mut.ensures.value at (c.add_to-range.ensures.added b.e p m.made.preceding)));
   first = λ none. absurd (omega (arith, none));
   last = λ some. ap (λ n. group_of (slice_index c.args.after.now n)) (let is : c.members.i + 1 - 1 ≡ c.members.i = omega arith in is);

@@ -46,10 +46,13 @@ module _ (c : goal.After-self-2-1) where
       )
 
 pub returns-clause-made : goal.returns-clause-made
-returns-clause-made c = let made = (next c).0 in record { few = made.few; preceding = made.preceding; left = made.left; met = made.met; row = made.row; kept = made.kept }
+returns-clause-made c = let made = (next c).0 in record { few = made.few; preceding = made.preceding; left = made.left; met = made.met; row = made.row; runs = made.runs }
 
 pub returns-clause-row : goal.returns-clause-row
-returns-clause-row c = laws.closed_row (next c).1
+returns-clause-row c = laws.closed_row (next c).1.0
 
 pub returns-clause-right : goal.returns-clause-right
-returns-clause-right c = laws.closed_step c.requires.after.groups (next c).1
+returns-clause-right c = laws.closed_step c.requires.after.groups (next c).1.0
+
+pub returns-clause-count : goal.returns-clause-count
+returns-clause-count c = (next c).1.1

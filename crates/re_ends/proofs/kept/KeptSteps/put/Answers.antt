@@ -1,9 +1,9 @@
-use Rattle.re_ends.proofs.Prelude.{arith, false, length, set, subst, ◌+◌, ◌≡◌, slice_index, expression_of, Has, part_of, positions}
+use Rattle.re_ends.proofs.Prelude.{arith, false, set, subst, sym, ◌+◌, ◌≡◌, slice_index, expression_of, Has, part_of, positions}
+use Rattle.re_ends.specs.Working.Groups.{numbers_of}
 use Rattle.re_ends.specs.Working.KeptSteps.{AreRight, IsOperation}
-use Rattle.re_ends.proofs.lemmas.ClosingLaws.{few_groups}
 use Rattle.re_ends.proofs.lemmas.GroupLaws.{first_alike}
 use Rattle.re_ends.proofs.lemmas.KeptLaws as laws
-use Rattle.re_ends.proofs.kept.KeptSteps.put.Goals.{After-index, After-len}
+use Rattle.re_ends.proofs.kept.KeptSteps.put.Goals.{After-index}
 use Rattle.re_ends.proofs.kept.KeptSteps.put.Goals as goal
 
 pub returns-in_default-clause-sound : goal.returns-in_default-clause-sound
@@ -23,38 +23,35 @@ overflow_add-at c =
 pub overflow_cast-to : goal.overflow_cast-to
 overflow_cast-to c = let small = laws.row_small c.requires.sound c.requires.to in omega (arith, small)
 
-pub overflow_cast-len : goal.overflow_cast-len
-overflow_cast-len c = let few = few_groups c.args.groups.now.row.items (length c.args.groups.now.kept.items) c.requires.row.in_turn c.requires.from.3.made in omega (arith, few, c.requires.row.few, c.len.ensures, c.requires.made.few, c.args.groups.now.kept.ok)
-
 pub index_mut-requires : goal.index_mut-requires
 index_mut-requires c =
     let inside = laws.cell_within c.requires.sound c.requires.from.2 c.args.byte c.ranges.byte.fits in
     omega (arith, class (goal.at.index_mut-requires c).After-index, inside, c.args.self.now.cells.ok)
 
-sound : (c : After-len) → c.index.result.now ≡ slice_index c.args.self.now.classes.items c.args.byte → AreRight (expression_of c.args.automaton.now) (record {
+sound : (c : After-index) → AreRight (expression_of c.args.automaton.now) (record {
   classes = c.args.self.now.classes.items;
   width = c.args.self.now.width;
   rows = c.args.self.now.rows.items;
-  cells = set c.args.self.now.cells.items (c.args.from + c.index.result.now) (record { row = c.args.to; inside = c.first_in-inside.result; op = c.in-Ok.op; count = c.len.result });
+  cells = set c.args.self.now.cells.items (c.args.from + c.index.result.now) (record { row = c.args.to; inside = c.first_in-inside.result; op = c.in-Ok.op; count = c.args.groups.now.count });
   lists = c.operation_of.new.lists.items;
 })
-sound c class =
+sound c =
     let e = expression_of c.args.automaton.now in
-    rw class (laws.right_put (laws.right_lists c.requires.sound c.operation_of.ensures.kept) c.requires.from.2 c.ranges.byte.fits (record {
+    rw (class c) (laws.right_put (laws.right_lists c.requires.sound c.operation_of.ensures.kept) c.requires.from.2 c.ranges.byte.fits (record {
       into = c.args.groups.now.row.items;
       row = c.requires.to;
-      kept = c.args.groups.now.kept.items;
-      op = subst (IsOperation c.operation_of.new.lists.items c.in-Ok.op) c.deref.ensures.value c.in-Ok.ensures.op.1;
-      count = omega (arith, c.len.ensures, c.args.groups.now.kept.ok);
+      kept = numbers_of c.args.groups.now.runs.items;
+      op = subst (λ l. IsOperation c.operation_of.new.lists.items c.in-Ok.op (numbers_of l)) c.deref.ensures.value c.in-Ok.ensures.op.1;
+      count = sym c.requires.count;
       right = c.requires.from.3;
       inside = first_alike (Has c.beginning.result.now) ((part_of e 0).first false) c.args.groups.now.row.items c.beginning.ensures.1 (rw c.deref-2.ensures.value at c.first_in-inside.ensures);
     }))
 
 pub returns-then-op-lt-LISTED-clause-sound : goal.returns-then-op-lt-LISTED-clause-sound
-returns-then-op-lt-LISTED-clause-sound c = sound (goal.at.returns-then-op-lt-LISTED-clause-sound c).After-len (class (goal.at.returns-then-op-lt-LISTED-clause-sound c).After-index)
+returns-then-op-lt-LISTED-clause-sound c = sound (goal.at.returns-then-op-lt-LISTED-clause-sound c).After-index
 
 pub returns-clause-sound : goal.returns-clause-sound
-returns-clause-sound c = rw c.count_bytes.ensures (sound (goal.at.returns-clause-sound c).After-len (class (goal.at.returns-clause-sound c).After-index))
+returns-clause-sound c = rw c.count_bytes.ensures (sound (goal.at.returns-clause-sound c).After-index)
 
 pub returns-clause-kept : goal.returns-clause-kept
 returns-clause-kept c = λ row end of is. rw c.count_bytes.ensures is

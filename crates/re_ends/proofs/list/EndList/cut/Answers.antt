@@ -1,12 +1,21 @@
-use Rattle.re_ends.proofs.Prelude.{arith, subst, ◌≡◌, ◌+◌, ◌∙◌, ◌++◌, ◌∷◌, [], drop, set, take}
-use Rattle.re_ends.specs.Working.Groups.{Ends, Leaves}
-use Rattle.re_ends.proofs.lemmas.ListLaws.{cut_leaves}
-use Rattle.re_ends.proofs.list.EndList.cut.Goals.{then-self-len, else-self-len}
+use Rattle.re_ends.proofs.Prelude.{arith, ap, sym, length, length-append, take, drop, ◌≡◌, ◌+◌, ◌-◌, ◌∙◌, ◌++◌, ◌∷◌, []}
+use Rattle.std.proofs.lemmas.List.{drop-drop, drop-take, length-take, take-take}
+use Rattle.std.proofs.lemmas.Simd.{pick_l-range_with_len}
 use Rattle.re_ends.proofs.list.EndList.cut.Goals as goal
 
+pub invariant_of-self : goal.invariant_of-self
+invariant_of-self c =
+    let s = c.self.inside in
+    (omega (arith, c.self.invariant.0, c.requires.few, ap (λ e. length e.ends) c.self.view_is, ap length c.put_last.ensures.last, length-take s.count (drop s.base s.buffer.items), length-append c.args.self.now.ends (c.args.place ∷ [])), c.self.invariant.1)
+
 pub returns-clause-cut : goal.returns-clause-cut
-returns-clause-cut c = λ kept follow long yes.
-    let same = c.self-2.view_is ∙ elim c.if-self-len.branch as (λ x. c.if-self-len.self ≡ c.args.self.now) [ then-self-len w ↦ w.self-is ∙ w.move_back.ensures | else-self-len w ↦ w.self-is ] in
-    let s = c.self-2.inside in
-    subst (λ (old : Ends). Leaves kept (old.ends ++ c.args.place ∷ []) (take c.args.count (drop (s.base + c.args.first) (set s.buffer.items (s.base + s.count) c.args.place)))) same
-    (cut_leaves s.buffer.items s.base s.count c.args.first c.args.count c.args.place kept (omega (arith, c.self-2.invariant.0, c.if-last-len.false, c.len-2.ensures, s.buffer.ok)) c.if-first-count.false follow long)
+returns-clause-cut c =
+    let s = c.self.inside in
+    let ends = c.args.self.now.ends ++ c.args.place ∷ [] in
+    let first = c.args.first in
+    let count = c.args.count in
+    let is : take s.count (drop s.base s.buffer.items) ≡ ends = ap (λ e. e.ends) c.self.view_is ∙ c.put_last.ensures.last in
+    let long = length-append c.args.self.now.ends (c.args.place ∷ []) in
+    let rest : s.count ≡ first + (s.count - first) = omega (arith, c.requires.few, ap length is, length-take s.count (drop s.base s.buffer.items), long) in
+    sym
+    (pick_l-range_with_len 0 ends first count (omega (arith, c.requires.few, long)) ∙ ap (λ l. take count (drop first l)) (sym is) ∙ ap (λ n. take count (drop first (take n (drop s.base s.buffer.items)))) rest ∙ ap (take count) (drop-take first (s.count - first) (drop s.base s.buffer.items)) ∙ take-take count (s.count - first) (drop first (drop s.base s.buffer.items)) (omega (arith, c.requires.few, ap length is, length-take s.count (drop s.base s.buffer.items), long)) ∙ ap (take count) (drop-drop first s.base s.buffer.items))

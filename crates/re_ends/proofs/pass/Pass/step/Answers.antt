@@ -1,10 +1,9 @@
-use Rattle.re_ends.proofs.Prelude.{arith, ap, length, subst, false, ℕ, ◌-◌, ◌∷◌, ◌++◌, [], expression_of, is_end}
+use Rattle.re_ends.proofs.Prelude.{arith, subst, sym, false, ℕ, ◌-◌, ◌∷◌, ◌++◌, [], expression_of, is_end}
 use Rattle.re_ends.specs.declared.kept.KeptSteps.{KeptSteps}
-use Rattle.re_ends.specs.Working.Groups.{Leaves}
+use Rattle.re_ends.specs.Working.Groups.{Fits, Leaves, numbers_of}
 use Rattle.re_ends.specs.Working.KeptSteps.{IsRowIn}
 use Rattle.re_ends.specs.Working.EndTables.{IsAtRow}
 use Rattle.re_ends.proofs.lemmas.KeptLaws.{row_is}
-use Rattle.re_ends.proofs.lemmas.ClosingLaws.{few_groups}
 use Rattle.re_ends.proofs.lemmas.TableLaws as laws
 use Rattle.re_ends.proofs.pass.Pass.step.Goals.{After-pick}
 use Rattle.re_ends.proofs.pass.Pass.step.Goals as goal
@@ -20,10 +19,13 @@ stepped c steps row is =
     let at = c.requires.at.1 in
     let same = c.row-after.ensures (is_end c.args.asked.now.line.now c.args.from.place) at.groups at.row in
     laws.step_stands c.pick.new.self c.args.from.place c.requires.some at.within (rw same at c.step.ensures.right) at.stands
-    (subst (λ l. Leaves l (c.args.self.now.list.ends ++ c.args.from.place ∷ []) c.pick.new.self.ends) c.deref.ensures.value c.pick.ensures.picked) is
+    (subst (λ l. Leaves (numbers_of l) (c.args.self.now.list.ends ++ c.args.from.place ∷ []) c.pick.new.self.ends) c.deref.ensures.value c.pick.ensures.picked) is
 
 pub pick-requires : goal.pick-requires
-pick-requires c = let few = few_groups c.step.new.self.row.items (length c.step.new.self.kept.items) c.step.ensures.row.in_turn c.step.ensures.right.made in omega (arith, few, c.step.ensures.row.few, ap length c.deref.ensures.value, c.requires.at.0.most)
+pick-requires c =
+    let at = c.requires.at.1 in
+    let same = c.row-after.ensures (is_end c.args.asked.now.line.now c.args.from.place) at.groups at.row in
+    subst (λ l. Fits (numbers_of l) c.args.self.now.list) (sym c.deref.ensures.value) (laws.step_fits _ (row_is c.requires.at.0.steps at.row) c.step.ensures.row (rw same at c.step.ensures.right) at.stands c.requires.at.0.most)
 
 pub put-requires-clause-from : goal.put-requires-clause-from
 put-requires-clause-from c =
