@@ -1,10 +1,10 @@
 -- The words of specs and of std that proofs of this crate use, passed on from one place. Declares nothing.
 pub use Rattle.re_runs.specs.Working.Blocks.{CountsMatched, FindsMatched, FindsNext, HoldsOfMany, Lacks, PassesAll, PassesUnmatched, StandsIn}
-pub use Rattle.re_needle.specs.Working.Needles.{HasNoBegin, IsJustRun, IsNeeded, IsNeedleOf, IsRunNeedleFor, IsSettled, LacksNeeded, RunBegins, RunIsNeeded, RunStandsBetween, StandsBetween}
+pub use Rattle.re_needle.specs.Working.Needles.{HasNoBegin, IsJustRun, IsNeeded, IsNeedleFor, IsNeedleOf, IsRunNeedleFor, IsSettled, LacksNeeded, RunBegins, RunIsNeeded, RunStandsBetween, StandsBetween}
 pub use Rattle.re_runs.specs.Working.Finders.{runs_of}
 pub use Rattle.re_needle.specs.Working.Outlines.{AddsOutline, AddsSets, AddsTurns, AreJoined, AreSetMarks, BeginsWith, Fits, IsOutline, Leads, MarkFits, shown}
 pub use Rattle.re_runs.specs.Working.Runs.{BeginsWithout, FindsRun, IsLongestRun, IsNoWider, LacksRun, RunIsAt, RunStandsAt, Runs, front_of, members_of, most_sets, one_run, set_at, sets_of_each}
-pub use Rattle.re_needle.specs.Working.Branches.{AreRunsOf, IsRunOf}
+pub use Rattle.re_needle.specs.Working.Branches.{AreRunsOf, IsRunOf, branch_within, branches_within, choice_within}
 pub use Rattle.re_needle.specs.declared.needle.Needle.{Needle}
 pub use Rattle.re_needle.specs.declared.outline_item.OutlineItem.{OutlineItem}
 pub use Rattle.re_runs.specs.declared.run_finder.RunFinder.{RunFinder}

@@ -2,7 +2,7 @@
 ghost use Rattle.std.specs.Prelude.{◌≡◌, ◌≤◌, length};
 
 use crate::outline_item::OutlineItem;
-use re_runs::{HALVED, Survey, rank_of};
+use re_runs::{HALVED, Survey};
 
 // From how many bytes on a run is long. If one of two runs is long, the longer one is taken; else
 // one that is much rarer takes precedence over a longer one.
@@ -13,6 +13,12 @@ const MUCH: u8 = 32;
 
 // A byte of this rank or a higher one is on most lines of texts in words.
 const OFTEN: u8 = 240;
+
+// As many bytes of most texts as surveys speak of.
+const TEXT: u64 = 65_536;
+
+// A run is at fewer places than another if it is at this number of them fewer.
+const FEW: u64 = 8;
 
 // A set is small if at most about this number of 65,536 bytes of most texts are in it.
 const SMALL: u32 = 24_576;
@@ -40,6 +46,8 @@ pub struct Run {
     length: usize,
     // How common its rarest mark is.
     rank: u8,
+    // About how many of 65,536 places of most texts have it.
+    stops: u64,
 }
 
 impl Run {
@@ -51,17 +59,19 @@ impl Run {
             start,
             length: 0,
             rank: u8::MAX,
+            stops: TEXT,
         }
     }
 
     // The run with one more mark.
-    fn with(self, rank: u8) -> Run
+    fn with(self, mark: Survey) -> Run
         ensures { result.start ≡ self.start }
     {
         Run {
             start: self.start,
             length: self.length.saturating_add(1),
-            rank: self.rank.min(rank),
+            rank: self.rank.min(mark.rank),
+            stops: self.stops.saturating_mul(u64::from(mark.share)) / TEXT,
         }
     }
 
@@ -73,6 +83,11 @@ impl Run {
     /// Whether a mark of it is half as common as the first of the other, which is on most lines.
     pub fn is_rarer(self, byte: Run) -> bool {
         byte.length > 0 && byte.rank >= OFTEN && self.rank.saturating_add(HALVED) <= byte.rank
+    }
+
+    /// Whether it is at fewer places of most texts than the other.
+    pub fn is_at_fewer(self, other: Run) -> bool {
+        self.stops.saturating_add(FEW) < other.stops
     }
 
     // Whether it takes precedence over the other, which begins at the same place or before. A
@@ -98,8 +113,8 @@ pub fn best_run(marks: &[OutlineItem], of: RunKind) -> Run
     let mut now = Run::at(0);
     let mut best = Run::at(0);
     'marks: for place in 0..marks.len() {
-        now = match mark_rank(&marks[place], of) {
-            Some(rank) => now.with(rank),
+        now = match mark_survey(&marks[place], of) {
+            Some(mark) => now.with(mark),
             None => Run::at(place + 1),
         };
         if now.beats(best, of) {
@@ -110,21 +125,15 @@ pub fn best_run(marks: &[OutlineItem], of: RunKind) -> Run
 }
 
 /// How common the bytes of the mark are, if it may be one of such a run.
-pub fn mark_rank(mark: &OutlineItem, of: RunKind) -> Option<u8> {
+pub fn mark_survey(mark: &OutlineItem, of: RunKind) -> Option<Survey> {
     let OutlineItem::Set(set) = mark else {
         return None;
     };
-    match of {
-        RunKind::Bytes => Some(rank_of(set.one_byte()?)),
-        RunKind::SmallSets => rank_within(&Survey::of(set)?, SMALL),
-        RunKind::Sets => rank_within(&Survey::of(set)?, LARGE),
-    }
-}
-
-// How common the set's bytes are, if at most `most` are in it.
-fn rank_within(survey: &Survey, most: u32) -> Option<u8> {
-    if survey.share > most {
-        return None;
-    }
-    Some(survey.rank)
+    let survey = Survey::of(set)?;
+    let is_one = match of {
+        RunKind::Bytes => set.one_byte().is_some(),
+        RunKind::SmallSets => survey.share <= SMALL,
+        RunKind::Sets => survey.share <= LARGE,
+    };
+    if is_one { Some(survey) } else { None }
 }

@@ -1,12 +1,15 @@
 //! What every match of a choice contains: a run of one of its branches.
-ghost use Rattle.std.specs.Prelude.{◌≡◌, ℕ, IfOk, IfSome, IsTrue, All, length, map};
-ghost use Rattle.re_trees.specs.Expression.{alt};
+ghost use Rattle.std.specs.Prelude.{IfOk, IfSome, map};
+ghost use Rattle.re_trees.specs.Expression.{Expression};
 ghost use Rattle.re_trees.specs.Working.Trees.{expression_of};
 ghost use Rattle.re_needle.specs.Working.Needles.{IsNeedleFor, IsRunNeedleFor};
-ghost use Rattle.re_needle.specs.Working.Branches.{AreRunsOf};
-ghost use Rattle.re_runs.specs.Working.Runs.{sets_of_each};
+ghost use Rattle.re_needle.specs.Working.Branches.{AreRunsOf, branch_within, branches_within};
+ghost use Rattle.re_needle.specs.Working.Branches.{choice_within};
+ghost use Rattle.re_needle.specs.Working.Outlines.{IsOutline, shown};
 
-use crate::needle::{Needle, head_needle, run_needle};
+use crate::needle::{Needle, run_needle};
+use crate::outline::{add_outline, add_parts};
+use crate::outline_item::OutlineItem;
 use re_runs::{RunFinder, SetFinder};
 use re_trees::{ByteSet, Tree};
 use std::alloc::{AllocError, Global};
@@ -14,63 +17,71 @@ use std::alloc::{AllocError, Global};
 // How many runs are looked for at once.
 const MOST_RUNS: usize = 8;
 
-// What branches begin with is looked for if it is at no more than twice as many of 65,536 places as their
-// best runs, and so many more.
+// Among how many parts a choice is found.
+const MOST_PARTS: usize = 16;
+
+// Runs that are at so many places of 65,536 fewer are looked for in place of others.
 const FEW_STOPS: u64 = 32;
 
-/// The runs to look for of a choice: one of each branch, if there are at most eight branches. If matches
-/// begin with the choice, these are the runs that its branches begin with, unless they are much more
-/// common than the best ones. `None` if it is no choice, if a branch isn't known to need a run, or if the
-/// runs are common and not all there is. The only error is that an allocation failed.
-pub fn choice_needle(alloc: Global, tree: &Tree, begins: bool) -> Result<Option<Needle>, AllocError>
+/// The runs to look for of a choice: one of each branch, if there are at most eight branches.
+/// `None` if it is no choice, if a branch isn't known to need a run, or if the runs are common and
+/// not all there is. The only error is that an allocation failed.
+pub fn choice_needle(alloc: Global, tree: &Tree) -> Result<Option<Needle>, AllocError>
     ensures { IfOk result (IsNeedleFor (expression_of tree.now)) }
 {
     let Tree::Alt(branches) = tree else {
         return Ok(None);
     };
+    needle_around(alloc, &[], branches, &[])
+}
+
+/// Of parts that follow one another, the runs for the first choice among them whose runs are rare
+/// in most texts, and at much fewer than `most` of 65,536 places. A branch's run may go over parts
+/// before and after it. The only error is that an allocation failed.
+pub fn needle_inside(alloc: Global, tree: &Tree, most: u64) -> Result<Option<Needle>, AllocError>
+    ensures { IfOk result (IsNeedleFor (expression_of tree.now)) }
+{
+    let Tree::Cat(parts) = tree else {
+        return Ok(None);
+    };
+    let most = most.saturating_sub(FEW_STOPS);
+    if most == 0 {
+        return Ok(None);
+    }
+    'parts: for place in 0..parts.len().min(MOST_PARTS) {
+        let Tree::Alt(branches) = &parts[place] else {
+            continue 'parts;
+        };
+        let Some(needle) = needle_around(alloc, &parts[..place], branches, &parts[place + 1..])?
+        else {
+            continue 'parts;
+        };
+        if needle.is_rare(most) {
+            return Ok(Some(needle));
+        }
+    }
+    Ok(None)
+}
+
+// The same for a choice among parts: a run of each branch with the parts before and after it.
+fn needle_around(
+    alloc: Global,
+    before: &[Tree],
+    branches: &[Tree],
+    after: &[Tree],
+) -> Result<Option<Needle>, AllocError>
+    ensures { IfOk result (IsNeedleFor (choice_within before.now branches.now after.now)) }
+{
     if branches.len() > MOST_RUNS {
         return Ok(None);
     }
-    let best = runs_needle(alloc, branches, false)?;
-    if !begins {
-        return Ok(best);
-    }
-    let heads = runs_needle(alloc, branches, true)?;
-    if are_preferred(&heads, &best) {
-        return Ok(heads);
-    }
-    Ok(best)
-}
-
-// Whether the runs that branches begin with are looked for: if each branch has one, but its best run is
-// another or unknown, and if they aren't much more common.
-fn are_preferred(heads: &Option<Needle>, best: &Option<Needle>) -> bool {
-    let Some(heads) = heads else {
-        return false;
-    };
-    let Some(best) = best else {
-        return heads.is_first;
-    };
-    let most = best.stops().saturating_mul(2).saturating_add(FEW_STOPS);
-    heads.is_first && !best.is_first && heads.stops() <= most
-}
-
-// The runs of these branches to look for: where `of_heads` is set those that they begin with, as far as
-// they are known.
-fn runs_needle(
-    alloc: Global,
-    branches: &[Tree],
-    of_heads: bool,
-) -> Result<Option<Needle>, AllocError>
-    ensures { IfOk result (IsNeedleFor (alt (map expression_of branches.now))) }
-{
     let Some(
         BranchRuns {
             runs,
             are_first,
             are_all,
         },
-    ) = branch_runs(alloc, branches, of_heads)?
+    ) = branch_runs(alloc, before, branches, after)?
     else {
         return Ok(None);
     };
@@ -88,28 +99,6 @@ fn runs_needle(
     }))
 }
 
-/// The runs of the first choice among parts that follow one another whose runs are rare in most texts, and
-/// at fewer than `most` of 65,536 places. The only error is that an allocation failed.
-pub fn needle_inside(alloc: Global, tree: &Tree, most: u64) -> Result<Option<Needle>, AllocError>
-    ensures { IfOk result (IsNeedleFor (expression_of tree.now)) }
-{
-    let Tree::Cat(parts) = tree else {
-        return Ok(None);
-    };
-    if most == 0 {
-        return Ok(None);
-    }
-    'parts: for place in 0..parts.len() {
-        let Some(needle) = choice_needle(alloc, &parts[place], place == 0)? else {
-            continue 'parts;
-        };
-        if needle.is_rare(most) {
-            return Ok(Some(needle.inside(place)));
-        }
-    }
-    Ok(None)
-}
-
 /// A run of each branch of a choice.
 #[derive(Drop)]
 pub struct BranchRuns {
@@ -124,11 +113,12 @@ pub struct BranchRuns {
 // A run of each branch; `None` if one isn't known to need any.
 fn branch_runs(
     alloc: Global,
+    before: &[Tree],
     branches: &[Tree],
-    of_heads: bool,
+    after: &[Tree],
 ) -> Result<Option<BranchRuns>, AllocError>
-    ensures { IfOk result
-        (λ found. IfSome found (AreRunsOf (map expression_of branches.now))) }
+    ensures { IfOk result (λ found. IfSome found
+        (AreRunsOf (branches_within before.now branches.now after.now))) }
 {
     let mut found = BranchRuns {
         runs: Vec::new(alloc),
@@ -136,7 +126,8 @@ fn branch_runs(
         are_all: true,
     };
     'branches: for place in 0..branches.len() {
-        let Some(needle) = branch_needle(alloc, &branches[place], of_heads)? else {
+        let marks = outline_around(alloc, before, &branches[place], after)?;
+        let Some(needle) = run_needle(alloc, &marks)? else {
             return Ok(None);
         };
         let run = needle.finder.sets(alloc)?;
@@ -147,16 +138,19 @@ fn branch_runs(
     Ok(Some(found))
 }
 
-// The run of a branch: where `of_heads` is set the one with which it begins, if that is known.
-fn branch_needle(alloc: Global, branch: &Tree, of_heads: bool) -> Result<Option<Needle>, AllocError>
-    ensures { IfOk result (IsRunNeedleFor (expression_of branch.now)) }
+// The outline of a branch between other parts.
+fn outline_around(
+    alloc: Global,
+    before: &[Tree],
+    branch: &Tree,
+    after: &[Tree],
+) -> Result<Vec<OutlineItem>, AllocError>
+    ensures { IfOk result (λ marks. IsOutline (map shown marks.items)
+        (branch_within before.now (expression_of branch.now) after.now)) }
 {
-    if !of_heads {
-        return run_needle(alloc, branch);
-    }
-    let head = head_needle(alloc, branch)?;
-    if head.is_some() {
-        return Ok(head);
-    }
-    run_needle(alloc, branch)
+    let mut marks = Vec::new(alloc);
+    add_parts(alloc, before, &mut marks)?;
+    add_outline(alloc, branch, &mut marks)?;
+    add_parts(alloc, after, &mut marks)?;
+    Ok(marks)
 }

@@ -4,7 +4,7 @@ ghost use Rattle.re_trees.specs.Bytes.{Bytes};
 ghost use Rattle.re_trees.specs.Working.Trees.{members};
 ghost use Rattle.re_needle.specs.Working.Outlines.{shown};
 
-use crate::choice::{RunKind, mark_rank};
+use crate::choice::{RunKind, mark_survey};
 use crate::outline_item::OutlineItem;
 use re_trees::ByteSet;
 use std::alloc::{AllocError, Global};
@@ -44,7 +44,7 @@ fn next_run_set(mark: &OutlineItem, before: usize, of: RunKind) -> Option<ByteSe
     if before >= most_sets(of) {
         return None;
     }
-    mark_rank(mark, of)?;
+    mark_survey(mark, of)?;
     match mark {
         OutlineItem::Set(set) => Some(*set),
         OutlineItem::Gap => None,

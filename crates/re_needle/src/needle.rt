@@ -40,35 +40,23 @@ pub struct Needle {
 
 impl Needle {
     /// The runs to look for: of a choice a run of each branch, if these are rare in most texts or
-    /// all there is; else the run of [`run_needle`], or the runs of a choice inside if these are rarer.
+    /// all there is; else the run of [`run_needle`], or the runs for a choice inside if these are rarer.
     /// The only error is that an allocation failed.
     pub fn of(alloc: Global, tree: &Tree) -> Result<Option<Needle>, AllocError>
         ensures { IfOk result (IsNeedleFor (expression_of tree.now)) }
     {
-        let choice = choice_needle(alloc, tree, true)?;
+        let choice = choice_needle(alloc, tree)?;
         if choice.is_some() {
             return Ok(choice);
         }
-        let run = run_needle(alloc, tree)?;
+        let mut marks = Vec::new(alloc);
+        add_outline(alloc, tree, &mut marks)?;
+        let run = run_needle(alloc, &marks)?;
         let inside = needle_inside(alloc, tree, stops_of(&run))?;
         if inside.is_some() {
             return Ok(inside);
         }
         Ok(run)
-    }
-
-    /// The same runs for parts that follow one another, of which the one at this place needs them.
-    pub fn inside(self, place: usize) -> Needle
-        ensures finder { result.finder ≡ self.finder }
-        ensures first { IsTrue result.is_first → IsTrue self.is_first × (place ≡ 0) }
-        ensures all { result.is_all ≡ false }
-    {
-        Needle {
-            finder: self.finder,
-            is_first: self.is_first && place == 0,
-            is_all: false,
-            is_common: self.is_common,
-        }
     }
 
     /// Whether the runs are rare in most texts, and at fewer than `most` of 65,536 places.
@@ -106,52 +94,43 @@ fn stops_of(needle: &Option<Needle>) -> u64 {
 }
 
 /// The run to look for, the first of these that every match needs, also in groups and in what is
-/// repeated once or more: two or more small sets that are all there is; two or more single bytes; a run of
-/// small sets that is rare in most texts; one byte that is not common; a long run of sets of any size; a
-/// common byte, or a small set that is half as common as a byte of most lines; any run of small sets, be
-/// it of one. A choice has the sets that its branches begin with, and a set that is repeated counts once
-/// for each time. `None` if there is none of these. The only error is that an allocation failed.
-pub fn run_needle(alloc: Global, tree: &Tree) -> Result<Option<Needle>, AllocError>
-    ensures { IfOk result (IsRunNeedleFor (expression_of tree.now)) }
+/// repeated once or more: two or more small sets that are all there is; two or more single bytes,
+/// unless small sets are at fewer places; a run of small sets that is rare in most texts; one byte
+/// that is not common; a long run of sets of any size; a common byte, or a small set that is half
+/// as common as a byte of most lines; any run of small sets, be it of one. A choice has the sets
+/// that its branches begin with, and a set that is repeated counts once for each time. `None` if
+/// there is none of these. The only error is that an allocation failed.
+pub fn run_needle(alloc: Global, marks: &[OutlineItem]) -> Result<Option<Needle>, AllocError>
+    ensures { IfOk result
+        (λ found. (e : Expression) → IsOutline (map shown marks.now) e → IsRunNeedleFor e found) }
 {
-    let mut marks = Vec::new(alloc);
-    add_outline(alloc, tree, &mut marks)?;
-    let bytes = best_run(&marks, RunKind::Bytes);
-    let text = text_needle(alloc, &marks, bytes.start, 2)?;
-    let sets = best_run(&marks, RunKind::SmallSets);
-    if text.is_some() && (bytes.is_all(&marks) || !sets.is_all(&marks)) {
+    let bytes = best_run(marks, RunKind::Bytes);
+    let text = text_needle(alloc, marks, bytes.start, 2)?;
+    let sets = best_run(marks, RunKind::SmallSets);
+    let is_text = !sets.is_all(marks) && !sets.is_at_fewer(bytes);
+    if text.is_some() && (is_text || bytes.is_all(marks)) {
         return Ok(text);
     }
-    let found = set_needle(alloc, &marks, sets.start, RunKind::SmallSets, 2, false)?;
+    let found = set_needle(alloc, marks, sets.start, RunKind::SmallSets, 2, false)?;
     if found.is_some() {
         return Ok(found);
     }
     if text.is_some() {
         return Ok(text);
     }
-    let single = single_needle(alloc, &marks, bytes, sets)?;
+    let single = single_needle(alloc, marks, bytes, sets)?;
     if matches!(&single, Some(needle) if !needle.is_common) {
         return Ok(single);
     }
-    let wide = best_run(&marks, RunKind::Sets).start;
-    let found = set_needle(alloc, &marks, wide, RunKind::Sets, MANY_SETS, true)?;
+    let wide = best_run(marks, RunKind::Sets).start;
+    let found = set_needle(alloc, marks, wide, RunKind::Sets, MANY_SETS, true)?;
     if found.is_some() {
         return Ok(found);
     }
     if single.is_some() {
         return Ok(single);
     }
-    set_needle(alloc, &marks, sets.start, RunKind::SmallSets, 1, true)
-}
-
-/// The two or more small sets with which each match begins. `None` if they aren't known. The only error is
-/// that an allocation failed.
-pub fn head_needle(alloc: Global, tree: &Tree) -> Result<Option<Needle>, AllocError>
-    ensures { IfOk result (IsRunNeedleFor (expression_of tree.now)) }
-{
-    let mut marks = Vec::new(alloc);
-    add_outline(alloc, tree, &mut marks)?;
-    set_needle(alloc, &marks, 0, RunKind::SmallSets, 2, true)
+    set_needle(alloc, marks, sets.start, RunKind::SmallSets, 1, true)
 }
 
 // The needle of the single bytes from a mark on, if there are at least `least`.

@@ -30,6 +30,18 @@ pub fn add_outline(
     add_tree(alloc, tree, MOST_DEPTH, marks)
 }
 
+/// Adds the outlines of parts that follow one another.
+pub fn add_parts(
+    alloc: Global,
+    parts: &[Tree],
+    marks: &mut Vec<OutlineItem>,
+) -> Result<(), AllocError>
+    ensures { IfOk result
+        (λ _. AddsOutline marks.old.items (cat (map expression_of parts.now)) marks.new.items) }
+{
+    add_all(alloc, parts, MOST_DEPTH, marks)
+}
+
 /// The same of a tree that is looked into so deep. What is deeper is a stretch.
 #[cycle(outline)]
 fn add_tree(

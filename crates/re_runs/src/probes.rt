@@ -4,7 +4,7 @@ ghost use Rattle.std.specs.Int.{bit_at};
 ghost use Rattle.memchr.specs.Find.{Nowhere};
 ghost use Rattle.memchr.specs.Lanes.{HasLanes};
 ghost use Rattle.re_runs.specs.Working.Runs.{AllPass, AreProbesOf, HaveRoom, IsNoWider, IsProbeOf, PassesAt};
-ghost use Rattle.re_runs.specs.Working.Runs.{bits_of, mark_of, meet, sets_of_each};
+ghost use Rattle.re_runs.specs.Working.Runs.{bits_of, mark_of, sets_of_each};
 
 use crate::alike::Alike;
 use crate::lanes::{both, lesser, nonzero};
@@ -79,7 +79,7 @@ impl Probe {
     }
 }
 
-/// Four probes; some may be the same.
+/// Three probes; some may be the same.
 #[derive(Clone, Copy, Drop)]
 pub struct Probes {
     /// The first, which the fewest bytes pass.
@@ -88,12 +88,10 @@ pub struct Probes {
     pub second: Probe,
     /// The third.
     pub third: Probe,
-    /// The fourth.
-    pub fourth: Probe,
 }
 
 impl Probes {
-    /// The tests at the first four of these distances; `None` if there is none.
+    /// The tests at the first three of these distances; `None` if there is none.
     pub fn of(runs: &[Vec<ByteSet>], width: usize, places: &[usize]) -> Option<Probes>
         requires { IsNoWider width (sets_of_each runs.now) }
         ensures { IfSome result (λ probes. AreProbesOf probes width (sets_of_each runs.now)) }
@@ -101,12 +99,10 @@ impl Probes {
         let first = Probe::of(runs, width, *places.first()?)?;
         let second = first.or_at(runs, width, places.get(1));
         let third = second.or_at(runs, width, places.get(2));
-        let fourth = third.or_at(runs, width, places.get(3));
         Some(Probes {
             first,
             second,
             third,
-            fourth,
         })
     }
 
@@ -114,7 +110,7 @@ impl Probes {
     /// before `past`. Returns where these 32 begin, and their marks.
     // The loop calls nothing, so the tables stay in registers.
     #[inline(never)]
-    pub fn next_marks<const COUNT: usize, const BITS: bool, const EACH: bool>(
+    pub fn next_marks<const BITS: bool, const EACH: bool>(
         &self,
         line: &[u8],
         from: usize,
@@ -129,65 +125,32 @@ impl Probes {
         ensures within { (k : ℕ) → bit_at result.1 k ≡ 1 → k < 32 }
     {
         let mut at = from;
-        let mut marks = self.marks::<COUNT, BITS, EACH>(line, at);
+        let mut marks = self.marks::<BITS, EACH>(line, at);
         'quiet: while marks == 0 && 64 <= past - at {
             at += 32;
-            marks = self.marks::<COUNT, BITS, EACH>(line, at);
+            marks = self.marks::<BITS, EACH>(line, at);
         }
         (at, marks)
     }
 
-    /// A mark for each of 32 places where so many of the tests are passed, and two if they are tests of
-    /// bits. Of several runs, `EACH`, one has to pass all.
+    /// A mark for each of 32 places where the first two tests are passed, by bits or by look-ups,
+    /// or where one of several runs, `EACH`, passes all three look-ups.
     #[inline(always)]
-    pub fn marks<const COUNT: usize, const BITS: bool, const EACH: bool>(
-        &self,
-        line: &[u8],
-        place: usize,
-    ) -> u64
+    pub fn marks<const BITS: bool, const EACH: bool>(&self, line: &[u8], place: usize) -> u64
         requires { HaveRoom self.now line.now (place + 32) }
         ensures each { (k : ℕ) → k < 32 → AllPass EACH self.now line.now (place + k)
             → bit_at result k ≡ 1 }
         ensures within { (k : ℕ) → bit_at result k ≡ 1 → k < 32 }
     {
         if BITS {
-            return self.bit_marks(line, place);
+            let first = self.first.bit_tested(line, place);
+            return nonzero(both(first, self.second.bit_tested(line, place)));
         }
         let first = self.first.looked_up(line, place);
-        if COUNT == 1 {
-            return nonzero(first);
+        let second = self.second.looked_up(line, place);
+        if EACH {
+            return nonzero(both(both(first, second), self.third.looked_up(line, place)));
         }
-        let two = met::<EACH>(first, self.second.looked_up(line, place));
-        if COUNT == 2 {
-            return nonzero(two);
-        }
-        let three = met::<EACH>(two, self.third.looked_up(line, place));
-        if COUNT == 3 {
-            return nonzero(three);
-        }
-        nonzero(met::<EACH>(three, self.fourth.looked_up(line, place)))
+        nonzero(lesser(first, second))
     }
-
-    // A mark for each of 32 places where the first two tests of bits are passed.
-    #[inline(always)]
-    fn bit_marks(&self, line: &[u8], place: usize) -> u64
-        requires { HaveRoom self.now line.now (place + 32) }
-        ensures each { (k : ℕ) → k < 32 → PassesAt self.now.first line.now (place + k)
-            → PassesAt self.now.second line.now (place + k) → bit_at result k ≡ 1 }
-        ensures within { (k : ℕ) → bit_at result k ≡ 1 → k < 32 }
-    {
-        nonzero(both(
-            self.first.bit_tested(line, place),
-            self.second.bit_tested(line, place),
-        ))
-    }
-}
-
-// What is not 0 where neither of two vectors is 0, or, for each of several runs, where they have a bit in
-// common.
-#[inline(always)]
-fn met<const EACH: bool>(a: u8x32, b: u8x32) -> u8x32
-    ensures { HasLanes result (λ k. meet EACH (slice_index a k) (slice_index b k)) }
-{
-    if EACH { both(a, b) } else { lesser(a, b) }
 }

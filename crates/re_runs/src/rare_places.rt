@@ -5,12 +5,12 @@ use re_trees::ByteSet;
 use std::alloc::{AllocError, Global};
 
 // How many places are tested at most.
-const MOST_PLACES: usize = 8;
+const MOST_PLACES: usize = 4;
 
 // As many bytes of most texts as shares speak of.
 const TEXT: u64 = 65_536;
 
-/// The places of the rarest of the runs' first `width` sets, eight at most, the rarest first. The only
+/// The places of the rarest of the runs' first `width` sets, four at most, the rarest first. The only
 /// error is that an allocation failed.
 pub fn rare_places(
     alloc: Global,

@@ -30,19 +30,6 @@ const MANY_STOPS: u64 = 1_024;
 // Runs of so few sets are compared sooner than further tests are made at 32 places.
 const FEW_SETS: usize = 4;
 
-// Which tests are tried at 32 places at once.
-#[derive(Clone, Copy, Drop)]
-enum Plan {
-    // The first two, by bits.
-    TwoBits,
-    // The only one, by look-ups.
-    One,
-    // The first two, by look-ups.
-    Two,
-    // The first three, by look-ups.
-    Three,
-}
-
 /// Looks for the first of several runs of sets, one byte of each set in turn: for bytes of the rarest
 /// sets at 32 places at once, and where these are it compares the others. Contracts see the runs.
 #[derive(Drop)]
@@ -51,9 +38,10 @@ pub struct SetFinder {
     // How many sets the shortest run has.
     width: usize,
     longest: usize,
-    plan: Plan,
+    // Whether one run is looked for by bits, which is cheaper than by look-ups.
+    by_bits: bool,
     probes: Probes,
-    // Tests of sets for which the plan's tests aren't right; `None` if there are none.
+    // Tests after the first two; `None` if there are none.
     others: Option<Probes>,
     // About how many of 65,536 places of most texts have a run.
     stops: u64,
@@ -90,19 +78,18 @@ impl SetFinder {
         let Some(probes) = Probes::of(&runs, width, &places) else {
             return Ok(None);
         };
-        let plan = plan_of(&runs, &places, &probes, longest);
-        let tested = tested(plan, &probes).min(places.len());
+        let by_bits = are_bits_enough(&probes, longest);
         let others = if longest > FEW_SETS {
-            Probes::of(&runs, width, &places[tested..])
+            Probes::of(&runs, width, &places[places.len().min(2)..])
         } else {
             None
         };
-        let stops = stops_at(&runs, first_of(&places, 4));
+        let stops = stops_at(&runs, &places);
         Ok(Some(SetFinder {
             runs,
             width,
             longest,
-            plan,
+            by_bits,
             probes,
             others,
             stops,
@@ -154,18 +141,12 @@ impl SetFinder {
         ensures within { IfSome result (λ place. place ≤ length line.now) }
     {
         if self.runs.len() > 1 {
-            return match self.plan {
-                Plan::One => self.find_by::<1, false, true>(line),
-                Plan::TwoBits | Plan::Two => self.find_by::<2, false, true>(line),
-                Plan::Three => self.find_by::<3, false, true>(line),
-            };
+            return self.find_by::<false, true>(line);
         }
-        match self.plan {
-            Plan::TwoBits => self.find_by::<2, true, false>(line),
-            Plan::One => self.find_by::<1, false, false>(line),
-            Plan::Two => self.find_by::<2, false, false>(line),
-            Plan::Three => self.find_by::<3, false, false>(line),
+        if self.by_bits {
+            return self.find_by::<true, false>(line);
         }
+        self.find_by::<false, false>(line)
     }
 
     /// Whether the line begins with a run.
@@ -193,13 +174,10 @@ impl SetFinder {
         take_some(&self.runs, line, place)
     }
 
-    // The same by this number of tests, of bits or by look-ups, that one of several runs, `EACH`, has to
-    // pass: 32 places at once, or one by one where there are fewer.
+    // The same by tests of bits or by look-ups, which one of several runs, `EACH`, has to pass: 32
+    // places at once, or one by one where there are fewer.
     #[inline(always)]
-    fn find_by<const COUNT: usize, const BITS: bool, const EACH: bool>(
-        &self,
-        line: &[u8],
-    ) -> Option<usize>
+    fn find_by<const BITS: bool, const EACH: bool>(&self, line: &[u8]) -> Option<usize>
         requires { IsTrue EACH → 2 ≤ length self.now }
         ensures { FindsRun line.now (members_of self.now) result }
     {
@@ -214,7 +192,7 @@ impl SetFinder {
         'runs: while start < end {
             // The last places are tried with some before them once more.
             let from = start.min(end - 32);
-            let (at, marks) = self.probes.next_marks::<COUNT, BITS, EACH>(line, from, end);
+            let (at, marks) = self.probes.next_marks::<BITS, EACH>(line, from, end);
             let left = narrowed::<EACH>(&self.others, line, at, marks);
             if let Some(place) = self.first_marked(line, at, left) {
                 return Some(place);
@@ -269,52 +247,25 @@ fn narrowed<const EACH: bool>(others: &Option<Probes>, line: &[u8], at: usize, m
     ensures within { (k : ℕ) → bit_at result k ≡ 1 → bit_at marks k ≡ 1 }
 {
     match others {
-        Some(probes) => marks & probes.marks::<4, false, EACH>(line, at),
+        Some(probes) => marks & probes.marks::<false, EACH>(line, at),
         None => marks,
     }
 }
 
-// Which tests are tried. Two tests of bits are the cheapest. They do for two letters, and where few places
-// of most texts pass; so do two look-ups. More places may pass where runs are compared at once.
-fn plan_of(runs: &[Vec<ByteSet>], places: &[usize], probes: &Probes, longest: usize) -> Plan {
+// Whether two tests of bits do, which are the cheapest: for two letters, and where few places of
+// most texts pass. More may pass where runs are compared at once.
+fn are_bits_enough(probes: &Probes, longest: usize) -> bool {
     let most = if longest <= FEW_SETS {
         MANY_STOPS
     } else {
         MOST_STOPS
     };
-    let first = probes.first.alike;
-    let second = probes.second.alike;
-    let bit_stops = share_with(first).saturating_mul(share_with(second)) >> 16;
-    if are_letters(probes) || bit_stops <= most {
-        return Plan::TwoBits;
-    }
-    if places.len() <= 1 {
-        return Plan::One;
-    }
-    if places.len() == 2 || stops_at(runs, first_of(places, 2)) <= most {
-        return Plan::Two;
-    }
-    Plan::Three
+    let first = share_with(probes.first.alike);
+    let second = share_with(probes.second.alike);
+    are_letters(probes) || first.saturating_mul(second) >> 16 <= most
 }
 
 // Whether the first two tests of bits are right for their sets, as they are for the cases of letters.
 fn are_letters(probes: &Probes) -> bool {
     probes.first.alike.are_nearly_all() && probes.second.alike.are_nearly_all()
-}
-
-// How many of the rarest sets the tests of the plan are right for.
-fn tested(plan: Plan, probes: &Probes) -> usize {
-    match plan {
-        Plan::TwoBits if !are_letters(probes) => 0,
-        Plan::One => 1,
-        Plan::TwoBits | Plan::Two => 2,
-        Plan::Three => 3,
-    }
-}
-
-// The first places, `most` at most.
-fn first_of(places: &[usize], most: usize) -> &[usize]
-    ensures { length result.now ≤ length places.now }
-{
-    &places[..most.min(places.len())]
 }

@@ -10,7 +10,7 @@ const COMMONEST: u32 = 8_192;
 /// A byte that is this number of ranks lower is half as common.
 pub const HALVED: u8 = 10;
 
-// The least rank of a digit.
+// The least rank of a digit, or of a tab.
 const OF_DIGITS: u8 = 225;
 
 /// How common the bytes of a set are.
@@ -64,10 +64,10 @@ fn share_of(byte: u8) -> u32 {
 }
 
 /// How common the byte is in most texts, from 0 for the rarest to 255. Texts that are searched have more
-/// digits than those that `memchr`'s ranks are of.
+/// digits and tabs than those that `memchr`'s ranks are of.
 pub fn rank_of(byte: u8) -> u8 {
     let rank = DefaultFrequencyRank.rank(byte);
-    if byte.is_ascii_digit() {
+    if byte.is_ascii_digit() || byte == b'\t' {
         return rank.max(OF_DIGITS);
     }
     rank

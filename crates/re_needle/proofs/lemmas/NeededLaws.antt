@@ -1,5 +1,5 @@
 -- Strings that a sequence of bytes needs.
-use Rattle.re_needle.proofs.Prelude.{◌<◌, ◌∙◌, ap, get_or, take, map-append, take_more, expression_of, Tree, ◌≡◌, ℕ, ◌+◌, ◌≤◌, List, [], ◌∷◌, ◌++◌, length, map, drop, refl, sym, subst, arith, append-nil, Text, Expression, byte, cat, sequence, Holds, StandsBetween, IsNeeded}
+use Rattle.re_needle.proofs.Prelude.{append_assoc, take-append-drop, ◌<◌, ◌∙◌, ap, get_or, take, map-append, take_more, expression_of, Tree, ◌≡◌, ℕ, ◌+◌, ◌≤◌, List, [], ◌∷◌, ◌++◌, length, map, drop, refl, sym, subst, arith, append-nil, Text, Expression, byte, cat, sequence, Holds, StandsBetween, IsNeeded}
 use Rattle.re_trees.proofs.lemmas.FixedStrings.{cat-sequence, sequence-cat, holds-stands}
 use Rattle.re_trees.proofs.lemmas.HoldsDecided.{Holds-le}
 use Rattle.re_runs.proofs.lemmas.Occurrences.{stands-occurs}
@@ -9,10 +9,22 @@ pub cat_cut : (line : Text) (xs ys : List Expression) (i j : ℕ) → Holds line
 cat_cut line [] ys i j h = (i, refl, h)
 cat_cut line (x ∷ xs) ys i j (m, first, later) = let rest = cat_cut line xs ys m j later in (rest.0, (m, first, rest.1), rest.2)
 
--- the expressions of the parts up to this one
+-- what there is of the parts up to this one
+pub map_grown : {Y : Type 0} (f : Tree → Y) (parts : List Tree) (i : ℕ) (part : Tree) → i < length parts → part ≡ get_or parts i part → map f (take (i + 1) parts) ≡ map f (take i parts) ++ f part ∷ []
+map_grown f parts i part lt is = ap (map f) (take_more parts i part lt) ∙ map-append f (take i parts) (get_or parts i part ∷ []) ∙ ap (λ x. map f (take i parts) ++ f x ∷ []) (sym is)
+
+-- their expressions
 pub parts_grown : (parts : List Tree) (i : ℕ) (part : Tree) → i < length parts → part ≡ get_or parts i part
     → map expression_of (take (i + 1) parts) ≡ map expression_of (take i parts) ++ expression_of part ∷ []
-parts_grown parts i part lt is = ap (map expression_of) (take_more parts i part lt) ∙ map-append expression_of (take i parts) (get_or parts i part ∷ []) ∙ ap (λ x. map expression_of (take i parts) ++ expression_of x ∷ []) (sym is)
+parts_grown parts i part lt is = map_grown expression_of parts i part lt is
+
+-- and those of all parts, around one of them
+pub parts_around : (parts : List Tree) (i : ℕ) (part : Tree) → i < length parts → part ≡ get_or parts i part
+    → map expression_of parts ≡ map expression_of (take i parts) ++ expression_of part ∷ map expression_of (drop (i + 1) parts)
+parts_around parts i part lt is =
+    let later = map expression_of (drop (i + 1) parts) in
+    ap (map expression_of) (sym (take-append-drop (i + 1) parts)) ∙ map-append expression_of (take (i + 1) parts) (drop (i + 1) parts) ∙ ap (λ l. l ++ later) (parts_grown parts i part lt is)
+    ∙ append_assoc (map expression_of (take i parts)) (expression_of part ∷ []) later
 
 -- bytes one after another hold on a stretch of their length
 cat_length : (line text : Text) (i j : ℕ) → Holds line (cat (map byte text)) i j → j ≡ i + length text

@@ -1,9 +1,9 @@
 -- Needles, and what their places say of a line.
-use Rattle.re_needle.proofs.Prelude.{RunStandsBetween, get_or, ◌<◌, cat, expression_of, Tree, IsNoWider, RunIsAt, RunStandsAt, IsLongestRun, ◌≡◌, ℕ, ◌+◌, ◌-◌, ◌≤◌, ap, inl, Bool, false, IsTrue, List, [], ◌∷◌, ◌++◌, length, map, drop, Option, Some, None, refl, sym, subst, arith, true, inr, ◌∙◌, length-append, is_some, Bytes, Text, only, Expression, Holds, Matches, IsFound, IsPart, Needle, RunFinder, most_sets, front_of, FindsRun, IsNeeded, RunIsNeeded, IsNeedleOf, IsRunNeedleFor, RunBegins, IsJustRun, Runs, one_run, runs_of, IsSettled, LacksNeeded, IsOutline, ◌↔◌, false≢true, length-map, take-append-drop, dec_le}
+use Rattle.re_needle.proofs.Prelude.{alt, map, Result, Ok, Err, IfOk, IsNeedleFor, choice_within, branches_within, cat, expression_of, Tree, IsNoWider, RunIsAt, RunStandsAt, IsLongestRun, ◌≡◌, ℕ, ◌+◌, ◌-◌, ◌≤◌, ap, inl, Bool, false, IsTrue, List, [], ◌∷◌, ◌++◌, length, map, drop, Option, Some, None, refl, sym, subst, arith, true, inr, ◌∙◌, length-append, is_some, Bytes, Text, only, Expression, Holds, Matches, IsFound, IsPart, Needle, RunFinder, most_sets, front_of, FindsRun, IsNeeded, RunIsNeeded, IsNeedleOf, IsRunNeedleFor, RunBegins, IsJustRun, Runs, one_run, runs_of, IsSettled, LacksNeeded, IsOutline, ◌↔◌, false≢true, length-map, take-append-drop, dec_le}
 use Rattle.re_trees.proofs.lemmas.Decisions.{Any-first}
 use Rattle.re_trees.proofs.lemmas.SomeOfJoined.{Any-single}
-use Rattle.re_trees.proofs.lemmas.HoldsDecided.{Holds-le}
-use Rattle.re_needle.proofs.lemmas.OutlineLaws.{run_needed, run_begins, just_run}
+use Rattle.re_needle.proofs.lemmas.NeededLaws.{cat_cut}
+use Rattle.re_needle.proofs.lemmas.OutlineLaws.{cat_join, run_needed, run_begins, just_run}
 use Rattle.std.specs.Prelude.{Any, suc, zero}
 use Rattle.re_runs.proofs.lemmas.RunLaws.{some_run, one_stands, front_stands, run_rest, run_text, nowhere}
 
@@ -120,31 +120,46 @@ module _ (e : Expression) (line : Text) where
           let own : RunIsAt line has.place run → Holds line e has.place (has.place + length run) = subst (λ r. RunIsAt line has.place r → Holds line e has.place (has.place + length r)) at (just.holds line has.place n run lt) in
           (has.place, has.place + length run, there.fits, own there)
 
--- ---- a part of parts that follow one another
+-- ---- expressions that hold on the same stretches
 
-module _ (line : Text) where
-  part_holds : (parts : List Tree) (n : ℕ) (part : Tree) → n < length parts → part ≡ get_or parts n part → (i j : ℕ) → Holds line (cat (map expression_of parts)) i j
-      → (k m : ℕ) × (i ≤ k) × (m ≤ j) × Holds line (expression_of part) k m × (n ≡ 0 → i ≡ k)
-  part_holds [] n part lt is i j h = absurd (omega (arith, lt))
-  part_holds (p ∷ parts) zero part lt is i j (k, here, later) =
-      (i, k, omega arith, Holds-le line (cat (map expression_of parts)) k j later, subst (λ p. Holds line (expression_of p) i k) (sym is) here, λ _. refl)
-  part_holds (p ∷ parts) (suc n) part lt is i j (k, first, later) =
-      let (a, b, low, high, here, _) = part_holds parts n part (omega (arith, lt)) is k j later in
-      let before : i ≤ k = Holds-le line (expression_of p) i k first in
-      (a, b, omega (arith, before, low), high, here, λ none. absurd (let no : ⊥ = omega (arith, none) in no))
-
--- what a part needs, all of them need; and they begin with what the first begins with
-pub needle_of_part : (parts : List Tree) (n : ℕ) (part : Tree) (needle whole : Needle) → n < length parts → part ≡ get_or parts n part → IsNeedleOf (expression_of part) needle
-    → whole.finder ≡ needle.finder → (IsTrue whole.is_first → IsTrue needle.is_first × (n ≡ 0)) → whole.is_all ≡ false → IsNeedleOf (cat (map expression_of parts)) whole
-needle_of_part parts n part needle whole lt is of same first all = record {
-  needed = λ line i j within h.
-      let (k, m, low, high, here, _) = part_holds line parts n part lt is i j h in
-      let (at, from, there) = of.needed line k m (omega (arith, high, within)) here in
-      subst (λ f. RunStandsBetween line (runs_of f) i j) (sym same) (at, omega (arith, low, from), some_run (runs_of needle.finder) (λ run is. (is.0, omega (arith, is.1, high))) there);
-  some = subst (λ f. IsNoWider 1 (runs_of f)) (sym same) of.some;
-  first = λ reported line i j within h.
-      let (its, none) = first reported in
-      let (k, m, low, high, here, begins) = part_holds line parts n part lt is i j h in
-      subst (λ f. RunStandsAt line (runs_of f) i) (sym same) (subst (RunStandsAt line (runs_of needle.finder)) (sym (begins none)) (of.first its line k m (omega (arith, high, within)) here));
-  all = λ yes. absurd (false≢true (sym all ∙ yes));
+same_needle : (e f : Expression) (needle : Needle) → ((line : Text) (i j : ℕ) → Holds line e i j ↔ Holds line f i j) → IsNeedleOf e needle → IsNeedleOf f needle
+same_needle e f needle same of = record {
+  needed = λ line i j within h. of.needed line i j within ((same line i j).1 h);
+  some = of.some;
+  first = λ reported line i j within h. of.first reported line i j within ((same line i j).1 h);
+  all = λ reported. record {
+    stands = λ line i j within h. (of.all reported).stands line i j within ((same line i j).1 h);
+    holds = λ line k n d lt there. (same line k _).0 ((of.all reported).holds line k n d lt there);
+  };
 }
+
+-- one part alone
+pub alone : {E : Type 0} (e : Expression) (r : Result (Option Needle) E) → IfOk r (IsNeedleFor (cat (e ∷ []))) → IfOk r (IsNeedleFor e)
+alone e (Ok None) of = tt
+alone e (Ok (Some needle)) of = same_needle (cat (e ∷ [])) e needle (λ line i j. (λ (k, here, end). subst (Holds line e i) end here, λ h. (j, h, refl))) of
+alone e (Err x) of = tt
+
+-- parts with a choice among them hold where those do with a branch in its place
+module _ (line : Text) (before after : List Tree) where
+  spread : (branches : List Tree) (i j : ℕ) → Holds line (choice_within before branches after) i j → Holds line (alt (branches_within before branches after)) i j
+  spread [] i j h = absurd (cat_cut line (map expression_of before) (alt [] ∷ map expression_of after) i j h).2.1
+  spread (b ∷ branches) i j h =
+      let (k, first, (m, here, later)) = cat_cut line (map expression_of before) (alt (map expression_of (b ∷ branches)) ∷ map expression_of after) i j h in
+      elim here [
+        | inl own ↦ inl (cat_join line (map expression_of before) (expression_of b ∷ map expression_of after) i k j first (m, own, later))
+        | inr other ↦ inr (spread branches i j (cat_join line (map expression_of before) (alt (map expression_of branches) ∷ map expression_of after) i k j first (m, other, later)))
+      ]
+
+  gathered : (branches : List Tree) (i j : ℕ) → Holds line (alt (branches_within before branches after)) i j → Holds line (choice_within before branches after) i j
+  gathered [] i j h = absurd h
+  gathered (b ∷ branches) i j (inl own) =
+      let (k, first, (m, here, later)) = cat_cut line (map expression_of before) (expression_of b ∷ map expression_of after) i j own in
+      cat_join line (map expression_of before) (alt (map expression_of (b ∷ branches)) ∷ map expression_of after) i k j first (m, inl here, later)
+  gathered (b ∷ branches) i j (inr other) =
+      let (k, first, (m, here, later)) = cat_cut line (map expression_of before) (alt (map expression_of branches) ∷ map expression_of after) i j (gathered branches i j other) in
+      cat_join line (map expression_of before) (alt (map expression_of (b ∷ branches)) ∷ map expression_of after) i k j first (m, inr here, later)
+
+-- what the branches need there
+pub within_needle : (before branches after : List Tree) (needle : Needle) → IsNeedleOf (alt (branches_within before branches after)) needle → IsNeedleOf (choice_within before branches after) needle
+within_needle before branches after needle of =
+    same_needle (alt (branches_within before branches after)) (choice_within before branches after) needle (λ line i j. (gathered line before after branches i j, spread line before after branches i j)) of

@@ -1,5 +1,5 @@
 -- Outlines of expressions, and the runs of sets that they make needed.
-use Rattle.re_needle.proofs.Prelude.{◌≡◌, ℕ, zero, suc, ◌+◌, ◌-◌, ◌<◌, ◌≤◌, IsTrue, List, [], ◌∷◌, ◌++◌, length, map, take, drop, get_or, replicate, slice_index, Option, None, Some, Result, Ok, Err, IfOk, refl, sym, ap, ◌∙◌, subst, arith, append_assoc, length-append, length-drop, take-append-drop, length-map, append-nil, map-append, replicate_more, get_or_from_slice_get, slice_get-get_or, Bytes, Text, Expression, one_of, cat, repeat, expression_of, members, Holds, Turns, ByteSet, Tree, OutlineItem, one_run, RunIsAt, All, set_at, shown, MarkFits, Fits, AreSetMarks, IsOutline, AddsOutline, AddsTurns, RunIsNeeded, RunBegins, IsJustRun}
+use Rattle.re_needle.proofs.Prelude.{◌≡◌, ℕ, zero, suc, ◌+◌, ◌-◌, ◌<◌, ◌≤◌, IsTrue, List, [], ◌∷◌, ◌++◌, length, map, take, drop, get_or, replicate, slice_index, Option, None, Some, Result, Ok, Err, IfOk, refl, sym, ap, ◌∙◌, subst, arith, append_assoc, length-append, length-drop, take-append-drop, length-map, append-nil, map-append, replicate_more, get_or_from_slice_get, slice_get-get_or, Bytes, Text, Expression, one_of, cat, repeat, expression_of, members, Holds, Turns, ByteSet, Tree, OutlineItem, one_run, RunIsAt, All, set_at, shown, MarkFits, Fits, AreSetMarks, IsOutline, AddsOutline, AddsTurns, RunIsNeeded, RunBegins, IsJustRun, branch_within}
 use Rattle.re_trees.proofs.lemmas.HoldsDecided.{Holds-le, Turns-le}
 use Rattle.re_needle.specs.declared.outline_item.OutlineItem.TheVariants as m
 use Rattle.re_trees.proofs.lemmas.Decisions.{Any-first}
@@ -71,19 +71,22 @@ stands_fit line run i is = take_fit line run i is.fits is.takes
 
 -- ---- outlines of parts and of wholes
 
-cat_join : (line : Text) (xs ys : List Expression) (i k j : ℕ) → Holds line (cat xs) i k → Holds line (cat ys) k j → Holds line (cat (xs ++ ys)) i j
+pub cat_join : (line : Text) (xs ys : List Expression) (i k j : ℕ) → Holds line (cat xs) i k → Holds line (cat ys) k j → Holds line (cat (xs ++ ys)) i j
 cat_join line [] ys i k j same h = subst (λ n. Holds line (cat ys) n j) (sym same) h
 cat_join line (x ∷ xs) ys i k j (m, first, later) h = (m, first, cat_join line xs ys m k j later h)
 
-outline_more : (xs ys : List (Option Bytes)) (es : List Expression) (e : Expression) → IsOutline xs (cat es) → IsOutline ys e → IsOutline (xs ++ ys) (cat (es ++ e ∷ []))
-outline_more xs ys es e front back = record {
+outline_one : (xs : List (Option Bytes)) (e : Expression) → IsOutline xs e → IsOutline xs (cat (e ∷ []))
+outline_one xs e is = record { fits = λ line i j (n, here, end). subst (λ x. Fits line xs i x) end (is.fits line i n here); holds = λ sets line i j f. (j, is.holds sets line i j f, refl) }
+
+outline_join : (xs ys : List (Option Bytes)) (es fs : List Expression) → IsOutline xs (cat es) → IsOutline ys (cat fs) → IsOutline (xs ++ ys) (cat (es ++ fs))
+outline_join xs ys es fs front back = record {
   fits = λ line i j h.
-      let (k, first, (n, here, end)) = cat_cut line es (e ∷ []) i j h in
-      fits_join line xs ys i k j (front.fits line i k first) (subst (λ x. Fits line ys k x) end (back.fits line k n here));
+      let (k, first, later) = cat_cut line es fs i j h in
+      fits_join line xs ys i k j (front.fits line i k first) (back.fits line k j later);
   holds = λ sets line i j f.
       let (k, first, later) = fits_cut line xs ys i j f in
       let both = sets_cut xs ys sets in
-      cat_join line es (e ∷ []) i k j (front.holds both.0 line i k first) (j, back.holds both.1 line k j later, refl);
+      cat_join line es fs i k j (front.holds both.0 line i k first) (back.holds both.1 line k j later);
 }
 
 outline_set : (s : Bytes) → IsOutline (Some s ∷ []) (one_of s)
@@ -182,8 +185,18 @@ adds_more old middle new parts i part lt is (xs, first, front) (ys, second, back
       xs ++ ys,
       second ∙ ap (λ l. l ++ ys) first ∙ append_assoc old xs ys,
       subst (λ l. IsOutline l (cat (map expression_of (take (i + 1) parts)))) (sym (map-append shown xs ys))
-          (subst (λ es. IsOutline (map shown xs ++ map shown ys) (cat es)) (sym grown) (outline_more (map shown xs) (map shown ys) (map expression_of (take i parts)) (expression_of part) front back)),
+          (subst (λ es. IsOutline (map shown xs ++ map shown ys) (cat es)) (sym grown) (outline_join (map shown xs) (map shown ys) (map expression_of (take i parts)) (expression_of part ∷ []) front (outline_one (map shown ys) (expression_of part) back))),
     )
+
+-- the marks of parts before an expression, its own, and those of parts after it
+pub outline_around : (a b c d : List OutlineItem) (before : List Tree) (e : Expression) (after : List Tree) → a ≡ [] → AddsOutline a (cat (map expression_of before)) b → AddsOutline b e c → AddsOutline c (cat (map expression_of after)) d
+    → IsOutline (map shown d) (branch_within before e after)
+outline_around a b c d before e after none (xs, one, front) (ys, two, here) (zs, three, back) =
+    let is : d ≡ xs ++ (ys ++ zs) = three ∙ ap (λ l. l ++ zs) (two ∙ ap (λ l. l ++ ys) (one ∙ ap (λ l. l ++ xs) none)) ∙ append_assoc xs ys zs in
+    let marks : map shown d ≡ map shown xs ++ (map shown ys ++ map shown zs) = ap (map shown) is ∙ map-append shown xs (ys ++ zs) ∙ ap (λ l. map shown xs ++ l) (map-append shown ys zs) in
+    subst (λ l. IsOutline l (branch_within before e after)) (sym marks)
+    (outline_join (map shown xs) (map shown ys ++ map shown zs) (map expression_of before) (e ∷ map expression_of after) front
+    (outline_join (map shown ys) (map shown zs) (e ∷ []) (map expression_of after) (outline_one (map shown ys) e here) back))
 
 -- of a call that went well
 pub ok_with : {A E : Type 0} {P Q : Type 0} (r : Result A E) → (P → Q) → IfOk r (λ _. P) → IfOk r (λ _. Q)

@@ -1,8 +1,10 @@
--- A run of each branch of a choice.
-use Rattle.std.specs.Prelude.{Bool, IsTrue, List}
+-- A run of each branch of a choice, which may have parts before and after it.
+use Rattle.std.specs.Prelude.{Bool, IsTrue, List, ◌++◌, ◌∷◌, map}
 use Rattle.std.specs.List.{AllZip}
 use Rattle.re_trees.specs.Bytes.{Bytes}
-use Rattle.re_trees.specs.Expression.{Expression}
+use Rattle.re_trees.specs.Expression.{Expression, alt, cat}
+use Rattle.re_trees.specs.Working.Trees.{expression_of}
+use Rattle.re_trees.specs.declared.tree.Tree.{Tree}
 use Rattle.re_needle.specs.declared.choice_needle.BranchRuns.{BranchRuns}
 use Rattle.re_needle.specs.Working.Needles.{RunIsNeeded, RunBegins, IsJustRun}
 use Rattle.re_runs.specs.Working.Runs.{one_run, sets_of_each}
@@ -18,3 +20,14 @@ pub record IsRunOf (first all : Bool) (run : List Bytes) (e : Expression) : Type
 abbrev pub AreRunsOf : List Expression → BranchRuns → Type 0
 AreRunsOf es found =
     AllZip (IsRunOf found.are_first found.are_all) (sets_of_each found.runs.items) es
+
+-- a branch between parts, and a choice there
+abbrev pub branch_within : List Tree → Expression → List Tree → Expression
+branch_within before e after = cat (map expression_of before ++ e ∷ map expression_of after)
+
+abbrev pub branches_within : List Tree → List Tree → List Tree → List Expression
+branches_within before branches after =
+    map (λ branch. branch_within before (expression_of branch) after) branches
+
+abbrev pub choice_within : List Tree → List Tree → List Tree → Expression
+choice_within before branches after = branch_within before (alt (map expression_of branches)) after

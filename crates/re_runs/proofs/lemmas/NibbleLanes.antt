@@ -1,5 +1,5 @@
 -- What operations on vectors of 32 bytes hold at each lane, beside those of memchr.
-use Rattle.re_runs.proofs.Prelude.{false≢true, IsTrue, meet, bits_of, AllPass, Probes, bit_at-zero, bit_at_and, ◌≡◌, ◌≢◌, ◌↔◌, ℕ, ◌+◌, ◌*◌, ◌/◌, ◌%◌, ◌^◌, ◌<◌, List, Bool, true, false, not, cond, eqb, ltb, min, bit_and, length, get_or, slice_index, map, replicate, refl, sym, ap, subst, ◌∙◌, eq-eqb, arith, w8, bit_at, zip2, sel_l, mask_l, top, HasLanes, Text, Alike, Probe, HasBits, PassesAt, mark_of, ltb-true, ltb-false, eqb-true, eqb-false, get_or-zip2, get_or-replicate, length-zip2, length-swz_l, get_or-swz_l_below, swz_l, SwzOk, SwzOk-from_below, Each1-from_get_or, length-sel_l, get_or-sel_l, tops_compared, bitmask_splat, bit_mask_l}
+use Rattle.re_runs.proofs.Prelude.{IsTrue, bits_of, AllPass, Probes, bit_at-zero, bit_at_and, ◌≡◌, ◌≢◌, ◌↔◌, ℕ, ◌+◌, ◌*◌, ◌/◌, ◌%◌, ◌^◌, ◌<◌, List, Bool, true, false, not, cond, eqb, ltb, min, bit_and, length, get_or, slice_index, map, replicate, refl, sym, ap, subst, ◌∙◌, eq-eqb, arith, w8, bit_at, zip2, sel_l, mask_l, top, HasLanes, Text, Alike, Probe, HasBits, mark_of, ltb-true, ltb-false, eqb-true, eqb-false, get_or-zip2, get_or-replicate, length-zip2, length-swz_l, get_or-swz_l_below, swz_l, SwzOk, SwzOk-from_below, Each1-from_get_or, length-sel_l, get_or-sel_l, tops_compared, bitmask_splat, bit_mask_l}
 use Rattle.std.proofs.Math.ListN.{get_or-map}
 use Rattle.memchr.proofs.lemmas.LaneLemmas.{HasLanes-zip2, HasLanes-select}
 
@@ -85,73 +85,47 @@ equal_lanes v asked bits chosen long h =
 its_mark : (alike : Alike) (x : ℕ) → HasBits alike x → mark_of alike x ≡ 255
 its_mark alike x has = ap (λ (b : Bool). cond {A = ℕ} b 255 0) (eq-eqb (bit_and x alike.asked) alike.bits has)
 
--- where two tests of bits are passed the marks have a bit in common
-pub both_marked : (one other : Probe) (line : Text) (place k : ℕ) (v a b : List ℕ) → k < 32
-    → HasLanes v (λ i. bit_and (get_or a i 0) (get_or b i 0))
-    → HasLanes a (λ i. mark_of one.alike (slice_index line (place + i + one.at)))
-    → HasLanes b (λ i. mark_of other.alike (slice_index line (place + i + other.at)))
-    → PassesAt one line (place + k) → PassesAt other line (place + k) → get_or v k 0 ≢ 0
-both_marked one other line place k v a b l both first second o p =
-    let left : get_or a k 0 ≡ 255 = first.each k l ∙ its_mark one.alike _ o.1 in
-    let right : get_or b k 0 ≡ 255 = second.each k l ∙ its_mark other.alike _ p.1 in
-    let all : get_or v k 0 ≡ 255 = both.each k l ∙ ap (λ x. bit_and x (get_or b k 0)) left ∙ ap (bit_and 255) right in
-    λ zero. absurd (omega (arith, zero, all))
+-- ---- where probes are passed, by vectors of what their tests give
 
--- ---- what the look-ups of several probes have in common
+module _ (each : Bool) (probes : Probes) (line : Text) (place k : ℕ) (all : AllPass each probes line (place + k)) (below : k < 32) where
+  abbrev AreMarks : Probe → List ℕ → Type 0
+  AreMarks probe a = HasLanes a (λ i. mark_of probe.alike (slice_index line (place + i + probe.at)))
 
-none_set : (x bit : ℕ) → bit_at x bit ≡ 1 → x ≢ 0
-none_set x bit set none = absurd (omega (arith, set, ap (λ n. bit_at n bit) none, bit_at-zero bit))
-
-meets : (each : Bool) (a b : ℕ) → (a ≢ 0) → (b ≢ 0) → (IsTrue each → (bit : ℕ) × (bit_at a bit ≡ 1) × (bit_at b bit ≡ 1)) → meet each a b ≢ 0
-meets true a b _ _ common none = let (bit, one, other) = common refl in none_set (bit_and a b) bit (omega (arith, one, other, bit_at_and a b bit)) none
-meets false a b some other _ none = omega (arith, some, other, none)
-
-meets_at : (a b bit : ℕ) → bit_at a bit ≡ 1 → bit_at b bit ≡ 1 → bit_at (bit_and a b) bit ≡ 1
-meets_at a b bit one other = omega (arith, one, other, bit_at_and a b bit)
-
-module _ (each : Bool) (line : Text) (place k : ℕ) (below : k < 32) where
-  -- what a probe's look-up gives for the place
-  abbrev bits_at : Probe → ℕ
-  bits_at probe = bits_of probe.nibbles (slice_index line (place + k + probe.at))
-
-  -- and a vector of look-ups
   abbrev AreBits : Probe → List ℕ → Type 0
   AreBits probe a = HasLanes a (λ i. bits_of probe.nibbles (slice_index line (place + i + probe.at)))
 
-  -- a vector that met one of look-ups
-  abbrev AreMet : List ℕ → List ℕ → List ℕ → Type 0
-  AreMet v u a = HasLanes v (λ i. meet each (get_or u i 0) (get_or a i 0))
+  abbrev AreBoth : List ℕ → List ℕ → List ℕ → Type 0
+  AreBoth v a b = HasLanes v (λ i. bit_and (get_or a i 0) (get_or b i 0))
 
-  met_lane : (probe : Probe) (x : ℕ) (v u a : List ℕ) → get_or u k 0 ≡ x → AreMet v u a → AreBits probe a → get_or v k 0 ≡ meet each x (bits_at probe)
-  met_lane probe x v u a same met bits = met.each k below ∙ ap (λ y. meet each y (get_or a k 0)) same ∙ ap (meet each x) (bits.each k below)
+  -- two marks have all bits in common
+  pub both_marked : (v a b : List ℕ) → AreBoth v a b → AreMarks probes.first a → AreMarks probes.second b → get_or v k 0 ≢ 0
+  both_marked v a b both first second zero =
+      let left : get_or a k 0 ≡ 255 = first.each k below ∙ its_mark probes.first.alike _ all.first.1 in
+      let right : get_or b k 0 ≡ 255 = second.each k below ∙ its_mark probes.second.alike _ all.second.1 in
+      let one : get_or v k 0 ≡ 255 = both.each k below ∙ ap (λ x. bit_and x (get_or b k 0)) left ∙ ap (bit_and 255) right in
+      absurd (omega (arith, zero, one))
 
-  module _ (probes : Probes) (all : AllPass each probes line (place + k)) where
-    pub one_met : (a : List ℕ) → AreBits probes.first a → get_or a k 0 ≢ 0
-    one_met a ha none = all.first.0 (sym (ha.each k below) ∙ none)
+  -- neither of two look-ups is 0
+  pub two_met : (v a b : List ℕ) → HasLanes v (λ i. min (get_or a i 0) (get_or b i 0)) → AreBits probes.first a → AreBits probes.second b → get_or v k 0 ≢ 0
+  two_met v a b met first second none = omega (arith, met.each k below, first.each k below, second.each k below, all.first.0, all.second.0, none)
 
-    two_lane : (v a b : List ℕ) → AreMet v a b → AreBits probes.first a → AreBits probes.second b → get_or v k 0 ≡ meet each (bits_at probes.first) (bits_at probes.second)
-    two_lane v a b met ha hb = met_lane probes.second (bits_at probes.first) v a b (ha.each k below) met hb
-
-    pub two_met : (v a b : List ℕ) → AreMet v a b → AreBits probes.first a → AreBits probes.second b → get_or v k 0 ≢ 0
-    two_met v a b met ha hb none = meets each _ _ all.first.0 all.second.0 (λ yes. let (bit, one, two, _, _) = all.common yes in (bit, one, two)) (sym (two_lane v a b met ha hb) ∙ none)
-
-    three_lane : (w v a b c : List ℕ) → AreMet w v c → AreMet v a b → AreBits probes.first a → AreBits probes.second b → AreBits probes.third c
-        → get_or w k 0 ≡ meet each (meet each (bits_at probes.first) (bits_at probes.second)) (bits_at probes.third)
-    three_lane w v a b c more met ha hb hc = met_lane probes.third _ w v c (two_lane v a b met ha hb) more hc
-
-    -- a bit that several have in common, or none of them 0
-    three : (each : Bool) (a b c : ℕ) → (a ≢ 0) → (b ≢ 0) → (c ≢ 0) → (IsTrue each → (bit : ℕ) × (bit_at a bit ≡ 1) × (bit_at b bit ≡ 1) × (bit_at c bit ≡ 1))
-        → (meet each (meet each a b) c ≢ 0) × (IsTrue each → (bit : ℕ) → bit_at a bit ≡ 1 → bit_at b bit ≡ 1 → bit_at c bit ≡ 1 → bit_at (meet each (meet each a b) c) bit ≡ 1)
-    three true a b c _ _ _ common =
-        let (bit, one, two, third) = common refl in (none_set _ bit (meets_at (bit_and a b) c bit (meets_at a b bit one two) third), λ _ bit one two third. meets_at (bit_and a b) c bit (meets_at a b bit one two) third)
-    three false a b c one two third _ = (λ none. omega (arith, one, two, third, none), λ no. absurd (false≢true no))
-
-    pub three_met : (w v a b c : List ℕ) → AreMet w v c → AreMet v a b → AreBits probes.first a → AreBits probes.second b → AreBits probes.third c → get_or w k 0 ≢ 0
-    three_met w v a b c more met ha hb hc none =
-        (three each _ _ _ all.first.0 all.second.0 all.third.0 (λ yes. let (bit, one, two, third, _) = all.common yes in (bit, one, two, third))).0 (sym (three_lane w v a b c more met ha hb hc) ∙ none)
-
-    pub four_met : (u w v a b c d : List ℕ) → AreMet u w d → AreMet w v c → AreMet v a b
-        → AreBits probes.first a → AreBits probes.second b → AreBits probes.third c → AreBits probes.fourth d → get_or u k 0 ≢ 0
-    four_met u w v a b c d last more met ha hb hc hd none =
-        let (some, keeps) = three each _ _ _ all.first.0 all.second.0 all.third.0 (λ yes. let (bit, one, two, third, _) = all.common yes in (bit, one, two, third)) in
-        meets each _ _ some all.fourth.0 (λ yes. let (bit, one, two, third, fourth) = all.common yes in (bit, keeps yes bit one two third, fourth)) (sym (met_lane probes.fourth _ u w d (three_lane w v a b c more met ha hb hc) last hd) ∙ none)
+  -- three look-ups have a bit in common
+  pub three_met : IsTrue each → (w v a b c : List ℕ) → AreBoth w v c → AreBoth v a b → AreBits probes.first a → AreBits probes.second b → AreBits probes.third c → get_or w k 0 ≢ 0
+  three_met several w v a b c more both first second third none =
+      let (bit, one, two, three) = all.common several in
+      let its : (x y : ℕ) → x ≡ y → bit_at x bit ≡ bit_at y bit = λ x y is. ap (λ n. bit_at n bit) is in
+      omega (
+        arith,
+        its _ _ (first.each k below),
+        its _ _ (second.each k below),
+        its _ _ (third.each k below),
+        one,
+        two,
+        three,
+        bit_at_and (get_or a k 0) (get_or b k 0) bit,
+        bit_at_and (get_or v k 0) (get_or c k 0) bit,
+        its _ _ (both.each k below),
+        its _ _ (more.each k below),
+        its _ _ none,
+        bit_at-zero bit,
+      )

@@ -244,19 +244,16 @@ module _ (runs : Runs) (width : ℕ) (wide : IsNoWider width runs) (line : Text)
     has_bit : 2 ≤ length runs → HasBitAt probe line k (n % 8)
     has_bit several = is.each several n run lt (slice_index line (k + probe.at)) (small (k + probe.at)) has
 
-  -- so it is for all probes
+  -- so it is for all three
   pub all_pass : (each : Bool) (probes : Probes) → (IsTrue each → 2 ≤ length runs) → AreProbesOf probes width runs → RunStandsAt line runs k → AllPass each probes line k
   all_pass each probes several are (n, run, lt, at, there) = record {
     first = passes probes.first are.first n run lt at there;
     second = passes probes.second are.second n run lt at there;
-    third = passes probes.third are.third n run lt at there;
-    fourth = passes probes.fourth are.fourth n run lt at there;
     common = λ yes. (
       n % 8,
       has_bit probes.first are.first n run lt at there (several yes),
       has_bit probes.second are.second n run lt at there (several yes),
       has_bit probes.third are.third n run lt at there (several yes),
-      has_bit probes.fourth are.fourth n run lt at there (several yes),
     );
   }
 

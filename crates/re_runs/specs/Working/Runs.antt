@@ -88,10 +88,6 @@ bits_of nibbles x = bit_and (slice_index nibbles.low (x % 16)) (slice_index nibb
 abbrev pub Covers : Nibbles → Bytes → Type 0
 Covers nibbles set = (x : ℕ) → x < 256 → IsTrue (set x) → bits_of nibbles x ≢ 0
 
--- what is not 0 where neither is 0, or, for each of several runs, where they have a bit in common
-abbrev pub meet : Bool → ℕ → ℕ → ℕ
-meet each a b = if each then bit_and a b else min a b
-
 -- the bits that are asked for have their values
 abbrev pub HasBits : Alike → ℕ → Type 0
 HasBits alike x = bit_and x alike.asked ≡ alike.bits
@@ -116,20 +112,17 @@ PassesAt probe line k = IsPassedBy probe (slice_index line (k + probe.at))
 abbrev pub HasBitAt : Probe → Text → ℕ → ℕ → Type 0
 HasBitAt probe line k bit = bit_at (bits_of probe.nibbles (slice_index line (k + probe.at))) bit ≡ 1
 
--- all four do, and with a bit in common if they are for each of several runs
+-- the first two do, and all three with a bit in common if they are for each of several runs
 pub record AllPass (each : Bool) (probes : Probes) (line : Text) (k : ℕ) : Type 0 where
   pub first : PassesAt probes.first line k
   pub second : PassesAt probes.second line k
-  pub third : PassesAt probes.third line k
-  pub fourth : PassesAt probes.fourth line k
-  pub common : IsTrue each → (bit : ℕ) × HasBitAt probes.first line k bit × HasBitAt probes.second line k bit × HasBitAt probes.third line k bit × HasBitAt probes.fourth line k bit
+  pub common : IsTrue each → (bit : ℕ) × HasBitAt probes.first line k bit × HasBitAt probes.second line k bit × HasBitAt probes.third line k bit
 
 -- there is a byte at each probe's distance after each place before this one
 pub record HaveRoom (probes : Probes) (line : Text) (past : ℕ) : Type 0 where
   pub first : past + probes.first.at ≤ length line
   pub second : past + probes.second.at ≤ length line
   pub third : past + probes.third.at ≤ length line
-  pub fourth : past + probes.fourth.at ≤ length line
 
 -- each byte of the set has the bit in the tables
 abbrev pub HasBitFor : Nibbles → ℕ → Bytes → Type 0
@@ -145,9 +138,8 @@ pub record IsProbeOf (probe : Probe) (width : ℕ) (runs : Runs) : Type 0 where
   pub passes : All (λ run. (x : ℕ) → x < 256 → IsTrue (set_at run probe.at x) → IsPassedBy probe x) runs
   pub each : 2 ≤ length runs → HasBitsOfEach probe.nibbles runs probe.at
 
--- all four are
+-- all three are
 pub record AreProbesOf (probes : Probes) (width : ℕ) (runs : Runs) : Type 0 where
   pub first : IsProbeOf probes.first width runs
   pub second : IsProbeOf probes.second width runs
   pub third : IsProbeOf probes.third width runs
-  pub fourth : IsProbeOf probes.fourth width runs

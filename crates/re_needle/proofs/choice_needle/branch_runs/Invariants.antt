@@ -1,5 +1,5 @@
-use Rattle.re_needle.proofs.Prelude.{map, take, expression_of, AreRunsOf}
+use Rattle.re_needle.proofs.Prelude.{take, AreRunsOf, branches_within}
 use Rattle.re_needle.proofs.choice_needle.branch_runs.Given as goal
 
 abbrev pub invariant-branches : goal.invariant-branches
-invariant-branches l = AreRunsOf (map expression_of (take l.place l.branches)) l.found
+invariant-branches l = AreRunsOf (branches_within l.before (take l.place l.branches) l.after) l.found

@@ -1,12 +1,15 @@
-use Rattle.re_needle.proofs.Prelude.{◌<◌, ◌≡◌, IsNeedleOf, length, get_or, expression_of, arith, rules}
-use Rattle.re_trees.proofs.lemmas.ExpressionLaws.{expression-Cat}
-use Rattle.re_needle.proofs.lemmas.NeedleLaws.{needle_of_part}
+use Rattle.re_needle.proofs.Prelude.{take_rest, ◌<◌, ◌≡◌, ◌+◌, ◌++◌, ◌∷◌, ◌∙◌, length, map, take, drop, get_or, ap, arith, rules, subst, sym, cat, expression_of, IsNeedleOf}
+use Rattle.re_trees.proofs.lemmas.ExpressionLaws.{expression-Alt, expression-Cat}
+use Rattle.re_needle.proofs.lemmas.NeededLaws.{parts_around}
 use Rattle.re_needle.proofs.choice_needle.needle_inside.Goals as goal
 
 pub returns-then-is_rare : goal.returns-then-is_rare
 returns-then-is_rare c =
     let parts = c.in-Cat.parts.items in
-    let lt : c.parts.place < length parts = omega (arith, c.parts-test.true, c.len-place-end.ensures) in
-    let of : IsNeedleOf (expression_of c.index.result.now) c.in-Some.needle = rw c.in-Some.is at c.in_ok-needle.ensures in
-    let is : c.index.result.now ≡ get_or parts c.parts.place c.index.result.now = search rules in
-    rw c.in-Cat.is (rw (expression-Cat c.in-Cat.parts) (needle_of_part parts c.parts.place c.index.result.now c.in-Some.needle c.inside.result lt is of c.inside.ensures.finder c.inside.ensures.first c.inside.ensures.all))
+    let place = c.parts.place in
+    let lt : place < length parts = omega (arith, c.parts-test.true, c.min-place-end.ensures, c.len.ensures) in
+    let is : c.index.result.now ≡ get_or parts place c.index.result.now = search rules in
+    let of = rw (c.in-Some.is, c.deref.ensures.value, c.deref-in-parts.ensures.value, c.deref-in-parts-2.ensures.value, take_rest) at c.in_ok-needle.ensures in
+    let choice = ap expression_of c.in-Alt.is ∙ expression-Alt c.in-Alt.branches in
+    let whole = parts_around parts place c.index.result.now lt is ∙ ap (λ e. map expression_of (take place parts) ++ e ∷ map expression_of (drop (place + 1) parts)) choice in
+    rw c.in-Cat.is (rw (expression-Cat c.in-Cat.parts) (subst (λ es. IsNeedleOf (cat es) c.in-Some.needle) (sym whole) of))
