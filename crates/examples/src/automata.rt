@@ -1,5 +1,5 @@
 //! Automata that are stepped.
-use re_syntax::read_extended;
+use re_syntax::{Syntax, read};
 use std::test::Fail;
 
 // crates/re_auto/README.md
@@ -22,7 +22,7 @@ fn is_whole(alloc: Global, automaton: &Automaton, line: &[u8]) -> Result<bool, B
 
 #[test]
 fn whole_lines_are_matched(rt: HostRuntime) -> Result<(), Fail> {
-    let tree = read_extended(rt.alloc(), b"a+b*|c")?;
+    let (tree, _) = read(rt.alloc(), Syntax::Extended, b"a+b*|c")?;
     let automaton = Automaton::build(rt.alloc(), tree)?;
     assert!(rt; is_whole(rt.alloc(), &automaton, b"aab") == Ok(true));
     assert!(rt; is_whole(rt.alloc(), &automaton, b"b") == Ok(false));

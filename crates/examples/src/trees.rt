@@ -2,12 +2,12 @@
 use re_syntax::FaultKind;
 
 // crates/re_syntax/README.md
-use re_syntax::{PatternFault, Tree, fold, read_extended};
+use re_syntax::{PatternFault, Syntax, Tree, fold, read};
 use std::alloc::Global;
 
 /// What an extended expression means under `-i`.
 fn read_folded(alloc: Global, text: &[u8]) -> Result<Tree, PatternFault> {
-    let tree = read_extended(alloc, text)?;
+    let (tree, _) = read(alloc, Syntax::Extended, text)?;
     Ok(fold(tree))
 }
 // end

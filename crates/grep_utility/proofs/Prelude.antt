@@ -37,7 +37,7 @@ pub use Rattle.grep_utility.specs.Working.Numbers.{digit_of}
 unfoldable pub use Rattle.grep_utility.specs.Working.Operands.{StandsAt}
 pub use Rattle.grep_utility.specs.Working.Prepared.{HasNumber, IsDue, IsPrepared, due_text}
 pub use Rattle.grep_utility.specs.Working.Returned.{HasReturned}
-pub use Rattle.grep_utility.specs.Working.ServingMatchers.{AreGrouped, AreReadAs, IsJoined, ServeFor}
+pub use Rattle.grep_utility.specs.Working.ServingMatchers.{AreGrouped, ArePatterns, AreReadAs, IsJoined, ServeFor}
 pub use Rattle.grep_utility.specs.Working.Tokens.{AreUsedUp, drafted, token_of, tokens_from, tokens_left, words_left}
 pub use Rattle.grep_utility.specs.Working.Worked.{BrokenFollows, RowFollows, broken_messages, broken_output, broken_text, broken_words, row_messages, row_output, row_text, row_words}
 pub use Rattle.grep_utility.specs.declared.patterns.FileRead.TheVariants.{Broken, Whole}
@@ -55,30 +55,32 @@ pub use Rattle.re_search.specs.Reading.{IsOutOfMemory, IsReadable}
 pub use Rattle.re_search.specs.Working.Filters.{AreNeeded}
 pub use Rattle.re_search.specs.Working.Literals.{literal_meaning}
 pub use Rattle.re_search.specs.Working.Matchers.{matched_expression, wants_whole}
+pub use Rattle.re_search.specs.Working.Patterns.{IsCounted, IsPattern, meaning, meant_by, pattern_expression}
 pub use Rattle.re_search.specs.Working.Strings.{AddsStrings, string_expression}
 pub use Rattle.re_search.specs.declared.matcher.Matcher.{Matcher}
+pub use Rattle.re_search.specs.declared.pattern.Pattern.{Pattern}
 pub use Rattle.re_syntax.specs.Bytes.{Text, in_class}
 pub use Rattle.re_syntax.specs.Expression.{Expression, alt, alt_more, byte, choice}
-pub use Rattle.re_syntax.specs.Holds.{Holds, Matches, folded, positions}
+pub use Rattle.re_syntax.specs.Holds.{Holds, Matches, folded}
 pub use Rattle.re_syntax.specs.Intervals.{value, value_after}
 pub use Rattle.re_syntax.specs.Lines.{AreListed, HasNoNewline, joined, newline, terminated}
 unfoldable pub use Rattle.re_syntax.specs.Lines.{ended_lines_of, list_of}
-pub use Rattle.re_syntax.specs.Profile.{most_patterns, most_positions}
-pub use Rattle.re_syntax.specs.Spelled.{IsMeant, as_basic, has_limit}
+pub use Rattle.re_syntax.specs.Profile.{most_patterns}
+pub use Rattle.re_syntax.specs.Spelled.{IsMeant, as_basic}
 pub use Rattle.re_syntax.specs.contracts.fault.FaultKind.{the_type}
 pub use Rattle.re_trees.specs.declared.class.Class.TheVariants.{Digit}
 pub use Rattle.re_syntax.specs.declared.fault.FaultKind.{FaultKind}
 pub use Rattle.re_syntax.specs.declared.fault.PatternFault.{PatternFault}
 pub use Rattle.re_syntax.specs.declared.syntax.Syntax.{Syntax}
 pub use Rattle.re_syntax.specs.declared.syntax.Syntax.TheVariants.{Basic}
-pub use Rattle.std.proofs.Common.{All, Any, Bool, Bor, Err, IfSome, IsTrue, IsUtf8, List, MatchBool, MatchResult, None, Ok, Option, Result, Some, [], add-one, ap, append-nil, append_assoc, arith, bytes_eq, codes, decimal, drop, drop-cons, encode_utf8, encode_utf8_all, false, get_or, if◌then◌else◌, inl, inr, is_some, le-ltb, length, length-append, lt-ltb, ltb-false, ltb-true, map, min, nat_eq, nat_le, nat_lt, option_map, refl, rules, slice_get, subst, suc, sym, take, take-append-drop, take_all, true, zero, ℕ, ⊎_elim, ◌&&◌, ◌*◌, ◌++◌, ◌+◌, ◌-◌, ◌<◌, ◌^◌, ◌||◌, ◌↔◌, ◌∙◌, ◌∷◌, ◌≡◌, ◌≢◌, ◌≤◌, ◌⊎◌}
+pub use Rattle.std.proofs.Common.{All, Any, Bool, Bor, Err, IfSome, IsTrue, IsUtf8, List, MatchBool, MatchResult, None, Ok, Option, Result, Some, [], add-one, ap, append-nil, append_assoc, arith, bytes_eq, codes, decimal, drop, drop-cons, encode_utf8, encode_utf8_all, false, get_or, if◌then◌else◌, inl, inr, is_some, le-ltb, length, length-append, lt-ltb, ltb-false, ltb-true, map, min, nat_eq, nat_le, nat_lt, option_map, refl, rules, slice_get, subst, suc, sym, take, take-append-drop, take-suc, take_all, true, zero, ℕ, ⊎_elim, ◌&&◌, ◌*◌, ◌++◌, ◌+◌, ◌-◌, ◌<◌, ◌^◌, ◌||◌, ◌↔◌, ◌∙◌, ◌∷◌, ◌≡◌, ◌≢◌, ◌≤◌, ◌⊎◌}
 pub use Rattle.std.proofs.KnownBytes.{Appends-nil}
 pub use Rattle.std.proofs.lemmas.Bool.{and_from, and_parts, cond-false, cond-true, false_from_ne_true, false≢true}
 pub use Rattle.std.proofs.lemmas.Iterator.Consumers.{YieldsList-from_first, nth_from_yields_List}
 pub use Rattle.std.proofs.lemmas.List.{drop_all, length-map, length_push, map-append}
 pub use Rattle.std.proofs.lemmas.List.Elements.{All-append, All-cons, All-get_or, All-head, All-nil, All-push, All-tail}
 pub use Rattle.std.proofs.lemmas.Option.{slice_get_cases, slice_get_within}
-pub use Rattle.std.proofs.lemmas.Result.{err_from_is_err_and}
+pub use Rattle.std.proofs.lemmas.Result.{IfOk-weaker, err_from_is_err_and}
 pub use Rattle.std.proofs.lemmas.Str.{chars-nil, chars_past_char, encodes-chars}
 pub use Rattle.std.specs.Bool.{⊤}
 pub use Rattle.std.specs.Io.KnownBytes.{Consumes}

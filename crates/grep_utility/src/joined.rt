@@ -1,27 +1,18 @@
 //! Patterns that are searched for as one.
-ghost use Rattle.std.specs.Prelude.{◌≡◌, List, [], ◌∷◌, ◌++◌, IfSome, MatchBool, map};
-ghost use Rattle.re_syntax.specs.Bytes.{Text};
-ghost use Rattle.re_syntax.specs.Expression.{Expression};
-ghost use Rattle.re_syntax.specs.Spelled.{IsMeant};
-ghost use Rattle.re_search.specs.Reading.{IsSmallFor};
-ghost use Rattle.re_syntax.specs.Lines.{lines_of};
+ghost use Rattle.std.specs.Prelude.{◌≡◌, ◌+◌, ◌≤◌, Bool, List, All, [], ◌∷◌, ◌++◌};
+ghost use Rattle.std.specs.Prelude.{IsTrue, IfOk, map};
+ghost use Rattle.re_syntax.specs.Expression.{Expression, alt};
+ghost use Rattle.re_syntax.specs.Holds.{positions};
+ghost use Rattle.re_syntax.specs.Profile.{most_positions};
 ghost use Rattle.re_syntax.specs.Working.Trees.{expression_of};
-ghost use Rattle.grep_utility.specs.Working.ServingMatchers.{ServeFor, AreGrouped};
+ghost use Rattle.re_search.specs.Working.Patterns.{pattern_expression, meant_by, IsCounted};
+ghost use Rattle.grep_utility.specs.Working.ServingMatchers.{AreGrouped};
 
 use crate::matchers::MOST_STATES;
 use grep_core::Options;
-use re_search::{Choice, Matcher};
-use re_syntax::{Syntax, split_file};
-use std::alloc::Global;
+use re_search::{Choice, Matcher, Pattern};
+use std::alloc::{AllocError, Global};
 use std::mem::replace;
-
-/// How patterns are read and searched for.
-#[derive(Clone, Copy)]
-struct Reading<'a> {
-    alloc: Global,
-    syntax: Syntax,
-    options: &'a Options,
-}
 
 /// The matchers of patterns, a choice of them each, and the choice that the next pattern joins.
 #[derive(Drop)]
@@ -30,109 +21,87 @@ pub struct Groups {
     pub matchers: Vec<Matcher>,
     /// The choice.
     pub choice: Choice,
+    /// Whether there is one pattern alone, which joins no choice.
+    pub alone: bool,
 }
 
 impl Groups {
-    // Adds the pattern of the text.
-    fn add(&mut self, reading: &Reading<'_>, text: &[u8]) -> Option<()>
-        ensures added { (texts : List Text) →
-            AreGrouped reading.now.syntax reading.now.options.now texts self.old.matchers.items
+    // Adds the pattern.
+    fn add(&mut self, alloc: Global, pattern: Pattern, options: &Options) -> Result<(), AllocError>
+        requires { IsCounted options.now.ignore_case pattern }
+        ensures { (es : List Expression) →
+            AreGrouped options.now.line_regexp es self.old.matchers.items
             (map expression_of self.old.choice) →
-            IfSome result (λ _. AreGrouped reading.now.syntax reading.now.options.now (texts ++ text.now ∷ [])
+            IfOk result (λ _. AreGrouped options.now.line_regexp
+            (es ++ meant_by options.now.ignore_case pattern ∷ [])
             self.new.matchers.items (map expression_of self.new.choice)) }
     {
-        if self.add_to_choice(reading, text)? {
-            return Some(());
-        }
-        self.close(reading)?;
-        if self.add_to_choice(reading, text)? {
-            return Some(());
-        }
-        let Reading {
-            alloc,
-            syntax,
-            options,
-        } = *reading;
         let fold = options.ignore_case;
-        let whole = options.line_regexp;
-        let Ok(matcher) = Matcher::new(alloc, text, syntax, fold, whole, MOST_STATES) else {
-            return None;
-        };
+        if self.joins(&pattern) {
+            return self.choice.add(alloc, pattern, fold);
+        }
+        self.close(alloc, options.line_regexp)?;
+        if self.joins(&pattern) {
+            return self.choice.add(alloc, pattern, fold);
+        }
+        let matcher = pattern.into_matcher(alloc, fold, options.line_regexp, MOST_STATES)?;
         self.push(matcher)
     }
 
-    // Adds the pattern of the text to the choice; `false` if there is no room for it.
-    fn add_to_choice(&mut self, reading: &Reading<'_>, text: &[u8]) -> Option<bool>
-        ensures added { IfSome result (λ added. (e : Expression) × IsMeant reading.now.syntax
-            reading.now.options.now.ignore_case text.now e × MatchBool added
-            ((map expression_of self.new.choice ≡ map expression_of self.old.choice ++ e ∷ [])
-            × IsSmallFor reading.now.syntax reading.now.options.now.ignore_case e)
-            (self.new.choice ≡ self.old.choice)) }
-        ensures same { self.new.matchers ≡ self.old.matchers }
+    // Whether the pattern joins the choice.
+    fn joins(&self, pattern: &Pattern) -> bool
+        ensures { IsTrue result → (fold : Bool) → IsCounted fold pattern.now →
+            positions (alt (map expression_of self.now.choice))
+            + positions (pattern_expression pattern.now) ≤ most_positions }
     {
-        let Reading {
-            alloc,
-            syntax,
-            options,
-        } = *reading;
-        self.choice
-            .add(alloc, text, syntax, options.ignore_case)
-            .ok()
+        !self.alone && self.choice.has_room(pattern)
     }
 
     // Gives the patterns of the choice their matcher. The next pattern begins another choice.
-    fn close(&mut self, reading: &Reading<'_>) -> Option<()>
-        ensures closed { (texts : List Text) →
-            AreGrouped reading.now.syntax reading.now.options.now texts self.old.matchers.items
-            (map expression_of self.old.choice) →
-            IfSome result (λ _. AreGrouped reading.now.syntax reading.now.options.now texts
-            self.new.matchers.items []) }
-        ensures empty { IfSome result (λ _. self.new.choice ≡ []) }
+    fn close(&mut self, alloc: Global, whole: bool) -> Result<(), AllocError>
+        ensures closed { (es : List Expression) →
+            AreGrouped whole es self.old.matchers.items (map expression_of self.old.choice) →
+            IfOk result (λ _. AreGrouped whole es self.new.matchers.items []) }
+        ensures empty { IfOk result (λ _. self.new.choice ≡ []) }
     {
         if self.choice.is_empty() {
-            return Some(());
+            return Ok(());
         }
-        let choice = replace(&mut self.choice, Choice::new(reading.alloc));
-        let whole = reading.options.line_regexp;
-        let Ok(matcher) = choice.into_matcher(reading.alloc, whole, MOST_STATES) else {
-            return None;
-        };
+        let choice = replace(&mut self.choice, Choice::new(alloc));
+        let matcher = choice.into_matcher(alloc, whole, MOST_STATES)?;
         self.push(matcher)
     }
 
-    fn push(&mut self, matcher: Matcher) -> Option<()>
-        ensures pushed { IfSome result
+    fn push(&mut self, matcher: Matcher) -> Result<(), AllocError>
+        ensures pushed { IfOk result
             (λ _. self.new.matchers.items ≡ self.old.matchers.items ++ matcher ∷ []) }
         ensures same { self.new.choice ≡ self.old.choice }
     {
-        self.matchers.push(matcher).ok()
+        self.matchers.push(matcher)?;
+        Ok(())
     }
 }
 
-/// Matchers for the patterns, which are the lines of `texts`: each for as many as have 4,096 positions
-/// together, in order. `None`: a pattern is refused, or out of memory.
+/// Matchers for the patterns: one for a lone one, else each for as many as have 4,096 positions
+/// together, in order.
 pub fn joined_matchers(
     alloc: Global,
-    texts: &[u8],
-    syntax: Syntax,
+    patterns: Vec<Pattern>,
     options: &Options,
-) -> Option<Vec<Matcher>>
-    ensures { IfSome result
-        (λ matchers. ServeFor syntax options.now (lines_of texts.now) matchers.items) }
+) -> Result<Vec<Matcher>, AllocError>
+    requires { All (IsCounted options.now.ignore_case) patterns.items }
+    ensures { IfOk result (λ matchers. AreGrouped options.now.line_regexp
+        (map (meant_by options.now.ignore_case) patterns.items) matchers.items []) }
 {
-    let reading = Reading {
-        alloc,
-        syntax,
-        options,
-    };
     let mut groups = Groups {
         matchers: Vec::new(alloc),
         choice: Choice::new(alloc),
+        alone: patterns.len() == 1,
     };
-    for text in split_file(texts) {
-        groups.add(&reading, text)?;
+    for pattern in patterns {
+        groups.add(alloc, pattern, options)?;
     }
-    groups.close(&reading)?;
+    groups.close(alloc, options.line_regexp)?;
     let Groups { matchers, .. } = groups;
-    Some(matchers)
+    Ok(matchers)
 }

@@ -9,6 +9,7 @@ mod matchers;
 mod message_texts;
 mod number;
 mod operands;
+mod pattern_list;
 mod patterns;
 mod prepare;
 mod program;

@@ -5,9 +5,10 @@ ghost use Rattle.re_search.specs.Reading.{IsOutOfMemory};
 ghost use Rattle.grep_core.specs.Matchers.{IsFirstRefused};
 ghost use Rattle.grep_core.specs.Working.MatcherLists.{AreMatchers};
 
+use crate::pattern_list::out_of_memory;
 use grep_core::Options;
 use re_search::Matcher;
-use re_syntax::{FaultKind, PatternFault, Syntax, split_file};
+use re_syntax::{PatternFault, Syntax, split_file};
 use std::alloc::{AllocError, Global};
 
 // How many entries all caches may have together, where each has no less than the least.
@@ -72,10 +73,7 @@ pub fn matchers_of(
         };
         match add_matcher(&mut matchers, matcher) {
             Ok(()) => {}
-            Err(_) => {
-                let kind = FaultKind::Memory;
-                return Err((matchers.len(), PatternFault { kind, at: 0 }));
-            }
+            Err(_) => return Err(out_of_memory()),
         }
     }
     Ok(matchers)

@@ -1,10 +1,8 @@
 //! The matchers of a search: for all patterns together, or one for each.
-ghost use Rattle.std.specs.Prelude.{◌≡◌, ◌+◌, ◌^◌, ◌<◌, ◌≤◌, ◌⊎◌, [], ◌∷◌, nat_lt, IsTrue, IfOk, IfErr, IfSome};
-ghost use Rattle.std.specs.Prelude.{length, map};
+ghost use Rattle.std.specs.Prelude.{◌≡◌, ◌+◌, ◌^◌, ◌<◌, ◌≤◌, ◌⊎◌, [], ◌∷◌, nat_lt, Bool};
+ghost use Rattle.std.specs.Prelude.{IfOk, IfErr, IfSome, length, map};
 ghost use Rattle.std.specs.Option.{ForSome};
 ghost use Rattle.re_syntax.specs.Lines.{lines_of};
-ghost use Rattle.re_syntax.specs.Profile.{most_positions};
-ghost use Rattle.re_syntax.specs.Spelled.{has_limit};
 ghost use Rattle.re_search.specs.Working.Filters.{AreNeeded};
 ghost use Rattle.re_search.specs.Reading.{IsOutOfMemory};
 ghost use Rattle.re_search.specs.Working.Matchers.{matched_expression};
@@ -14,9 +12,10 @@ ghost use Rattle.grep_utility.specs.Working.ServingMatchers.{ServeFor, IsJoined,
 
 use crate::joined::joined_matchers;
 use crate::matchers::matchers_of;
+use crate::pattern_list::{out_of_memory, patterns_of};
 use grep_core::Options;
-use re_search::{Filter, Matcher, Strings, add_strings, needed_strings};
-use re_syntax::{FaultKind, MOST_POSITIONS, PatternFault, Syntax, split_file};
+use re_search::{Filter, Matcher, Pattern, Strings, needed_strings};
+use re_syntax::{MOST_POSITIONS, PatternFault, Syntax, split_file};
 use std::alloc::{AllocError, Global};
 
 /// How many strings one automaton is quick for, whose needle is a choice of as many runs.
@@ -39,9 +38,10 @@ pub struct OwnedSearchers {
     pub needed: Filter,
 }
 
-/// The matchers of a search for the patterns, which are the lines of `texts`: one for all that are read as
-/// strings, where that is quicker; one for each, where they are more than eight, each needs a string and no
-/// parts are asked for; else one automaton for as many as have 4,096 positions together.
+/// The matchers of a search for the patterns, which are the lines of `texts`: one for all that are
+/// strings, where that is quicker; one for each, where they are more than eight, each needs a
+/// string and no parts are asked for; else one automaton for as many as have 4,096 positions
+/// together.
 ///
 /// # Errors
 ///
@@ -60,12 +60,13 @@ pub fn searchers_of(
     ensures err { IfErr result (λ refused. IsOutOfMemory refused.1
         ⊎ IsFirstRefused syntax options.now.ignore_case (lines_of texts.now) refused.0 refused.1) }
 {
-    let needed = Filter::none();
-    if let Some(strings) = strings_of(alloc, texts, syntax, options) {
+    let patterns = patterns_of(alloc, texts, syntax, options.ignore_case)?;
+    if let Some(strings) = strings_of(alloc, texts, &patterns, options) {
+        drop(patterns);
         let Ok(matchers) = joined(alloc, &strings, options) else {
-            let kind = FaultKind::Memory;
-            return Err((0, PatternFault { kind, at: 0 }));
+            return Err(out_of_memory());
         };
+        let needed = Filter::none();
         return Ok(OwnedSearchers { matchers, needed });
     }
     if has_more_than(FEW, texts) && !options.only_matching {
@@ -74,13 +75,10 @@ pub fn searchers_of(
             return Ok(each);
         }
     }
-    if has_more_than(1, texts) {
-        if let Some(matchers) = joined_matchers(alloc, texts, syntax, options) {
-            return Ok(OwnedSearchers { matchers, needed });
-        }
-    }
-    // A refused pattern is reported from here.
-    let matchers = matchers_of(alloc, texts, syntax, options)?;
+    let Ok(matchers) = joined_matchers(alloc, patterns, options) else {
+        return Err(out_of_memory());
+    };
+    let needed = Filter::none();
     Ok(OwnedSearchers { matchers, needed })
 }
 
@@ -115,43 +113,39 @@ pub fn has_more_than(most: usize, texts: &[u8]) -> bool
     split_file(texts).nth(most).is_some()
 }
 
-/// The strings that the patterns are read as, each followed by a newline, where one pass for all of them is
+/// The strings that the patterns are, each followed by a newline, where one pass for all of them is
 /// quicker than an automaton. `None`: unknown, or out of memory.
-fn strings_of(alloc: Global, texts: &[u8], syntax: Syntax, options: &Options) -> Option<Vec<u8>>
+fn strings_of(
+    alloc: Global,
+    texts: &[u8],
+    patterns: &[Pattern],
+    options: &Options,
+) -> Option<Vec<u8>>
     ensures few { IfSome result (λ _. length texts.now + 1 < 2 ^ 32) }
-    ensures some { IfSome result (λ _. 1 ≤ length (lines_of texts.now)) }
+    ensures some { IfSome result (λ _. 1 ≤ length patterns.now) }
     ensures read { IfSome result
-        (λ strings.
-        AreReadAs syntax options.now.ignore_case (lines_of texts.now) (lines_of strings.items)) }
+        (λ strings. (fold : Bool) → AreReadAs fold patterns.now (lines_of strings.items)) }
 {
-    let is_long = texts.len() > MOST_POSITIONS && !has_more_than(FEW, texts);
-    if is_long || texts.len() > MOST_BYTES || !has_more_than(0, texts) {
+    let is_long = texts.len() > MOST_POSITIONS && patterns.len() <= FEW;
+    if is_long || texts.len() > MOST_BYTES || patterns.is_empty() {
         return None;
     }
-    let strings = read_strings(alloc, texts, syntax, options.ignore_case)?;
+    let strings = read_strings(alloc, patterns)?;
     if !are_quicker(&strings, options) {
         return None;
     }
     Some(strings)
 }
 
-/// The strings that the patterns are read as, each followed by a newline. `None` if a pattern is
-/// not read so, or is too long where that counts, or if an allocation fails.
-fn read_strings(alloc: Global, texts: &[u8], syntax: Syntax, fold: bool) -> Option<Vec<u8>>
+/// The strings that the patterns are, each followed by a newline. `None` if a pattern is something
+/// else, or if an allocation fails.
+fn read_strings(alloc: Global, patterns: &[Pattern]) -> Option<Vec<u8>>
     ensures { IfSome result
-        (λ strings. AreReadAs syntax fold (lines_of texts.now) (lines_of strings.items)) }
+        (λ strings. (fold : Bool) → AreReadAs fold patterns.now (lines_of strings.items)) }
 {
-    let most = most_bytes(syntax, fold);
     let mut strings = Vec::new(alloc);
-    for text in split_file(texts) {
-        if text.len() > most {
-            return None;
-        }
-        let begun = strings.len();
-        add_strings(alloc, text, syntax, &mut strings)?;
-        if strings.len() - begun > most {
-            return None;
-        }
+    'patterns: for place in 0..patterns.len() {
+        patterns[place].add_strings(alloc, &mut strings)?;
     }
     Some(strings)
 }
@@ -164,16 +158,6 @@ fn are_quicker(strings: &[u8], options: &Options) -> bool {
     }
     has_more_than(FEW, strings)
         || !options.ignore_case && !split_file(strings).any(|string| string.len() < LONG)
-}
-
-/// How many bytes the strings of a pattern may have.
-fn most_bytes(syntax: Syntax, fold: bool) -> usize
-    ensures { IsTrue (has_limit syntax fold) → result ≡ most_positions }
-{
-    match syntax {
-        Syntax::Fixed if !fold => usize::MAX,
-        _ => MOST_POSITIONS,
-    }
 }
 
 /// The one matcher for all strings.

@@ -32,7 +32,7 @@ unfoldable pub use Rattle.re_strings.specs.Working.Keys.{key}
 pub use Rattle.re_strings.specs.Working.Reached.{EndsFirst}
 pub use Rattle.re_trees.specs.Bytes.{Text, only}
 pub use Rattle.re_trees.specs.Expression.{Expression, alt, byte, cat, sequence}
-pub use Rattle.re_trees.specs.Holds.{Holds, Matches, folded, positions}
+pub use Rattle.re_trees.specs.Holds.{Holds, Matches, folded}
 pub use Rattle.re_trees.specs.Lines.{HasNoNewline, newline, terminated}
 unfoldable pub use Rattle.re_trees.specs.Lines.{lines_of}
 pub use Rattle.re_trees.specs.Parts.{IsFound, IsPart}

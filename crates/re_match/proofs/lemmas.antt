@@ -1,5 +1,4 @@
 pub mod OneText
-pub mod LiteralLaws
 pub mod SetFolded
 pub mod SetMatches
 pub mod StretchLaws

@@ -13,39 +13,41 @@ pub use Rattle.re_match.specs.declared.sweeps.Sweep.{Sweep}
 pub use Rattle.re_meter.specs.Meters.{AddsUpTo}
 pub use Rattle.re_runs.specs.Working.Blocks.{IsLineFrom}
 pub use Rattle.re_needle.specs.Working.Needles.{IsNeeded, StandsBetween}
-pub use Rattle.re_search.specs.Reading.{IsReadable, IsRefusedFor}
+pub use Rattle.re_search.specs.Reading.{IsReadable, IsRefusedFor, IsSmallFor}
 pub use Rattle.re_search.specs.Working.Blocks.{StopsNear, left_for_all}
 pub use Rattle.re_search.specs.Working.Filters.{AreNeeded, NeedsOneOf, PassesByFilter}
 pub use Rattle.re_search.specs.Working.LineParts.{AreAllEnds, AreEnds, AreEndsIn, ArePartsOf, FindsBefore, LineEnds, spent}
 pub use Rattle.re_search.specs.Working.Matchers.{matched_expression}
+pub use Rattle.re_search.specs.Working.Patterns.{IsPattern, meaning, meant_by, pattern_expression}
 pub use Rattle.re_search.specs.Working.Searchers.{SameSearchers, expressions_by, sought_by}
 pub use Rattle.re_search.specs.Working.Sought.{FindsSought, IsSought, PassesUnsought, Sought}
-pub use Rattle.re_search.specs.Working.Strings.{AddsEach, AddsStrings, string_expression}
+pub use Rattle.re_search.specs.Working.Strings.{AddsEach, string_expression}
 pub use Rattle.re_search.specs.declared.matcher.Matcher.{Matcher}
+pub use Rattle.re_search.specs.declared.pattern.Pattern.{Pattern}
+pub use Rattle.re_search.specs.declared.pattern.Pattern.TheVariants.{String, Tree}
 pub use Rattle.re_search.specs.declared.searchers.Searchers.{Searchers}
 pub use Rattle.re_syntax.specs.Bytes.{Text}
-pub use Rattle.re_syntax.specs.Expression.{Expression, alt, alt_more, alt_none, begin, byte, cat, cat_more, cat_none, choice, empty, end, none_of, one_of, repeat, sequence}
+pub use Rattle.re_syntax.specs.Expression.{Expression, alt, alt_more, alt_none, begin, byte, cat, cat_more, cat_none, empty, end, none_of, one_of, repeat, sequence}
 pub use Rattle.re_syntax.specs.Holds.{Holds, Matches, copies, folded, positions}
 pub use Rattle.re_syntax.specs.Lines.{HasNoNewline, newline, terminated}
 unfoldable pub use Rattle.re_syntax.specs.Lines.{lines_of}
 pub use Rattle.re_syntax.specs.Parts.{IsFound, IsPart}
 pub use Rattle.re_syntax.specs.Profile.{most_positions}
 pub use Rattle.re_syntax.specs.Spelled.{IsMeant, IsSpelled, as_fixed, has_limit}
-pub use Rattle.re_syntax.specs.Working.Counted.{HasPositions}
+pub use Rattle.re_syntax.specs.Working.Counted.{HasPositions, up_to_word}
 pub use Rattle.re_syntax.specs.Working.Trees.{expression_of}
 pub use Rattle.re_syntax.specs.declared.fault.FaultKind.TheVariants.{TooLarge}
 pub use Rattle.re_syntax.specs.declared.fault.PatternFault.{PatternFault}
 pub use Rattle.re_trees.specs.declared.span.Span.{Span}
 pub use Rattle.re_syntax.specs.declared.syntax.Syntax.{Syntax}
-pub use Rattle.re_syntax.specs.declared.syntax.Syntax.TheVariants.{Basic, Extended, Fixed}
-pub use Rattle.re_trees.specs.declared.tree.Tree.{the_lemmas}
-pub use Rattle.std.proofs.Common.{All, Any, Bool, IfSome, IsTrue, List, None, Option, Some, [], add-one, ap, append-nil, append_assoc, arith, drop, drop-drop, eq-eqb, false, get_or, if◌then◌else◌, inl, inr, is_some, length, length-append, length-drop, lt-ltb, map, max, mul-le-mul_left, mul-le-mul_right, nat_lt, refl, rules, set, slice_index, slice_range, slice_set, subst, sym, take, take-suc, take_all, true, true≢false, suc, zero, ℕ, ◌*◌, ◌++◌, ◌+◌, ◌-◌, ◌<◌, ◌^◌, ◌↔◌, ◌∙◌, ◌∷◌, ◌≡◌, ◌≢◌, ◌≤◌, ◌⊎◌}
+pub use Rattle.re_syntax.specs.declared.syntax.Syntax.TheVariants.{Fixed}
+pub use Rattle.std.proofs.Common.{All, Any, Bool, Global, IfSome, IsTrue, List, None, Option, Some, Vec, [], add-one, ap, append-nil, append_assoc, arith, drop, drop-drop, eq-eqb, false, get_or, if◌then◌else◌, inl, inr, is_some, length, length-append, length-drop, lt-ltb, map, max, mul-le-mul_left, mul-le-mul_right, nat_lt, refl, rules, set, slice_index, slice_range, slice_set, subst, sym, take, take-suc, take_all, true, true≢false, suc, zero, ℕ, ◌*◌, ◌++◌, ◌+◌, ◌-◌, ◌<◌, ◌^◌, ◌↔◌, ◌∙◌, ◌∷◌, ◌≡◌, ◌≢◌, ◌≤◌, ◌⊎◌}
 pub use Rattle.std.proofs.Math.Decide.{dec_le}
 pub use Rattle.std.proofs.Math.Seq.{map-set_same}
 pub use Rattle.std.proofs.lemmas.Bool.{cases_lt, false≢true}
 pub use Rattle.std.proofs.lemmas.List.{get_or-map, get_or-replicate, length-replicate, get_or_default, get_or_past, length-map, map-append, take_rest, with_items_is}
 pub use Rattle.std.proofs.lemmas.List.Elements.{All-append, All-cons, All-from_get_or, All-head, All-map, All-nil, All-push, All-tail}
 pub use Rattle.std.proofs.lemmas.Option.{IfSome_then}
-pub use Rattle.std.proofs.lemmas.Result.{IfErr-weaker, IfOk-weaker}
+pub use Rattle.std.proofs.lemmas.Result.{err_from_is_err_and}
 pub use Rattle.std.specs.Option.{ForSome}
 pub use Rattle.std.specs.Prelude.{replicate}

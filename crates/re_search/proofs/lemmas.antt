@@ -2,7 +2,6 @@
 pub use Rattle.re_runs.proofs.lemmas.BlockLemmas
 pub use Rattle.re_runs.proofs.lemmas.CountedBlocks
 pub use Rattle.re_runs.proofs.lemmas.NextLines
-pub use Rattle.re_match.proofs.lemmas.LiteralLaws
 pub mod PartOfBoth
 pub mod WithPartsMatchers
 pub mod OneMatcherMore

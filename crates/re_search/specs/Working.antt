@@ -7,3 +7,4 @@ pub mod Sought
 pub mod Searchers
 pub mod LineParts
 pub mod Strings
+pub mod Patterns

@@ -1,17 +1,17 @@
 //! Patterns that are searched for as one.
-ghost use Rattle.std.specs.Prelude.{◌≡◌, ◌<◌, ◌≤◌, ◌⊎◌, ◌++◌, ◌↔◌, [], ◌∷◌, IsTrue, MatchBool, IfOk, IfErr, map};
-ghost use Rattle.re_syntax.specs.Expression.{Expression, alt};
+ghost use Rattle.std.specs.Prelude.{◌≡◌, ◌+◌, ◌≤◌, ◌++◌, ◌↔◌, [], ◌∷◌, Bool, IsTrue, IfOk, map};
+ghost use Rattle.re_syntax.specs.Expression.{alt};
 ghost use Rattle.re_syntax.specs.Holds.{positions};
 ghost use Rattle.re_syntax.specs.Working.Trees.{expression_of};
 ghost use Rattle.re_syntax.specs.Profile.{most_positions};
-ghost use Rattle.re_syntax.specs.Spelled.{IsMeant};
-ghost use Rattle.re_search.specs.Reading.{IsOutOfMemory, IsRefusedFor, IsSmallFor};
 ghost use Rattle.re_search.specs.Working.Matchers.{matched_expression, wants_whole};
 ghost use Rattle.re_search.specs.Working.Matchers.{room_of, entries_of};
+ghost use Rattle.re_search.specs.Working.Patterns.{pattern_expression, meant_by, IsCounted};
 
-use crate::matcher::{Matcher, built_tree, checked_positions, fault_at_first, stepping_matcher};
-use re_syntax::{FaultKind, MOST_POSITIONS, PatternFault, Syntax, Tree};
-use std::alloc::Global;
+use crate::matcher::{Matcher, stepping_matcher};
+use crate::pattern::Pattern;
+use re_syntax::{MOST_POSITIONS, Tree};
+use std::alloc::{AllocError, Global};
 use std::marker::Model;
 
 /// Expressions for which a line is searched at once: it is matched where one of them matches it.
@@ -62,53 +62,43 @@ impl Choice {
         self.trees.is_empty()
     }
 
-    /// Adds the expression that the text of a pattern means, read as by [`Matcher::new`]. `false`, and
-    /// it isn't added, if all would have more than 4,096 positions together.
-    ///
-    /// # Errors
-    ///
-    /// Those of [`Matcher::new`]. Then nothing is added.
-    pub fn add(
-        &mut self,
-        alloc: Global,
-        text: &[u8],
-        syntax: Syntax,
-        fold: bool,
-    ) -> Result<bool, PatternFault>
-        ensures added { IfOk result (λ added. (e : Expression) × IsMeant syntax fold text.now e
-            × MatchBool added ((map expression_of self.new ≡ map expression_of self.old ++ e ∷ []) × IsSmallFor syntax fold e)
-            ((self.new ≡ self.old) × (most_positions < positions (alt (map expression_of self.old ++ e ∷ []))))) }
-        ensures refused { IfErr result
-            (λ fault. IsOutOfMemory fault ⊎ IsRefusedFor syntax fold text.now fault) }
-        ensures same { IfErr result (λ _. self.new ≡ self.old) }
+    /// Whether all would have at most 4,096 positions together with the pattern.
+    pub fn has_room(&self, pattern: &Pattern) -> bool
+        ensures { (fold : Bool) → IsCounted fold pattern.now → IsTrue result ↔
+            positions (alt (map expression_of self.now))
+            + positions (pattern_expression pattern.now) ≤ most_positions }
     {
-        let count = checked_positions(text, syntax, fold)?;
-        if count > MOST_POSITIONS - self.total {
-            return Ok(false);
-        }
-        let tree = built_tree(alloc, text, syntax, fold)?;
-        match self.trees.push(tree) {
-            Ok(()) => {}
-            Err(_) => return Err(fault_at_first(FaultKind::Memory)),
-        }
+        pattern.positions() <= MOST_POSITIONS - self.total
+    }
+
+    /// Adds the pattern; with `fold` both cases of each letter are alike.
+    pub fn add(&mut self, alloc: Global, pattern: Pattern, fold: bool) -> Result<(), AllocError>
+        requires counted { IsCounted fold pattern }
+        requires room { positions (alt (map expression_of self.old))
+            + positions (pattern_expression pattern) ≤ most_positions }
+        ensures { IfOk result (λ _. map expression_of self.new ≡
+            map expression_of self.old ++ meant_by fold pattern ∷ []) }
+    {
+        let count = pattern.positions();
+        let tree = pattern.into_tree(alloc, fold)?;
+        self.trees.push(tree)?;
         self.total += count;
-        Ok(true)
+        Ok(())
     }
 
     /// The matcher that steps one automaton for all, with a cache of at most `states` entries, from 1 to
-    /// 65,536. The one fault is `FaultKind::Memory` at 0.
+    /// 65,536.
     pub fn into_matcher(
         self,
         alloc: Global,
         whole: bool,
         states: usize,
-    ) -> Result<Matcher, PatternFault>
+    ) -> Result<Matcher, AllocError>
         requires { 1 ≤ states }
         ensures expression { IfOk result (λ m. matched_expression m ≡ alt (map expression_of self)) }
         ensures whole { IfOk result (λ m. wants_whole m ≡ whole) }
         ensures room { IfOk result (λ m. room_of m ≤ states) }
         ensures empty { IfOk result (λ m. entries_of m ≡ []) }
-        ensures refused { IfErr result IsOutOfMemory }
     {
         stepping_matcher(alloc, Tree::Alt(self.trees), whole, states)
     }

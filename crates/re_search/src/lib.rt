@@ -6,15 +6,16 @@ mod choice;
 mod filter;
 mod line_parts;
 mod matcher;
-mod plain;
+mod pattern;
 mod searchers;
 mod several;
+mod strings;
 
 pub use choice::Choice;
 pub use filter::{Filter, needed_strings};
 pub use line_parts::{LineParts, next_part};
 pub use matcher::Matcher;
-pub use plain::add_strings;
+pub use pattern::{Pattern, read_pattern};
 pub use re_auto::Meter;
 pub use re_match::{Cached, LineMatch, Strings};
 pub use re_syntax::{Span, Syntax};

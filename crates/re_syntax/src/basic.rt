@@ -1,16 +1,12 @@
 //! Basic regular expressions (XBD 9.3), with GNU grep's `\+`, `\?` and `\|`, and their tokens.
-ghost use Rattle.std.specs.Prelude.{◌≡◌, ◌≤◌, ◌<◌, ◌⊎◌, Bool, IfOk, IfErr, MatchOption};
+ghost use Rattle.std.specs.Prelude.{◌≡◌, ◌≤◌, ◌<◌, Bool, IfOk, IfErr, MatchOption};
 ghost use Rattle.std.specs.Prelude.{MatchBool, length, drop, codes};
 ghost use Rattle.re_trees.specs.Bytes.{Begins};
-ghost use Rattle.re_trees.specs.Working.Trees.{expression_of};
 ghost use Rattle.re_syntax.specs.Basic.{IsAtEnd, Duplication};
 ghost use Rattle.re_syntax.specs.BasicTokens.{NeedsItem, BasicTokenFault};
-ghost use Rattle.re_syntax.specs.Faults.{IsAt, IsOutOfMemory};
-ghost use Rattle.re_syntax.specs.FirstFaults.{IsFirstFault};
-ghost use Rattle.re_syntax.specs.Spelled.{IsSpelled, SpellsNoOther};
+ghost use Rattle.re_syntax.specs.Faults.{IsAt};
 ghost use Rattle.re_syntax.specs.Working.Ahead.{IsAfter};
 ghost use Rattle.re_syntax.specs.Working.BasicSteps.{HasNoTail, ComesAfterTail, HasNoTimes};
-ghost use Rattle.re_syntax.specs.Working.Counted.{HasPositions};
 ghost use Rattle.re_syntax.specs.Working.DuplicationSteps.{HasOne};
 ghost use Rattle.re_syntax.specs.Working.TokenSteps.{Stands};
 ghost use Rattle.re_syntax.specs.declared.syntax.Syntax.TheVariants.{Basic};
@@ -22,11 +18,8 @@ use crate::escape::read_escape;
 use crate::fault::{FaultKind, PatternFault};
 use crate::interval::Counts;
 use crate::profile::BASIC_REFUSED;
-use crate::reading::{count, read};
-use crate::syntax::Syntax;
 use crate::tokens::{Atom, ItemPlace, Token, follows_item, meant_by};
-use re_trees::{ByteSet, Tree};
-use std::alloc::Global;
+use re_trees::ByteSet;
 
 /// Whether a branch ends at a place: the text ends, a group is closed, or another branch begins.
 fn is_at_end(text: &[u8], at: usize) -> bool
@@ -159,36 +152,6 @@ pub fn basic_token(
         b'\\' => escape_token(text, at, in_group),
         byte => Ok((Token::Atom(Atom::Set(meant_by(byte))), at + 1)),
     }
-}
-
-/// The number of positions of a basic regular expression, its intervals written out, or the
-/// greatest `usize` where it has more. Its tree is not built.
-///
-/// # Errors
-///
-/// Those of [`read_basic`] but `FaultKind::Memory`: it allocates no memory.
-pub fn basic_positions(text: &[u8]) -> Result<usize, PatternFault>
-    ensures counted { IfOk result (HasPositions Basic text.now) }
-    ensures refused { IfErr result (IsFirstFault Basic text.now) }
-{
-    count(Syntax::Basic, text)
-}
-
-/// The tree of a basic regular expression (XBD 9.3, with GNU grep's `\+`, `\?` and `\|`). Its items
-/// are `Set`, `Not`, `Begin`, `End` and `Repeat`. A branch without items is `Empty`, and one with
-/// several is a `Cat` of them in order. Several branches are an `Alt` of them in order.
-///
-/// # Errors
-///
-/// Where the text is no basic expression, its first fault. `FaultKind::Memory` where memory runs
-/// out.
-pub fn read_basic(alloc: Global, text: &[u8]) -> Result<Tree, PatternFault>
-    ensures read { IfOk result (λ tree. IsSpelled Basic text.now (expression_of tree)) }
-    ensures only { IfOk result (λ tree. SpellsNoOther Basic text.now (expression_of tree)) }
-    ensures refused { IfErr result
-        (λ fault. IsOutOfMemory fault ⊎ IsFirstFault Basic text.now fault) }
-{
-    read(alloc, Syntax::Basic, text)
 }
 
 mod duplications;

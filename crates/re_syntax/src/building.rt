@@ -1,6 +1,6 @@
 //! Trees that are built of tokens, one after another.
 ghost use Rattle.std.specs.Prelude.{◌≡◌, ◌++◌, ◌∷◌, [], IfOk, IfErr, map};
-ghost use Rattle.re_trees.specs.Expression.{repeat, choice};
+ghost use Rattle.re_trees.specs.Expression.{repeat, sequence, choice};
 ghost use Rattle.re_syntax.specs.Faults.{IsOutOfMemory};
 ghost use Rattle.re_syntax.specs.Tokens.{opening, closing, bar};
 ghost use Rattle.re_syntax.specs.Working.Builds.{Frame, FrameMeans, Builds, BuildsOn};
@@ -9,8 +9,7 @@ ghost use Rattle.re_syntax.specs.Working.Builds.{fresh, nothing_built};
 ghost use Rattle.re_syntax.specs.Working.TokenSteps.{token_of};
 ghost use Rattle.re_trees.specs.Working.Trees.{expression_of};
 
-use crate::fault::PatternFault;
-use crate::fixed::{out_of_memory, sequence_of};
+use crate::fault::{FaultKind, PatternFault};
 use crate::interval::Counts;
 use crate::tokens::{Token, tree_of};
 use re_trees::Tree;
@@ -33,6 +32,16 @@ pub struct Building {
     pub level: TreeFrame,
     /// The levels around it.
     pub outer: Vec<TreeFrame>,
+}
+
+/// The fault of running out of memory.
+fn out_of_memory() -> PatternFault
+    ensures { result ≡ record { kind = FaultKind.Memory; at = 0 } }
+{
+    PatternFault {
+        kind: FaultKind::Memory,
+        at: 0,
+    }
 }
 
 /// A level of nothing.
@@ -77,6 +86,20 @@ fn keep(outer: &mut Vec<TreeFrame>, frame: TreeFrame) -> Result<(), PatternFault
         return Err(out_of_memory());
     }
     Ok(())
+}
+
+/// One tree for the trees in order.
+fn sequence_of(mut parts: Vec<Tree>) -> Tree
+    ensures { expression_of result ≡ sequence (map expression_of parts.items) }
+{
+    if parts.len() < 2 {
+        match parts.pop() {
+            Some(only) => only,
+            None => Tree::Empty,
+        }
+    } else {
+        Tree::Cat(parts)
+    }
 }
 
 /// One tree for the trees of an expression's branches, in order.

@@ -1,15 +1,11 @@
 //! Extended regular expressions (XBD 9.4), and their tokens.
-ghost use Rattle.std.specs.Prelude.{◌≡◌, ◌≤◌, ◌<◌, ◌⊎◌, ◌∷◌, Bool, [], IfOk, IfErr};
+ghost use Rattle.std.specs.Prelude.{◌≡◌, ◌≤◌, ◌<◌, ◌∷◌, Bool, [], IfOk, IfErr};
 ghost use Rattle.std.specs.Prelude.{MatchOption, MatchBool, codes, length, drop, IsTrue};
 ghost use Rattle.re_syntax.specs.Escapes.{is_in};
 ghost use Rattle.re_trees.specs.Bytes.{Begins};
-ghost use Rattle.re_trees.specs.Working.Trees.{expression_of};
 ghost use Rattle.re_syntax.specs.Extended.{Duplication};
-ghost use Rattle.re_syntax.specs.Faults.{IsAt, IsOutOfMemory};
-ghost use Rattle.re_syntax.specs.FirstFaults.{IsFirstFault};
-ghost use Rattle.re_syntax.specs.Spelled.{IsSpelled, SpellsNoOther};
+ghost use Rattle.re_syntax.specs.Faults.{IsAt};
 ghost use Rattle.re_syntax.specs.ExtendedTokens.{ExtendedTokenFault, OpensDuplication};
-ghost use Rattle.re_syntax.specs.Working.Counted.{HasPositions};
 ghost use Rattle.re_syntax.specs.Working.DuplicationSteps.{HasOne};
 ghost use Rattle.re_syntax.specs.Working.TokenSteps.{token_of, Stands, byte_token};
 ghost use Rattle.re_syntax.specs.declared.syntax.Syntax.TheVariants.{Extended};
@@ -20,11 +16,8 @@ use crate::escape::read_escape;
 use crate::fault::{FaultKind, PatternFault};
 use crate::interval::{Counts, counts_fault, read_interval};
 use crate::profile::EXTENDED_REFUSED;
-use crate::reading::{count, read};
-use crate::syntax::Syntax;
 use crate::tokens::{Atom, ItemPlace, Token, follows_item, meant_by};
-use re_trees::{ByteSet, Tree};
-use std::alloc::Global;
+use re_trees::ByteSet;
 
 /// How often a byte repeats the item before it, where it is a duplication alone.
 fn sign_counts(byte: u8) -> Option<Counts>
@@ -168,34 +161,4 @@ pub fn extended_token(
         b'\\' => escape_token(text, at),
         byte => Ok((single_token(byte, in_group), at + 1)),
     }
-}
-
-/// The number of positions of an extended regular expression, its intervals written out, or the
-/// greatest `usize` where it has more. Its tree is not built.
-///
-/// # Errors
-///
-/// Those of [`read_extended`] but `FaultKind::Memory`: it allocates no memory.
-pub fn extended_positions(text: &[u8]) -> Result<usize, PatternFault>
-    ensures counted { IfOk result (HasPositions Extended text.now) }
-    ensures refused { IfErr result (IsFirstFault Extended text.now) }
-{
-    count(Syntax::Extended, text)
-}
-
-/// The tree of an extended regular expression (XBD 9.4). Its items are `Set`, `Not`, `Begin`, `End`
-/// and `Repeat`. A branch without items is `Empty`, and one with several is a `Cat` of them in
-/// order. Several branches are an `Alt` of them in order.
-///
-/// # Errors
-///
-/// Where the text is no extended expression, its first fault. `FaultKind::Memory` where memory runs
-/// out.
-pub fn read_extended(alloc: Global, text: &[u8]) -> Result<Tree, PatternFault>
-    ensures read { IfOk result (λ tree. IsSpelled Extended text.now (expression_of tree)) }
-    ensures only { IfOk result (λ tree. SpellsNoOther Extended text.now (expression_of tree)) }
-    ensures refused { IfErr result
-        (λ fault. IsOutOfMemory fault ⊎ IsFirstFault Extended text.now fault) }
-{
-    read(alloc, Syntax::Extended, text)
 }

@@ -9,7 +9,6 @@ mod cursor;
 mod escape;
 mod extended;
 mod fault;
-mod fixed;
 mod interval;
 mod laws;
 mod profile;
@@ -18,10 +17,7 @@ mod shape;
 mod syntax;
 mod tokens;
 
-pub use basic::{basic_positions, read_basic};
-pub use extended::{extended_positions, read_extended};
 pub use fault::{FaultKind, PatternFault};
-pub use fixed::read_fixed;
 pub use laws::{
     brackets_are_unique, cuts_are_unique, has_one_split, parts_are_unique, spells_one,
     standard_is_kept,
@@ -30,4 +26,5 @@ pub use re_trees::{
     ByteSet, Class, FilePatterns, MOST_PATTERNS, MOST_POSITIONS, Patterns, Span, Tree, fold,
     split_file, split_list,
 };
+pub use reading::{count_positions, read};
 pub use syntax::Syntax;

@@ -1,11 +1,12 @@
 //! The one loop over the tokens of a text, in each syntax.
-ghost use Rattle.std.specs.Prelude.{◌∷◌, ◌++◌, ◌<◌, ◌⊎◌, [], List, IfOk, IfErr, length, drop};
+ghost use Rattle.std.specs.Prelude.{◌≡◌, ◌∷◌, ◌++◌, ◌<◌, ◌⊎◌, [], List, IfOk, IfErr, length, drop};
+ghost use Rattle.re_trees.specs.Holds.{positions};
 ghost use Rattle.re_trees.specs.Working.Trees.{expression_of};
 ghost use Rattle.re_syntax.specs.Faults.{IsAt, IsOutOfMemory};
 ghost use Rattle.re_syntax.specs.FirstFaults.{IsTokenFault, IsFirstFault};
 ghost use Rattle.re_syntax.specs.Spelled.{IsSpelled, SpellsNoOther};
 ghost use Rattle.re_syntax.specs.Tokens.{Token as Read};
-ghost use Rattle.re_syntax.specs.Working.Counted.{HasPositions};
+ghost use Rattle.re_syntax.specs.Working.Counted.{HasPositions, up_to_word};
 ghost use Rattle.re_syntax.specs.Working.ShapeSteps.{IsBounded, Reaches};
 ghost use Rattle.re_syntax.specs.Working.TokenSteps.{token_of, Stands};
 
@@ -63,8 +64,12 @@ fn next_token(
 }
 
 /// The number of positions of a text's expression, its intervals written out, or the greatest
-/// `usize` where it has more. Else the text's first fault. It allocates no memory.
-pub fn count(syntax: Syntax, text: &[u8]) -> Result<usize, PatternFault>
+/// `usize` where it has more. It allocates no memory.
+///
+/// # Errors
+///
+/// The text's first fault, where it is no expression.
+pub fn count_positions(syntax: Syntax, text: &[u8]) -> Result<usize, PatternFault>
     ensures counted { IfOk result (HasPositions syntax text.now) }
     ensures refused { IfErr result (IsFirstFault syntax text.now) }
 {
@@ -78,10 +83,19 @@ pub fn count(syntax: Syntax, text: &[u8]) -> Result<usize, PatternFault>
     Ok(count)
 }
 
-/// The tree of a text's expression, or its first fault, or `FaultKind::Memory`.
-pub fn read(alloc: Global, syntax: Syntax, text: &[u8]) -> Result<Tree, PatternFault>
-    ensures read { IfOk result (λ tree. IsSpelled syntax text.now (expression_of tree)) }
-    ensures only { IfOk result (λ tree. SpellsNoOther syntax text.now (expression_of tree)) }
+/// The tree of a text's expression (XBD 9.3, 9.4; XCU grep, `-F`), and the number of its positions
+/// as of [`count_positions`]. Its items are `Set`, `Not`, `Begin`, `End` and `Repeat`. A branch
+/// without items is `Empty`, and one with several is a `Cat` of them in order. Several branches are
+/// an `Alt` of them in order.
+///
+/// # Errors
+///
+/// Those of [`count_positions`], and `FaultKind::Memory` at 0.
+pub fn read(alloc: Global, syntax: Syntax, text: &[u8]) -> Result<(Tree, usize), PatternFault>
+    ensures read { IfOk result (λ found. IsSpelled syntax text.now (expression_of found.0)) }
+    ensures only { IfOk result (λ found. SpellsNoOther syntax text.now (expression_of found.0)) }
+    ensures counted { IfOk result
+        (λ found. found.1 ≡ up_to_word (positions (expression_of found.0))) }
     ensures refused { IfErr result
         (λ fault. IsOutOfMemory fault ⊎ IsFirstFault syntax text.now fault) }
 {
@@ -93,8 +107,8 @@ pub fn read(alloc: Global, syntax: Syntax, text: &[u8]) -> Result<Tree, PatternF
         build(alloc, &mut building, token)?;
         at = beyond;
     }
-    ended(&mut shape)?;
+    let positions = ended(&mut shape)?;
     let Building { level, outer: _ } = building;
     let tree = tree_of_level(level)?;
-    Ok(tree)
+    Ok((tree, positions))
 }

@@ -3,7 +3,7 @@
 //! The library that tools/refuse_growths.sh loads before the C library takes requests of two sizes
 //! as commands, and refuses the first request of these calls. Without it each request is granted.
 use re_auto::{Automaton, Mode, StateSet, fresh_meter};
-use re_syntax::{fold, read_extended};
+use re_syntax::{Syntax, fold, read};
 use std::alloc::{AllocError, Global};
 
 /// A request for this number of bytes has the next request after it refused.
@@ -22,7 +22,7 @@ fn ask(alloc: Global, bytes: usize) -> Result<usize, AllocError> {
 
 /// The automaton of an expression whose letters match both cases.
 fn folded(rt: &HostRuntime, text: &[u8]) -> Option<Automaton> {
-    let tree = read_extended(rt.alloc(), text).ok()?;
+    let (tree, _) = read(rt.alloc(), Syntax::Extended, text).ok()?;
     ask(rt.alloc(), REFUSE).ok()?;
     let tree = fold(tree);
     ask(rt.alloc(), WAS_REFUSED).ok()?;

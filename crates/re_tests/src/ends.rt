@@ -5,12 +5,12 @@ ghost use Rattle.re_ends.specs.Working.EndTables.{AreEndsFor};
 
 use re_auto::{Automaton, fresh_meter};
 use re_ends::{Asked, EndTable, Window};
-use re_syntax::{Span, read_extended};
+use re_syntax::{Span, Syntax, read};
 
 /// The ends that a line gets, and how many steps a second pass over it builds. `None` if the second
 /// pass or searches find others, or a pass does not count a step for each byte.
 fn passed_twice(rt: &HostRuntime, text: &[u8], line: &[u8]) -> Option<(Vec<usize>, u64)> {
-    let Ok(tree) = read_extended(rt.alloc(), text) else {
+    let Ok((tree, _)) = read(rt.alloc(), Syntax::Extended, text) else {
         return None;
     };
     let Ok(automaton) = Automaton::build(rt.alloc(), tree) else {

@@ -1,5 +1,5 @@
 //! Patterns that are read as strings.
-use re_search::{Syntax, add_strings};
+use re_search::{Syntax, read_pattern};
 use std::alloc::{AllocError, Global};
 use std::process::Abort;
 
@@ -34,7 +34,10 @@ fn rows() -> &'static [Row] {
 fn strings_of(alloc: Global, text: &[u8], syntax: Syntax) -> Result<Option<Vec<u8>>, AllocError> {
     let mut strings = Vec::new(alloc);
     strings.extend_from_slice(b"x\n")?;
-    match add_strings(alloc, text, syntax, &mut strings) {
+    let Ok(pattern) = read_pattern(alloc, text, syntax, false) else {
+        return Ok(None);
+    };
+    match pattern.add_strings(alloc, &mut strings) {
         Some(()) => Ok(Some(strings)),
         None => Ok(None),
     }

@@ -1,14 +1,10 @@
--- One matcher for strings serves for the patterns that are read as them.
-use Rattle.grep_utility.proofs.Prelude.{◌≡◌, ℕ, suc, ◌≤◌, ◌⊎◌, inl, inr, ◌↔◌, Bool, true, false, IsTrue, Any, List, [], ◌∷◌, ◌++◌, length, length-append, map, refl, sym, ap, ◌∙◌, subst, if◌then◌else◌, arith, map-append, length-map, All-push, AllZip, Syntax, Text, Expression, alt, alt_more, choice, Holds, folded, positions, newline, terminated, most_positions, IsMeant, has_limit, Matcher, literal_meaning, AddsStrings, string_expression, IsReadable, matched_expression, wants_whole, Options, IsSameChoice, ServeFor, AreReadAs, IsJoined}
+-- One matcher for strings serves for the patterns that are these.
+use Rattle.grep_utility.proofs.Prelude.{◌≡◌, ℕ, ◌≤◌, ◌⊎◌, inl, inr, ◌↔◌, Bool, true, false, All, Any, List, [], ◌∷◌, ◌++◌, length, map, refl, sym, ap, ◌∙◌, subst, arith, map-append, length-map, All-nil, All-cons, All-push, AllZip, Syntax, Text, Expression, alt, alt_more, choice, Holds, folded, IsMeant, literal_meaning, AddsStrings, string_expression, IsReadable, Matcher, matched_expression, wants_whole, Options, IsSameChoice, Pattern, meaning, meant_by, pattern_expression, IsCounted, ArePatterns, AreGrouped, AreReadAs, IsJoined}
 use Rattle.re_syntax.proofs.lemmas.Decisions.{Any-first, Any-later, Any-cases, Any-none}
-use Rattle.re_search.proofs.lemmas.LiteralLaws.{literal_positions}
+use Rattle.re_search.proofs.lemmas.ReadingLaws.{read_meant}
 use Rattle.grep_core.proofs.lemmas.SameChoice.{alt-holds, alt-is_same}
 
 -- ---- what one pattern means
-
--- with both cases of each letter where `fold` is set
-abbrev meaning : Bool → Expression → Expression
-meaning fold e = if fold then folded e else e
 
 -- the branches of a choice are folded one by one
 folded_choice : (es : List Expression) → folded (choice es) ≡ choice (map folded es)
@@ -28,16 +24,6 @@ meant_choice true strings = folded_choice (map string_expression strings) ∙ ap
     each : (strings : List Text) → map folded (map string_expression strings) ≡ map (literal_meaning true) strings
     each [] = refl
     each (t ∷ ts) = ap (λ es. folded (string_expression t) ∷ es) (each ts)
-
--- it has a position for each byte
-choice_positions : (fold : Bool) (strings : List Text) → positions (choice (map (literal_meaning fold) strings)) ≤ length (terminated strings)
-choice_positions fold [] = omega arith
-choice_positions fold (t ∷ []) = omega (arith, literal_positions fold t, length-append t (newline ∷ []))
-choice_positions fold (t ∷ u ∷ ts) = all (t ∷ u ∷ ts)
-  where
-    all : (ts : List Text) → positions (alt (map (literal_meaning fold) ts)) ≤ length (terminated ts)
-    all [] = omega arith
-    all (t ∷ ts) = omega (arith, literal_positions fold t, length-append t (newline ∷ terminated ts), all ts)
 
 module _ (line : Text) (i j : ℕ) where
   abbrev pub Here : Expression → Type 0
@@ -81,52 +67,37 @@ more_choices ds es fs m same some is line i j = (to, back)
       | inr h ↦ of_second line i j ds fs ((choice_holds line i j fs some).0 (subst (Here line i j) is ((choice_holds line i j (m ∷ []) (omega arith)).1 h)))
     ]
 
--- ---- texts one after another
+-- ---- patterns
 
--- no text
-pub none_read : (syntax : Syntax) (fold : Bool) → AreReadAs syntax fold [] []
-none_read syntax fold = record { es = []; meant = tt; same = λ line i j. (λ a. a, λ a. a); readable = λ i d lt. absurd (omega (arith, lt)) }
+-- what they mean, and that each is readable and counted
+pub patterns_meant : (syntax : Syntax) (fold : Bool) (texts : List Text) (patterns : List Pattern) → ArePatterns syntax fold texts patterns →
+    AllZip (λ t e. IsMeant syntax fold t e) texts (map (meant_by fold) patterns) × All (IsReadable syntax fold) texts × All (IsCounted fold) patterns
+patterns_meant syntax fold [] [] are = (tt, All-nil (IsReadable syntax fold), All-nil (IsCounted fold))
+patterns_meant syntax fold [] (p ∷ ps) are = absurd are
+patterns_meant syntax fold (t ∷ ts) [] are = absurd are
+patterns_meant syntax fold (t ∷ ts) (p ∷ ps) are =
+    let (meant, readable, counted) = patterns_meant syntax fold ts ps are.1 in
+    let (means, small) = read_meant syntax fold t p (meant_by fold p) are.0 refl in
+    ((means, meant), All-cons (IsReadable syntax fold) t ts (meant_by fold p, means, small) readable, All-cons (IsCounted fold) p ps are.0.counted counted)
 
-pub meant_more : (syntax : Syntax) (fold : Bool) (texts : List Text) (es : List Expression) (t : Text) (e : Expression) → AllZip (λ t e. IsMeant syntax fold t e) texts es → IsMeant syntax fold t e
-    → AllZip (λ t e. IsMeant syntax fold t e) (texts ++ t ∷ []) (es ++ e ∷ [])
-meant_more syntax fold [] [] t e all is = (is, tt)
-meant_more syntax fold [] (f ∷ es) t e all is = absurd all
-meant_more syntax fold (u ∷ texts) [] t e all is = absurd all
-meant_more syntax fold (u ∷ texts) (f ∷ es) t e all is = (all.0, meant_more syntax fold texts es t e all.1 is)
-
--- one text more
-pub next_read : (syntax : Syntax) (fold : Bool) (done strings : List Text) (text old new : Text) → AreReadAs syntax fold done strings → (adds : AddsStrings syntax text old new)
-    → (IsTrue (has_limit syntax fold) → length (terminated adds.each.strings) ≤ most_positions) → AreReadAs syntax fold (done ++ text ∷ []) (strings ++ adds.each.strings)
-next_read syntax fold done strings text old new read adds small =
+-- one pattern more is strings
+pub next_read : (fold : Bool) (done : List Pattern) (strings : List Text) (p : Pattern) (old new : Text) → AreReadAs fold done strings → (adds : AddsStrings (pattern_expression p) old new) → AreReadAs fold (done ++ p ∷ []) (strings ++ adds.each.strings)
+next_read fold done strings p old new read adds =
     let added = adds.each.strings in
-    let m = meaning fold (choice adds.es) in
-    let is : m ≡ choice (map (literal_meaning fold) added) = ap (λ es. meaning fold (choice es)) adds.each.are ∙ meant_choice fold added in
-    let spelled : IsMeant syntax fold text m = (choice adds.es, adds.spelled, refl) in
+    let is : meant_by fold p ≡ choice (map (literal_meaning fold) added) = ap (meaning fold) (adds.is ∙ ap choice adds.each.are) ∙ meant_choice fold added in
     let some : 1 ≤ length (map (literal_meaning fold) added) = omega (arith, adds.some, ap length adds.each.are, length-map added string_expression, length-map added (literal_meaning fold)) in
-    record {
-      es = read.es ++ m ∷ [];
-      meant = meant_more syntax fold done read.es text m read.meant spelled;
-      same = subst (λ ds. IsSameChoice ds (read.es ++ m ∷ [])) (sym (map-append (literal_meaning fold) strings added)) (more_choices (map (literal_meaning fold) strings) read.es (map (literal_meaning fold) added) m read.same some is);
-      readable = All-push (IsReadable syntax fold) done text read.readable (m, spelled, λ limited. omega (arith, ap positions is, choice_positions fold added, small limited));
-    }
-
-pub as_many : (syntax : Syntax) (fold : Bool) (texts : List Text) (es : List Expression) → AllZip (λ t e. IsMeant syntax fold t e) texts es → length es ≡ length texts
-as_many syntax fold [] [] all = refl
-as_many syntax fold [] (e ∷ es) all = absurd all
-as_many syntax fold (t ∷ texts) [] all = absurd all
-as_many syntax fold (t ∷ texts) (e ∷ es) all = ap suc (as_many syntax fold texts es all.1)
+    subst (IsSameChoice (map (literal_meaning fold) (strings ++ added))) (sym (map-append (meant_by fold) done (p ∷ [])))
+    (subst (λ ds. IsSameChoice ds (map (meant_by fold) done ++ meant_by fold p ∷ [])) (sym (map-append (literal_meaning fold) strings added))
+    (more_choices (map (literal_meaning fold) strings) (map (meant_by fold) done) (map (literal_meaning fold) added) (meant_by fold p) read some is))
 
 -- one matcher for all strings serves for them
-pub joined_serves : (syntax : Syntax) (options : Options) (texts strings : List Text) (matchers : List Matcher) → AreReadAs syntax options.ignore_case texts strings → 1 ≤ length texts
-    → IsJoined options strings matchers → ServeFor syntax options texts matchers
-joined_serves syntax options texts strings matchers read some joined =
+pub joined_grouped : (options : Options) (patterns : List Pattern) (strings : List Text) (matchers : List Matcher) → AreReadAs options.ignore_case patterns strings → 1 ≤ length patterns
+    → IsJoined options strings matchers → AreGrouped options.line_regexp (map (meant_by options.ignore_case) patterns) matchers []
+joined_grouped options patterns strings matchers read some joined =
     let meanings = map (literal_meaning options.ignore_case) strings in
     let choice : IsSameChoice (matched_expression joined.one ∷ []) meanings = subst (λ e. IsSameChoice (e ∷ []) meanings) (sym joined.expression) (alt-is_same meanings) in
     rw joined.alone (record {
-      es = read.es;
-      meant = read.meant;
-      same = λ line i j. (λ a. (read.same line i j).0 ((choice line i j).0 a), λ a. (choice line i j).1 ((read.same line i j).1 a));
-      fewer = omega (arith, some, as_many syntax options.ignore_case texts read.es read.meant);
+      same = λ line i j. (λ a. (read line i j).0 ((choice line i j).0 a), λ a. (choice line i j).1 ((read line i j).1 a));
+      fewer = omega (arith, some, length-map patterns (meant_by options.ignore_case));
       wholes = All-push (λ w. w ≡ options.line_regexp) [] (wants_whole joined.one) (λ i d h. absurd (omega (arith, h))) joined.whole;
-      readable = read.readable;
     })

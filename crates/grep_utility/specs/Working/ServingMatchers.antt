@@ -4,11 +4,12 @@ use Rattle.std.specs.List.{AllZip}
 use Rattle.re_syntax.specs.declared.syntax.Syntax.{Syntax}
 use Rattle.re_syntax.specs.Bytes.{Text}
 use Rattle.re_syntax.specs.Expression.{Expression}
-use Rattle.re_syntax.specs.Spelled.{IsMeant}
 use Rattle.re_search.specs.declared.matcher.Matcher.{Matcher}
 use Rattle.re_search.specs.Reading.{IsReadable}
 use Rattle.re_search.specs.Working.Literals.{any_literal, literal_meaning}
 use Rattle.re_search.specs.Working.Matchers.{matched_expression, wants_whole}
+use Rattle.re_search.specs.declared.pattern.Pattern.{Pattern}
+use Rattle.re_search.specs.Working.Patterns.{meant_by, IsPattern}
 use Rattle.re_search.specs.Searches.{AllAnswer}
 use Rattle.grep_core.specs.declared.options.Options.{Options}
 use Rattle.grep_core.specs.Files.{AreMeant}
@@ -25,26 +26,26 @@ pub record ServeFor (syntax : Syntax) (options : Options) (texts : List Text)
   pub wholes : AllAnswer options.line_regexp (map wants_whole matchers)
   pub readable : All (IsReadable syntax options.ignore_case) texts
 
--- matchers and a choice of expressions that no matcher has yet: together they are the same choice as
--- what the patterns mean, and no more than these; each pattern is readable
-pub record AreGrouped (syntax : Syntax) (options : Options) (texts : List Text)
-    (matchers : List Matcher) (choice : List Expression) : Type 0 where
-  pub es : List Expression
-  pub meant : AreMeant syntax options texts es
+-- what patterns are read as
+abbrev pub ArePatterns : Syntax → Bool → List Text → List Pattern → Type 0
+ArePatterns syntax fold texts patterns = AllZip (IsPattern syntax fold) texts patterns
+
+-- matchers and a choice of expressions that no matcher has yet: together they are the same choice
+-- as these expressions, and no more than these
+pub record AreGrouped (whole : Bool) (es : List Expression) (matchers : List Matcher)
+    (choice : List Expression) : Type 0 where
   pub same : IsSameChoice (map matched_expression matchers ++ choice) es
   pub fewer : length matchers + length choice ≤ length es
-  pub wholes : AllAnswer options.line_regexp (map wants_whole matchers)
-  pub readable : All (IsReadable syntax options.ignore_case) texts
+  pub wholes : AllAnswer whole (map wants_whole matchers)
 
--- the texts are read as strings: what they mean is the same choice as what the strings mean
-pub record AreReadAs (syntax : Syntax) (fold : Bool) (texts strings : List Text) : Type 0 where
-  pub es : List Expression
-  pub meant : AllZip (λ text e. IsMeant syntax fold text e) texts es
-  pub same : IsSameChoice (map (literal_meaning fold) strings) es
-  pub readable : All (IsReadable syntax fold) texts
+-- the patterns are strings: they mean the same choice as these
+abbrev pub AreReadAs : Bool → List Pattern → List Text → Type 0
+AreReadAs fold patterns strings =
+    IsSameChoice (map (literal_meaning fold) strings) (map (meant_by fold) patterns)
 
 -- there is one matcher, which looks for all strings
-pub record IsJoined (options : Options) (strings : List Text) (matchers : List Matcher) : Type 0 where
+pub record IsJoined (options : Options) (strings : List Text)
+    (matchers : List Matcher) : Type 0 where
   pub one : Matcher
   pub alone : matchers ≡ one ∷ []
   pub expression : matched_expression one ≡

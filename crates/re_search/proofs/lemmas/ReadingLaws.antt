@@ -1,14 +1,8 @@
--- What the text of a pattern means, and why it is refused.
-use Rattle.re_search.proofs.Prelude.{◌≡◌, ℕ, ◌+◌, ◌*◌, ◌<◌, ◌^◌, List, [], ◌∷◌, ◌++◌, length, IsTrue, Bool, true, false, true≢false, inl, inr, map, refl, sym, ap, ◌∙◌, ◌≤◌, arith, if◌then◌else◌, PatternFault, Syntax, Basic, Extended, Fixed, Text, HasPositions, TooLarge, Expression, empty, one_of, none_of, begin, end, cat_none, cat_more, alt_none, alt_more, repeat, byte, cat, alt, sequence, folded, copies, positions, most_positions, IsMeant, as_fixed, has_limit, IsReadable, IsRefusedFor}
+-- What the text of a pattern is read as and means, and why it is refused.
+use Rattle.re_search.proofs.Prelude.{◌≡◌, ℕ, ◌+◌, ◌*◌, ◌<◌, ◌^◌, List, Vec, Global, [], ◌∷◌, ◌++◌, length, IsTrue, Bool, true, false, true≢false, inl, inr, map, refl, sym, ap, ◌∙◌, ◌≤◌, arith, subst, if◌then◌else◌, PatternFault, Syntax, Fixed, Text, HasPositions, TooLarge, Expression, empty, one_of, none_of, begin, end, cat_none, cat_more, alt_none, alt_more, repeat, byte, cat, alt, sequence, folded, copies, positions, most_positions, up_to_word, IsMeant, IsSpelled, as_fixed, expression_of, has_limit, IsSmallFor, IsReadable, IsRefusedFor, string_expression, Pattern, String, Tree, pattern_expression, meaning, meant_by, IsPattern}
+use Rattle.re_trees.specs.declared.tree.Tree.{Tree as SyntaxTree}
 use Rattle.re_syntax.proofs.lemmas.SpelledUnique.{spells_one}
 use Rattle.re_syntax.proofs.lemmas.TokenLaws.{fault_spells_none}
-
--- a string that is not folded means the sequence of its bytes
-pub string_means : (syntax : Syntax) (fold : Bool) (text : Text) → has_limit syntax fold ≡ false → IsMeant syntax fold text (sequence (map byte text))
-string_means Fixed false text free = (sequence (map byte text), as_fixed, refl)
-string_means Fixed true text free = absurd (true≢false free)
-string_means Basic fold text free = absurd (true≢false free)
-string_means Extended fold text free = absurd (true≢false free)
 
 -- a text means one expression
 pub means_one : (syntax : Syntax) (fold : Bool) (text : Text) (d e : Expression) → IsMeant syntax fold text d → IsMeant syntax fold text e → d ≡ e
@@ -28,7 +22,7 @@ folded_positions (alt_more e rest) = omega (arith, folded_positions e, folded_po
 folded_positions (repeat e least most) = ap (λ n. copies least most * n) (folded_positions e)
 
 -- what a text means has the same number as what it spells
-meant_positions : (fold : Bool) (s : Expression) → positions (if fold then folded s else s) ≡ positions s
+pub meant_positions : (fold : Bool) (s : Expression) → positions (meaning fold s) ≡ positions s
 meant_positions true s = folded_positions s
 meant_positions false s = refl
 
@@ -36,32 +30,13 @@ meant_positions false s = refl
 pub too_many : (syntax : Syntax) (fold : Bool) (text : Text) (count : ℕ) (fault : PatternFault) → IsTrue (has_limit syntax fold) → HasPositions syntax text count →
     most_positions < count → ◌≡◌ {A = PatternFault} fault (record { kind = TooLarge; at = 0 }) → IsRefusedFor syntax fold text fault
 too_many syntax fold text count fault limited has many e =
-    let meaning : Expression = if fold then folded has.expression else has.expression in
     inr (record {
       reported = e;
       limited = limited;
-      meaning = meaning;
+      meaning = meaning fold has.expression;
       meant = (has.expression, has.spelled, refl);
       large = omega (arith, many, has.counted, meant_positions fold has.expression);
     })
-
--- a text has no more positions than were counted
-pub few_meant : (syntax : Syntax) (fold : Bool) (text : Text) (count : ℕ) (e : Expression) → HasPositions syntax text count → count ≤ most_positions → IsMeant syntax fold text e → positions e ≤ most_positions
-few_meant syntax fold text count e has few m =
-    let same = spells_one text syntax m.0 has.expression m.1 has.spelled in
-    omega (arith, few, has.counted, ap positions m.2, meant_positions fold m.0, ap positions same)
-
--- few positions are counted exactly
-pub count_meant : (syntax : Syntax) (fold : Bool) (text : Text) (count : ℕ) (e : Expression) → HasPositions syntax text count → count ≤ most_positions → IsMeant syntax fold text e → positions e ≡ count
-count_meant syntax fold text count e has few m =
-    let same = spells_one text syntax m.0 has.expression m.1 has.spelled in
-    omega (arith, few, has.counted, ap positions m.2, meant_positions fold m.0, ap positions same)
-
--- a text with these positions means an expression with as many, or more
-pub counted_meaning : (syntax : Syntax) (fold : Bool) (text : Text) (count : ℕ) → HasPositions syntax text count → (e : Expression) × IsMeant syntax fold text e × (count ≤ positions e)
-counted_meaning syntax fold text count has =
-    let e : Expression = if fold then folded has.expression else has.expression in
-    (e, (has.expression, has.spelled, refl), omega (arith, has.counted, meant_positions fold has.expression))
 
 -- ---- of a choice
 
@@ -74,13 +49,42 @@ positions_bytes : (t : Text) → positions (cat (map byte t)) ≡ length t
 positions_bytes [] = refl
 positions_bytes (b ∷ t) = omega (arith, positions_bytes t)
 
-positions_string : (t : Text) → positions (sequence (map byte t)) ≡ length t
+pub positions_string : (t : Text) → positions (sequence (map byte t)) ≡ length t
 positions_string [] = refl
 positions_string (b ∷ []) = refl
 positions_string (b ∷ c ∷ t) = positions_bytes (b ∷ c ∷ t)
 
 pub fixed_positions : (t : Text) (count : ℕ) → count ≡ length t → count < 2 ^ 64 → HasPositions Fixed t count
 fixed_positions t count e small = record { expression = sequence (map byte t); spelled = as_fixed; counted = omega (arith, e, small, positions_string t) }
+
+-- ---- of a pattern
+
+-- a fixed string is read as it is
+pub fixed_read : (fold : Bool) (text : Text) (string : Vec ℕ Global) → (IsTrue fold → length text ≤ most_positions) → string.items ≡ text → IsPattern Fixed fold text (String string)
+fixed_read fold text string few is = record {
+  spelled = subst (IsSpelled Fixed text) (ap string_expression (sym is)) as_fixed;
+  small = λ limited. omega (arith, few limited, ap length is, positions_string string.items);
+  counted = λ folded. omega (arith, few folded, ap length is);
+  kind = λ free. refl;
+}
+
+-- a tree that has to be small is read, or the string that it is
+module _ (syntax : Syntax) (fold : Bool) (text : Text) (tree : SyntaxTree) (count : ℕ) (limited : IsTrue (has_limit syntax fold)) (spelled : IsSpelled syntax text (expression_of tree)) (counted : count ≡ up_to_word (positions (expression_of tree))) (few : count ≤ most_positions) where
+  pub tree_read : IsPattern syntax fold text (Tree tree count)
+  tree_read = record { spelled = spelled; small = λ h. omega (arith, counted, few); counted = (omega (arith, counted, few), few); kind = λ free. absurd (true≢false (sym limited ∙ free)) }
+
+  pub string_read : (string : Vec ℕ Global) → expression_of tree ≡ string_expression string.items → IsPattern syntax fold text (String string)
+  string_read string is = record {
+    spelled = subst (IsSpelled syntax text) is spelled;
+    small = λ h. omega (arith, counted, few, ap positions is);
+    counted = λ h. omega (arith, counted, few, ap positions is, positions_string string.items);
+    kind = λ free. absurd (true≢false (sym limited ∙ free));
+  }
+
+-- what it means is what the text means
+pub read_meant : (syntax : Syntax) (fold : Bool) (text : Text) (pattern : Pattern) (e : Expression) → IsPattern syntax fold text pattern → e ≡ meant_by fold pattern → IsMeant syntax fold text e × IsSmallFor syntax fold e
+read_meant syntax fold text pattern e r is =
+    ((pattern_expression pattern, r.spelled, is), λ limited. omega (arith, r.small limited, ap positions is, meant_positions fold (pattern_expression pattern)))
 
 -- a text that is refused is not readable
 pub refused_unreadable : (syntax : Syntax) (fold : Bool) (text : Text) (fault : PatternFault) → IsRefusedFor syntax fold text fault → IsReadable syntax fold text → ⊥

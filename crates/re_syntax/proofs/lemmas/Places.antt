@@ -1,5 +1,5 @@
 -- Bytes at places of a text, and what was found.
-use Rattle.re_syntax.proofs.Prelude.{◌≡◌, ℕ, ◌+◌, ◌<◌, Bool, true, false, ◌∷◌, length, drop, Option, Result, Ok, Err, IfOk, Some, None, MatchOption, MatchBool, is_some, slice_get, get_or, sym, ap, ◌∙◌, drop-drop, drop_more, slice_get_within, slice_get-get_or, get_or_from_slice_get, Text}
+use Rattle.re_syntax.proofs.Prelude.{◌≡◌, ℕ, ◌+◌, ◌<◌, Bool, true, false, ◌∷◌, length, drop, Option, Some, None, MatchOption, MatchBool, is_some, slice_get, get_or, sym, ap, ◌∙◌, drop-drop, drop_more, slice_get_within, slice_get-get_or, get_or_from_slice_get, Text}
 
 -- the text from the place of a byte on
 pub byte_at : (text : Text) (at b : ℕ) → slice_get text at ≡ Some b → drop at text ≡ b ∷ drop (at + 1) text
@@ -13,11 +13,6 @@ beyond_first text at b rest e = ap (drop 1) (sym e) ∙ drop-drop 1 at text
 pub either_found : (A B C : Type 0) (P : ℕ → Type 0) (r : Option ℕ) (b : Bool) → b ≡ is_some r → MatchOption r C P → (C → B) → ((x : ℕ) → P x → A) → MatchBool b A B
 either_found A B C P None b e h g f = rw e (g h)
 either_found A B C P (Some x) b e h g f = rw e (f x h)
-
--- what follows from what is said of a result holds of it too
-pub ok_as : {T E : Type 0} (P Q : T → Type 0) (r : Result T E) → IfOk r P → ((x : T) → P x → Q x) → IfOk r Q
-ok_as P Q (Ok x) h f = f x h
-ok_as P Q (Err e) h f = tt
 
 -- where something was found, what is said of it
 pub some_found : (A : Type 0) (P : ℕ → Type 0) (r : Option ℕ) (b : Bool) → b ≡ is_some r → b ≡ true → MatchOption r A P → (x : ℕ) × P x

@@ -1,22 +1,14 @@
 -- The laws of the definitions: one expression, one split, one list of parts.
-use Rattle.re_syntax.proofs.Prelude.{◌≡◌, map, Text, Expression, byte, sequence, Syntax, Fixed, IsSpelled, SpellsNoOther, as_fixed, SpellsOne, HasOneSplit, HasOnePartList}
+use Rattle.re_syntax.proofs.Prelude.{◌≡◌, Text, Expression, Syntax, IsSpelled, SpellsOne, HasOneSplit, HasOnePartList}
 use Rattle.re_syntax.proofs.lemmas.TokenLaws.{keeps_spelled, one_meaning}
 use Rattle.re_trees.proofs.lemmas.LinesLaws.{AreLines-lines_of, lines_of-unique, AreListed-list_of, list_of-unique}
 use Rattle.re_syntax.proofs.lemmas.PartsExist.{AreParts-exist}
 use Rattle.re_trees.proofs.lemmas.EndedLinesLaws.{AreEndedLines-ended_lines_of, ended_lines_of-unique}
 use Rattle.re_syntax.proofs.lemmas.PartsLaws.{ArePartsFrom-unique}
 
--- a fixed string spells the sequence of its bytes
-pub fixed_spelled : (t : Text) (e : Expression) → e ≡ sequence (map byte t) → IsSpelled Fixed t e
-fixed_spelled t e h = let P : Expression → Type 0 = λ x. IsSpelled Fixed t x in let it : P (sequence (map byte t)) = as_fixed in rw h it
-
 -- a text spells one expression
 pub IsSpelled-unique : {syntax : Syntax} {t : Text} {d e : Expression} → IsSpelled syntax t d → IsSpelled syntax t e → d ≡ e
 IsSpelled-unique {syntax} {t} {d} {e} p q = one_meaning syntax t d e (keeps_spelled syntax t d p) (keeps_spelled syntax t e q)
-
--- a fixed string spells nothing but the sequence of its bytes
-pub fixed_only : (t : Text) (e : Expression) → e ≡ sequence (map byte t) → SpellsNoOther Fixed t e
-fixed_only t e h other spelled = IsSpelled-unique spelled (fixed_spelled t e h)
 
 -- the law on what a text spells
 pub spells_one : (text : Text) → SpellsOne text

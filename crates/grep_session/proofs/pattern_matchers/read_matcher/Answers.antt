@@ -1,4 +1,4 @@
-use Rattle.grep_session.proofs.Prelude.{[], ◌∷◌, refl, inl, inr}
+use Rattle.grep_session.proofs.Prelude.{[], ◌∷◌, refl}
 use Rattle.grep_core.proofs.lemmas.MatcherLemmas.{AreMatchers-none, AreMatchers-push, refused_or_memory}
 use Rattle.grep_session.proofs.lemmas.ReadingLemmas.{reported_refused}
 use Rattle.grep_session.proofs.lemmas.RoomLemmas.{keep_none, keep_one}
@@ -13,5 +13,5 @@ returns-in-Ok-clause-rooms c = keep_one c.args.states [] c.in-Ok.matcher (c.in-O
 
 pub returns-in-Err-clause-err : goal.returns-in-Err-clause-err
 returns-in-Err-clause-err c =
-    let first = refused_or_memory c.args.syntax c.args.options.now [] [] c.args.text.now (AreMatchers-none c.args.syntax c.args.options.now [] [] refl refl) [] (c.args.text.now ∷ []) refl c.in-Err.fault c.in-Err.ensures.refused c.in-Err.ensures.unreadable 0 refl in
+    let first = refused_or_memory c.args.syntax c.args.options.now.ignore_case [] c.args.text.now (AreMatchers-none c.args.syntax c.args.options.now [] [] refl refl).readable [] (c.args.text.now ∷ []) refl c.in-Err.fault c.in-Err.ensures.refused 0 refl in
     reported_refused c.args.syntax c.args.options.now.ignore_case (c.args.text.now ∷ []) 0 c.in-Err.fault c.fault_at.result c.fault_at.ensures first

@@ -1,4 +1,4 @@
-use Rattle.grep_session.proofs.Prelude.{◌≡◌, length, map, take, refl, take_all, subst, arith, AreMatchers}
+use Rattle.grep_session.proofs.Prelude.{◌≡◌, length, map, take, refl, sym, ◌∙◌, take_all, subst, arith, AreMatchers}
 use Rattle.grep_session.proofs.lemmas.ColumnLemmas.{map_next, map_with_parts}
 use Rattle.grep_core.proofs.lemmas.MatcherLemmas.{refused_or_memory}
 use Rattle.grep_session.proofs.lemmas.ReadingLemmas.{reported_refused}
@@ -26,9 +26,8 @@ pub returns-in-Err-clause-err : goal.returns-in-Err-clause-err
 returns-in-Err-clause-err c =
     let with_parts = map_with_parts (λ text. text.items) c.args.texts.now c.loop-text.text-index c.text-item.result c.loop-text-test.true c.text-item.is in
     let refused = rw c.deref.ensures.value at c.in-Err.ensures.refused in
-    let unreadable = rw c.deref.ensures.value at c.in-Err.ensures.unreadable in
     let place : length c.loop-text.matchers.items ≡ c.len.result = omega (arith, c.len.ensures, c.loop-text.matchers.ok.0) in
-    let first = refused_or_memory c.args.syntax c.args.options.now _ c.loop-text.matchers.items c.text-item.result.items c.loop-text.invariant.read _ _ with_parts c.in-Err.fault refused unreadable c.len.result place in
+    let first = refused_or_memory c.args.syntax c.args.options.now.ignore_case _ c.text-item.result.items c.loop-text.invariant.read.readable _ _ with_parts c.in-Err.fault refused c.len.result (sym c.loop-text.invariant.read.counted ∙ place) in
     reported_refused c.args.syntax c.args.options.now.ignore_case _ c.len.result c.in-Err.fault c.fault_at.result c.fault_at.ensures first
 
 pub returns-clause-ok : goal.returns-clause-ok

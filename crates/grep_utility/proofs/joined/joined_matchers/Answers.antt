@@ -1,21 +1,40 @@
-use Rattle.grep_utility.proofs.Prelude.{◌≡◌, rules, [], ◌∷◌, ◌++◌, sym, ap, ◌∙◌, subst, append_assoc, ServeFor}
-use Rattle.re_syntax.specs.Lines.{lines_of}
-use Rattle.grep_utility.proofs.lemmas.GroupLemmas.{none_grouped, groups_serve}
+use Rattle.grep_utility.proofs.Prelude.{◌≡◌, rules, [], ◌∷◌, ◌++◌, List, length, arith, refl, sym, ap, ◌∙◌, subst, append-nil, append_assoc, map, map-append, All-nil, All-head, All-tail, meant_by, IsCounted, AreGrouped, Pattern}
+use Rattle.std.specs.Vec.Iter.{into_iter_items}
+use Rattle.re_syntax.specs.Working.Trees.{expression_of}
 use Rattle.grep_utility.proofs.joined.joined_matchers.Goals as goal
 
-pub loop-text-init : goal.loop-text-init
-loop-text-init c =
-    (tt, tt, [], search rules, rw (c.new.ensures.items, c.new-2.ensures) (none_grouped c.args.syntax c.args.options.now))
+pub loop-pattern-init : goal.loop-pattern-init
+loop-pattern-init c =
+    let options = c.args.options.now in
+    (search rules, search rules, search rules, rw (c.new.ensures.items, c.new-2.ensures) (record { same = λ line i j. (λ a. a, λ a. a); fewer = omega arith; wholes = All-nil (λ w. w ≡ options.line_regexp) }))
 
-pub loop-text-preserved : goal.loop-text-preserved
-loop-text-preserved c =
-    let s = c.loop-text.invariant in
-    let text = c.in-Some.text.now in
-    let left = append_assoc s.2 (text ∷ []) c.next.new.self ∙ ap (λ l. s.2 ++ l) (sym c.in-Some.ensures.steps) ∙ s.3 in
-    (tt, tt, s.2 ++ text ∷ [], left, c.in_ok-add.ensures.added s.2 s.4)
+pub add-requires : goal.add-requires
+add-requires c = All-head (IsCounted c.args.options.now.ignore_case) c.in-Some.pattern (into_iter_items c.next.new.self) (rw c.in-Some.ensures.steps.0 at c.loop-pattern.invariant.2)
+
+pub loop-pattern-preserved : goal.loop-pattern-preserved
+loop-pattern-preserved c =
+    let (left, long, counted, grouped) = c.loop-pattern.invariant in
+    let options = c.args.options.now in
+    let fold = options.ignore_case in
+    let done = c.loop-pattern.yielded in
+    let p = c.in-Some.pattern in
+    let (steps, gone) = c.in-Some.ensures.steps in
+    let new = c.add.new.self in (
+      append_assoc done (p ∷ []) _ ∙ rw (← steps) left,
+      omega (arith, long, gone, ap length steps),
+      All-tail (IsCounted fold) p (into_iter_items c.next.new.self) (rw steps at counted),
+      subst (λ es. AreGrouped options.line_regexp es new.matchers.items (map expression_of new.choice)) (sym (map-append (meant_by fold) done (p ∷ []))) (c.in_ok-add.ensures (map (meant_by fold) done) grouped),
+    )
+
+nothing_left : (l : List Pattern) → length l ≡ 0 → l ≡ []
+nothing_left [] h = refl
+nothing_left (x ∷ xs) h = absurd (omega (arith, h))
 
 pub returns : goal.returns
 returns c =
-    let s = c.loop-text.invariant in
-    let all : s.2 ≡ lines_of c.args.texts.now = search rules in
-    subst (λ ts. ServeFor c.args.syntax c.args.options.now ts c.close.new.self.matchers.items) all (groups_serve c.args.syntax c.args.options.now s.2 c.close.new.self.matchers.items (c.in_ok-close.ensures.closed s.2 s.4))
+    let (left, long, counted, grouped) = c.loop-pattern.invariant in
+    let options = c.args.options.now in
+    let fold = options.ignore_case in
+    let none = nothing_left (into_iter_items c.loop-pattern.pattern-iterator) (sym long ∙ c.in-None.ensures.steps.0) in
+    let all : c.loop-pattern.yielded ≡ c.args.patterns.items = sym (append-nil c.loop-pattern.yielded) ∙ rw none at left in
+    subst (λ ps. AreGrouped options.line_regexp (map (meant_by fold) ps) c.close.new.self.matchers.items []) all (c.in_ok-close.ensures.closed (map (meant_by fold) c.loop-pattern.yielded) grouped)

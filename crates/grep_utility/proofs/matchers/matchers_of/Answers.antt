@@ -6,10 +6,9 @@ use Rattle.grep_utility.proofs.matchers.matchers_of.Goals as goal
 pub returns-in-Err-clause-err : goal.returns-in-Err-clause-err
 returns-in-Err-clause-err c =
     let s = c.loop-text.invariant in
-    let options = c.args.options.now in
     let left = ap (λ l. s.2 ++ l) (sym c.in-Some.ensures.steps) ∙ s.3 in
     let place : length c.loop-text.matchers.items ≡ c.len.result = search rules in
-    refused_or_memory c.args.syntax options s.2 c.loop-text.matchers.items c.in-Some.text.now s.4 c.next.new.self (lines_of c.args.texts.now) left c.in-Err.fault c.in-Err.ensures.refused c.in-Err.ensures.unreadable c.len.result place
+    refused_or_memory c.args.syntax c.args.options.now.ignore_case s.2 c.in-Some.text.now s.4.readable c.next.new.self (lines_of c.args.texts.now) left c.in-Err.fault c.in-Err.ensures.refused c.len.result (sym s.4.counted ∙ place)
 
 pub loop-text-preserved : goal.loop-text-preserved
 loop-text-preserved c =

@@ -1,10 +1,7 @@
-use Rattle.grep_utility.proofs.Prelude.{◌≡◌, List, ◌++◌, All, Text, HasNoNewline, terminated, AreReadAs}
-use Rattle.re_syntax.specs.Lines.{lines_of}
+use Rattle.grep_utility.proofs.Prelude.{◌≡◌, List, All, Bool, Text, HasNoNewline, terminated, take, AreReadAs}
 use Rattle.grep_utility.proofs.searchers.read_strings.Given as goal
 
--- some patterns are read as the strings so far, and the others are left
-abbrev pub invariant-loop-text : goal.invariant-loop-text
-invariant-loop-text l =
-    (goal.iterator-loop-text).can_next l.text-iterator × (goal.iterator-loop-text).is_finite l.text-iterator
-    × (done : List Text) × (done ++ l.text-iterator ≡ lines_of l.texts)
-    × (strings : List Text) × (l.strings.items ≡ terminated strings) × All HasNoNewline strings × AreReadAs l.syntax l.fold done strings
+-- the first patterns are read as the strings so far
+abbrev pub invariant-patterns : goal.invariant-patterns
+invariant-patterns l =
+    (strings : List Text) × (l.strings.items ≡ terminated strings) × All HasNoNewline strings × ((fold : Bool) → AreReadAs fold (take l.place l.patterns) strings)

@@ -1,7 +1,7 @@
-use Rattle.re_syntax.proofs.Prelude.{[], inr, sym, subst, IsSpelled, err_from_is_err_and}
-use Rattle.re_syntax.specs.Working.Builds.{build_all, nothing_built}
+use Rattle.re_syntax.proofs.Prelude.{[], inr, sym, ap, ◌∙◌, subst, positions, up_to_word, IsSpelled, err_from_is_err_and}
+use Rattle.re_syntax.specs.Working.Builds.{branches_of, build_all, nothing_built}
 use Rattle.re_syntax.proofs.lemmas.BuildingLaws.{builds_more, built_spelled}
-use Rattle.re_syntax.proofs.lemmas.ShapeLaws.{reaches_start, at_end}
+use Rattle.re_syntax.proofs.lemmas.ShapeLaws.{reaches_start, at_end, positions-choice, positions-branches}
 use Rattle.re_syntax.proofs.lemmas.SpelledUnique.{spells_one}
 use Rattle.re_syntax.proofs.reading.read.Goals as goal
 
@@ -20,17 +20,24 @@ tokens-preserved c =
     let (done, r, b) = c.tokens.invariant in
     (_, c.in_ok-token.ensures.read done r, builds_more done _ c.tokens.building _ b c.in_ok-build.ensures.built)
 
-pub returns-in_err-ended-clause-refused : goal.returns-in_err-ended-clause-refused
-returns-in_err-ended-clause-refused c =
-    let q = err_from_is_err_and c.from_residual-in_err-ended.result c.from_residual-in_err-ended.ensures.1 in
+pub returns-in_err-positions-clause-refused : goal.returns-in_err-positions-clause-refused
+returns-in_err-positions-clause-refused c =
+    let q = err_from_is_err_and c.from_residual-in_err-positions.result c.from_residual-in_err-positions.ensures.1 in
     let (done, r, b) = c.tokens.invariant in
-    rw (q.1, q.2) (inr (c.in_err-ended.ensures.refused.ends c.args.syntax c.args.text.now done (at_end r c.tokens-test.false)))
+    rw (q.1, q.2) (inr (c.in_err-positions.ensures.refused.ends c.args.syntax c.args.text.now done (at_end r c.tokens-test.false)))
 
 pub returns-clause-read : goal.returns-clause-read
 returns-clause-read c =
     let (done, r, b) = c.tokens.invariant in
-    let cut = (c.in_ok-ended.ensures.whole.ends c.args.syntax c.args.text.now done (at_end r c.tokens-test.false)).0 in
+    let cut = (c.in_ok-positions.ensures.whole.ends c.args.syntax c.args.text.now done (at_end r c.tokens-test.false)).0 in
     subst (IsSpelled c.args.syntax c.args.text.now) (sym (c.in_ok-tree.ensures.made (build_all done nothing_built).level b.level)) (built_spelled c.args.syntax c.args.text.now done cut)
 
 pub returns-clause-only : goal.returns-clause-only
 returns-clause-only c other spelled = spells_one c.args.text.now c.args.syntax other _ spelled (returns-clause-read c)
+
+pub returns-clause-counted : goal.returns-clause-counted
+returns-clause-counted c =
+    let (done, r, b) = c.tokens.invariant in
+    let level = (build_all done nothing_built).level in
+    (c.in_ok-positions.ensures.whole.ends c.args.syntax c.args.text.now done (at_end r c.tokens-test.false)).1
+    ∙ ap up_to_word (sym (ap positions (c.in_ok-tree.ensures.made level b.level) ∙ positions-choice (branches_of level) ∙ positions-branches level))

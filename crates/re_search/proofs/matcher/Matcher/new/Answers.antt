@@ -1,15 +1,14 @@
-use Rattle.re_search.proofs.Prelude.{inl, inr, sym, ◌∙◌, IfOk-weaker, IfErr-weaker}
-use Rattle.re_search.proofs.lemmas.ReadingLaws.{string_means, refused_unreadable}
+use Rattle.re_search.proofs.Prelude.{inl, inr, err_from_is_err_and}
+use Rattle.re_search.proofs.lemmas.ReadingLaws.{read_meant, refused_unreadable}
 use Rattle.re_search.proofs.matcher.Matcher.new.Goals as goal
 
-pub returns-then-is_limited-clause-unreadable : goal.returns-then-is_limited-clause-unreadable
-returns-then-is_limited-clause-unreadable c =
-    IfErr-weaker c.small_matcher.result _ _
-    (λ fault why. elim why [ inl memory ↦ inl memory | inr refused ↦ inr (refused_unreadable c.args.syntax c.args.fold c.args.text.now fault refused) ])
-    c.small_matcher.ensures.refused
+pub returns-in-Ok-clause-meant : goal.returns-in-Ok-clause-meant
+returns-in-Ok-clause-meant c = (read_meant c.args.syntax c.args.fold c.args.text.now _ _ c.in_ok-pattern.ensures.read c.in-Ok.ensures.expression).0
 
-pub returns-clause-meant : goal.returns-clause-meant
-returns-clause-meant c =
-    IfOk-weaker c.fixed_matcher.result _ _
-    (λ m is. rw is (string_means c.args.syntax c.args.fold c.args.text.now (sym c.is_limited.ensures ∙ c.if-is_limited.false)))
-    c.fixed_matcher.ensures.made
+pub returns-in-Ok-clause-small : goal.returns-in-Ok-clause-small
+returns-in-Ok-clause-small c = (read_meant c.args.syntax c.args.fold c.args.text.now _ _ c.in_ok-pattern.ensures.read c.in-Ok.ensures.expression).1
+
+pub returns-in_err-pattern-clause-unreadable : goal.returns-in_err-pattern-clause-unreadable
+returns-in_err-pattern-clause-unreadable c =
+    let q = err_from_is_err_and c.from_residual.result c.from_residual.ensures.1 in
+    rw (q.1, q.2) (elim c.in_err-pattern.ensures.refused [ inl memory ↦ inl memory | inr refused ↦ inr (refused_unreadable c.args.syntax c.args.fold c.args.text.now _ refused) ])

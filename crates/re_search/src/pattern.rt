@@ -1,0 +1,210 @@
+//! What the texts of patterns are read as.
+ghost use Rattle.std.specs.Prelude.{◌≡◌, ◌≤◌, ◌⊎◌, [], true, false, Bool};
+ghost use Rattle.std.specs.Prelude.{IsTrue, IfOk, IfErr, IfSome, length};
+ghost use Rattle.re_syntax.specs.Holds.{positions};
+ghost use Rattle.re_syntax.specs.Profile.{most_positions};
+ghost use Rattle.re_syntax.specs.Spelled.{has_limit};
+ghost use Rattle.re_syntax.specs.Working.Trees.{expression_of};
+ghost use Rattle.re_syntax.specs.declared.syntax.Syntax.TheVariants.{Fixed};
+ghost use Rattle.re_search.specs.Reading.{IsOutOfMemory, IsRefusedFor};
+ghost use Rattle.re_search.specs.Working.Matchers.{matched_expression, wants_whole, is_fixed};
+ghost use Rattle.re_search.specs.Working.Matchers.{room_of, entries_of};
+ghost use Rattle.re_search.specs.Working.Patterns.{pattern_expression, meaning, meant_by};
+ghost use Rattle.re_search.specs.Working.Patterns.{is_string, IsCounted, IsPattern};
+ghost use Rattle.re_search.specs.Working.Strings.{AddsStrings, string_expression};
+
+use crate::matcher::{Matcher, fault_at_first, fixed_matcher, stepping_matcher};
+use crate::strings::{add_each, add_string, string_of};
+use re_syntax::{FaultKind, MOST_POSITIONS, PatternFault, Syntax, Tree, count_positions, read};
+use std::alloc::{AllocError, Global};
+
+/// Up to how many bytes a text is read into a tree at once. The positions of a longer one are
+/// counted first, since its tree may take some 80 times its memory.
+const MOST_BYTES: usize = 65_536;
+
+/// What the text of a pattern is read as.
+#[derive(Drop)]
+pub enum Pattern {
+    /// A string.
+    String(Vec<u8>),
+    /// Anything else: its tree, and the number of the tree's positions, at most 4,096.
+    Tree(Tree, usize),
+}
+
+impl Pattern {
+    // How many positions it has.
+    pub(crate) fn positions(&self) -> usize
+        ensures { (fold : Bool) → IsCounted fold self.now →
+            result ≡ positions (pattern_expression self.now) }
+    {
+        match self {
+            Pattern::String(text) => text.len(),
+            Pattern::Tree(_, count) => *count,
+        }
+    }
+
+    /// Adds the strings that it is, each followed by a newline: the one, or those that it is a
+    /// choice of. `None`: it is something else, a string has a newline, or out of memory. What was
+    /// added by then stays.
+    pub fn add_strings(&self, alloc: Global, strings: &mut Vec<u8>) -> Option<()>
+        ensures { IfSome result
+            (λ _. AddsStrings (pattern_expression self.now) strings.old.items strings.new.items) }
+    {
+        match self {
+            Pattern::String(text) => add_string(text, strings),
+            Pattern::Tree(Tree::Alt(branches), _) if branches.len() > 1 => {
+                add_each(alloc, branches, strings)
+            }
+            _ => None,
+        }
+    }
+
+    // The tree of its meaning.
+    pub(crate) fn into_tree(self, alloc: Global, fold: bool) -> Result<Tree, AllocError>
+        ensures { IfOk result (λ tree. expression_of tree ≡ meant_by fold self) }
+    {
+        match self {
+            Pattern::String(text) => string_tree(alloc, &text, fold),
+            Pattern::Tree(tree, _) => Ok(meant(tree, fold)),
+        }
+    }
+
+    /// The matcher for it; with `fold` both cases of each letter are alike (XCU grep, option `-i`),
+    /// and with `whole` the whole line has to be matched (option `-x`). A string is looked for as
+    /// it is, unless it has letters and is folded. All else gets an automaton and a cache of at most
+    /// `states` entries, from 1 to 65,536. The cache is allocated for the first line that takes
+    /// steps. A line is searched without it if its allocation fails, and the next such line tries
+    /// again.
+    pub fn into_matcher(
+        self,
+        alloc: Global,
+        fold: bool,
+        whole: bool,
+        states: usize,
+    ) -> Result<Matcher, AllocError>
+        requires small { IsCounted fold self }
+        requires some { 1 ≤ states }
+        ensures expression { IfOk result (λ m. matched_expression m ≡ meant_by fold self) }
+        ensures whole { IfOk result (λ m. wants_whole m ≡ whole) }
+        ensures kind { IfOk result (λ m. fold ≡ false → is_string self ≡ true → is_fixed m ≡ true) }
+        ensures room { IfOk result (λ m. room_of m ≤ states) }
+        ensures empty { IfOk result (λ m. entries_of m ≡ []) }
+    {
+        match self {
+            Pattern::String(text) => string_matcher(alloc, &text, fold, whole, states),
+            Pattern::Tree(tree, _) => stepping_matcher(alloc, meant(tree, fold), whole, states),
+        }
+    }
+}
+
+// The tree of a meaning.
+fn meant(tree: Tree, fold: bool) -> Tree
+    ensures { expression_of result ≡ meaning fold (expression_of tree) }
+{
+    if fold {
+        return re_syntax::fold(tree);
+    }
+    tree
+}
+
+// The tree of a string's meaning.
+fn string_tree(alloc: Global, text: &[u8], fold: bool) -> Result<Tree, AllocError>
+    ensures { IfOk result
+        (λ tree. expression_of tree ≡ meaning fold (string_expression text.now)) }
+{
+    match read(alloc, Syntax::Fixed, text) {
+        Ok((tree, _)) => Ok(meant(tree, fold)),
+        Err(_) => Err(AllocError),
+    }
+}
+
+// The matcher for a string.
+fn string_matcher(
+    alloc: Global,
+    text: &[u8],
+    fold: bool,
+    whole: bool,
+    states: usize,
+) -> Result<Matcher, AllocError>
+    requires small { IsTrue fold → length text.now ≤ most_positions }
+    requires some { 1 ≤ states }
+    ensures expression { IfOk result
+        (λ m. matched_expression m ≡ meaning fold (string_expression text.now)) }
+    ensures whole { IfOk result (λ m. wants_whole m ≡ whole) }
+    ensures kind { IfOk result (λ m. fold ≡ false → is_fixed m ≡ true) }
+    ensures room { IfOk result (λ m. room_of m ≤ states) }
+    ensures empty { IfOk result (λ m. entries_of m ≡ []) }
+{
+    if !fold {
+        return fixed_matcher(alloc, text, whole);
+    }
+    let tree = string_tree(alloc, text, fold)?;
+    if let Some(string) = string_of(alloc, &tree) {
+        return fixed_matcher(alloc, &string, whole);
+    }
+    stepping_matcher(alloc, tree, whole, states)
+}
+
+/// Reads the text of a pattern.
+///
+/// # Errors
+///
+/// `FaultKind::Memory` at 0 if out of memory; if the text is no expression, its first fault;
+/// `FaultKind::TooLarge` at 0 if its expression has more than 4,096 positions once its intervals
+/// are written out. A fixed string that is not folded may be of any length.
+pub fn read_pattern(
+    alloc: Global,
+    text: &[u8],
+    syntax: Syntax,
+    fold: bool,
+) -> Result<Pattern, PatternFault>
+    ensures read { IfOk result (IsPattern syntax fold text.now) }
+    ensures refused { IfErr result
+        (λ fault. IsOutOfMemory fault ⊎ IsRefusedFor syntax fold text.now fault) }
+{
+    match syntax {
+        Syntax::Fixed => read_fixed(alloc, text, fold),
+        Syntax::Basic => read_small(alloc, text, syntax, fold),
+        Syntax::Extended => read_small(alloc, text, syntax, fold),
+    }
+}
+
+// Reads a text in which no byte is special.
+fn read_fixed(alloc: Global, text: &[u8], fold: bool) -> Result<Pattern, PatternFault>
+    ensures read { IfOk result (IsPattern Fixed fold text.now) }
+    ensures refused { IfErr result
+        (λ fault. IsOutOfMemory fault ⊎ IsRefusedFor Fixed fold text.now fault) }
+{
+    if fold && text.len() > MOST_POSITIONS {
+        return Err(fault_at_first(FaultKind::TooLarge));
+    }
+    match text.to_vec(alloc) {
+        Ok(string) => Ok(Pattern::String(string)),
+        Err(_) => Err(fault_at_first(FaultKind::Memory)),
+    }
+}
+
+// Reads a text whose expression has to be small.
+fn read_small(
+    alloc: Global,
+    text: &[u8],
+    syntax: Syntax,
+    fold: bool,
+) -> Result<Pattern, PatternFault>
+    requires { IsTrue (has_limit syntax fold) }
+    ensures read { IfOk result (IsPattern syntax fold text.now) }
+    ensures refused { IfErr result
+        (λ fault. IsOutOfMemory fault ⊎ IsRefusedFor syntax fold text.now fault) }
+{
+    if text.len() > MOST_BYTES && count_positions(syntax, text)? > MOST_POSITIONS {
+        return Err(fault_at_first(FaultKind::TooLarge));
+    }
+    let (tree, count) = read(alloc, syntax, text)?;
+    if count > MOST_POSITIONS {
+        return Err(fault_at_first(FaultKind::TooLarge));
+    }
+    match string_of(alloc, &tree) {
+        Some(string) => Ok(Pattern::String(string)),
+        None => Ok(Pattern::Tree(tree, count)),
+    }
+}
