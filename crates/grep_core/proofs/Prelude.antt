@@ -10,7 +10,7 @@ pub use Rattle.grep_core.specs.Output.{CountOf, Form, GroupsOf, Out, OutAs, Part
 pub use Rattle.grep_core.specs.Row.{colon, head, hyphen, output_line, prefix}
 pub use Rattle.grep_core.specs.Run.{AreReadings, BreaksOff, Devices, FailuresMet, Finishes, LeftMet, RunGives, StopsAfter, Story, TakesAll, TakesFront, TakesPast, Writer, WritesAll, begun, count_more, devices, file_at, files_of, first_lines, writer}
 pub use Rattle.grep_core.specs.Sources.{Returns, source_at}
-pub use Rattle.grep_core.specs.Working.BlockRows.{BreaksLines, RowsOfLines, StopsLines, TakesLines}
+pub use Rattle.grep_core.specs.Working.BlockRows.{BreaksLines, RowsOfLines, StopsHeld, StopsLines, TakesHeld, TakesLines}
 pub use Rattle.grep_core.specs.Working.Given.{SearchGives}
 pub use Rattle.grep_core.specs.Working.Groups.{GroupedAs, rows_after}
 pub use Rattle.grep_core.specs.Working.LastLines.{LastLines, with_lines}
@@ -21,7 +21,7 @@ pub use Rattle.grep_core.specs.Working.Progress.{after_line, last_of, next_shown
 pub use Rattle.grep_core.specs.Working.Requests.{name_shown, selects}
 pub use Rattle.grep_core.specs.Working.SameChoice.{IsSameChoice, ServesForOthers}
 pub use Rattle.grep_core.specs.Working.Searched.{BreaksMessage, BreaksSource, CountsSource, EndsSource, FinishesSource, SearchesSource, SourceGives, StopsSource, count_line, ending_of, is_fault, leaves_early, reported_of, status_by, summary_as}
-pub use Rattle.grep_core.specs.Working.SearchedBlocks.{IsDivided, IsNextOf}
+pub use Rattle.grep_core.specs.Working.SearchedBlocks.{IsDivided, IsNextOf, WritesMatched}
 pub use Rattle.grep_core.specs.Working.ShownLines.{BreaksShown, ShowGives, ShowStops}
 pub use Rattle.grep_core.specs.Working.Taken.{NextTaken}
 pub use Rattle.grep_core.specs.declared.options.Context.{Context}

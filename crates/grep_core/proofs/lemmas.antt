@@ -43,3 +43,4 @@ pub mod SameChoice
 pub mod BlockLines
 pub mod RecentLinesLemmas
 pub mod SearchedBlockLemmas
+pub mod MatchedLemmas

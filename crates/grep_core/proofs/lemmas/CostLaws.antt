@@ -1,5 +1,5 @@
 -- Costs that are added up.
-use Rattle.grep_core.proofs.Prelude.{◌≡◌, ℕ, ◌+◌, ◌*◌, ◌≤◌, List, [], ◌∷◌, ◌++◌, length, map, sym, ap, subst, ◌∙◌, arith, length-append, mul-le-mul_right, length-map, sum_by, sum_by-append, sum_by-cons, sum_by_push, AddsAtMost, Text, Expression, newline, terminated, Options, File, parts, form, part_searches, search_cost, parts_cost, line_cost, lines_cost, files_cost, SearchesLines, SearchesFiles}
+use Rattle.grep_core.proofs.Prelude.{◌≡◌, ℕ, ◌+◌, ◌*◌, ◌≤◌, List, [], ◌∷◌, ◌++◌, length, map, sym, ap, subst, ◌∙◌, arith, length-append, mul-le-mul_right, length-map, sum_by-append, sum_by-cons, sum_by_push, AddsAtMost, Text, Expression, newline, terminated, Options, File, parts, form, part_searches, search_cost, parts_cost, line_cost, lines_cost, files_cost, SearchesLines, SearchesFiles}
 use Rattle.re_meter.specs.Meters.{Steps}
 use Rattle.re_meter.proofs.lemmas.Adding.{adds_none, adds_within, adds_both}
 use Rattle.re_syntax.proofs.lemmas.LinesLaws.{terminated-append}

@@ -1,5 +1,5 @@
 -- Where the search of the lines of a source ends: there is no next line, or the search is given up.
-use Rattle.grep_core.proofs.Prelude.{◌≡◌, ℕ, Bool, IsTrue, List, [], Option, Some, Result, Ok, Err, length, sym, subst, ◌∙◌, IsErrAnd, Text, Expression, open_source, OneLeft, BeginsWith, Numbered, HasHanded, GoesOut, Options, FileEnd, Missing, Whole, Broken, Left, FileFound, SearchFault, SearchesLines, Writer, writer, SearchGives, leaves_early, BreaksSource, NextTaken}
+use Rattle.grep_core.proofs.Prelude.{◌≡◌, ℕ, Bool, IsTrue, List, [], Option, Some, Result, Ok, Err, length, sym, subst, ◌∙◌, IsErrAnd, Text, Expression, open_source, OneLeft, BeginsWith, Numbered, HasHanded, GoesOut, Options, FileEnd, Missing, Whole, Broken, Left, FileFound, SearchFault, SearchesLines, Writer, writer, SearchGives, leaves_early, NextTaken}
 use Rattle.re_search.specs.Meters.{Steps}
 use Rattle.grep_io.proofs.lemmas.HandedLemmas.{begins_with, has_read}
 use Rattle.grep_core.specs.declared.status.SearchFault.TheVariants.{Write, Memory}

@@ -1,5 +1,6 @@
 -- The matchers of patterns, one more at a time.
-use Rattle.grep_core.proofs.Prelude.{◌≡◌, ℕ, ◌+◌, ◌<◌, List, [], ◌∷◌, ◌++◌, All, ◌⊎◌, inl, inr, length, map, take, get_or, refl, sym, ap, ◌∙◌, subst, arith, length_push, map-append, All-push, AllZip, PatternFault, Syntax, Text, IsMeant, Matcher, IsSmallFor, IsReadable, IsRefusedFor, IsOutOfMemory, matched_expression, wants_whole, Options, IsFirstRefused, AreMatchers}
+use Rattle.grep_core.proofs.Prelude.{◌≡◌, ℕ, ◌+◌, ◌<◌, List, [], ◌∷◌, ◌++◌, All, ◌⊎◌, inl, inr, length, map, take, get_or, refl, sym, ap, ◌∙◌, subst, arith, length_push, map-append, Bool, All-push, AllZip, PatternFault, Syntax, Text, IsMeant, Matcher, IsSmallFor, IsReadable, IsRefusedFor, IsOutOfMemory, matched_expression, wants_whole, Options, IsFirstRefused, AreMatchers}
+use Rattle.re_search.proofs.lemmas.ReadingLaws.{refused_unreadable}
 
 -- two lists, element by element, joined
 pub AllZip-append : {X Y : Type 0} (P : X → Y → Type 0) (xs vs : List X) (ys ws : List Y) → AllZip P xs ys → AllZip P vs ws → AllZip P (xs ++ vs) (ys ++ ws)
@@ -33,22 +34,15 @@ module _ (syntax : Syntax) (options : Options) where
           counted = length_push matchers m ∙ ap (λ n. n + 1) s.counted ∙ sym (length_push texts text);
         }))
 
-    -- the next is refused
-    refused_next : (rest all : List Text) → texts ++ (text ∷ rest) ≡ all → (fault : PatternFault) → IsRefusedFor syntax options.ignore_case text fault → (IsReadable syntax options.ignore_case text → ⊥)
-        → IsFirstRefused syntax options.ignore_case all (length matchers) fault
-    refused_next rest all is fault shown none =
-        let h = at_end texts text rest in
-        subst (λ l. IsFirstRefused syntax options.ignore_case l (length matchers) fault) is (subst (λ n. IsFirstRefused syntax options.ignore_case (texts ++ text ∷ rest) n fault) (sym s.counted) (record {
-          in_texts = h.2;
-          readable_before = subst (All (IsReadable syntax options.ignore_case)) (sym h.0) s.readable;
-          unreadable = λ r. none (subst (IsReadable syntax options.ignore_case) h.1 r);
-          shown = subst (λ t. IsRefusedFor syntax options.ignore_case t fault) (sym h.1) shown;
-        }))
-
-    -- the next is refused, or memory ran out
-    pub refused_or_memory : (rest all : List Text) → texts ++ (text ∷ rest) ≡ all → (fault : PatternFault) → IsOutOfMemory fault ⊎ IsRefusedFor syntax options.ignore_case text fault
-        → IsOutOfMemory fault ⊎ (IsReadable syntax options.ignore_case text → ⊥) → (place : ℕ) → length matchers ≡ place → IsOutOfMemory fault ⊎ IsFirstRefused syntax options.ignore_case all place fault
-    refused_or_memory rest all is fault (inl memory) none place at = inl memory
-    refused_or_memory rest all is fault (inr shown) (inl memory) place at = inl memory
-    refused_or_memory rest all is fault (inr shown) (inr none) place at =
-        inr (subst (λ n. IsFirstRefused syntax options.ignore_case all n fault) at (refused_next rest all is fault shown none))
+-- a text after readable ones is refused, or memory ran out
+pub refused_or_memory : (syntax : Syntax) (fold : Bool) (texts : List Text) (text : Text) → All (IsReadable syntax fold) texts → (rest all : List Text) → texts ++ (text ∷ rest) ≡ all → (fault : PatternFault) →
+    IsOutOfMemory fault ⊎ IsRefusedFor syntax fold text fault → (place : ℕ) → length texts ≡ place → IsOutOfMemory fault ⊎ IsFirstRefused syntax fold all place fault
+refused_or_memory syntax fold texts text readable rest all is fault (inl memory) place at = inl memory
+refused_or_memory syntax fold texts text readable rest all is fault (inr shown) place at =
+    let h = at_end texts text rest in
+    inr (subst (λ n. IsFirstRefused syntax fold all n fault) at (subst (λ l. IsFirstRefused syntax fold l (length texts) fault) is (record {
+      in_texts = h.2;
+      readable_before = subst (All (IsReadable syntax fold)) (sym h.0) readable;
+      unreadable = λ r. refused_unreadable syntax fold text fault shown (subst (IsReadable syntax fold) h.1 r);
+      shown = subst (λ t. IsRefusedFor syntax fold t fault) (sym h.1) shown;
+    })))

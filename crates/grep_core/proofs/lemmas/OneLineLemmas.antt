@@ -1,6 +1,5 @@
 -- What was written for one line.
 use Rattle.grep_core.proofs.Prelude.{◌≡◌, ℕ, Bool, true, false, not, MatchBool, if◌then◌else◌, Decides, List, [], ◌∷◌, ◌++◌, Option, Result, Ok, Err, IfErr, IfOk, IsErrAnd, OnErr, refl, sym, subst, inl, inr, false≢true, Text, Expression, Options, SearchFault, output_line, Writes, Matched, Selected, lines, counts, form, head_of, Writer, writer, file_so_far, selects, RowsOfSelected, WritesSelected, BreaksSelected, TakesLine, BreaksLine}
-use Rattle.grep_core.specs.declared.status.SearchFault.TheVariants.{Write}
 use Rattle.grep_core.proofs.lemmas.PassLemmas.{TakesAll-line, TakesFront-line}
 use Rattle.grep_core.proofs.lemmas.WriterLaws.{TakesAll-nothing}
 
@@ -10,7 +9,7 @@ err_with (Ok v) p = tt
 err_with (Err e) p = p
 
 -- a write failed, and that is returned
-pub unwritten : {T : Type 0} (P : SearchFault → Type 0) (r : Result T SearchFault) → IsErrAnd r (λ fault. fault ≡ Write) → P Write → IfErr r P
+pub unwritten : {T : Type 0} (P : SearchFault → Type 0) (r : Result T SearchFault) {why : SearchFault} → IsErrAnd r (λ fault. fault ≡ why) → P why → IfErr r P
 unwritten P (Ok v) is p = tt
 unwritten P (Err fault) is p = subst P (sym is) p
 

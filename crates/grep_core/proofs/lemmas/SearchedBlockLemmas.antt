@@ -30,11 +30,17 @@ module _ (P : Text → Type 0) (block : Text) (place : Span) (whole : IsBlock bl
   pub before_bytes : take place.start block ≡ terminated n.before
   before_bytes = ap (λ k. take k block) n.starts ∙ ap (take (length (terminated n.before))) bytes_are ∙ take-append_seam (terminated n.before) (n.line ++ newline ∷ terminated n.after)
 
+  -- from that line on
+  from_line : drop place.start block ≡ n.line ++ newline ∷ terminated n.after
+  from_line = ap (λ k. drop k block) n.starts ∙ ap (drop (length (terminated n.before))) bytes_are ∙ drop-append_seam (terminated n.before) (n.line ++ newline ∷ terminated n.after)
+
+  pub line_with_newline : drop place.start block ≡ (n.line ++ newline ∷ []) ++ terminated n.after
+  line_with_newline = from_line ∙ sym (append_assoc n.line (newline ∷ []) (terminated n.after))
+
   pub line_bytes : slice_range block place.start place.end ≡ n.line
   line_bytes =
-      let left : drop place.start block ≡ n.line ++ newline ∷ terminated n.after = ap (λ k. drop k block) n.starts ∙ ap (drop (length (terminated n.before))) bytes_are ∙ drop-append_seam (terminated n.before) (n.line ++ newline ∷ terminated n.after) in
       let long : place.end - place.start ≡ length n.line = omega (arith, n.ends) in
-      ap (λ k. take k (drop place.start block)) long ∙ ap (take (length n.line)) left ∙ take-append_seam n.line (newline ∷ terminated n.after)
+      ap (λ k. take k (drop place.start block)) long ∙ ap (take (length n.line)) from_line ∙ take-append_seam n.line (newline ∷ terminated n.after)
 
   pub end_bytes : place.end + 1 ≡ length (terminated (n.before ++ n.line ∷ []))
   end_bytes = omega (arith, n.ends, n.starts, bytes_with n.before n.line)

@@ -1,14 +1,21 @@
 -- What is written for several lines of a file, one after the other.
-use Rattle.std.specs.Prelude.{◌≡◌, ℕ, ◌+◌, Bool, IsTrue, ◌↔◌, List, [], ◌∷◌, ◌++◌, if◌then◌else◌}
+use Rattle.std.specs.Prelude.{◌≡◌, ℕ, ◌+◌, ◌≤◌, Bool, IsTrue, ◌↔◌, List, [], ◌∷◌, ◌++◌, All, length}
+use Rattle.std.specs.Prelude.{if◌then◌else◌}
 use Rattle.re_syntax.specs.Bytes.{Text}
+use Rattle.re_syntax.specs.Lines.{HasNoNewline, terminated}
 use Rattle.re_syntax.specs.Expression.{Expression}
+use Rattle.re_search.specs.Meters.{Steps}
 use Rattle.grep_core.specs.declared.options.Options.{Options}
+use Rattle.grep_core.specs.declared.search.searched_block.SearchedLines.{SearchedLines}
 use Rattle.grep_core.specs.declared.status.SearchFault.{SearchFault}
 use Rattle.grep_core.specs.declared.status.SearchFault.TheVariants.{Write, Memory}
 use Rattle.grep_io.specs.Counted.{one_more}
+use Rattle.grep_io.specs.Working.Numbered.{Numbered}
+use Rattle.grep_core.specs.Cost.{SearchesLines}
 use Rattle.grep_core.specs.Files.{Selected}
 use Rattle.grep_core.specs.Run.{Writer, TakesAll, TakesFront}
 use Rattle.grep_core.specs.Working.OneLine.{RowsOfLine}
+use Rattle.grep_core.specs.Working.SearchedBlocks.{IsNextOf}
 
 module _ (es : List Expression) (options : Options) (many : Bool) (name : Text) where
   -- the rows of the lines, the first of which has this number; `found` of them are selected
@@ -41,3 +48,23 @@ module _ (es : List Expression) (options : Options) (many : Bool) (name : Text) 
     abbrev pub StopsLines : SearchFault → Type 0
     StopsLines Write = BreaksLines
     StopsLines (Memory n) = (n + 1 ≡ number) × (new ≡ old)
+
+  module _ {R : Type 0} (now : Numbered R) (old new : Writer) (began ended : Steps) where
+    -- the next lines were searched, and their rows were written
+    pub record TakesHeld (held : SearchedLines) : Type 0 where
+      pub all : List Text
+      pub free : All HasNoNewline all
+      pub next : IsNextOf now all
+      pub width : held.bytes ≡ length (terminated all)
+      pub counted : held.count ≡ length all
+      pub took : TakesLines (now.number + 1) all old new held.found
+      pub spent : SearchesLines options (length es) all began ended
+      pub some : IsTrue held.goes_on → 1 ≤ length all
+
+    -- the next lines were searched, and are not done
+    pub record StopsHeld (fault : SearchFault) : Type 0 where
+      pub all : List Text
+      pub free : All HasNoNewline all
+      pub next : IsNextOf now all
+      pub stops : StopsLines (now.number + 1) all old new fault
+      pub spent : SearchesLines options (length es) all began ended

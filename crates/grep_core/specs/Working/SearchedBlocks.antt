@@ -1,11 +1,14 @@
 -- The lines that are held in one piece, as far as they were searched at once.
-use Rattle.std.specs.Prelude.{◌≡◌, ◌+◌, ◌≤◌, List, [], ◌∷◌, ◌++◌, All, MatchOption, length}
+use Rattle.std.specs.Prelude.{◌≡◌, ℕ, ◌+◌, ◌≤◌, List, [], ◌∷◌, ◌++◌, All, MatchOption, length}
+use Rattle.std.specs.Prelude.{Option, Result, IfOk}
 use Rattle.re_syntax.specs.Bytes.{Text}
-use Rattle.re_syntax.specs.Lines.{HasNoNewline, terminated}
+use Rattle.re_syntax.specs.Lines.{HasNoNewline, lines_of, terminated}
 use Rattle.re_search.specs.Working.Sought.{Sought, IsSought}
 use Rattle.grep_io.specs.declared.input.lines.Stage.TheVariants.{Ended}
 use Rattle.grep_core.specs.declared.search.searched_block.SearchedBlock.{SearchedBlock}
+use Rattle.grep_core.specs.Choose.{Chosen}
 use Rattle.grep_io.specs.Reading.{most_lines}
+use Rattle.grep_io.specs.Written.{Writes}
 use Rattle.grep_io.specs.Working.Numbered.{Numbered}
 
 -- the stretch is all these lines: those before the first that is matched, and that line, if there
@@ -26,3 +29,10 @@ pub record IsNextOf {R : Type 0} (now : Numbered R) (all : List Text) : Type 0 w
   pub ahead : now.lines.ahead ≡ terminated all ++ rest
   pub few : now.number + length all ≤ most_lines
   pub open_still : now.lines.stage ≡ Ended → now.lines.ahead ≡ []
+
+-- the matched lines of the block were written as they are, and at an Ok it is known how many they are
+abbrev pub WritesMatched : {W E : Type 0} → (W → Option Text) → (W → ℕ) → Sought → Text → W → W → Result ℕ E → Type 0
+WritesMatched contents failures sought block old new result =
+    (matched : List Text) × Chosen (IsSought sought) (lines_of block) matched
+    × Writes contents failures old new (terminated matched) result
+    × IfOk result (λ found. found ≡ length matched)

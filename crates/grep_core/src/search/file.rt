@@ -15,7 +15,7 @@ use crate::output::request::FileRequest;
 use crate::output::summary::{report_fault, write_summary};
 use crate::search::around::{Surroundings, search_around};
 use crate::search::count::count_lines;
-use crate::search::held::{next_held, write_searched};
+use crate::search::held::write_held;
 use crate::search::line::search_line;
 use crate::search::next_line::take_next;
 use crate::search::requests::{SearchRequest, SourceRequest};
@@ -56,20 +56,17 @@ fn search_lines<R: CountedRead, M: LineMatch, W: CountedWrite>(
     ensures same { SameSearchers M.expression M.whole M.room searchers.old searchers.new }
 {
     let early = request.options.leaves_early();
-    let asked = !request.options.invert_match | request.writes_bare_lines();
+    let bare = request.writes_bare_lines();
     let mut selected: u64 = 0;
     'lines: loop {
-        let stretch = next_held(lines, searchers, asked, meter);
-        let done = lines.number();
-        let found = write_searched(&stretch, searchers, request, done, line_parts, out, meter)?;
-        let (bytes, count, goes_on) = (stretch.bytes, stretch.count, stretch.line.is_some());
-        lines.pass(bytes, count);
-        selected = selected.saturating_add(found);
-        if (found > 0) & early {
+        let held = write_held(lines, searchers, request, bare, line_parts, out, meter)?;
+        lines.pass(held.bytes, held.count);
+        selected = selected.saturating_add(held.found);
+        if (held.found > 0) & early {
             let end = FileEnd::Left;
             return Ok(FileFound { end, selected });
         }
-        if goes_on {
+        if held.goes_on {
             continue 'lines;
         }
         match take_next(lines, out) {

@@ -1,23 +1,25 @@
 //! The search of the lines that are held in one piece, and the rows that are written for them.
-ghost use Rattle.std.specs.Prelude.{◌≡◌, ◌⊎◌, ◌*◌, ◌+◌, ◌^◌, ◌<◌, List, length, false, true};
-ghost use Rattle.std.specs.Prelude.{IfErr, IfOk};
+ghost use Rattle.std.specs.Prelude.{◌≡◌, ◌*◌, ◌+◌, ◌++◌, ◌^◌, ◌<◌, ◌≤◌, ◌⊎◌, List, length, false};
+ghost use Rattle.std.specs.Prelude.{true, IfErr, IfOk, IsTrue, slice_range};
 ghost use Rattle.re_syntax.specs.Bytes.{Text};
 ghost use Rattle.re_syntax.specs.Lines.{terminated};
 ghost use Rattle.re_search.specs.Searches.{AddsAtMost};
 ghost use Rattle.re_search.specs.Meters.{Steps};
+ghost use Rattle.re_search.specs.Working.Blocks.{IsBlock};
 ghost use Rattle.re_search.specs.Working.Searchers.{SameSearchers, asks_whole, expressions_by};
 ghost use Rattle.re_search.specs.Working.Searchers.{sought_by};
 ghost use Rattle.grep_core.specs.Cost.{SearchesLines};
 ghost use Rattle.grep_core.specs.Run.{writer};
 ghost use Rattle.grep_core.specs.Working.OneLine.{IsBare};
-ghost use Rattle.grep_core.specs.Working.SearchedBlocks.{IsDivided, IsNextOf};
-ghost use Rattle.grep_core.specs.Working.BlockRows.{TakesLines, StopsLines};
+ghost use Rattle.grep_core.specs.Working.SearchedBlocks.{IsDivided, IsNextOf, WritesMatched};
+ghost use Rattle.grep_core.specs.Working.BlockRows.{TakesLines, StopsLines, TakesHeld, StopsHeld};
+ghost use Rattle.grep_io.specs.Written.{GoesOut, StopsWithin};
 
 use crate::output::request::FileRequest;
 use crate::search::line::{make_room, write_selected};
-use crate::search::searched_block::SearchedBlock;
+use crate::search::searched_block::{SearchedBlock, SearchedLines};
 use crate::status::SearchFault;
-use grep_io::{CountedRead, CountedWrite, Lines, count_newlines, push_all};
+use grep_io::{CountedRead, CountedWrite, Lines, WriteFault, count_newlines, push_all};
 use re_search::{LineMatch, LineParts, Meter, Searchers};
 
 /// Searches the lines that are held in one piece up to the first that some matcher matches. None is
@@ -64,6 +66,61 @@ pub fn next_held<'a, R: CountedRead, M: LineMatch>(
         line: Some(&block[at.start..at.end]),
         bytes: at.end + 1,
         count: before_count + 1,
+    }
+}
+
+// Writes a run of lines of a block, if the next line to be written doesn't follow it, and returns where
+// the run begins that this line goes on.
+#[inline(always)]
+fn write_run<W: CountedWrite>(
+    block: &[u8],
+    from: usize,
+    to: usize,
+    next: usize,
+    out: &mut W,
+) -> Result<usize, WriteFault>
+    requires ordered { from ≤ to }
+    requires after { to ≤ next }
+    requires within { to ≤ length block.now }
+    ensures ok { IfOk result (λ run. (run ≤ next) × (sent : Text)
+        × (sent ++ slice_range block.now run next ≡ slice_range block.now from to)
+        × GoesOut W.contents W.failures out.old out.new sent) }
+    ensures err { IfErr result (λ _. StopsWithin W.contents W.failures out.old out.new
+        (slice_range block.now from to)) }
+{
+    if to == next {
+        return Ok(from);
+    }
+    push_all(out, &block[from..to])?;
+    Ok(next)
+}
+
+// Writes the matched lines of a block as they are, neighbouring ones at once, and returns how many
+// they are.
+fn write_matched<M: LineMatch, W: CountedWrite>(
+    block: &[u8],
+    searchers: &mut Searchers<'_, '_, M>,
+    out: &mut W,
+    meter: &mut Meter,
+) -> Result<u64, WriteFault>
+    requires { IsBlock block.now }
+    ensures written { WritesMatched W.contents W.failures (sought_by M.expression searchers.old)
+        block.now out.old out.new result }
+    ensures same { SameSearchers M.expression M.whole M.room searchers.old searchers.new }
+    ensures steps { AddsAtMost (length (expressions_by M.expression searchers.old) * length block.now)
+        meter.old meter.new }
+{
+    let mut found: u64 = 0;
+    let mut run = 0;
+    let mut start = 0;
+    'lines: loop {
+        let Some(at) = searchers.next_matched(&block[start..], meter) else {
+            push_all(out, &block[run..start])?;
+            return Ok(found);
+        };
+        run = write_run(block, run, start, start + at.start, out)?;
+        start += at.end + 1;
+        found += 1;
     }
 }
 
@@ -115,4 +172,51 @@ pub fn write_searched<M: LineMatch, W: CountedWrite>(
     let last = number + stretch.count;
     write_selected(searchers, request, last, line, line_parts, out, meter)?;
     Ok(1)
+}
+
+/// Searches lines that are held in one piece, and writes the rows of the selected ones. Where these
+/// are the matched lines as they are, all lines of the piece are searched; else none after the first
+/// that is matched. `bare` says whether the rows are the lines as they are.
+#[inline(always)]
+pub fn write_held<R: CountedRead, M: LineMatch, W: CountedWrite>(
+    lines: &Lines<R>,
+    searchers: &mut Searchers<'_, '_, M>,
+    request: &FileRequest,
+    bare: bool,
+    line_parts: &mut LineParts,
+    out: &mut W,
+    meter: &mut Meter,
+) -> Result<SearchedLines, SearchFault>
+    requires whole { asks_whole searchers.old ≡ request.now.options.line_regexp }
+    requires bare { IsTrue bare → IsBare request.now.options request.now.many }
+    ensures ok { IfOk result (TakesHeld (expressions_by M.expression searchers.old)
+        request.now.options request.now.many request.now.name.now lines.now
+        (writer W.contents W.failures out.old) (writer W.contents W.failures out.new)
+        meter.old meter.new) }
+    ensures err { IfErr result (StopsHeld (expressions_by M.expression searchers.old)
+        request.now.options request.now.many request.now.name.now lines.now
+        (writer W.contents W.failures out.old) (writer W.contents W.failures out.new)
+        meter.old meter.new) }
+    ensures same { SameSearchers M.expression M.whole M.room searchers.old searchers.new }
+{
+    let invert = request.options.invert_match;
+    let block = lines.ready();
+    if bare && !invert && lines.may_number(block.len()) {
+        let found = write_matched(block, searchers, out, meter)?;
+        return Ok(SearchedLines {
+            bytes: block.len(),
+            count: count_newlines(block),
+            found,
+            goes_on: false,
+        });
+    }
+    let stretch = next_held(lines, searchers, !invert | bare, meter);
+    let number = lines.number();
+    let found = write_searched(&stretch, searchers, request, number, line_parts, out, meter)?;
+    Ok(SearchedLines {
+        bytes: stretch.bytes,
+        count: stretch.count,
+        found,
+        goes_on: stretch.line.is_some(),
+    })
 }

@@ -15,3 +15,16 @@ pub struct SearchedBlock<'a> {
     /// How many lines there are.
     pub count: u64,
 }
+
+/// Lines that were searched at once, and whose rows were written.
+#[derive(Clone, Copy)]
+pub struct SearchedLines {
+    /// How many bytes they have, with their newlines.
+    pub bytes: usize,
+    /// How many they are.
+    pub count: u64,
+    /// How many of them are selected.
+    pub found: u64,
+    /// Whether there are some, and the next lines may be held in the same piece.
+    pub goes_on: bool,
+}

@@ -1,35 +1,26 @@
 use Rattle.grep_core.proofs.Prelude.{◌∙◌, [], false, map, take, refl, sym, subst, arith, writer, IsOneLineAndFew, leaves_early}
 use Rattle.grep_io.proofs.lemmas.WindowLemmas.{none_in_nothing, few_after}
-use Rattle.re_search.proofs.lemmas.KeptMatchers.{unasked, asked_over, same_sought}
+use Rattle.re_search.proofs.lemmas.KeptMatchers.{unasked, asked_over}
 use Rattle.grep_core.proofs.lemmas.WrittenLemmas.{TakesAll-written}
 use Rattle.grep_core.proofs.lemmas.FileOutput.{rows_none}
 use Rattle.grep_core.proofs.lemmas.PassedLines.{are_ahead, handed_with, handed_passed}
-use Rattle.grep_core.proofs.lemmas.SearchedBlockLemmas.{bare_if, divided_kept, stretch_spent, line_within}
 use Rattle.grep_core.proofs.lemmas.LinesLemmas.{SearchedOn, written_plain, searched_none, searched_among, leaves_among, stops_in_lines, stops_at, is_next, numbers_further, numbers_on, searched_sent, may_count, fewer_left, searched_line, goes_on, goes_on_with, leaves_with, leaves_at}
 use Rattle.grep_core.proofs.lemmas.EndLemmas.{given_up, ends_as, stops_as}
 use Rattle.grep_core.proofs.search.file.search_lines.Given as given
 use Rattle.grep_core.proofs.search.file.search_lines.Goals as goal
-use Rattle.grep_core.proofs.search.file.search_lines.Goals.{Else-found-early, In-Ok-None}
+use Rattle.grep_core.proofs.search.file.search_lines.Goals.{Else-held-early, In-Ok-None}
 
 -- the lines that are held and those before them were searched, and the search goes on
-among : (g : given.Over) (c : Else-found-early g) → SearchedOn c.lines.invariant.so_far c.pass.new.self (writer g.W.CountedWrite.contents g.W.CountedWrite.failures c.write_searched.new.out) c.write_searched.new.meter c.saturating_add-selected.result
+among : (g : given.Over) (c : Else-held-early g) → SearchedOn c.lines.invariant.so_far c.pass.new.self (writer g.W.CountedWrite.contents g.W.CountedWrite.failures c.write_held.new.out) c.write_held.new.meter c.saturating_add-selected.result
 among g c =
-    let w = c.args.request.now in
     let i = c.lines.invariant in
-    let held = c.next_held-stretch.ensures in
-    let (before, all, d, n) = held.divided in
-    let kept = asked_over held.same i.same in
-    let later = divided_kept (same_sought held.same) d in
-    let few = stretch_spent (map g.M.LineMatch.expression c.next_held-stretch.new.searchers.matchers.now) _ c.lines.meter c.next_held-stretch.new.meter (sym held.same.same_matchers.same_expressions) d held.steps in
-    let spent = rw kept.same_matchers.same_expressions at (c.write_searched.ensures.steps before all later c.lines.meter few) in
-    let took = rw (kept.same_matchers.same_expressions, c.number-done.ensures) at (c.in_ok-found.ensures.ok before all later) in
-    let next = handed_passed n d.free i.so_far.handed d.width c.pass.ensures.passed in
-    let none = goes_on_with c.in_ok-found.found c.leaves_early-early.result (leaves_early w.options) i.is_early c.if-found-early.false in
-    searched_among i.so_far all next c.requires.plain spent took c.saturating_add-selected.ensures none
+    let h = rw i.same.same_matchers.same_expressions at c.in_ok-held.ensures.ok in
+    let none = goes_on_with c.in_ok-held.held.found c.leaves_early-early.result (leaves_early c.args.request.now.options) i.is_early c.if-held-early.false in
+    searched_among i.so_far h.all (handed_passed h.next h.free i.so_far.handed h.width c.pass.ensures.passed) c.requires.plain h.spent h.took c.saturating_add-selected.ensures none
 
 -- and buffered output was sent
-sent : (g : given.Over) (c : In-Ok-None g) → SearchedOn c.lines.invariant.so_far c.pass.new.self (writer g.W.CountedWrite.contents g.W.CountedWrite.failures c.write_searched.new.out) c.write_searched.new.meter c.saturating_add-selected.result
-    → SearchedOn c.lines.invariant.so_far c.pass.new.self (writer g.W.CountedWrite.contents g.W.CountedWrite.failures c.take_next.new.out) c.write_searched.new.meter c.saturating_add-selected.result
+sent : (g : given.Over) (c : In-Ok-None g) → SearchedOn c.lines.invariant.so_far c.pass.new.self (writer g.W.CountedWrite.contents g.W.CountedWrite.failures c.write_held.new.out) c.write_held.new.meter c.saturating_add-selected.result
+    → SearchedOn c.lines.invariant.so_far c.pass.new.self (writer g.W.CountedWrite.contents g.W.CountedWrite.failures c.take_next.new.out) c.write_held.new.meter c.saturating_add-selected.result
 sent g c p =
     let reader = c.args.lines.now.lines.reader in
     let taken = rw c.in-Ok-None.field-0-is at c.in-Ok-None.ensures in
@@ -43,83 +34,54 @@ lines-init g c = record {
   is_early = c.leaves_early-early.ensures;
 }
 
-pub write_searched-requires : goal.write_searched-requires
-write_searched-requires g c =
-    let held = c.next_held-stretch.ensures in
-    let (before, all, d, n) = held.divided in
-    record {
-      whole = held.same.same_whole ∙ c.lines.invariant.same.same_whole ∙ c.requires.whole;
-      bare = bare_if c.args.request.now.options.invert_match c.writes_bare_lines.result held.none c.writes_bare_lines.ensures;
-      few = omega (arith, n.few, d.counted, c.number-done.ensures);
-    }
+pub write_held-requires : goal.write_held-requires
+write_held-requires g c = record { whole = c.lines.invariant.same.same_whole ∙ c.requires.whole; bare = c.writes_bare_lines-bare.ensures }
 
 pub pass-requires : goal.pass-requires
 pass-requires g c =
-    let (before, all, d, n) = c.next_held-stretch.ensures.divided in
-    are_ahead n d.free d.width d.counted
+    let h = c.in_ok-held.ensures.ok in
+    are_ahead h.next h.free h.width h.counted
 
-pub returns-in_err-found-clause-given : goal.returns-in_err-found-clause-given
-returns-in_err-found-clause-given g c =
+pub returns-in_err-held-clause-given : goal.returns-in_err-held-clause-given
+returns-in_err-held-clause-given g c =
     let w = c.args.request.now in
     let es = map g.M.LineMatch.expression c.args.searchers.now.matchers.now in
-    let reader = c.args.lines.now.lines.reader in
     let i = c.lines.invariant in
-    let held = c.next_held-stretch.ensures in
-    let (before, all, d, n) = held.divided in
-    let kept = asked_over held.same i.same in
-    let later = divided_kept (same_sought held.same) d in
-    let few = stretch_spent (map g.M.LineMatch.expression c.next_held-stretch.new.searchers.matchers.now) _ c.lines.meter c.next_held-stretch.new.meter (sym held.same.same_matchers.same_expressions) d held.steps in
-    let spent = rw kept.same_matchers.same_expressions at (c.write_searched.ensures.steps before all later c.lines.meter few) in
-    let broke = rw (kept.same_matchers.same_expressions, c.number-done.ensures) at (c.in_err-found.ensures.err before all later) in
-    let next = handed_with n d.free i.so_far.handed in
-    given_up g.R.CountedRead.remaining g.R.CountedRead.failures g.W.CountedWrite.contents g.W.CountedWrite.failures es w.options w.many false w.name.now reader c.lines.lines _ c.write_searched.new.out _ _ _ c.from_residual.result c.from_residual.ensures.1
-    (stops_in_lines i.so_far all next c.requires.plain spent refl i.few_held _ _ broke)
+    let h = rw i.same.same_matchers.same_expressions at c.in_err-held.ensures.err in
+    given_up g.R.CountedRead.remaining g.R.CountedRead.failures g.W.CountedWrite.contents g.W.CountedWrite.failures es w.options w.many false w.name.now c.args.lines.now.lines.reader c.lines.lines _ c.write_held.new.out _ _ _ c.from_residual.result c.from_residual.ensures.1
+    (stops_in_lines i.so_far h.all (handed_with h.next h.free i.so_far.handed) c.requires.plain h.spent refl i.few_held _ _ h.stops)
 
-pub returns-then-found-early-clause-given : goal.returns-then-found-early-clause-given
-returns-then-found-early-clause-given g c =
+pub returns-then-held-early-clause-given : goal.returns-then-held-early-clause-given
+returns-then-held-early-clause-given g c =
     let i = c.lines.invariant in
-    let held = c.next_held-stretch.ensures in
-    let (before, all, d, n) = held.divided in
-    let kept = asked_over held.same i.same in
-    let later = divided_kept (same_sought held.same) d in
-    let few = stretch_spent (map g.M.LineMatch.expression c.next_held-stretch.new.searchers.matchers.now) _ c.lines.meter c.next_held-stretch.new.meter (sym held.same.same_matchers.same_expressions) d held.steps in
-    let spent = rw kept.same_matchers.same_expressions at (c.write_searched.ensures.steps before all later c.lines.meter few) in
-    let took = rw (kept.same_matchers.same_expressions, c.number-done.ensures) at (c.in_ok-found.ensures.ok before all later) in
-    let next = handed_passed n d.free i.so_far.handed d.width c.pass.ensures.passed in
-    let (some, early) = leaves_with c.in_ok-found.found c.leaves_early-early.result c.if-found-early.true in
-    leaves_among i.so_far all next c.requires.plain spent took c.saturating_add-selected.ensures some (sym i.is_early ∙ early)
+    let h = rw i.same.same_matchers.same_expressions at c.in_ok-held.ensures.ok in
+    let (some, early) = leaves_with c.in_ok-held.held.found c.leaves_early-early.result c.if-held-early.true in
+    leaves_among i.so_far h.all (handed_passed h.next h.free i.so_far.handed h.width c.pass.ensures.passed) c.requires.plain h.spent h.took c.saturating_add-selected.ensures some (sym i.is_early ∙ early)
 
-pub lines-preserved-then-goes_on : goal.lines-preserved-then-goes_on
-lines-preserved-then-goes_on g c =
+pub lines-preserved-then-held : goal.lines-preserved-then-held
+lines-preserved-then-held g c =
     let i = c.lines.invariant in
-    let held = c.next_held-stretch.ensures in
-    let kept = asked_over held.same i.same in
-    let p = among g (goal.at.lines-preserved-then-goes_on g c).Else-found-early in
     record {
-      so_far = p;
-      same = asked_over c.write_searched.ensures.same kept;
-      few_held = few_after (take c.next_held-stretch.result.bytes c.lines.lines.lines.ahead) c.pass.new.self.lines.ahead (subst IsOneLineAndFew c.pass.ensures.ahead i.few_held);
+      so_far = among g (goal.at.lines-preserved-then-held g c).Else-held-early;
+      same = asked_over c.write_held.ensures.same i.same;
+      few_held = few_after (take c.in_ok-held.held.bytes c.lines.lines.lines.ahead) c.pass.new.self.lines.ahead (subst IsOneLineAndFew c.pass.ensures.ahead i.few_held);
       is_early = i.is_early;
     }
 
-pub lines-smaller-then-goes_on : goal.lines-smaller-then-goes_on
-lines-smaller-then-goes_on g c =
+pub lines-smaller-then-held : goal.lines-smaller-then-held
+lines-smaller-then-held g c =
     let i = c.lines.invariant in
-    let held = c.next_held-stretch.ensures in
-    let (before, all, d, n) = held.divided in
-    let next = handed_passed n d.free i.so_far.handed d.width c.pass.ensures.passed in
-    let some = line_within d (sym c.is_some-goes_on.ensures ∙ c.if-goes_on.true) in
-    let on = numbers_on i.so_far all next in
-    omega (arith, some, on, next.few, next.counted)
+    let h = c.in_ok-held.ensures.ok in
+    let next = handed_passed h.next h.free i.so_far.handed h.width c.pass.ensures.passed in
+    omega (arith, h.some c.if-held.true, numbers_on i.so_far h.all next, next.few, next.counted)
 
 pub search_line-requires : goal.search_line-requires
 search_line-requires g c =
     let reader = c.args.lines.now.lines.reader in
-    let held = c.next_held-stretch.ensures in
     let taken = rw c.in-Ok-None.field-0-is at c.in-Ok-None.ensures in
-    let s = sent g (goal.at.search_line-requires g c).In-Ok-None (among g (goal.at.search_line-requires g c).Else-found-early) in
+    let s = sent g (goal.at.search_line-requires g c).In-Ok-None (among g (goal.at.search_line-requires g c).Else-held-early) in
     record {
-      whole = c.write_searched.ensures.same.same_whole ∙ held.same.same_whole ∙ c.lines.invariant.same.same_whole ∙ c.requires.whole;
+      whole = c.write_held.ensures.same.same_whole ∙ c.lines.invariant.same.same_whole ∙ c.requires.whole;
       first = omega (arith, c.number-number.ensures, is_next s (taken reader s.lines s.handed).0);
     }
 
@@ -127,69 +89,62 @@ pub count_found-selected-requires : goal.count_found-selected-requires
 count_found-selected-requires g c =
     let reader = c.args.lines.now.lines.reader in
     let taken = rw c.in-Ok-None.field-0-is at c.in-Ok-None.ensures in
-    let s = sent g (goal.at.count_found-selected-requires g c).In-Ok-None (among g (goal.at.count_found-selected-requires g c).Else-found-early) in
+    let s = sent g (goal.at.count_found-selected-requires g c).In-Ok-None (among g (goal.at.count_found-selected-requires g c).Else-held-early) in
     may_count s (taken reader s.lines s.handed).0
 
 pub lines-smaller : goal.lines-smaller
 lines-smaller g c =
     let reader = c.args.lines.now.lines.reader in
     let i = c.lines.invariant in
-    let held = c.next_held-stretch.ensures in
-    let (before, all, d, n) = held.divided in
-    let next = handed_passed n d.free i.so_far.handed d.width c.pass.ensures.passed in
+    let h = c.in_ok-held.ensures.ok in
+    let next = handed_passed h.next h.free i.so_far.handed h.width c.pass.ensures.passed in
     let taken = rw c.in-Ok-None.field-0-is at c.in-Ok-None.ensures in
-    let s = sent g (goal.at.lines-smaller g c).In-Ok-None (among g (goal.at.lines-smaller g c).Else-found-early) in
-    let further = numbers_further i.so_far all next in
+    let s = sent g (goal.at.lines-smaller g c).In-Ok-None (among g (goal.at.lines-smaller g c).Else-held-early) in
+    let further = numbers_further i.so_far h.all next in
     omega (arith, further, fewer_left s (taken reader s.lines s.handed).0)
 
 pub lines-preserved : goal.lines-preserved
 lines-preserved g c =
     let reader = c.args.lines.now.lines.reader in
     let i = c.lines.invariant in
-    let held = c.next_held-stretch.ensures in
-    let kept = asked_over held.same i.same in
     let taken = rw c.in-Ok-None.field-0-is at c.in-Ok-None.ensures in
-    let s = sent g (goal.at.lines-preserved g c).In-Ok-None (among g (goal.at.lines-preserved g c).Else-found-early) in
-    let asked = asked_over c.write_searched.ensures.same kept in
-    let took_line = rw asked.same_matchers.same_expressions at c.in_ok-found-2.ensures.ok in
-    let spent_line = rw asked.same_matchers.same_expressions at c.in_ok-found-2.ensures.steps in
-    let found = c.in_ok-found-2.found in
+    let s = sent g (goal.at.lines-preserved g c).In-Ok-None (among g (goal.at.lines-preserved g c).Else-held-early) in
+    let asked = asked_over c.write_held.ensures.same i.same in
+    let took_line = rw asked.same_matchers.same_expressions at c.in_ok-found.ensures.ok in
+    let spent_line = rw asked.same_matchers.same_expressions at c.in_ok-found.ensures.steps in
+    let found = c.in_ok-found.found in
     record {
       so_far =
-          searched_line s (taken reader s.lines s.handed).0 c.line-line.ensures c.number-number.ensures c.requires.plain took_line spent_line c.count_found-selected.ensures (goes_on found _ _ i.is_early c.if-found-early-2.false);
-      same = asked_over c.in_ok-found-2.ensures.same asked;
+          searched_line s (taken reader s.lines s.handed).0 c.line-line.ensures c.number-number.ensures c.requires.plain took_line spent_line c.count_found-selected.ensures (goes_on found _ _ i.is_early c.if-found-early.false);
+      same = asked_over c.in_ok-found.ensures.same asked;
       few_held = (taken reader s.lines s.handed).1;
       is_early = i.is_early;
     }
 
-pub returns-then-found-early-2-clause-given : goal.returns-then-found-early-2-clause-given
-returns-then-found-early-2-clause-given g c =
+pub returns-then-found-early-clause-given : goal.returns-then-found-early-clause-given
+returns-then-found-early-clause-given g c =
     let reader = c.args.lines.now.lines.reader in
     let i = c.lines.invariant in
-    let held = c.next_held-stretch.ensures in
-    let kept = asked_over held.same i.same in
     let taken = rw c.in-Ok-None.field-0-is at c.in-Ok-None.ensures in
-    let s = sent g (goal.at.returns-then-found-early-2-clause-given g c).In-Ok-None (among g (goal.at.returns-then-found-early-2-clause-given g c).Else-found-early) in
-    let asked = asked_over c.write_searched.ensures.same kept in
-    let took_line = rw asked.same_matchers.same_expressions at c.in_ok-found-2.ensures.ok in
-    let spent_line = rw asked.same_matchers.same_expressions at c.in_ok-found-2.ensures.steps in
-    leaves_at s (taken reader s.lines s.handed).0 c.line-line.ensures c.number-number.ensures c.requires.plain took_line spent_line c.count_found-selected.ensures i.is_early c.if-found-early-2.true
+    let s = sent g (goal.at.returns-then-found-early-clause-given g c).In-Ok-None (among g (goal.at.returns-then-found-early-clause-given g c).Else-held-early) in
+    let asked = asked_over c.write_held.ensures.same i.same in
+    let took_line = rw asked.same_matchers.same_expressions at c.in_ok-found.ensures.ok in
+    let spent_line = rw asked.same_matchers.same_expressions at c.in_ok-found.ensures.steps in
+    leaves_at s (taken reader s.lines s.handed).0 c.line-line.ensures c.number-number.ensures c.requires.plain took_line spent_line c.count_found-selected.ensures i.is_early c.if-found-early.true
 
-pub returns-in_err-found-2-clause-given : goal.returns-in_err-found-2-clause-given
-returns-in_err-found-2-clause-given g c =
+pub returns-in_err-found-clause-given : goal.returns-in_err-found-clause-given
+returns-in_err-found-clause-given g c =
     let w = c.args.request.now in
     let es = map g.M.LineMatch.expression c.args.searchers.now.matchers.now in
     let reader = c.args.lines.now.lines.reader in
     let i = c.lines.invariant in
-    let held = c.next_held-stretch.ensures in
-    let kept = asked_over held.same i.same in
     let taken = rw c.in-Ok-None.field-0-is at c.in-Ok-None.ensures in
-    let s = sent g (goal.at.returns-in_err-found-2-clause-given g c).In-Ok-None (among g (goal.at.returns-in_err-found-2-clause-given g c).Else-found-early) in
-    let asked = asked_over c.write_searched.ensures.same kept in
-    let broke_line = rw asked.same_matchers.same_expressions at c.in_err-found-2.ensures.err in
-    let spent_line = rw asked.same_matchers.same_expressions at c.in_err-found-2.ensures.steps in
+    let s = sent g (goal.at.returns-in_err-found-clause-given g c).In-Ok-None (among g (goal.at.returns-in_err-found-clause-given g c).Else-held-early) in
+    let asked = asked_over c.write_held.ensures.same i.same in
+    let broke_line = rw asked.same_matchers.same_expressions at c.in_err-found.ensures.err in
+    let spent_line = rw asked.same_matchers.same_expressions at c.in_err-found.ensures.steps in
     let (next, few, went, before) = taken reader s.lines s.handed in
-    given_up g.R.CountedRead.remaining g.R.CountedRead.failures g.W.CountedWrite.contents g.W.CountedWrite.failures es w.options w.many false w.name.now reader c.take_next.new.lines _ c.search_line.new.out _ _ _ c.from_residual-in_err-found-2.result c.from_residual-in_err-found-2.ensures.1
+    given_up g.R.CountedRead.remaining g.R.CountedRead.failures g.W.CountedWrite.contents g.W.CountedWrite.failures es w.options w.many false w.name.now reader c.take_next.new.lines _ c.search_line.new.out _ _ _ c.from_residual-in_err-found.result c.from_residual-in_err-found.ensures.1
     (stops_at s next c.line-line.ensures c.number-number.ensures c.requires.plain (before w.name.now) _ _ broke_line spent_line)
 
 pub returns-in-Ok-Some-clause-given : goal.returns-in-Ok-Some-clause-given
@@ -197,8 +152,8 @@ returns-in-Ok-Some-clause-given g c =
     let w = c.args.request.now in
     let es = map g.M.LineMatch.expression c.args.searchers.now.matchers.now in
     let reader = c.args.lines.now.lines.reader in
-    let p = among g (goal.at.returns-in-Ok-Some-clause-given g c).Else-found-early in
-    ends_as g.R.CountedRead.remaining g.R.CountedRead.failures g.W.CountedWrite.contents g.W.CountedWrite.failures es w.options w.many false w.name.now reader c.take_next.new.lines _ c.take_next.new.out _ _ c.write_searched.new.out p.lines c.saturating_add-selected.result p.wrote p.none_early p.steps c.in-Ok-Some.end
+    let p = among g (goal.at.returns-in-Ok-Some-clause-given g c).Else-held-early in
+    ends_as g.R.CountedRead.remaining g.R.CountedRead.failures g.W.CountedWrite.contents g.W.CountedWrite.failures es w.options w.many false w.name.now reader c.take_next.new.lines _ c.take_next.new.out _ _ c.write_held.new.out p.lines c.saturating_add-selected.result p.wrote p.none_early p.steps c.in-Ok-Some.end
     ((rw c.in-Ok-Some.field-0-is at c.in-Ok-Some.ensures) reader p.lines p.handed)
 
 pub returns-in-Err-clause-given : goal.returns-in-Err-clause-given
@@ -206,6 +161,6 @@ returns-in-Err-clause-given g c =
     let w = c.args.request.now in
     let es = map g.M.LineMatch.expression c.args.searchers.now.matchers.now in
     let reader = c.args.lines.now.lines.reader in
-    let p = among g (goal.at.returns-in-Err-clause-given g c).Else-found-early in
-    stops_as g.R.CountedRead.remaining g.R.CountedRead.failures g.W.CountedWrite.contents g.W.CountedWrite.failures es w.options w.many false w.name.now reader c.take_next.new.lines _ c.take_next.new.out _ _ c.write_searched.new.out p.lines c.saturating_add-selected.result p.wrote p.none_early p.steps c.in-Err.fault
+    let p = among g (goal.at.returns-in-Err-clause-given g c).Else-held-early in
+    stops_as g.R.CountedRead.remaining g.R.CountedRead.failures g.W.CountedWrite.contents g.W.CountedWrite.failures es w.options w.many false w.name.now reader c.take_next.new.lines _ c.take_next.new.out _ _ c.write_held.new.out p.lines c.saturating_add-selected.result p.wrote p.none_early p.steps c.in-Err.fault
     (c.in-Err.ensures reader p.lines p.handed)

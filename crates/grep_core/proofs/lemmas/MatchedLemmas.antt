@@ -1,0 +1,167 @@
+-- The matched lines of a block, which are written as they are.
+use Rattle.grep_core.proofs.Prelude.{◌≡◌, ℕ, ◌+◌, ◌-◌, ◌*◌, Result, Ok, Err, IsErr, false≢true, WritesMatched, AddsAtMost, Numbered, IsNextOf, TakesHeld, StopsHeld, most_lines, writer, ◌<◌, ◌≤◌, Bool, true, false, List, [], ◌∷◌, ◌++◌, All, Option, length, take, drop, slice_range, refl, sym, ap, ◌∙◌, subst, arith, inl, inr, append_assoc, append-nil, length-append, length-drop, take-append_seam, drop-drop, All-head, All-tail, Text, newline, terminated, lines_of, HasNoNewline, Expression, Span, IsBlock, IsNext, Sought, IsSought, Options, Selected, Chosen, colon, head, form, shown_number, name_shown, written, IsBare, RowsOfSelected, RowsOfLines, GoesOut, StopsWithin}
+use Rattle.re_syntax.proofs.lemmas.LinesLaws.{lines_of-terminated}
+use Rattle.re_syntax.proofs.lemmas.Decisions.{dec_any}
+use Rattle.re_syntax.proofs.lemmas.HoldsDecided.{dec_matches}
+use Rattle.re_search.proofs.lemmas.NextLines.{block_lines, free_lines, bytes_after_next, after_next}
+use Rattle.grep_io.specs.declared.input.lines.Stage.TheVariants.{Ended}
+use Rattle.grep_core.specs.declared.status.SearchFault.TheVariants.{Write}
+use Rattle.grep_core.proofs.lemmas.PassedLines.{block_spent}
+use Rattle.grep_core.proofs.lemmas.WrittenLemmas.{TakesAll-written, TakesFront-written}
+use Rattle.grep_io.proofs.lemmas.WindowBlocks.{joined_range}
+use Rattle.re_search.specs.Meters.{Steps}
+use Rattle.grep_core.proofs.lemmas.CostLaws.{cost_within, cost_after}
+use Rattle.grep_core.proofs.lemmas.ChooseLaws.{Chosen-exist, EachGives-append}
+use Rattle.grep_core.proofs.lemmas.RowLemmas.{stops_early, stops_later}
+use Rattle.grep_core.proofs.lemmas.Verdicts.{decided_yes, decided_no}
+use Rattle.grep_core.proofs.lemmas.SearchedBlockLemmas.{selected_matched, line_with_newline, lines_within}
+
+regroup : (s x a l m : Text) → (s ++ (x ++ a)) ++ (l ++ m) ≡ ((s ++ x) ++ (a ++ l)) ++ m
+regroup s x a l m = ap (λ t. t ++ (l ++ m)) (sym (append_assoc s x a)) ∙ append_assoc (s ++ x) a (l ++ m) ∙ ap (λ t. (s ++ x) ++ t) (sym (append_assoc a l m)) ∙ sym (append_assoc (s ++ x) (a ++ l) m)
+
+module _ (P : Text → Type 0) where
+  -- no line is chosen
+  none_chosen : (ls : List Text) → All (λ line. ¬ P line) ls → Chosen P ls []
+  none_chosen [] none = refl
+  none_chosen (l ∷ ls) none = ([], [], inr (All-head (λ line. ¬ P line) l ls none, refl), none_chosen ls (All-tail (λ line. ¬ P line) l ls none), refl)
+
+  -- of the lines before the place `start`, `count` are chosen; their bytes are some, and the block's
+  -- from `run` on
+  pub record RunsTo (block : Text) (run start count : ℕ) (sent : Text) : Type 0 where
+    pub is_block : IsBlock (drop start block)
+    pub low : run ≤ start
+    pub within : start ≤ length block
+    pub few : count ≤ start
+    pub goes_on : (more : List Text) → Chosen P (lines_of (drop start block)) more → (all : List Text) × Chosen P (lines_of block) all × (terminated all ≡ (sent ++ slice_range block run start) ++ terminated more) × (length all ≡ count + length more)
+
+  pub runs_none : (block : Text) → IsBlock block → RunsTo block 0 0 0 []
+  runs_none block whole = record { is_block = whole; low = omega arith; within = omega arith; few = omega arith; goes_on = λ more c. (more, c, refl, omega arith) }
+
+  -- one more is, and the lines before it are not; so far as the bytes before it don't lead to it, they
+  -- are sent
+  pub runs_next : {block sent : Text} {run start count : ℕ} → RunsTo block run start count sent → (at : Span) → at.end < length (drop start block) → IsNext P (lines_of (drop start block)) at
+      → (next : ℕ) (x : Text) → next ≤ start + at.start → x ++ slice_range block next (start + at.start) ≡ slice_range block run start → RunsTo block next (start + (at.end + 1)) (count + 1) (sent ++ x)
+  runs_next {block} {sent} {run} {start} {count} s at below n next x low cut = record {
+    is_block = (n.after, free, left ∙ after);
+    low = omega (arith, low, n.ends);
+    within = omega (arith, below, length-drop start block, s.within);
+    few = omega (arith, s.few);
+    goes_on = λ more c.
+        let others : Chosen P n.after more = subst (λ ls. Chosen P ls more) (ap lines_of (left ∙ after) ∙ lines_of-terminated n.after free) c in
+        let here : Chosen P (lines_of (drop start block)) (n.line ∷ more) = subst (λ ls. Chosen P ls (n.line ∷ more)) (sym n.divided)
+        (EachGives-append _ n.before (n.line ∷ n.after) [] (n.line ∷ more) (none_chosen n.before n.passed) (n.line ∷ [], more, inl (n.holds, refl), others, refl)) in
+        let (all, are, bytes, long) = s.goes_on (n.line ∷ more) here in (
+          all,
+          are,
+          bytes ∙ ap (λ t. (sent ++ t) ++ (n.line ++ newline ∷ terminated more)) (sym cut) ∙ ap (λ t. (sent ++ (x ++ slice_range block next (start + at.start))) ++ t) (sym (append_assoc n.line (newline ∷ []) (terminated more)))
+              ∙ regroup sent x (slice_range block next (start + at.start)) (n.line ++ newline ∷ []) (terminated more)
+              ∙ ap (λ t. ((sent ++ x) ++ t) ++ terminated more) (ap (λ t. slice_range block next (start + at.start) ++ t) (sym line) ∙ joined_range block next (start + at.start) (start + (at.end + 1)) low (omega (arith, n.ends))),
+          omega (arith, long),
+        );
+  }
+    where
+      free : All HasNoNewline n.after
+      free = after_next P (drop start block) at s.is_block n
+
+      after : drop (at.end + 1) (drop start block) ≡ terminated n.after
+      after = bytes_after_next P (drop start block) at s.is_block n
+
+      left : drop (start + (at.end + 1)) block ≡ drop (at.end + 1) (drop start block)
+      left = sym (drop-drop (at.end + 1) start block)
+
+      line : slice_range block (start + at.start) (start + (at.end + 1)) ≡ n.line ++ newline ∷ []
+      line =
+          let wide : start + (at.end + 1) - (start + at.start) ≡ length (n.line ++ newline ∷ []) = omega (arith, n.ends, length-append n.line (newline ∷ [])) in
+          ap (λ k. take k (drop (start + at.start) block)) wide ∙ ap (take (length (n.line ++ newline ∷ []))) (sym (drop-drop at.start start block) ∙ line_with_newline P (drop start block) at s.is_block n)
+          ∙ take-append_seam (n.line ++ newline ∷ []) (terminated n.after)
+
+  -- no more are
+  pub runs_out : {block sent : Text} {run start count : ℕ} → RunsTo block run start count sent → All (λ line. ¬ P line) (lines_of (drop start block)) → (all : List Text) × Chosen P (lines_of block) all × (sent ++ slice_range block run start ≡ terminated all) × (count ≡ length all)
+  runs_out {block} {sent} {run} {start} s none =
+      let (all, are, bytes, long) = s.goes_on [] (none_chosen (lines_of (drop start block)) none) in
+      (all, are, sym (bytes ∙ append-nil (sent ++ slice_range block run start)), omega (arith, long))
+
+-- a write failed in a run of them
+pub run_stops : {W : Type 0} (contents : W → Option Text) (failures : W → ℕ) (s : Sought) {block sent : Text} {run start count : ℕ} (a b c : W) → RunsTo (IsSought s) block run start count sent → GoesOut contents failures a b sent → StopsWithin contents failures b c (slice_range block run start)
+    → (all : List Text) × Chosen (IsSought s) (lines_of block) all × StopsWithin contents failures a c (terminated all)
+run_stops contents failures s {block} {sent} {run} {start} a b c runs went stopped =
+    let (more, chosen) = Chosen-exist (IsSought s) (λ line. dec_any _ (λ e. dec_matches e line s.whole) s.expressions) (lines_of (drop start block)) in
+    let (all, are, bytes, long) = runs.goes_on more chosen in
+    (all, are, subst (StopsWithin contents failures a c) (sym bytes) (stops_early contents failures a c (sent ++ slice_range block run start) (terminated more) (stops_later contents failures a b c sent (slice_range block run start) went stopped)))
+
+-- where selected lines are written as they are, they are the rows
+module _ (es : List Expression) (options : Options) (many : Bool) (name : Text) (bare : IsBare options many) (plain : options.invert_match ≡ false) (whole : Bool) (asks : whole ≡ options.line_regexp) where
+  pub rows_chosen : (number : ℕ) (ls all : List Text) → Chosen (IsSought (record { expressions = es; whole = whole })) ls all → (rows : List Text) × RowsOfLines es options many name number ls rows (length all) × (written [] rows ≡ terminated all)
+  rows_chosen number [] all none = ([], (refl, ap length none), sym (ap terminated none))
+  rows_chosen number (l ∷ ls) all (front, rest, inl (holds, one), others, is) =
+      let (rows, are, bytes) = rows_chosen (number + 1) ls rest others in
+      let same : all ≡ l ∷ rest = is ∙ ap (λ f. f ++ rest) one in
+      let own : List Text = (head colon (name_shown many name) (shown_number options number) ++ l) ∷ [] in
+      let is_own : RowsOfSelected es options many (form options) name number l own = subst (λ shape. RowsOfSelected es options many shape name number l own) (sym bare.asked) refl in
+      let selected = selected_matched es options whole asks plain l holds in
+      let none : head colon (name_shown many name) (shown_number options number) ≡ [] = rw (bare.no_name, bare.no_number) refl in (
+        own ++ rows,
+        (own, rows, true, length rest, inl (selected, is_own), decided_yes selected, are, refl, omega (arith, ap length same)),
+        ap (λ h. ((h ++ l) ++ newline ∷ []) ++ written [] rows) none ∙ append_assoc l (newline ∷ []) (written [] rows) ∙ ap (λ t. l ++ newline ∷ t) bytes ∙ sym (ap terminated same),
+      )
+  rows_chosen number (l ∷ ls) all (front, rest, inr (out, none), others, is) =
+      let (rows, are, bytes) = rows_chosen (number + 1) ls rest others in
+      let same : all ≡ rest = is ∙ ap (λ f. f ++ rest) none in
+      let unselected : ¬ Selected es options l = λ h. out (rw asks (rw plain at h)) in
+      (rows, ([], rows, false, length rest, inr (unselected, refl), decided_no unselected, are, refl, ap length same), bytes ∙ sym (ap terminated same))
+
+-- what a call writes that ends with a failed write
+pub stopped_result : {W E : Type 0} (contents : W → Option Text) (failures : W → ℕ) (s : Sought) (block : Text) (a c : W) (r : Result ℕ E) → IsErr r → (all : List Text) × Chosen (IsSought s) (lines_of block) all × StopsWithin contents failures a c (terminated all)
+    → WritesMatched contents failures s block a c r
+stopped_result contents failures s block a c (Ok found) failed p = absurd (false≢true failed)
+stopped_result contents failures s block a c (Err fault) failed (all, are, stopped) = (all, are, stopped, tt)
+
+-- each matcher took a step for each byte, and then for more of them
+pub steps_for_more : (n start more : ℕ) (old mid new : Steps) → AddsAtMost (n * start) old mid → AddsAtMost (n * more) mid new → AddsAtMost (n * (start + more)) old new
+steps_for_more n start more old mid new a b =
+    let joined : n * start + n * more ≡ n * (start + more) = omega arith in
+    subst (λ k. AddsAtMost k old new) joined (cost_after (n * start) (n * more) old mid new a b)
+
+pub steps_within : (n few most : ℕ) (old new : Steps) → few ≤ most → AddsAtMost (n * few) old new → AddsAtMost (n * most) old new
+steps_within n few most old new h a =
+    let split : n * few + n * (most - few) ≡ n * (few + (most - few)) = omega arith in
+    let whole : few + (most - few) ≡ most = omega (arith, h) in
+    cost_within (n * few) (n * most) old new (omega (arith, split, ap (λ k. n * k) whole)) a
+
+-- a block that is ahead is the next lines
+pub block_next : {R : Type 0} {now : Numbered R} (block rest : Text) → IsBlock block → now.lines.ahead ≡ block ++ rest → now.number + length block ≤ most_lines → (now.lines.stage ≡ Ended → now.lines.ahead ≡ []) → IsNextOf now (lines_of block)
+block_next block rest whole ahead room over = record {
+  rest = rest;
+  ahead = ahead ∙ ap (λ b. b ++ rest) (block_lines block whole);
+  few = omega (arith, room, ap length (block_lines block whole), lines_within (lines_of block));
+  open_still = over;
+}
+
+-- what is written for them
+module _ {M : Type 0} {contents : M → Option Text} {failures : M → ℕ} {es : List Expression} {options : Options} {many : Bool} {name : Text} (bare : IsBare options many) (plain : options.invert_match ≡ false) {whole : Bool} (asks : whole ≡ options.line_regexp)
+    {R : Type 0} {now : Numbered R} {old new : M} {began ended : Steps} {block : Text} (is_block : IsBlock block) (next : IsNextOf now (lines_of block)) (steps : AddsAtMost (length es * length block) began ended)
+    (matched : List Text) (chosen : Chosen (IsSought (record { expressions = es; whole = whole })) (lines_of block) matched) where
+  pub takes_matched : {count found : ℕ} → GoesOut contents failures old new (terminated matched) → found ≡ length matched → count ≡ length (lines_of block) → TakesHeld es options many name now (writer contents failures old) (writer contents failures new) began ended (record { bytes = length block; count = count; found = found; goes_on = false })
+  takes_matched went found counted =
+      let (rows, are, is) = rows_chosen es options many name bare plain whole asks (now.number + 1) (lines_of block) matched chosen in
+      record {
+        all = lines_of block;
+        free = free_lines block is_block;
+        next = next;
+        width = ap length (block_lines block is_block);
+        counted = counted;
+        took = record { rows = rows; are_rows = subst (RowsOfLines es options many name (now.number + 1) (lines_of block) rows) (sym found) are; wrote = TakesAll-written contents failures old new rows (subst (GoesOut contents failures old new) (sym is) went) };
+        spent = block_spent es options block began ended is_block steps;
+        some = λ goes. absurd (false≢true goes);
+      }
+
+  pub stops_matched : StopsWithin contents failures old new (terminated matched) → StopsHeld es options many name now (writer contents failures old) (writer contents failures new) began ended Write
+  stops_matched stopped =
+      let (rows, are, is) = rows_chosen es options many name bare plain whole asks (now.number + 1) (lines_of block) matched chosen in
+      record {
+        all = lines_of block;
+        free = free_lines block is_block;
+        next = next;
+        stops = record { rows = rows; found = length matched; are_rows = are; wrote = TakesFront-written contents failures old new rows (subst (StopsWithin contents failures old new) (sym is) stopped); counted = stopped.counted };
+        spent = block_spent es options block began ended is_block steps;
+      }
