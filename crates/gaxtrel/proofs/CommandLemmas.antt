@@ -14,7 +14,8 @@ use Rattle.grep_cmd.specs.declared.script.ScriptEnd.{ScriptEnd}
 use Rattle.grep_cmd.specs.declared.script.ScriptFault.{ScriptFault}
 use Rattle.grep_cmd.specs.declared.script.ScriptFault.TheVariants.{Memory, Read, Write}
 use Rattle.grep_cmd.specs.Script.{Step, Steps}
-use Rattle.grep_cmd.specs.Replies.{BeginsScript, ScriptGives, ReadsScript, ScriptState}
+use Rattle.grep_cmd.specs.Replies.{BeginsScript, HasAllButLast, ScriptGives, ReadsScript, ScriptState}
+use Rattle.grep_cmd.proofs.lemmas.ScriptSteps.{all_but_last}
 use Rattle.gaxtrel.specs.Live.{AnswersText, LiveKept, commands_of, end_number}
 
 -- ---- the number of lines
@@ -125,6 +126,7 @@ module _ {W : Type 0} (contents : W → Option Text) (failures : W → ℕ) (has
           leaves = inl e.leaves;
           unwritten = [];
           are_begun = sym (append-nil after.replies ∙ appended (written [] e.replies) e.goes.written);
+          broken = subst (HasAllButLast e.answers.steps before) (append-nil (written [] e.replies) ∙ sym (appended (written [] e.replies) e.goes.written)) (all_but_last e.answers.steps before e.answers.after e.replies [] e.answers.are_replies);
           work = e.work;
         },
       )
@@ -139,6 +141,7 @@ module _ {W : Type 0} (contents : W → Option Text) (failures : W → ℕ) (has
           leaves = e.leaves;
           unwritten = e.stops.rest;
           are_begun = e.stops.cut ∙ ap (λ b. b ++ e.stops.rest) (sym (appended e.stops.front e.stops.written));
+          broken = subst (HasAllButLast e.answers.steps before) (sym (appended e.stops.front e.stops.written)) e.broken;
           work = e.work;
         },
       )

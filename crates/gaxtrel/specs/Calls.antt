@@ -9,7 +9,7 @@ use Rattle.re_trees.specs.declared.span.Span.{Span}
 use Rattle.re_syntax.specs.Lines.{lines_of}
 use Rattle.re_syntax.specs.Parts.{ArePartsFrom}
 use Rattle.re_syntax.specs.Profile.{most_patterns}
-use Rattle.re_meter.specs.Meters.{Steps, AddsAtMost}
+use Rattle.re_meter.specs.Meters.{Steps, AddsAtMost, fresh}
 use Rattle.re_search.specs.Working.Sought.{FindsSought, Sought}
 use Rattle.gaxtrel.specs.declared.numbers.GaxtrelFault.{GaxtrelFault}
 use Rattle.gaxtrel.specs.declared.part.GaxtrelPart.{GaxtrelPart}
@@ -60,6 +60,10 @@ put_over (place ∷ places) (part ∷ old) = part_at place ∷ put_over places o
 abbrev pub steps_of : GaxtrelWork → Steps
 steps_of work =
     record { built = work.built; reused = work.reused; passed = work.passed }
+
+-- nothing is held, and no work is shown
+abbrev pub IsEmpty : {K : Type 0} → Option K → GaxtrelWork → Type 0
+IsEmpty held work = (held ≡ None) × (steps_of work ≡ fresh)
 
 -- a search of a line by so many matchers
 abbrev pub line_cost : ℕ → Text → ℕ

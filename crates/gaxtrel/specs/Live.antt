@@ -7,8 +7,8 @@ use Rattle.grep_core.specs.Files.{File, whole}
 use Rattle.grep_core.specs.Output.{written}
 use Rattle.grep_cmd.specs.declared.script.ScriptEnd.{ScriptEnd}
 use Rattle.grep_cmd.specs.declared.script.ScriptEnd.TheVariants.{Clean, Refused}
-use Rattle.grep_cmd.specs.Replies.{AnswersScript, IsUpToReport, ScriptState, SearchesTouched}
-use Rattle.grep_cmd.specs.Replies.{end_for}
+use Rattle.grep_cmd.specs.Replies.{AnswersScript, HasAllButLast, IsUpToReport, ScriptState}
+use Rattle.grep_cmd.specs.Replies.{SearchesTouched, end_for}
 
 -- the state of a session, and the bytes of the replies to the commands of the last call
 pub record LiveKept : Type 0 where
@@ -40,7 +40,7 @@ module _ (before : ScriptState) (text : Text) (begun : Steps) (after : LiveKept)
       pub ended : answer ≡ end_number (end_for replies)
 
     -- memory was refused: the first commands were done, but where the last of them is `changes`, it
-    -- may still have all to report; a beginning of the replies to them was written
+    -- may still have all to report; the replies to all but the last are kept, and a beginning of it
     pub record AnswersFirst : Type 0 where
       pub replies : List Text
       pub rest : List Text
@@ -48,6 +48,7 @@ module _ (before : ScriptState) (text : Text) (begun : Steps) (after : LiveKept)
       pub leaves : IsUpToReport after.state answers.after
       pub unwritten : Text
       pub are_begun : written [] replies ≡ after.replies ++ unwritten
+      pub broken : HasAllButLast answers.steps before after.replies
       pub work : SearchesTouched before answers.steps replies answers.after begun spent
 
     -- the commands of a text were answered so

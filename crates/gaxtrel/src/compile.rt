@@ -10,7 +10,9 @@ ghost use Rattle.re_syntax.specs.Spelled.{IsMeant};
 ghost use Rattle.re_search.specs.Reading.{IsSmallFor, IsReadable, IsRefusedFor};
 ghost use Rattle.grep_core.specs.Matchers.{IsFirstRefused};
 ghost use Rattle.gaxtrel.specs.Kept.{IsFor};
-ghost use Rattle.gaxtrel.specs.Calls.{syntax_number, kind_number, too_many_patterns};
+ghost use Rattle.re_meter.specs.Meters.{fresh};
+ghost use Rattle.gaxtrel.specs.Calls.{IsEmpty, syntax_number, kind_number, steps_of};
+ghost use Rattle.gaxtrel.specs.Calls.{too_many_patterns};
 
 use crate::kept::GaxtrelMatcher;
 use crate::numbers::{GaxtrelFault, TOO_MANY_PATTERNS, fault_of, syntax_of};
@@ -45,6 +47,7 @@ pub extern "C" fn gaxtrel_compile(
         IsReadable s fold pattern.now → ⊥ }
     ensures unknown { (result ≡ 3) ↔ ((s : Syntax) → syntax ≡ syntax_number s → ⊥) }
     ensures none { (result ≡ 0 → ⊥) → matcher.new.handle.held ≡ None }
+    ensures work { steps_of matcher.new.work ≡ fresh }
     ensures no_fault { (result ≡ 1 → ⊥) → fault.new ≡ fault.old }
 {
     *matcher = GaxtrelMatcher::empty(alloc);
@@ -91,6 +94,7 @@ pub extern "C" fn gaxtrel_compile_lines(
         × (fault.new.kind ≡ kind_number f.kind) × (fault.new.at ≡ f.at) }
     ensures unknown { (result ≡ 3) ↔ ((s : Syntax) → syntax ≡ syntax_number s → ⊥) }
     ensures none { (result ≡ 0 → ⊥) → matcher.new.handle.held ≡ None }
+    ensures work { steps_of matcher.new.work ≡ fresh }
     ensures no_fault { (result ≡ 1 → ⊥) → fault.new ≡ fault.old }
 {
     *matcher = GaxtrelMatcher::empty(alloc);
@@ -115,10 +119,11 @@ pub extern "C" fn gaxtrel_compile_lines(
 
 // Holds the patterns: 0, or 2 if memory is refused.
 fn hold(alloc: Global, patterns: Patterns, matcher: &mut GaxtrelMatcher) -> u32
-    requires { matcher.old.handle.held ≡ None }
+    requires { IsEmpty matcher.old.handle.held matcher.old.work }
     ensures two { (result ≡ 0) ⊎ (result ≡ 2) }
     ensures held { result ≡ 0 → matcher.new.handle.held ≡ Some patterns }
     ensures none { result ≡ 2 → matcher.new.handle.held ≡ None }
+    ensures work { steps_of matcher.new.work ≡ fresh }
 {
     let Ok(boxed) = Box::new(alloc, patterns) else {
         return 2;
@@ -130,7 +135,7 @@ fn hold(alloc: Global, patterns: Patterns, matcher: &mut GaxtrelMatcher) -> u32
 /// Frees what `matcher` holds. It then holds none.
 #[unsafe(no_mangle)]
 pub extern "C" fn gaxtrel_free(alloc: Global, matcher: &mut GaxtrelMatcher)
-    ensures { matcher.new.handle.held ≡ None }
+    ensures { IsEmpty matcher.new.handle.held matcher.new.work }
 {
     *matcher = GaxtrelMatcher::empty(alloc);
 }

@@ -1,8 +1,7 @@
 //! What C keeps of patterns.
 ghost use Rattle.std.specs.Prelude.{◌≡◌, true, Some, None, MatchOption};
-ghost use Rattle.re_meter.specs.Meters.{fresh};
 ghost use Rattle.gaxtrel.specs.Held.{is_held};
-ghost use Rattle.gaxtrel.specs.Calls.{steps_of};
+ghost use Rattle.gaxtrel.specs.Calls.{IsEmpty, steps_of};
 
 use crate::handle::Handle;
 use crate::loose::Loose;
@@ -26,8 +25,7 @@ pub struct GaxtrelMatcher {
 impl GaxtrelMatcher {
     /// Holds none.
     pub(crate) fn empty(alloc: Global) -> GaxtrelMatcher
-        ensures held { result.handle.held ≡ None }
-        ensures work { steps_of result.work ≡ fresh }
+        ensures { IsEmpty result.handle.held result.work }
     {
         GaxtrelMatcher {
             handle: Handle::empty(alloc),
@@ -52,7 +50,7 @@ impl GaxtrelMatcher {
     pub(crate) fn take(&mut self, alloc: Global) -> Option<Box<Patterns>>
         ensures taken { MatchOption result (self.old.handle.held ≡ None)
             (λ patterns. self.old.handle.held ≡ Some patterns.value) }
-        ensures none { self.new.handle.held ≡ None }
+        ensures none { IsEmpty self.new.handle.held self.new.work }
     {
         replace(self, GaxtrelMatcher::empty(alloc)).into_box()
     }

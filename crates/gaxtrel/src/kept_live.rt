@@ -1,8 +1,7 @@
 //! What C keeps of a session.
 ghost use Rattle.std.specs.Prelude.{◌≡◌, true, Some, None, MatchOption};
-ghost use Rattle.re_meter.specs.Meters.{fresh};
 ghost use Rattle.gaxtrel.specs.Held.{is_held};
-ghost use Rattle.gaxtrel.specs.Calls.{steps_of};
+ghost use Rattle.gaxtrel.specs.Calls.{IsEmpty, steps_of};
 
 use crate::live::Live;
 use crate::live_handle::LiveHandle;
@@ -26,8 +25,7 @@ pub struct GaxtrelSession {
 impl GaxtrelSession {
     /// Holds none.
     pub(crate) fn empty(alloc: Global) -> GaxtrelSession
-        ensures held { result.handle.held ≡ None }
-        ensures work { steps_of result.work ≡ fresh }
+        ensures { IsEmpty result.handle.held result.work }
     {
         GaxtrelSession {
             handle: LiveHandle::empty(alloc),
@@ -52,7 +50,7 @@ impl GaxtrelSession {
     pub(crate) fn take(&mut self, alloc: Global) -> Option<Box<Live>>
         ensures taken { MatchOption result (self.old.handle.held ≡ None)
             (λ live. self.old.handle.held ≡ Some live.value) }
-        ensures none { self.new.handle.held ≡ None }
+        ensures none { IsEmpty self.new.handle.held self.new.work }
     {
         replace(self, GaxtrelSession::empty(alloc)).into_box()
     }

@@ -6,7 +6,7 @@ ghost use Rattle.re_meter.specs.Meters.{AddsAtMost, fresh};
 ghost use Rattle.re_auto.specs.Searches.{FindsPart};
 ghost use Rattle.re_search.specs.Working.Sought.{CountsSought, IsSought, Sought};
 ghost use Rattle.gaxtrel.specs.Kept.{IsFor};
-ghost use Rattle.gaxtrel.specs.Calls.{FindsLine, PutsParts, Tells, line_cost, steps_of};
+ghost use Rattle.gaxtrel.specs.Calls.{FindsLine, IsEmpty, PutsParts, Tells, line_cost, steps_of};
 
 use crate::kept::GaxtrelMatcher;
 use crate::part::{GaxtrelPart, put_found};
@@ -23,7 +23,7 @@ pub extern "C" fn gaxtrel_is_match(alloc: Global, matcher: &mut GaxtrelMatcher, 
         AddsAtMost (line_cost (length sought.expressions) line.now) fresh
         (steps_of matcher.new.work) }
     ensures none { matcher.old.handle.held ≡ None →
-        (result ≡ 3) × (matcher.new.handle.held ≡ None) }
+        (result ≡ 3) × IsEmpty matcher.new.handle.held matcher.new.work }
 {
     let Some(mut boxed) = matcher.take(alloc) else {
         return 3;
@@ -52,7 +52,7 @@ pub extern "C" fn gaxtrel_find(
         AddsAtMost (line_cost (length sought.expressions) line.now) fresh
         (steps_of matcher.new.work) }
     ensures none { matcher.old.handle.held ≡ None →
-        (result ≡ 3) × (matcher.new.handle.held ≡ None) }
+        (result ≡ 3) × IsEmpty matcher.new.handle.held matcher.new.work }
     ensures no_part { (result ≡ 1 → ⊥) → part.new ≡ part.old }
 {
     let Some(mut boxed) = matcher.take(alloc) else {
@@ -87,7 +87,7 @@ pub extern "C" fn gaxtrel_parts(
     ensures refused { result ≡ 2 → (parts.new ≡ parts.old) × (count.new ≡ count.old)
         × (steps_of matcher.new.work ≡ fresh) }
     ensures none { matcher.old.handle.held ≡ None →
-        (result ≡ 3) × (matcher.new.handle.held ≡ None) × (parts.new ≡ parts.old)
+        (result ≡ 3) × IsEmpty matcher.new.handle.held matcher.new.work × (parts.new ≡ parts.old)
         × (count.new ≡ count.old) }
 {
     let Some(mut boxed) = matcher.take(alloc) else {
@@ -119,7 +119,7 @@ pub extern "C" fn gaxtrel_next_line(
         × FindsLine sought text.now from place fresh (steps_of matcher.new.work)
         × Tells result line.new place) }
     ensures none { matcher.old.handle.held ≡ None →
-        (result ≡ 3) × (matcher.new.handle.held ≡ None) }
+        (result ≡ 3) × IsEmpty matcher.new.handle.held matcher.new.work }
     ensures no_line { (result ≡ 1 → ⊥) → line.new ≡ line.old }
 {
     let Some(mut boxed) = matcher.take(alloc) else {
@@ -147,7 +147,7 @@ pub extern "C" fn gaxtrel_count_lines(
         AddsAtMost (line_cost (length sought.expressions) text.now) fresh
         (steps_of matcher.new.work) }
     ensures none { matcher.old.handle.held ≡ None →
-        (result ≡ 3) × (matcher.new.handle.held ≡ None) × (count.new ≡ count.old) }
+        (result ≡ 3) × IsEmpty matcher.new.handle.held matcher.new.work × (count.new ≡ count.old) }
 {
     let Some(mut boxed) = matcher.take(alloc) else {
         return 3;

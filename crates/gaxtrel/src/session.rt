@@ -4,7 +4,7 @@ ghost use Rattle.re_syntax.specs.Profile.{most_states};
 ghost use Rattle.re_meter.specs.Meters.{fresh};
 ghost use Rattle.grep_cmd.specs.Replies.{new_state};
 ghost use Rattle.gaxtrel.specs.Live.{LiveKept, AnswersText, text_over};
-ghost use Rattle.gaxtrel.specs.Calls.{steps_of};
+ghost use Rattle.gaxtrel.specs.Calls.{IsEmpty, steps_of};
 
 use crate::kept_live::GaxtrelSession;
 use crate::live::Live;
@@ -27,6 +27,7 @@ pub extern "C" fn gaxtrel_session_open(
         session.new.handle.held ≡ Some (record { state = new_state states; replies = [] }) }
     ensures none { (result ≡ 0 → ⊥) → session.new.handle.held ≡ None }
     ensures three { (result ≡ 1 → ⊥) × (result ≤ 3) }
+    ensures work { steps_of session.new.work ≡ fresh }
     ensures range { (result ≡ 3) ↔ ((1 ≤ states) × (states ≤ most_states) → ⊥) }
 {
     *session = GaxtrelSession::empty(alloc);
@@ -60,7 +61,7 @@ pub extern "C" fn gaxtrel_session_answer(
         × AnswersText before.state commands.now fresh after (steps_of session.new.work) result
         × (count.new ≡ length after.replies) }
     ensures none { session.old.handle.held ≡ None →
-        (result ≡ 3) × (session.new.handle.held ≡ None) × (count.new ≡ count.old) }
+        (result ≡ 3) × IsEmpty session.new.handle.held session.new.work × (count.new ≡ count.old) }
 {
     let Some(mut boxed) = session.take(alloc) else {
         return 3;
@@ -89,6 +90,7 @@ pub extern "C" fn gaxtrel_session_replies(
     ensures none { session.old.handle.held ≡ None →
         (result ≡ 3) × (session.new.handle.held ≡ None) × (into.new ≡ into.old)
         × (count.new ≡ count.old) }
+    ensures work { steps_of session.new.work ≡ fresh }
 {
     let Some(boxed) = session.take(alloc) else {
         return 3;
@@ -102,7 +104,7 @@ pub extern "C" fn gaxtrel_session_replies(
 /// Frees what `session` holds. It then holds none.
 #[unsafe(no_mangle)]
 pub extern "C" fn gaxtrel_session_free(alloc: Global, session: &mut GaxtrelSession)
-    ensures { session.new.handle.held ≡ None }
+    ensures { IsEmpty session.new.handle.held session.new.work }
 {
     *session = GaxtrelSession::empty(alloc);
 }

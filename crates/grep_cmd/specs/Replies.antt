@@ -1,5 +1,5 @@
 -- The replies to a script (occur(1), REPLIES), and what a run of it writes and returns.
-use Rattle.std.specs.Prelude.{◌≡◌, ◌≢◌, ℕ, ◌+◌, ◌-◌, length, if◌then◌else◌, List, [], ◌∷◌, ◌++◌, take}
+use Rattle.std.specs.Prelude.{◌≡◌, ◌≢◌, ℕ, ◌+◌, ◌-◌, length, if◌then◌else◌, List, [], ◌∷◌, ◌++◌, drop, take}
 use Rattle.std.specs.Prelude.{Bool, true, codes, bytes_eq, Option, Result, Ok, Err, ◌⊎◌}
 use Rattle.std.specs.List.{list_any}
 use Rattle.std.specs.Fmt.{decimal}
@@ -149,6 +149,14 @@ pub record AnswersScript (before : ScriptState) (file : File) (replies rest : Li
     pub after : ScriptState
     pub are_replies : Replies steps before replies after
 
+-- the bytes have, before others, the replies to all of some commands but the last
+pub record HasAllButLast (steps : List Step) (before : ScriptState) (bytes : Text) : Type 0 where
+  pub sent : List Text
+  pub between : ScriptState
+  pub are_replies : Replies (take (length (drop 1 steps)) steps) before sent between
+  pub more : Text
+  pub are_first : bytes ≡ written [] sent ++ more
+
 -- the state that is left is the one after the commands; or what the last of them, `changes`, had to
 -- report is still to report
 abbrev pub IsUpToReport : ScriptState → ScriptState → Type 0
@@ -236,8 +244,8 @@ module _ {W : Type 0} (contents : W → Option Text) (failures : W → ℕ)
     pub work : SearchesTouched before answers.steps replies answers.after begun spent
     pub goes : GoesOut contents failures old new (written [] replies)
 
-  -- a write failed: a beginning of the replies to the first commands was written. These were done,
-  -- but where the last is `changes`, it may still have all to report
+  -- a write failed: the replies to the first commands were written, and a beginning of the last of
+  -- them. These were done, but where the last is `changes`, it may still have all to report
   pub record StopsWriting : Type 0 where
     pub file : File
     pub reads : BeginsScript known failed_before failed file ⊎
@@ -248,6 +256,7 @@ module _ {W : Type 0} (contents : W → Option Text) (failures : W → ℕ)
     pub leaves : IsUpToReport after answers.after
     pub work : SearchesTouched before answers.steps replies answers.after begun spent
     pub stops : StopsWithin contents failures old new (written [] replies)
+    pub broken : HasAllButLast answers.steps before stops.front
 
   -- what a script that is answered from a state on writes, counts, returns and leaves
   abbrev pub ScriptGives : Result ScriptEnd ScriptFault → Type 0

@@ -103,9 +103,9 @@ impl Script {
     /// `ScriptFault::Memory` where a line, a name or the lines of a command can't be held: all
     /// commands before that were answered. Of a script whose reading failed no whole command is
     /// left, and of one that ran out of memory no line after that command was taken.
-    /// `ScriptFault::Write` where a write fails: a beginning of the replies was written, to commands
-    /// that were done; but a `changes`, the last of them, may still have all to report. No read or
-    /// write is tried again.
+    /// `ScriptFault::Write` where a write fails: of the commands that were done, all but the last
+    /// have their replies, and that has a beginning of its own; a `changes` may then still have all
+    /// to report. No read or write is tried again.
     pub fn answer<R: CountedRead, W: CountedWrite>(
         &mut self,
         alloc: Global,

@@ -1,9 +1,9 @@
 -- The words of specs and of std that proofs of this crate use, passed on from one place. Declares nothing.
 pub use Rattle.line_chunks.specs.Working.Blocks.{IsCut, starts_from}
-pub use Rattle.line_chunks.specs.Working.Chunks.{FitColumns, KeptLine, all_of, has_room, is_matched, line_text, line_without, matched_count, new_line, no_line, seen, seen_from, with_column, with_columns, with_line}
+pub use Rattle.line_chunks.specs.Working.Chunks.{AreFilled, FitColumns, KeptLine, all_of, has_room, is_matched, line_text, line_without, matched_count, new_line, no_line, seen, seen_from, with_column, with_columns, with_line}
 pub use Rattle.line_chunks.specs.Working.Columns.{FitsNext, next_column}
 pub use Rattle.line_chunks.specs.Working.Places.{IsPlace}
-pub use Rattle.line_chunks.specs.Working.Sums.{AreSummed, IsSummedTo, chunks_of}
+pub use Rattle.line_chunks.specs.Working.Sums.{AddsLines, AreSummed, IsSummedTo, chunks_of}
 pub use Rattle.line_chunks.specs.declared.entries.Entry.{Entry}
 pub use Rattle.line_finds.specs.Working.Finds.{AreBelow, Finds, FoundIn, finds_at, no_finds, numbers_at, paired_before, without}
 pub use Rattle.re_runs.specs.Working.Blocks.{IsBlock}
@@ -17,7 +17,7 @@ pub use Rattle.std.proofs.lemmas.Bool.{cases_lt}
 pub use Rattle.std.proofs.lemmas.Iterator.{items_from_drains}
 pub use Rattle.std.proofs.lemmas.Iterator.Adapters.{YieldsList-from_vec}
 pub use Rattle.std.proofs.lemmas.List.{drop-append-le, drop-map, drop-set, drop_all, drop_more, get_or-map, get_or_append_left, get_or_past, length-map, map-append, map-set, nil_from_length, set-get_or, set_split, take-append-le, take-map, take-set-le, take_more, take_more_set}
-pub use Rattle.std.proofs.lemmas.List.Elements.{All-append, All-drop, All-take}
+pub use Rattle.std.proofs.lemmas.List.Elements.{All-append, All-cons, All-drop, All-from_get_or, All-get_or, All-head, All-nil, All-push, All-set, All-tail, All-take}
 pub use Rattle.std.specs.Iterator.{Drains}
 pub use Rattle.std.specs.List.{remove_range, splice}
 pub use Rattle.std.specs.Vec.Iter.{into_iter_items, into_iter_len, into_iter_steps}

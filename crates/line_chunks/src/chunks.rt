@@ -2,7 +2,7 @@
 ghost use Rattle.std.specs.Prelude.{◌≡◌, ℕ, ◌+◌, ◌-◌, ◌<◌, ◌≤◌, ◌^◌, [], ◌∷◌, ◌++◌, length, map, take, drop, get_or, IfOk, OnErr, slice_set};
 ghost use Rattle.std.specs.List.{splice, remove_range};
 ghost use Rattle.re_trees.specs.Lines.{HasNoNewline};
-ghost use Rattle.line_chunks.specs.Working.Chunks.{new_line, has_room, with_line, matched_count, all_of};
+ghost use Rattle.line_chunks.specs.Working.Chunks.{new_line, has_room, with_line, matched_count, all_of, AreFilled};
 ghost use Rattle.line_chunks.specs.Working.Sums.{chunks_of, AreSummed, IsSummedTo};
 
 use crate::chunk::Chunk;
@@ -206,6 +206,7 @@ pub fn insert(
         splice (all_of (chunks_of entries.old.items)) start (start + count) (all_of (chunks_of new.now))) }
     ensures err { OnErr result (entries.new.items ≡ entries.old.items) }
     ensures summed { AreSummed 0 0 entries.new.items }
+    ensures filled { AreFilled (chunks_of entries.old.items) → AreFilled (chunks_of entries.new.items) }
 {
     let (first, before) = find_seam(entries, start);
     let (last, after) = find_seam(entries, start + count);
@@ -261,11 +262,10 @@ fn remove_between(entries: &mut Vec<Entry>, first: usize, before: usize, last: u
     requires there { last < length entries.old.items }
     requires before_within { before ≤ length (get_or (chunks_of entries.old.items) first []) }
     requires after_within { after ≤ length (get_or (chunks_of entries.old.items) last []) }
-    ensures lines { all_of (chunks_of entries.new.items) ≡
-        (all_of (take first (chunks_of entries.old.items)) ++
-        take before (get_or (chunks_of entries.old.items) first [])) ++
-        (drop after (get_or (chunks_of entries.old.items) last []) ++
-        all_of (drop (last + 1) (chunks_of entries.old.items))) }
+    ensures chunks { chunks_of entries.new.items ≡ take first (chunks_of entries.old.items) ++
+        (take before (get_or (chunks_of entries.old.items) first []) ∷
+        drop after (get_or (chunks_of entries.old.items) last []) ∷
+        drop (last + 1) (chunks_of entries.old.items)) }
     ensures summed { IsSummedTo entries.old.items first → IsSummedTo entries.new.items first }
 {
     remove_at(entries, last, 0, after);
@@ -282,6 +282,9 @@ fn remove_lines(entries: &mut Vec<Entry>, start: usize, count: usize) -> usize
     ensures lines { all_of (chunks_of entries.new.items) ≡
         remove_range (all_of (chunks_of entries.old.items)) start (start + count) }
     ensures summed { IsSummedTo entries.new.items result }
+    ensures filled { AreFilled (chunks_of entries.old.items) →
+        AreFilled (take result (chunks_of entries.new.items)) ×
+        AreFilled (drop (result + 2) (chunks_of entries.new.items)) }
 {
     if entries.is_empty() {
         return 0;
@@ -300,6 +303,10 @@ fn remove_lines(entries: &mut Vec<Entry>, start: usize, count: usize) -> usize
 fn drop_empty(entries: &mut Vec<Entry>, k: usize)
     ensures lines { all_of (chunks_of entries.new.items) ≡ all_of (chunks_of entries.old.items) }
     ensures summed { (n : ℕ) → n ≤ k → IsSummedTo entries.old.items n → IsSummedTo entries.new.items n }
+    ensures filled { (n : ℕ) → n ≤ k → AreFilled (take n (chunks_of entries.old.items)) →
+        AreFilled (drop (k + 1) (chunks_of entries.old.items)) →
+        AreFilled (take n (chunks_of entries.new.items)) ×
+        AreFilled (drop k (chunks_of entries.new.items)) }
 {
     if k >= entries.len() {
         return;
@@ -319,6 +326,7 @@ pub fn remove(entries: &mut Vec<Entry>, start: usize, count: usize)
     ensures lines { all_of (chunks_of entries.new.items) ≡
         remove_range (all_of (chunks_of entries.old.items)) start (start + count) }
     ensures summed { AreSummed 0 0 entries.new.items }
+    ensures filled { AreFilled (chunks_of entries.old.items) → AreFilled (chunks_of entries.new.items) }
 {
     let first = remove_lines(entries, start, count);
     drop_empty(entries, first.saturating_add(1));

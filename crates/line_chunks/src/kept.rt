@@ -27,7 +27,7 @@ pub struct KeptLines<const LIMIT: u32> {
 
 impl<const LIMIT: u32> Model for KeptLines<LIMIT> {
     ghost use Rattle.std.specs.Prelude.{List};
-    ghost use Rattle.line_chunks.specs.Working.Chunks.{KeptLine};
+    ghost use Rattle.line_chunks.specs.Working.Chunks.{AreFilled, KeptLine};
 
     ghost Value = { List (List KeptLine) };
 
@@ -35,8 +35,10 @@ impl<const LIMIT: u32> Model for KeptLines<LIMIT> {
 
     ghost view = { λ lines. chunks_of lines.entries.items };
 
-    // each entry says how many lines, and how many matched lines, there are up to its chunk's end
-    ghost invariant = { λ lines. AreSummed 0 0 lines.entries.items };
+    // each entry says how many lines, and how many matched lines, there are up to its chunk's end;
+    // each chunk has a line
+    ghost invariant = { λ lines.
+        AreSummed 0 0 lines.entries.items × AreFilled (chunks_of lines.entries.items) };
 }
 
 impl<const LIMIT: u32> KeptLines<LIMIT> {

@@ -1,7 +1,7 @@
 //! New chunks of the lines of others.
 ghost use Rattle.std.specs.Prelude.{◌≡◌, ℕ, ◌+◌, ◌<◌, ◌≤◌, [], ◌∷◌, ◌++◌, length, take, drop, get_or, IfOk, slice_range};
-ghost use Rattle.line_chunks.specs.Working.Chunks.{all_of};
-ghost use Rattle.line_chunks.specs.Working.Sums.{chunks_of};
+ghost use Rattle.line_chunks.specs.Working.Chunks.{AreFilled, all_of};
+ghost use Rattle.line_chunks.specs.Working.Sums.{AddsLines, chunks_of};
 
 use crate::chunk::Chunk;
 use crate::entries::Entry;
@@ -44,31 +44,6 @@ fn room_of(entries: &[Entry], limit: usize) -> usize
 /// The room that is asked for besides what is expected, in bytes.
 const MARGIN: usize = 128;
 
-/// Adds a chunk without lines, with room for the bytes of a full one and some more.
-fn add_empty(filling: Filling, fresh: &mut Vec<Entry>) -> Result<(), AllocError>
-    ensures lines { IfOk result (λ _. all_of (chunks_of fresh.new.items) ≡ all_of (chunks_of fresh.old.items)) }
-    ensures some { IfOk result (λ _. 0 < length fresh.new.items) }
-{
-    let chunk = Chunk::with_room(filling.alloc, filling.limit.saturating_add(MARGIN))?;
-    fresh.push(Entry {
-        chunk,
-        end: 0,
-        hits: 0,
-    })?;
-    Ok(())
-}
-
-/// Adds a chunk without lines if the last one takes no further line.
-fn make_room(filling: Filling, fresh: &mut Vec<Entry>) -> Result<(), AllocError>
-    ensures lines { IfOk result (λ _. all_of (chunks_of fresh.new.items) ≡ all_of (chunks_of fresh.old.items)) }
-    ensures some { IfOk result (λ _. 0 < length fresh.new.items) }
-{
-    if room_of(fresh, filling.limit) > 0 {
-        return Ok(());
-    }
-    add_empty(filling, fresh)
-}
-
 /// Where a piece ends of the lines from `from` up to `to`: at the first line that does not begin
 /// within so many bytes. It has one line at least.
 fn piece_end(chunk: &Chunk, from: usize, to: usize, room: usize) -> usize
@@ -86,6 +61,29 @@ fn piece_end(chunk: &Chunk, from: usize, to: usize, room: usize) -> usize
         return to;
     }
     end
+}
+
+/// Adds a chunk of some lines of another one, with room for the bytes of a full one and some more.
+fn add_new(
+    filling: Filling,
+    fresh: &mut Vec<Entry>,
+    chunk: &Chunk,
+    from: usize,
+    to: usize,
+) -> Result<(), AllocError>
+    requires in_order { from < to }
+    requires within { to ≤ length chunk.now }
+    ensures { IfOk result (λ _.
+        AddsLines fresh.old.items (slice_range chunk.now from to) fresh.new.items) }
+{
+    let mut own = Chunk::with_room(filling.alloc, filling.limit.saturating_add(MARGIN))?;
+    own.add_part(chunk, from, to)?;
+    fresh.push(Entry {
+        chunk: own,
+        end: 0,
+        hits: 0,
+    })?;
+    Ok(())
 }
 
 /// Adds some lines of another chunk to an entry's.
@@ -108,8 +106,8 @@ fn extend_last(
     requires some { 0 < length fresh.old.items }
     requires in_order { from ≤ to }
     requires within { to ≤ length chunk.now }
-    ensures { IfOk result (λ _. all_of (chunks_of fresh.new.items) ≡
-        all_of (chunks_of fresh.old.items) ++ slice_range chunk.now from to) }
+    ensures { IfOk result (λ _.
+        AddsLines fresh.old.items (slice_range chunk.now from to) fresh.new.items) }
 {
     let last = fresh.len() - 1;
     extend(&mut fresh[last], chunk, from, to)
@@ -128,11 +126,15 @@ fn add_piece(
     requires within { to ≤ length chunk.now }
     ensures more { IfOk result (λ at. from < at) }
     ensures within { IfOk result (λ at. at ≤ to) }
-    ensures lines { IfOk result (λ at. all_of (chunks_of fresh.new.items) ≡
-        all_of (chunks_of fresh.old.items) ++ slice_range chunk.now from at) }
+    ensures lines { IfOk result (λ at.
+        AddsLines fresh.old.items (slice_range chunk.now from at) fresh.new.items) }
 {
-    make_room(filling, fresh)?;
     let room = room_of(fresh, filling.limit);
+    if room == 0 {
+        let at = piece_end(chunk, from, to, filling.limit);
+        add_new(filling, fresh, chunk, from, at)?;
+        return Ok(at);
+    }
     let at = piece_end(chunk, from, to, room);
     extend_last(fresh, chunk, from, at)?;
     Ok(at)
@@ -148,8 +150,8 @@ fn add_lines(
 ) -> Result<(), AllocError>
     requires in_order { from ≤ to }
     requires within { to ≤ length chunk.now }
-    ensures { IfOk result (λ _. all_of (chunks_of fresh.new.items) ≡
-        all_of (chunks_of fresh.old.items) ++ slice_range chunk.now from to) }
+    ensures { IfOk result (λ _.
+        AddsLines fresh.old.items (slice_range chunk.now from to) fresh.new.items) }
 {
     let mut at = from;
     while at < to {
@@ -169,8 +171,8 @@ fn add_part(
 ) -> Result<(), AllocError>
     requires in_order { from ≤ to }
     requires within { to ≤ length (get_or (chunks_of entries.now) k []) }
-    ensures { IfOk result (λ _. all_of (chunks_of fresh.new.items) ≡
-        all_of (chunks_of fresh.old.items) ++ slice_range (get_or (chunks_of entries.now) k []) from to) }
+    ensures { IfOk result (λ _. AddsLines fresh.old.items
+        (slice_range (get_or (chunks_of entries.now) k []) from to) fresh.new.items) }
 {
     if from >= to {
         return Ok(());
@@ -181,8 +183,8 @@ fn add_part(
 
 /// Adds the lines of all these chunks.
 fn add_all(filling: Filling, fresh: &mut Vec<Entry>, entries: &[Entry]) -> Result<(), AllocError>
-    ensures { IfOk result (λ _. all_of (chunks_of fresh.new.items) ≡
-        all_of (chunks_of fresh.old.items) ++ all_of (chunks_of entries.now)) }
+    ensures { IfOk result (λ _.
+        AddsLines fresh.old.items (all_of (chunks_of entries.now)) fresh.new.items) }
 {
     for entry in entries {
         let size = entry.chunk.len();
@@ -211,7 +213,8 @@ pub fn build(
 ) -> Result<Vec<Entry>, AllocError>
     requires before_within { seams.before ≤ length (get_or (chunks_of entries.now) seams.first []) }
     requires after_within { seams.after ≤ length (get_or (chunks_of entries.now) seams.last []) }
-    ensures { IfOk result (λ fresh. all_of (chunks_of fresh.items) ≡
+    ensures filled { IfOk result (λ fresh. AreFilled (chunks_of fresh.items)) }
+    ensures lines { IfOk result (λ fresh. all_of (chunks_of fresh.items) ≡
         take seams.before (get_or (chunks_of entries.now) seams.first []) ++
         (all_of (chunks_of new.now) ++ drop seams.after (get_or (chunks_of entries.now) seams.last []))) }
 {

@@ -147,6 +147,7 @@ impl SpanLists {
         ensures put { IfOk result (λ _. (i : ℕ) →
             get_or self.new i [] ≡ (if nat_eq i k then spans.now else get_or self.old i [])) }
         ensures within { IfOk result (λ _. length self.new ≤ k + 1) }
+        ensures none { spans.now ≡ [] → self.new ≡ self.old }
         ensures same { OnErr result ((i : ℕ) → get_or self.new i [] ≡ get_or self.old i []) }
         ensures few { OnErr result (length self.new ≤ k) }
     {

@@ -1,6 +1,6 @@
 -- Marks: which lines of a file edits left untouched since its changes were last reported, and the
 -- stretches of lines that edits replaced.
-use Rattle.std.specs.Prelude.{◌≡◌, ℕ, ◌+◌, ◌<◌, ◌≤◌, ◌⊎◌, ⊤, List, [], ◌∷◌, length}
+use Rattle.std.specs.Prelude.{◌≡◌, ℕ, ◌+◌, ◌<◌, ◌≤◌, ◌⊎◌, ⊤, List, [], ◌∷◌, length, min}
 use Rattle.line_marks.specs.declared.stretch.Stretch.{Stretch}
 
 -- the mark of a file: how many lines it had when its changes were last reported, how many it has
@@ -79,7 +79,7 @@ pub record Splices (start count added : ℕ) (old new : Marked) : Type 0 where
   pub fits : Fits new.known new.lines new.stretches
   pub known : new.known ≡ old.known
   pub lines : new.lines + count ≡ old.lines + added
-  pub one_more : length new.stretches ≤ length old.stretches + 1
+  pub one_more : length new.stretches ≤ length old.stretches + min 1 (count + added)
   pub only : (line now : ℕ) → Keeps new.stretches line now →
       (then : ℕ) × Keeps old.stretches line then × Moves start count added then now
   pub all : length old.stretches < most_stretches → (line then now : ℕ) →

@@ -6,9 +6,11 @@ mod help;
 mod words;
 
 ghost use Rattle.std.specs.Prelude.{◌≤◌, IfOk};
+ghost use Rattle.clap.specs.Words.{matches_of};
 ghost use Rattle.re_syntax.specs.Profile.{most_states};
 ghost use Rattle.grep_core.specs.Run.{writer};
 ghost use Rattle.occur.specs.Exit.{ProgramGives, streams};
+ghost use Rattle.occur.specs.Words.{IsChosenBy, occur_app, texts_of};
 
 use crate::exit::{end_script, program, refuse_script, words_status};
 use crate::words::{OccurFault, ScriptRequest, occur_words};
@@ -80,46 +82,31 @@ fn report_words(rt: &HostRuntime, error: &Error) -> u8 {
 ///
 /// The exit status, where they ask for no script. The help or the version was printed, or the cause
 /// reported.
-fn read_words(rt: &HostRuntime) -> Result<ScriptRequest, u8>
-    ensures least { IfOk result (λ request. 1 ≤ request.states) }
-    ensures most { IfOk result (λ request. request.states ≤ most_states) }
+fn read_words(rt: &HostRuntime, words: &[String]) -> Result<ScriptRequest, u8>
+    ensures states { IfOk result (λ request. (1 ≤ request.states) × (request.states ≤ most_states)) }
+    ensures chosen { IfOk result (IsChosenBy (matches_of occur_app (texts_of words.now))) }
 {
-    let words = program().words(rt)?;
-    match occur_words(rt.alloc(), &words) {
+    match occur_words(rt.alloc(), words) {
         Ok(request) => Ok(request),
         Err(OccurFault::Words(error)) => Err(report_words(rt, &error)),
         Err(OccurFault::Memory) => Err(program().refuse_memory(&mut Tally::new(rt.stderr()))),
     }
 }
 
-/// The script that is run.
-#[derive(Drop)]
-struct Source {
-    /// The file that has the script; none where it is standard input.
-    file: Option<File>,
-    /// How many states are kept for each pattern.
-    states: usize,
-}
-
-/// Opens the script that the words ask for. A script that is standard output itself is not read.
-/// Standard output is identified before the script is opened: if it is closed, the script could take
-/// its number.
+/// Opens the file of the script that the words ask for; none if that is standard input. A script
+/// that is standard output itself is not read. Standard output is identified before the script is
+/// opened: if it is closed, the script could take its number.
 ///
 /// # Errors
 ///
 /// The exit status, where there is no script that can be read. The cause was reported.
-fn open_script(rt: &HostRuntime) -> Result<Source, u8>
-    ensures least { IfOk result (λ source. 1 ≤ source.states) }
-    ensures most { IfOk result (λ source. source.states ≤ most_states) }
-{
-    let request = read_words(rt)?;
-    let states = request.states;
+fn open_script(rt: &HostRuntime, request: &ScriptRequest) -> Result<Option<File>, u8> {
     let output = fs::metadata(rt, "/dev/stdout");
     let Some(name) = request.script_file() else {
         if is_output(fs::metadata(rt, "/dev/stdin"), output) {
             return Err(refuse_output(rt));
         }
-        return Ok(Source { file: None, states });
+        return Ok(None);
     };
     let Ok(file) = fs::open(rt, name) else {
         return Err(refuse_script(&mut Tally::new(rt.stderr()), name));
@@ -127,19 +114,19 @@ fn open_script(rt: &HostRuntime) -> Result<Source, u8>
     if is_output(file.metadata(), output) {
         return Err(refuse_output(rt));
     }
-    let file = Some(file);
-    Ok(Source { file, states })
+    Ok(Some(file))
 }
 
-fn main(rt: HostRuntime) -> ExitCode {
-    let Source { file, states } = match open_script(&rt) {
-        Ok(script) => script,
-        Err(status) => return ExitCode::from(status),
-    };
-    let alloc = rt.alloc();
+/// Runs the script that the words ask for, and returns the exit status, also as an error where no
+/// script is run.
+fn run(rt: &HostRuntime) -> Result<u8, u8> {
+    let words = program().words(rt)?;
+    let request = read_words(rt, &words)?;
+    let file = open_script(rt, &request)?;
+    let (alloc, states) = (rt.alloc(), request.states);
     let mut messages = Tally::new(rt.stderr());
     let Ok(mut out) = Buffered::new(alloc, Tally::new(rt.stdout())) else {
-        return ExitCode::from(program().refuse_memory(&mut messages));
+        return Err(program().refuse_memory(&mut messages));
     };
     let mut meter = fresh_meter();
     let status = match file {
@@ -166,5 +153,12 @@ fn main(rt: HostRuntime) -> ExitCode {
             )
         }
     };
-    ExitCode::from(status)
+    Ok(status)
+}
+
+fn main(rt: HostRuntime) -> ExitCode {
+    match run(&rt) {
+        Ok(status) => ExitCode::from(status),
+        Err(status) => ExitCode::from(status),
+    }
 }

@@ -5,10 +5,12 @@ use Rattle.grep_core.specs.Meters.{Steps as StepCounts}
 use Rattle.re_meter.proofs.lemmas.Adding.{adds_none}
 use Rattle.grep_core.proofs.lemmas.HandedLemmas.{begins_with}
 use Rattle.grep_core.proofs.lemmas.NumberedLemmas.{has_handed_none}
-use Rattle.grep_core.proofs.lemmas.RowLemmas.{goes_nowhere, goes_on, stops_later}
+use Rattle.std.proofs.KnownBytes.{Appends-trans}
+use Rattle.grep_core.specs.Counted.{one_more}
+use Rattle.grep_core.proofs.lemmas.RowLemmas.{goes_nowhere, goes_on}
 use Rattle.grep_core.proofs.lemmas.WriterLaws.{written-append}
 use Rattle.grep_cmd.specs.declared.script.ScriptEnd.TheVariants.{Refused}
-use Rattle.grep_cmd.proofs.lemmas.ScriptSteps.{done_push, done_steps, done_alone, replies_push, work_none, work_push, end_kept, end_refused}
+use Rattle.grep_cmd.proofs.lemmas.ScriptSteps.{done_push, done_steps, done_alone, replies_push, work_none, work_push, end_kept, end_refused, all_but_last, all_before}
 
 abbrev script_of : List Text → Ending → File
 script_of lines ending = record { name = []; lines = lines; ending = ending }
@@ -16,6 +18,16 @@ script_of lines ending = record { name = []; lines = lines; ending = ending }
 -- a command line and the lines that it takes, after others
 line_then : (handed : List Text) (line : Text) (taken : List Text) → (handed ++ line ∷ []) ++ taken ≡ handed ++ line ∷ taken
 line_then handed line taken = append_assoc handed (line ∷ []) taken
+
+-- a write failed within the second part of some bytes
+stops_as : {W : Type 0} (contents : W → Option Text) (failures : W → ℕ) (a b c : W) (bytes xs ys : Text) → bytes ≡ xs ++ ys → GoesOut contents failures a b xs → StopsWithin contents failures b c ys → StopsWithin contents failures a c bytes
+stops_as contents failures a b c bytes xs ys is first second = record {
+  front = xs ++ second.front;
+  rest = second.rest;
+  cut = is ∙ ap (λ t. xs ++ t) second.cut ∙ sym (append_assoc xs second.front second.rest);
+  written = Appends-trans (contents a) (contents b) (contents c) xs second.front first.written second.written;
+  counted = second.counted ∙ ap one_more first.none_failed;
+}
 
 module _ {R W : Type 0} (remaining : R → Option Text) (failures : R → ℕ) (contents : W → Option Text) (write_failures : W → ℕ) (reader : R) (start : ScriptState) (begun : StepCounts) (old : W) where
   -- the lines of a reader, with their ending, are a script
@@ -43,14 +55,6 @@ module _ {R W : Type 0} (remaining : R → Option Text) (failures : R → ℕ) (
       → GoesOut contents write_failures c d (written [] ys) → GoesOut contents write_failures a d (written [] (xs ++ ys))
   goes_both a b c d xs ys first flushed second =
       subst (GoesOut contents write_failures a d) (sym (written-append [] xs ys)) (goes_on contents write_failures a c d (written [] xs) (written [] ys) (goes_same a b c (written [] xs) first flushed) second)
-
-  stops_both : (a b c d : W) (xs ys : List Text) → GoesOut contents write_failures a b (written [] xs) → GoesOut contents write_failures b c []
-      → StopsWithin contents write_failures c d (written [] ys) → StopsWithin contents write_failures a d (written [] (xs ++ ys))
-  stops_both a b c d xs ys first flushed second =
-      subst (StopsWithin contents write_failures a d) (sym (written-append [] xs ys)) (stops_later contents write_failures a c d (written [] xs) (written [] ys) (goes_same a b c (written [] xs) first flushed) second)
-
-  stops_same : (a b c : W) (bytes : Text) → GoesOut contents write_failures a b bytes → StopsWithin contents write_failures b c [] → StopsWithin contents write_failures a c bytes
-  stops_same a b c bytes first second = subst (StopsWithin contents write_failures a c) (append-nil bytes) (stops_later contents write_failures a b c bytes [] first second)
 
   -- no line was handed out
   pub so_far_none : (now : Numbered R) → HasHanded remaining failures reader now [] → AnsweredSoFar remaining failures contents write_failures reader start begun old now start begun old Clean
@@ -145,7 +149,7 @@ module _ {R W : Type 0} (remaining : R → Option Text) (failures : R → ℕ) (
       -- what was buffered could not be sent
       pub stops_sending : (others : List Text) → HasHanded remaining failures reader next (s.handed ++ others) → StopsWithin contents write_failures mid new []
           → Gives next inputs spent new (Err Write)
-      unfolding answers_so_far
+      unfolding answers_so_far stops_as
       stops_sending others handed stops =
           let b = begins next (s.handed ++ others) handed in
           record {
@@ -156,7 +160,8 @@ module _ {R W : Type 0} (remaining : R → Option Text) (failures : R → ℕ) (
             answers = answers_so_far b.0 (others ++ b.2.0) (b.2.1 ∙ append_assoc s.handed others b.2.0);
             leaves = inl refl;
             work = s.work;
-            stops = stops_same old mid new (written [] s.replies) s.goes stops;
+            stops = stops_as contents write_failures old mid new (written [] s.replies) (written [] s.replies) [] (sym (append-nil (written [] s.replies))) s.goes stops;
+            broken = all_but_last s.steps start inputs s.replies stops.front s.are_replies;
           }
 
     -- no further line was read
@@ -262,6 +267,7 @@ module _ {R W : Type 0} (remaining : R → Option Text) (failures : R → ℕ) (
       -- a write failed within the reply
       pub stops_replying : (then : ScriptState) (reply : List Text) → DoesStep remaining failures reader (s.handed ++ line ∷ []) line next spent last inputs then reply → IsUpToReport after then → StopsWithin contents write_failures sent new (written [] reply)
           → Gives next after last new (Err Write)
+      unfolding stops_as
       stops_replying then reply d leaves stops =
           let handed = subst (HasHanded remaining failures reader next) (line_then s.handed line d.taken) d.has_handed in
           let b = begins next (s.handed ++ line ∷ d.taken) handed in
@@ -278,12 +284,13 @@ module _ {R W : Type 0} (remaining : R → Option Text) (failures : R → ℕ) (
             };
             leaves = leaves;
             work = works then reply d;
-            stops = stops_both old mid sent new s.replies reply s.goes flushed stops;
+            stops = stops_as contents write_failures old sent new (written [] (s.replies ++ reply)) (written [] s.replies) (written [] reply) (written-append [] s.replies reply) (goes_same old mid sent (written [] s.replies) s.goes flushed) stops;
+            broken = all_before s.steps d.step start inputs s.replies stops.front s.are_replies;
           }
 
       pub stops_truncated : Wants → StopsWithin contents write_failures sent new (written [] (truncated ∷ []))
           → Gives next after last new (Err Write)
-      unfolding truncates
+      unfolding truncates stops_as
       stops_truncated w stops = record {
         file = script_of (s.handed ++ line ∷ w.taken) whole;
         reads = inr (reads_all w.taken whole w.stands);
@@ -292,7 +299,8 @@ module _ {R W : Type 0} (remaining : R → Option Text) (failures : R → ℕ) (
         answers = truncates (script_of (s.handed ++ line ∷ w.taken) whole) w refl refl;
         leaves = inl w.same;
         work = works_truncated w.idle;
-        stops = stops_both old mid sent new s.replies (truncated ∷ []) s.goes flushed stops;
+        stops = stops_as contents write_failures old sent new (written [] (s.replies ++ truncated ∷ [])) (written [] s.replies) (written [] (truncated ∷ [])) (written-append [] s.replies (truncated ∷ [])) (goes_same old mid sent (written [] s.replies) s.goes flushed) stops;
+        broken = all_before s.steps is_truncated start inputs s.replies stops.front s.are_replies;
       }
 
       -- where the command changed nothing
@@ -308,7 +316,7 @@ module _ {R W : Type 0} (remaining : R → Option Text) (failures : R → ℕ) (
           kept h.0.same h.0.idle (Err Memory) (runs_out next new (line ∷ h.0.taken) h.0.asks few handed (goes_same mid sent new [] flushed h.1))
       answer_fails Write few (inl h) =
           let handed = subst (HasHanded remaining failures reader next) (line_then s.handed line h.0.taken) h.0.has_handed in
-          kept h.0.same h.0.idle (Err Write) (stops_sending next new (line ∷ h.0.taken) handed (stops_same mid sent new [] flushed h.1))
+          kept h.0.same h.0.idle (Err Write) (stops_sending next new (line ∷ h.0.taken) handed (stops_as contents write_failures mid sent new [] [] [] refl flushed h.1))
       answer_fails Write few (inr (inl h)) = stops_replying h.0 h.1 h.2 h.3 h.4
       answer_fails Write few (inr (inr h)) = stops_truncated h.0 h.1
 
@@ -318,30 +326,28 @@ module _ {W : Type 0} (contents : W → Option Text) (failures : W → ℕ) (has
   goes_on_same : (bytes : Text) → GoesOut contents failures old mid bytes → GoesOut contents failures mid new [] → GoesOut contents failures old new bytes
   goes_on_same bytes first second = subst (GoesOut contents failures old new) (append-nil bytes) (goes_on contents failures old mid new bytes [] first second)
 
-  stops_on_same : (bytes : Text) → GoesOut contents failures old mid bytes → StopsWithin contents failures mid new [] → StopsWithin contents failures old new bytes
-  stops_on_same bytes first second = subst (StopsWithin contents failures old new) (append-nil bytes) (stops_later contents failures old mid new bytes [] first second)
-
   -- what was buffered was sent after a run, or that failed
   pub sends_after : (ended result : Result ScriptEnd ScriptFault) → ScriptGives contents failures has_read known left failed_before failed start after begun spent old mid ended → FlushesAfter contents failures mid new ended result
       → ScriptGives contents failures has_read known left failed_before failed start after begun spent old new result
+  unfolding stops_as
   sends_after (Ok end) result e (inl (sent, is)) =
       subst (ScriptGives contents failures has_read known left failed_before failed start after begun spent old new) (sym is)
       (record { file = e.file; reads = e.reads; is_whole = e.is_whole; replies = e.replies; answers = e.answers; leaves = e.leaves; work = e.work; goes = goes_on_same (written [] e.replies) e.goes sent; ended = e.ended })
   sends_after (Ok end) result e (inr (stops, is)) =
       subst (ScriptGives contents failures has_read known left failed_before failed start after begun spent old new) (sym is)
-      (record { file = e.file; reads = inr e.reads; replies = e.replies; rest = []; answers = e.answers; leaves = inl e.leaves; work = e.work; stops = stops_on_same (written [] e.replies) e.goes stops })
+      (record { file = e.file; reads = inr e.reads; replies = e.replies; rest = []; answers = e.answers; leaves = inl e.leaves; work = e.work; stops = stops_as contents failures old mid new (written [] e.replies) (written [] e.replies) [] (sym (append-nil (written [] e.replies))) e.goes stops; broken = all_but_last e.answers.steps start e.answers.after e.replies stops.front e.answers.are_replies })
   sends_after (Err Read) result e (inl (sent, is)) =
       subst (ScriptGives contents failures has_read known left failed_before failed start after begun spent old new) (sym is)
       (record { file = e.file; reads = e.reads; is_broken = e.is_broken; replies = e.replies; rest = e.rest; answers = e.answers; leaves = e.leaves; cut_short = e.cut_short; work = e.work; goes = goes_on_same (written [] e.replies) e.goes sent })
   sends_after (Err Read) result e (inr (stops, is)) =
       subst (ScriptGives contents failures has_read known left failed_before failed start after begun spent old new) (sym is)
-      (record { file = e.file; reads = inr e.reads; replies = e.replies; rest = e.rest; answers = e.answers; leaves = inl e.leaves; work = e.work; stops = stops_on_same (written [] e.replies) e.goes stops })
+      (record { file = e.file; reads = inr e.reads; replies = e.replies; rest = e.rest; answers = e.answers; leaves = inl e.leaves; work = e.work; stops = stops_as contents failures old mid new (written [] e.replies) (written [] e.replies) [] (sym (append-nil (written [] e.replies))) e.goes stops; broken = all_but_last e.answers.steps start e.answers.after e.replies stops.front e.answers.are_replies })
   sends_after (Err Memory) result e (inl (sent, is)) =
       subst (ScriptGives contents failures has_read known left failed_before failed start after begun spent old new) (sym is)
       (record { file = e.file; reads = e.reads; replies = e.replies; done = e.done; rest = e.rest; is_file = e.is_file; answers = e.answers; leaves = e.leaves; first = e.first; others = e.others; is_rest = e.is_rest; is_begun = e.is_begun; were_read = e.were_read; work = e.work; goes = goes_on_same (written [] e.replies) e.goes sent })
   sends_after (Err Memory) result e (inr (stops, is)) =
       subst (ScriptGives contents failures has_read known left failed_before failed start after begun spent old new) (sym is)
-      (record { file = e.file; reads = inl e.reads; replies = e.replies; rest = e.rest; answers = e.answers; leaves = inl e.leaves; work = e.work; stops = stops_on_same (written [] e.replies) e.goes stops })
+      (record { file = e.file; reads = inl e.reads; replies = e.replies; rest = e.rest; answers = e.answers; leaves = inl e.leaves; work = e.work; stops = stops_as contents failures old mid new (written [] e.replies) (written [] e.replies) [] (sym (append-nil (written [] e.replies))) e.goes stops; broken = all_but_last e.answers.steps start e.answers.after e.replies stops.front e.answers.are_replies })
   sends_after (Err Write) result e (same, is) =
       subst (ScriptGives contents failures has_read known left failed_before failed start after begun spent old new) (sym is) (subst (λ w. StopsWriting contents failures has_read known left failed_before failed start after begun spent old w) (sym same) e)
 
@@ -371,7 +377,7 @@ module _ {R W : Type 0} (remaining : R → Option Text) (failures : R → ℕ) (
   gives_by_reader now begun spent old new (Err Memory) e =
       record { file = e.file; reads = e.reads; replies = e.replies; done = e.done; rest = e.rest; is_file = e.is_file; answers = e.answers; leaves = e.leaves; first = e.first; others = e.others; is_rest = e.is_rest; is_begun = e.is_begun; were_read = gave now (e.done ++ e.first) e.were_read; work = e.work; goes = e.goes }
   gives_by_reader now begun spent old new (Err Write) e =
-      record { file = e.file; reads = e.reads; replies = e.replies; rest = e.rest; answers = e.answers; leaves = e.leaves; work = e.work; stops = e.stops }
+      record { file = e.file; reads = e.reads; replies = e.replies; rest = e.rest; answers = e.answers; leaves = e.leaves; work = e.work; stops = e.stops; broken = e.broken }
 
 -- no memory for a reader of lines
 pub runs_out_at_once : {R W : Type 0} (remaining : R → Option Text) (failures : R → ℕ) (contents : W → Option Text) (write_failures : W → ℕ) (reader : R) (start : ScriptState) (steps : StepCounts) (out : W)

@@ -1,7 +1,8 @@
 -- The steps of a script, the replies to them and what they search, one more at a time.
-use Rattle.grep_cmd.proofs.Prelude.{◌≡◌, ℕ, ◌+◌, true, false, ◌||◌, if◌then◌else◌, List, [], ◌∷◌, ◌++◌, inl, refl, sym, ap, ◌∙◌, subst, append_assoc, append-nil, arith, or_right, list_any-append, list_any, Text, Ending, AddsAtMost, ScriptState, Clean, Step, IsStep, line_command, Steps, RepliesTo, Replies, SearchesAtMost, AllSearchAtMost, SearchesTouched, is_refusal, end_for, AreDone}
+use Rattle.grep_cmd.proofs.Prelude.{◌≡◌, ℕ, ◌+◌, true, false, ◌||◌, if◌then◌else◌, List, [], ◌∷◌, ◌++◌, inl, refl, sym, ap, ◌∙◌, subst, append_assoc, append-nil, arith, or_right, list_any-append, list_any, length-append, length-drop, take_at, Text, Ending, written, AddsAtMost, ScriptState, Clean, Step, IsStep, line_command, Steps, RepliesTo, Replies, HasAllButLast, SearchesAtMost, AllSearchAtMost, SearchesTouched, is_refusal, end_for, AreDone}
 use Rattle.re_meter.proofs.lemmas.Adding.{adds_none, adds_both}
 use Rattle.grep_core.specs.Meters.{Steps as StepCounts}
+use Rattle.grep_core.proofs.lemmas.WriterLaws.{written-append}
 use Rattle.grep_cmd.specs.declared.script.ScriptEnd.TheVariants.{Refused}
 
 -- one more step
@@ -28,6 +29,33 @@ replies_push [] step before between after replies reply (none, same) h =
     (reply, after, [], subst (λ i. RepliesTo step i reply after) same h, (refl, refl), ap (λ rs. rs ++ reply) none ∙ sym (append-nil reply))
 replies_push (s ∷ steps) step before between after replies reply (own, mid, rest, first, others, cut) h =
     (own, mid, rest ++ reply, first, replies_push steps step mid between after rest reply others h, ap (λ rs. rs ++ reply) cut ∙ append_assoc own rest reply)
+
+-- all but the last are written if all are
+pub all_but_last : (steps : List Step) (before after : ScriptState) (replies : List Text) (more : Text) → Replies steps before replies after → HasAllButLast steps before (written [] replies ++ more)
+all_but_last [] before after replies more h = record { sent = []; between = before; are_replies = (refl, refl); more = written [] replies ++ more; are_first = refl }
+all_but_last (step ∷ []) before after replies more h = record { sent = []; between = before; are_replies = (refl, refl); more = written [] replies ++ more; are_first = refl }
+all_but_last (step ∷ next ∷ steps) before after replies more (reply, mid, rest, first, others, cut) =
+    let h = all_but_last (next ∷ steps) mid after rest more others in
+    record {
+      sent = reply ++ h.sent;
+      between = h.between;
+      are_replies = (reply, mid, h.sent, first, h.are_replies, refl);
+      more = h.more;
+      are_first =
+          ap (λ rs. written [] rs ++ more) cut ∙ ap (λ t. t ++ more) (written-append [] reply rest) ∙ append_assoc (written [] reply) (written [] rest) more ∙ ap (λ t. written [] reply ++ t) h.are_first ∙
+          sym (append_assoc (written [] reply) (written [] h.sent) h.more) ∙ ap (λ t. t ++ h.more) (sym (written-append [] reply h.sent));
+    }
+
+-- all of them, and a beginning of the reply to one more
+pub all_before : (steps : List Step) (step : Step) (before between : ScriptState) (replies : List Text) (more : Text) → Replies steps before replies between
+    → HasAllButLast (steps ++ step ∷ []) before (written [] replies ++ more)
+all_before steps step before between replies more h = record {
+  sent = replies;
+  between = between;
+  are_replies = subst (λ ss. Replies ss before replies between) (sym (take_at steps (step ∷ []) _ (omega (arith, length-drop 1 (steps ++ step ∷ []), length-append steps (step ∷ []))))) h;
+  more = more;
+  are_first = refl;
+}
 
 -- the sum with one more command
 most_push : (steps : List Step) (step : Step) (before between after : ScriptState) (replies reply : List Text) (most own : ℕ) → AllSearchAtMost steps before replies between most → RepliesTo step between reply after

@@ -1,5 +1,5 @@
 -- Lists of hits that are others, but that some may lack their text.
-use Rattle.grep_cmd.proofs.Prelude.{◌≡◌, ℕ, ◌+◌, Bool, true, false, true≢false, cond, List, [], ◌∷◌, map, if◌then◌else◌, refl, sym, ap, subst, inl, inr, nat_lt, nat_le, ◌⊎◌, AllZip, filter, Text, Hit, View, Change, after, after_each, all_after, moved, is_idle, spliced_hits, view_after, Edit, AddFile, AddMissing, DropFile, Splice, ChangePattern, DropPattern, SetFlag, SetSyntax, SetContext, read_hit, read_change, MayLackText, AreButTexts}
+use Rattle.grep_cmd.proofs.Prelude.{◌≡◌, ℕ, ◌+◌, Bool, true, false, true≢false, cond, List, [], ◌∷◌, map, if◌then◌else◌, refl, sym, ap, subst, inl, inr, nat_lt, nat_le, ◌⊎◌, AllZip, filter, Hit, View, Change, after, after_each, all_after, moved, is_idle, spliced_hits, view_after, Edit, AddFile, AddMissing, DropFile, Splice, ChangePattern, DropPattern, SetFlag, SetSyntax, SetContext, read_hit, read_change, MayLackText, AreButTexts}
 use Rattle.grep_session.specs.Edits.{AddPatterns}
 use Rattle.grep_core.proofs.lemmas.MatcherLemmas.{AllZip-append}
 use Rattle.grep_session.proofs.lemmas.DroppingLemmas.{AllZip-remove}

@@ -1,5 +1,5 @@
 -- A line is added to the last chunk, or as a chunk of its own.
-use Rattle.line_chunks.proofs.Prelude.{◌≡◌, ℕ, zero, suc, ◌+◌, ◌-◌, ◌<◌, Bool, true, false, if◌then◌else◌, IfOk, Result, Ok, Err, List, [], ◌∷◌, ◌++◌, length, set, get_or, ap, sym, ◌∙◌, refl, arith, append_assoc, append-nil, Text, KeptLine, all_of, has_room, with_line, chunks_of, Entry}
+use Rattle.line_chunks.proofs.Prelude.{◌≡◌, ℕ, zero, suc, ◌+◌, ◌-◌, ◌<◌, Bool, true, false, if◌then◌else◌, IfOk, OnErr, Result, Ok, Err, List, [], ◌∷◌, ◌++◌, length, set, get_or, ap, sym, ◌∙◌, refl, arith, append_assoc, append-nil, length-append, subst, ◌≤◌, All-cons, All-head, All-nil, All-push, All-tail, Text, KeptLine, AreFilled, all_of, has_room, with_line, chunks_of, Entry}
 use Rattle.line_chunks.proofs.lemmas.Sums.{chunk_at}
 
 -- the lines are those that were there, and the new one
@@ -50,6 +50,26 @@ pub room_last : (limit n : ℕ) (es : List Entry) (e : Entry) (text : Text) → 
 room_last limit n es e text many some read =
     ap (λ lines. has_room limit lines text)
     (ap (λ (one : Entry). one.chunk) read ∙ sym (chunk_at es (n - 1) e (omega (arith, many, some))))
+
+-- each chunk has a line again
+with_line_filled : (limit : ℕ) (cs : List (List KeptLine)) (line : KeptLine) → AreFilled cs
+    → AreFilled (with_line limit cs line)
+with_line_filled limit [] line filled = All-cons (λ xs. 1 ≤ length xs) (line ∷ []) [] (omega arith) (All-nil (λ xs. 1 ≤ length xs))
+with_line_filled limit (c ∷ []) line filled = in_any_case (has_room limit c line.text)
+  where
+    in_any_case : (b : Bool) → AreFilled (if b then (c ++ line ∷ []) ∷ [] else c ∷ (line ∷ []) ∷ [])
+    in_any_case true = All-cons (λ xs. 1 ≤ length xs) (c ++ line ∷ []) [] (omega (arith, length-append c (line ∷ []))) (All-nil (λ xs. 1 ≤ length xs))
+    in_any_case false = All-push (λ xs. 1 ≤ length xs) (c ∷ []) (line ∷ []) filled (omega arith)
+with_line_filled limit (c ∷ next ∷ cs) line filled =
+    All-cons (λ xs. 1 ≤ length xs) c (with_line limit (next ∷ cs) line) (All-head (λ xs. 1 ≤ length xs) c (next ∷ cs) filled)
+    (with_line_filled limit (next ∷ cs) line (All-tail (λ xs. 1 ≤ length xs) c (next ∷ cs) filled))
+
+pub filled_after : {T E : Type 0} (result : Result T E) (limit : ℕ) (old new : List Entry) (line : KeptLine)
+    → IfOk result (λ _. chunks_of new ≡ with_line limit (chunks_of old) line) → OnErr result (new ≡ old)
+    → AreFilled (chunks_of old) → AreFilled (chunks_of new)
+filled_after (Ok a) limit old new line is same filled =
+    subst AreFilled (sym is) (with_line_filled limit (chunks_of old) line filled)
+filled_after (Err a) limit old new line is same filled = subst (λ es. AreFilled (chunks_of es)) (sym same) filled
 
 -- so the lines are of what is kept
 pub lines_ok : {T E : Type 0} (result : Result T E) (limit : ℕ) (inside old new : List (List KeptLine)) (line : KeptLine)

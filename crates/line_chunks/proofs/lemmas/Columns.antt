@@ -1,5 +1,5 @@
 -- What is found in the lines of all chunks, put or changed chunk by chunk.
-use Rattle.line_chunks.proofs.Prelude.{◌≡◌, ℕ, suc, zero, ◌+◌, ◌<◌, ◌≤◌, List, [], ◌∷◌, ◌++◌, length, map, take, drop, set, get_or, refl, ap, sym, ◌∙◌, arith, add-one, subst, length-append, length-map, set-get_or, Option, Some, None, Text, FoundIn, KeptLine, line_text, all_of, seen_from, with_column, with_columns, FitColumns, next_column, FitsNext, chunks_of, Entry}
+use Rattle.line_chunks.proofs.Prelude.{◌≡◌, ℕ, suc, zero, ◌+◌, ◌<◌, ◌≤◌, List, [], ◌∷◌, ◌++◌, length, map, take, drop, set, get_or, refl, ap, sym, ◌∙◌, arith, add-one, subst, length-append, length-map, All-from_get_or, All-get_or, set-get_or, Option, Some, None, Text, FoundIn, KeptLine, AreFilled, line_text, all_of, seen_from, with_column, with_columns, FitColumns, next_column, FitsNext, chunks_of, Entry}
 use Rattle.line_chunks.proofs.lemmas.Sums.{chunks_of-set, chunk_at}
 
 -- nothing is put
@@ -133,3 +133,37 @@ lines_mapped (c ∷ cs) f =
       length-append (map f c) (all_of (map (map f) cs)),
       length-append c (all_of cs),
     )
+
+-- ---- each chunk has a line still
+
+filled_as : (cs ds : List (List KeptLine)) → length ds ≡ length cs
+    → ((k : ℕ) → length (get_or ds k []) ≡ length (get_or cs k [])) → AreFilled cs → AreFilled ds
+filled_as cs ds many same filled =
+    All-from_get_or (λ xs. 1 ≤ length xs) ds [] (λ k inside.
+    (let some = All-get_or (λ xs. 1 ≤ length xs) cs k [] (omega (arith, many, inside)) filled in
+    omega (arith, same k, some)))
+
+many_columns : (cs : List (List KeptLine)) (found : List (Option FoundIn)) → length (with_columns cs found) ≡ length cs
+many_columns [] found = refl
+many_columns (c ∷ cs) [] = refl
+many_columns (c ∷ cs) (one ∷ found) = ap suc (many_columns cs found)
+
+column_size : (cs : List (List KeptLine)) (found : List (Option FoundIn)) (k : ℕ)
+    → length (get_or (with_columns cs found) k []) ≡ length (get_or cs k [])
+column_size [] found k = refl
+column_size (c ∷ cs) [] k = refl
+column_size (c ∷ cs) (one ∷ found) zero = length-with_column c one
+column_size (c ∷ cs) (one ∷ found) (suc k) = column_size cs found k
+
+pub columns_filled : (cs : List (List KeptLine)) (found : List (Option FoundIn)) → AreFilled cs
+    → AreFilled (with_columns cs found)
+columns_filled cs found = filled_as cs (with_columns cs found) (many_columns cs found) (column_size cs found)
+
+mapped_size : (cs : List (List KeptLine)) (f : KeptLine → KeptLine) (k : ℕ)
+    → length (get_or (map (map f) cs) k []) ≡ length (get_or cs k [])
+mapped_size [] f k = refl
+mapped_size (c ∷ cs) f zero = length-map c f
+mapped_size (c ∷ cs) f (suc k) = mapped_size cs f k
+
+pub mapped_filled : (cs : List (List KeptLine)) (f : KeptLine → KeptLine) → AreFilled cs → AreFilled (map (map f) cs)
+mapped_filled cs f = filled_as cs (map (map f) cs) (length-map cs (map f)) (mapped_size cs f)

@@ -204,13 +204,11 @@ module _ (cs : List (List KeptLine)) (start count first before last after : ℕ)
       ap (λ some. take start (all_of cs) ++ some) (sym behind)
 
   pub out_of_many : (new : List (List KeptLine))
-      → all_of new ≡ (all_of (take first cs) ++ take before (get_or cs first [])) ++
-      (drop after (get_or cs last []) ++ all_of (drop (last + 1) cs))
+      → new ≡ take first cs ++ (take before (get_or cs first []) ∷ drop after (get_or cs last []) ∷ drop (last + 1) cs)
       → all_of new ≡ take start (all_of cs) ++ drop (start + count) (all_of cs)
   out_of_many new is =
-      is ∙
-      ap (λ some. some ++ (drop after (get_or cs last []) ++ all_of (drop (last + 1) cs))) (sym in_front) ∙
-      ap (λ some. take start (all_of cs) ++ some) (sym behind)
+      put_in (take before (get_or cs first []) ∷ drop after (get_or cs last []) ∷ []) (drop (last + 1) cs) new [] refl is
+      (ap (λ more. take before (get_or cs first []) ++ more) (append-nil (drop after (get_or cs last []))))
 
 -- taken out between two chunks
 pub between : (cs one two three : List (List KeptLine)) (first before last after size : ℕ)
@@ -219,8 +217,7 @@ pub between : (cs one two three : List (List KeptLine)) (first before last after
     → size ≡ length (get_or one first [])
     → two ≡ set one first (take before (get_or one first []) ++ drop size (get_or one first []))
     → three ≡ take (first + 1) two ++ drop last two
-    → all_of three ≡ (all_of (take first cs) ++ take before (get_or cs first [])) ++
-    (drop after (get_or cs last []) ++ all_of (drop (last + 1) cs))
+    → three ≡ take first cs ++ (take before (get_or cs first []) ∷ drop after (get_or cs last []) ∷ drop (last + 1) cs)
 between cs one two three first before last after size h inside one_is size_is two_is three_is =
     let X : List KeptLine = drop after (get_or cs last []) in
     let many : length one ≡ length cs = ap length one_is ∙ length-set cs last X in
@@ -239,11 +236,9 @@ between cs one two three first before last after size h inside one_is size_is tw
     let back : drop last two ≡ X ∷ drop (last + 1) cs =
     ap (drop last) two_is ∙ drop-set-lt last one first Y h ∙
     ap (drop last) one_is ∙ drop-set cs last X inside in
-    ap all_of three_is ∙ joined-append (take (first + 1) two) (drop last two) ∙
-    ap (λ some. all_of some ++ all_of (drop last two)) front ∙
-    ap (λ some. all_of (take first cs ++ Y ∷ []) ++ all_of some) back ∙
-    ap (λ some. some ++ (X ++ all_of (drop (last + 1) cs))) (joined_push (take first cs) Y) ∙
-    ap (λ some. (all_of (take first cs) ++ some) ++ (X ++ all_of (drop (last + 1) cs))) Y_is
+    three_is ∙ ap (λ some. some ++ drop last two) front ∙ ap (λ some. (take first cs ++ Y ∷ []) ++ some) back ∙
+    append_assoc (take first cs) (Y ∷ []) (X ∷ drop (last + 1) cs) ∙
+    ap (λ some. take first cs ++ (some ∷ X ∷ drop (last + 1) cs)) Y_is
 
 -- two seams that are found are in order
 pub seams_in_order : (cs : List (List KeptLine)) (p q k i l j : ℕ) → IsPlace cs p k i → IsPlace cs q l j → p ≤ q

@@ -1,5 +1,5 @@
 -- Lines with what was found in each, in chunks.
-use Rattle.std.specs.Prelude.{◌≡◌, ℕ, suc, ◌+◌, ◌==◌, Bool, not, List, [], ◌∷◌, ◌++◌, length, map, if◌then◌else◌, nat_lt, Option, Some, None, IfSome, ⊤}
+use Rattle.std.specs.Prelude.{◌≡◌, ℕ, suc, ◌+◌, ◌==◌, Bool, ◌≤◌, not, List, [], ◌∷◌, ◌++◌, All, length, map, if◌then◌else◌, nat_lt, Option, Some, None, IfSome, ⊤}
 use Rattle.re_trees.specs.Bytes.{Text}
 use Rattle.re_trees.specs.Lines.{terminated}
 use Rattle.line_finds.specs.Working.Finds.{Finds, no_finds, FoundIn, finds_at, without}
@@ -49,6 +49,10 @@ seen texts found = seen_from 0 texts found
 abbrev pub all_of : List (List KeptLine) → List KeptLine
 all_of [] = []
 all_of (lines ∷ chunks) = lines ++ all_of chunks
+
+-- each chunk has a line
+abbrev pub AreFilled : List (List KeptLine) → Type 0
+AreFilled chunks = All (λ lines. 1 ≤ length lines) chunks
 
 -- ---- a line is added
 

@@ -83,12 +83,12 @@ counted_past (s ∷ front) tail start rest count known lines passes within few_k
 
 -- ---- a mark
 
-pub replaced_mark : (start count added : ℕ) (old new : Marked) → SplicesList start count added old.stretches new.stretches → new.known ≡ old.known → new.lines ≡ old.lines - count + added → start + count ≤ old.lines → Fits new.known new.lines new.stretches → Splices start count added old new
-replaced_mark start count added old new s known lines within fits = record {
+pub replaced_mark : (start count added : ℕ) (old new : Marked) → 1 ≤ count + added → SplicesList start count added old.stretches new.stretches → new.known ≡ old.known → new.lines ≡ old.lines - count + added → start + count ≤ old.lines → Fits new.known new.lines new.stretches → Splices start count added old new
+replaced_mark start count added old new some s known lines within fits = record {
   fits = fits;
   known = known;
   lines = omega (arith, lines, within);
-  one_more = s.one_more;
+  one_more = omega (arith, s.one_more, some);
   only = λ line now keeps.
       (let m = s.replaces.only line now keeps in
       (m.0, s.loses.only line m.0 m.1, m.2));

@@ -1,6 +1,6 @@
-use Rattle.line_chunks.proofs.Prelude.{ap, sym, ◌∙◌, all_of, chunks_of}
+use Rattle.line_chunks.proofs.Prelude.{AreFilled, ap, subst, sym, ◌∙◌, all_of, chunks_of}
 use Rattle.line_chunks.proofs.lemmas.Sums.{length-chunks_of}
-use Rattle.line_chunks.proofs.lemmas.Edits.{seam_in, seam_order, seam_end, rest_same, made_in, lines_put, put_summed, put_few}
+use Rattle.line_chunks.proofs.lemmas.Edits.{seam_in, seam_order, seam_end, rest_same, made_in, lines_put, put_summed, put_few, put_filled}
 use Rattle.line_chunks.proofs.chunks.insert.Goals as goal
 
 pub put_chunks-requires-clause-in_order : goal.put_chunks-requires-clause-in_order
@@ -27,7 +27,7 @@ sum_from-requires-clause-summed c =
     c.in_ok-put_chunks.ensures.ok
     (made_in c.deref-4.result.now es c.in_ok-fresh.fresh.items (all_of (chunks_of c.args.new.now))
     c.find_seam-first.result.0 c.find_seam-first.result.1 c.find_seam-last.result.0 c.find_seam-last.result.1
-    c.deref-4.ensures.value c.in_ok-fresh.ensures) c.requires.summed
+    c.deref-4.ensures.value c.in_ok-fresh.ensures.lines) c.requires.summed
 
 pub sum_from-requires-clause-few : goal.sum_from-requires-clause-few
 sum_from-requires-clause-few c =
@@ -43,8 +43,26 @@ sum_from-requires-clause-few c =
     c.in_ok-put_chunks.ensures.ok
     (made_in c.deref-4.result.now es c.in_ok-fresh.fresh.items (all_of (chunks_of c.args.new.now))
     c.find_seam-first.result.0 c.find_seam-first.result.1 c.find_seam-last.result.0 c.find_seam-last.result.1
-    c.deref-4.ensures.value c.in_ok-fresh.ensures) c.requires.within
+    c.deref-4.ensures.value c.in_ok-fresh.ensures.lines) c.requires.within
     c.requires.few_new
+
+pub returns-clause-filled : goal.returns-clause-filled
+returns-clause-filled c =
+    let es = c.args.entries.now.items in
+    λ filled.
+    subst AreFilled (sym c.sum_from.ensures.chunks)
+    (put_filled es c.put_chunks.new.entries.items c.in_ok-fresh.fresh.items (all_of (chunks_of c.args.new.now))
+    c.args.start c.args.count c.find_seam-first.result.0 c.find_seam-first.result.1 c.find_seam-last.result.0
+    c.find_seam-last.result.1 c.chunk_end-end.result
+    (seam_in _ _ _ _ _ c.deref.ensures.value c.find_seam-first.ensures.place)
+    (seam_in _ _ _ _ _ c.deref-2.ensures.value c.find_seam-last.ensures.place)
+    (rest_same (chunks_of es) c.len.result c.find_seam-last.result.0 c.chunk_end-end.result
+    (c.len.ensures ∙ c.args.entries.now.ok.0 ∙ sym (length-chunks_of es)) c.chunk_end-end.ensures.next
+    c.chunk_end-end.ensures.last)
+    c.in_ok-put_chunks.ensures.ok
+    (made_in c.deref-4.result.now es c.in_ok-fresh.fresh.items (all_of (chunks_of c.args.new.now))
+    c.find_seam-first.result.0 c.find_seam-first.result.1 c.find_seam-last.result.0 c.find_seam-last.result.1
+    c.deref-4.ensures.value c.in_ok-fresh.ensures.lines) c.in_ok-fresh.ensures.filled filled)
 
 pub returns-clause-ok : goal.returns-clause-ok
 returns-clause-ok c =
@@ -61,4 +79,4 @@ returns-clause-ok c =
     c.in_ok-put_chunks.ensures.ok
     (made_in c.deref-4.result.now es c.in_ok-fresh.fresh.items (all_of (chunks_of c.args.new.now))
     c.find_seam-first.result.0 c.find_seam-first.result.1 c.find_seam-last.result.0 c.find_seam-last.result.1
-    c.deref-4.ensures.value c.in_ok-fresh.ensures)
+    c.deref-4.ensures.value c.in_ok-fresh.ensures.lines)

@@ -4,8 +4,8 @@ use Rattle.line_chunks.proofs.lemmas.Edits.{chunks_of-without}
 use Rattle.line_chunks.proofs.lemmas.Sums.{length-chunks_of}
 use Rattle.line_chunks.proofs.chunks.remove_between.Goals as goal
 
-pub returns-clause-lines : goal.returns-clause-lines
-returns-clause-lines c =
+pub returns-clause-chunks : goal.returns-clause-chunks
+returns-clause-chunks c =
     between (chunks_of c.args.entries.now.items) (chunks_of c.remove_at.new.entries.items)
     (chunks_of c.remove_at-2.new.entries.items) (chunks_of c.remove_chunks.new.entries.items) c.args.first
     c.args.before c.args.last c.args.after c.size_at-size.result c.requires.in_order

@@ -1,7 +1,7 @@
 use Rattle.line_chunks.proofs.Prelude.{arith, rules, ◌<◌, length, chunks_of}
 use Rattle.line_chunks.proofs.lemmas.Joins.{out_of_one, out_of_many}
 use Rattle.line_chunks.proofs.lemmas.Sums.{length-chunks_of}
-use Rattle.line_chunks.proofs.lemmas.Edits.{seam_in, seam_order, seam_summed}
+use Rattle.line_chunks.proofs.lemmas.Edits.{seam_in, seam_order, seam_summed, filled_around, filled_beside}
 use Rattle.line_chunks.proofs.chunks.remove_lines.Goals as goal
 
 pub returns-then-first-last-clause-lines : goal.returns-then-first-last-clause-lines
@@ -13,6 +13,15 @@ returns-then-first-last-clause-lines c =
     (seam_in _ _ _ _ _ c.deref-2.ensures.value c.find_seam-last.ensures.place)
     (chunks_of c.remove_at.new.entries.items) c.if-first-last.true
     (omega (arith, inside, length-chunks_of c.args.entries.now.items)) c.remove_at.ensures.chunks
+
+pub returns-then-first-last-clause-filled : goal.returns-then-first-last-clause-filled
+returns-then-first-last-clause-filled c = filled_beside _ _ c.find_seam-first.result.0 _ c.remove_at.ensures.chunks
+
+pub returns-clause-filled : goal.returns-clause-filled
+returns-clause-filled c =
+    let inside : c.find_seam-first.result.0 < length c.args.entries.now.items = search rules in
+    filled_around _ _ c.find_seam-first.result.0 c.find_seam-last.result.0 _ _
+    (omega (arith, inside, length-chunks_of c.args.entries.now.items)) c.remove_between.ensures.chunks
 
 pub returns-then-first-last-clause-summed : goal.returns-then-first-last-clause-summed
 returns-then-first-last-clause-summed c =
@@ -33,7 +42,7 @@ returns-clause-lines c =
     c.find_seam-first.result.1 c.find_seam-last.result.0 c.find_seam-last.result.1
     (seam_in _ _ _ _ _ c.deref.ensures.value c.find_seam-first.ensures.place)
     (seam_in _ _ _ _ _ c.deref-2.ensures.value c.find_seam-last.ensures.place)
-    (chunks_of c.remove_between.new.entries.items) c.remove_between.ensures.lines
+    (chunks_of c.remove_between.new.entries.items) c.remove_between.ensures.chunks
 
 pub returns-clause-summed : goal.returns-clause-summed
 returns-clause-summed c =

@@ -1,10 +1,17 @@
-use Rattle.line_chunks.proofs.Prelude.{all_of, chunks_of}
-use Rattle.line_chunks.proofs.lemmas.Pieces.{chunk_next}
+use Rattle.line_chunks.proofs.Prelude.{[], all_of, chunks_of, refl, subst, take_all, AddsLines}
+use Rattle.line_chunks.proofs.lemmas.Pieces.{adds_none, chunk_next}
 use Rattle.line_chunks.proofs.new_chunks.add_all.Goals as goal
+
+pub loop-entry-init : goal.loop-entry-init
+loop-entry-init c = adds_none c.args.fresh.now.items [] refl
 
 pub loop-entry-preserved : goal.loop-entry-preserved
 loop-entry-preserved c =
-    chunk_next (all_of (chunks_of c.args.fresh.now.items)) (all_of (chunks_of c.loop-entry.fresh.items))
-    (all_of (chunks_of c.add_lines.new.fresh.items)) c.args.entries.now c.loop-entry.entry-index c.len-size.result
-    c.entry-item.result c.loop-entry-test.true c.entry-item.is c.len-size.ensures c.loop-entry.invariant
-    c.in_ok-add_lines.ensures
+    chunk_next c.args.fresh.now.items c.loop-entry.fresh.items c.add_lines.new.fresh.items c.args.entries.now
+    c.loop-entry.entry-index c.len-size.result c.entry-item.result c.loop-entry-test.true c.entry-item.is
+    c.len-size.ensures c.loop-entry.invariant c.in_ok-add_lines.ensures
+
+pub returns : goal.returns
+returns c =
+    subst (λ es. AddsLines c.args.fresh.now.items (all_of (chunks_of es)) c.loop-entry.fresh.items)
+    (take_all c.loop-entry.entry-index c.args.entries.now c.loop-entry-test.false) c.loop-entry.invariant

@@ -1,14 +1,28 @@
-use Rattle.line_chunks.proofs.Prelude.{arith, all_of, chunks_of}
-use Rattle.line_chunks.proofs.lemmas.Pieces.{piece_next}
+use Rattle.line_chunks.proofs.Prelude.{arith, ap, subst, ◌≡◌, ◌-◌, take, drop, AddsLines}
+use Rattle.line_chunks.proofs.lemmas.Pieces.{adds_none, piece_next}
 use Rattle.line_chunks.proofs.new_chunks.add_lines.Goals as goal
+
+pub loop-at-init : goal.loop-at-init
+loop-at-init c =
+    let zero : c.args.from - c.args.from ≡ 0 = omega arith in
+    record {
+      more = omega arith;
+      within = c.requires.in_order;
+      lines = adds_none c.args.fresh.now.items _ (ap (λ n. take n (drop c.args.from c.args.chunk.now)) zero);
+    }
 
 pub loop-at-preserved : goal.loop-at-preserved
 loop-at-preserved c = record {
   more = omega (arith, c.loop-at.invariant.more, c.in_ok-at.ensures.more);
   within = c.in_ok-at.ensures.within;
   lines =
-      piece_next (all_of (chunks_of c.args.fresh.now.items)) (all_of (chunks_of c.loop-at.fresh.items))
-      (all_of (chunks_of c.add_piece.new.fresh.items)) c.args.chunk.now c.args.from c.loop-at.at c.in_ok-at.at
-      c.loop-at.invariant.more (omega (arith, c.in_ok-at.ensures.more)) c.loop-at.invariant.lines
-      c.in_ok-at.ensures.lines;
+      piece_next c.args.fresh.now.items c.loop-at.fresh.items c.add_piece.new.fresh.items c.args.chunk.now c.args.from
+      c.loop-at.at c.in_ok-at.at c.loop-at.invariant.more (omega (arith, c.in_ok-at.ensures.more))
+      c.loop-at.invariant.lines c.in_ok-at.ensures.lines;
 }
+
+pub returns : goal.returns
+returns c =
+    let last : c.loop-at.at ≡ c.args.to = omega (arith, c.loop-at-test.false, c.loop-at.invariant.within) in
+    subst (λ n. AddsLines c.args.fresh.now.items (take (n - c.args.from) (drop c.args.from c.args.chunk.now)) c.loop-at.fresh.items)
+    last c.loop-at.invariant.lines

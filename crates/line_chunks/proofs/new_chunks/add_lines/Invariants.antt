@@ -1,12 +1,11 @@
-use Rattle.line_chunks.proofs.Prelude.{◌≡◌, ◌≤◌, ◌-◌, ◌++◌, take, drop, all_of, chunks_of}
+use Rattle.line_chunks.proofs.Prelude.{◌≤◌, ◌-◌, take, drop, AddsLines}
 use Rattle.line_chunks.proofs.new_chunks.add_lines.Given as goal
 
 abbrev pub invariant-loop-at : goal.invariant-loop-at
 invariant-loop-at l = record {
   more : l.from ≤ l.at;
   within : l.at ≤ l.to;
-  lines : all_of (chunks_of l.fresh.items) ≡
-      all_of (chunks_of l.fn.fresh.items) ++ take (l.at - l.from) (drop l.from l.chunk);
+  lines : AddsLines l.fn.fresh.items (take (l.at - l.from) (drop l.from l.chunk)) l.fresh.items;
 }
 
 abbrev pub decreases-loop-at : goal.decreases-loop-at

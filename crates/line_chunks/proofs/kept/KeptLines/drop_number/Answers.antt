@@ -1,5 +1,5 @@
-use Rattle.line_chunks.proofs.Prelude.{arith, ap, length, all_of, line_without, chunks_of}
-use Rattle.line_chunks.proofs.lemmas.Columns.{lines_mapped}
+use Rattle.line_chunks.proofs.Prelude.{arith, ap, subst, sym, ◌∙◌, length, AreFilled, all_of, line_without, chunks_of}
+use Rattle.line_chunks.proofs.lemmas.Columns.{lines_mapped, mapped_filled}
 use Rattle.line_chunks.proofs.kept.KeptLines.drop_number.Goals as goal
 
 pub sum_from-requires-clause-few : goal.sum_from-requires-clause-few
@@ -8,3 +8,9 @@ sum_from-requires-clause-few g c =
     let same = lines_mapped (chunks_of c.self.inside.entries.items) (line_without c.args.p) in
     let all = ap (λ cs. length (all_of cs)) c.self.view_is in
     omega (arith, now, same, all, c.len-lines.ensures, c.len-lines.type_inv)
+
+pub invariant_of-self : goal.invariant_of-self
+invariant_of-self g c = (
+  c.sum_from.ensures.summed,
+  subst AreFilled (sym (c.sum_from.ensures.chunks ∙ c.drop_in_all.ensures)) (mapped_filled _ _ c.self.invariant.1),
+)

@@ -12,4 +12,4 @@ pub returns : goal.returns
 returns c =
     let s = c.self.inside in
     let within : c.args.start + c.args.count ≤ s.lines = omega (arith, c.requires.within, ap (λ (m : Marked). m.lines) c.self.view_is) in
-    rw (← c.self.view_is) (replaced_mark c.args.start c.args.count c.args.added _ _ c.splice_at.ensures.splices refl refl within (c.splice_at.ensures.fits s.known c.self.invariant.1))
+    rw (← c.self.view_is) (replaced_mark c.args.start c.args.count c.args.added _ _ (omega (arith, c.max-most.ensures, c.if-most-eq0.false)) c.splice_at.ensures.splices refl refl within (c.splice_at.ensures.fits s.known c.self.invariant.1))

@@ -1,0 +1,17 @@
+use Rattle.line_chunks.proofs.Prelude.{arith, subst, sym, ◌+◌, ◌≡◌, drop, AreFilled, chunks_of}
+use Rattle.line_chunks.proofs.lemmas.Edits.{filled_both}
+use Rattle.line_chunks.proofs.chunks.remove.Goals as goal
+
+pub returns-clause-filled : goal.returns-clause-filled
+returns-clause-filled c = λ filled.
+    let first = c.remove_lines-first.result in
+    let v = c.remove_lines-first.new.entries in
+    let next : c.saturating_add.result ≡ first + 1 =
+    omega (arith, c.saturating_add.ensures, c.remove_lines-first.ensures.summed.within, v.small, v.ok.0, v.ok.1) in
+    let far : c.saturating_add.result + 1 ≡ first + 2 = omega (arith, next) in
+    let a = c.remove_lines-first.ensures.filled filled in
+    let b = c.drop_empty.ensures.filled first (omega (arith, next)) a.0
+    (subst (λ n. AreFilled (drop n (chunks_of v.items))) (sym far) a.1) in
+    let d = c.drop_empty-2.ensures.filled first (omega arith) b.0
+    (subst (λ n. AreFilled (drop n (chunks_of c.drop_empty.new.entries.items))) next b.1) in
+    subst AreFilled (sym c.sum_from.ensures.chunks) (filled_both _ first d.0 d.1)

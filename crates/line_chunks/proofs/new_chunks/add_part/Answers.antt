@@ -1,0 +1,22 @@
+use Rattle.line_chunks.proofs.Prelude.{arith, ap, subst, sym, ◌∙◌, ◌≡◌, ◌-◌, ◌<◌, [], inl, inr, cases_lt, length, take, drop, get_or, get_or_past, slice_range, IfOk, AddsLines, Entry, chunks_of}
+use Rattle.line_chunks.proofs.lemmas.Pieces.{adds_none}
+use Rattle.line_chunks.proofs.lemmas.Sums.{chunk_at, length-chunks_of}
+use Rattle.line_chunks.proofs.new_chunks.add_part.Goals as goal
+
+pub returns-then-from-to : goal.returns-then-from-to
+returns-then-from-to c =
+    let lines = get_or (chunks_of c.args.entries.now) c.args.k [] in
+    let zero : c.args.to - c.args.from ≡ 0 = omega (arith, c.if-from-to.true) in
+    adds_none c.args.fresh.now.items _ (ap (λ n. take n (drop c.args.from lines)) zero)
+
+pub returns : goal.returns
+returns c =
+    let es = c.args.entries.now in
+    let inside : c.args.k < length es = elim (cases_lt c.args.k (length es)) [
+      | inl h ↦ h
+      | inr h ↦
+          (let none = ap length (get_or_past (chunks_of es) c.args.k [] (omega (arith, h, length-chunks_of es))) in
+          absurd (let no : ⊥ = omega (arith, none, c.requires.within, c.if-from-to.false) in no))
+    ] in
+    subst (λ lines. IfOk c.add_lines.result (λ _. AddsLines c.args.fresh.now.items (slice_range lines c.args.from c.args.to) c.add_lines.new.fresh.items))
+    (ap (λ (e : Entry). e.chunk) c.index-entries-k.is ∙ sym (chunk_at es c.args.k c.index-entries-k.result inside)) c.add_lines.ensures
