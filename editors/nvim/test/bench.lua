@@ -228,7 +228,7 @@ end
 -- Compares a list with grep: its rows and, if lines are selected by a match, their parts.
 function M.compare(list, what)
   M.equal(M.rows(list), M.grep(list), what)
-  if list.flags.v then
+  if list.wish.flags.v then
     return
   end
   local parts = {}

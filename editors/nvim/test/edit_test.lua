@@ -109,11 +109,11 @@ test("Vim's keys work while rows are edited, and the list's keys do after it", f
   begin(list)
   keys("ggjxiab<Esc>A!<Esc>jIx<Esc>a <Esc>wcwy<Esc>")
   equal(shown(list), { "abne two!", "  x y" })
-  equal(list.flags, {})
+  equal(list.wish.flags, {})
   vim.cmd("write")
   equal(lines(buffer), { "abne two!", "", "  x y" })
   keys("i")
-  equal(list.flags, { i = true })
+  equal(list.wish.flags, { i = true })
 end)
 
 test("undo in the list goes back to the beginning of the edit, and not further", function()

@@ -63,7 +63,7 @@ local function flag(list, first_place)
   local first = bench.milliseconds(function()
     list:set_flag("i", true)
     vim.wait(60000, function()
-      return list.files[1].stale > 0 and list.files[1].hits.before > 0 or not list.asked
+      return list.files[1].stale > 0 and list.files[1].hits:before() > 0 or not list.asked
     end, 1)
   end)
   bench.equal(list:at(1).place, first_place)

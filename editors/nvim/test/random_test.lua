@@ -99,13 +99,13 @@ local function other(list, buffers)
   local kind = math.random(10)
   if kind == 1 then
     local flag = pick({ "i", "v", "x" })
-    list:set_flag(flag, not list.flags[flag])
+    list:set_flag(flag, not list.wish.flags[flag])
   elseif kind == 2 then
     list:set_syntax(pick(SYNTAXES))
-  elseif kind == 3 and #list.patterns < 4 then
+  elseif kind == 3 and #list.wish.patterns < 4 then
     list:add_pattern(pick(PATTERNS))
-  elseif kind == 4 and #list.patterns > 0 then
-    list:drop_pattern(math.random(#list.patterns))
+  elseif kind == 4 and #list.wish.patterns > 0 then
+    list:drop_pattern(math.random(#list.wish.patterns))
   elseif kind == 5 then
     list:set_context(pick({ 0, 0, 1, 2 }), pick({ 0, 0, 1, 3 }))
   elseif kind == 6 then
@@ -120,8 +120,8 @@ local function other(list, buffers)
     end
   elseif kind == 8 then
     list:restart()
-  elseif kind == 9 and #list.patterns > 0 then
-    list:change_pattern(math.random(#list.patterns), pick(PATTERNS), function() end)
+  elseif kind == 9 and #list.wish.patterns > 0 then
+    list:change_pattern(math.random(#list.wish.patterns), pick(PATTERNS), function() end)
   else
     local buffer = pick(buffers)
     for _, file in ipairs(list.files) do

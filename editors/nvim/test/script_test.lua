@@ -19,8 +19,8 @@ test("edits that are far apart are sent, and what changed is asked", function()
   api.nvim_buf_set_lines(buffer, 500, 500, false, { "x", "o" })
   api.nvim_buf_set_lines(buffer, 0, 1, false, {})
   api.nvim_buf_set_lines(buffer, 20, 20, false, { "o" })
-  local apply, shown = list.apply, {}
-  list.apply = function(...)
+  local apply, shown = list.apply_piece, {}
+  list.apply_piece = function(...)
     apply(...)
     local row = bench.hits(list)[990] -- between the last two edits
     shown[#shown + 1] = row[3] == api.nvim_buf_get_lines(buffer, row[2] - 1, row[2], false)[1]
@@ -50,7 +50,7 @@ test("a pattern is changed", function()
   local ended = bench.commands()
   list:change_pattern(1, "b", function() end)
   equal(rows(list), { "2:b", "3:c" })
-  equal({ ended(), list.patterns }, { { "pattern 0", "changes" }, { "b", "c" } })
+  equal({ ended(), list.wish.patterns }, { { "pattern 0", "changes" }, { "b", "c" } })
   local said
   list:change_pattern(2, "\\(", function(...)
     said = { ... }
@@ -58,7 +58,7 @@ test("a pattern is changed", function()
   list:drop_pattern(1)
   rows(list)
   equal(said, { "UnclosedGroup at 0 in: \\(", 0 })
-  equal(list.patterns, { "c" })
+  equal(list.wish.patterns, { "c" })
 end)
 
 test("a syntax and flags are changed together, and what is refused leaves all as it was", function()
@@ -78,7 +78,7 @@ test("a syntax and flags are changed together, and what is refused leaves all as
     said = { ... }
   end)
   equal(rows(list), { "1:a", "3:A" })
-  equal({ said, list.syntax, list.patterns }, { { "UnclosedGroup at 0 in: \\(", 0 }, "extended", { "a+" } })
+  equal({ said, list.wish.syntax, list.wish.patterns }, { { "UnclosedGroup at 0 in: \\(", 0 }, "extended", { "a+" } })
 end)
 
 test("rows are made of lines of the buffer, also where they are edited while a reply is on its way", function()

@@ -11,10 +11,7 @@ local M = {}
 local Scan = {}
 Scan.__index = Scan
 
-local CLASSES = {}
-for name in ("alnum alpha blank cntrl digit graph lower print punct space upper xdigit"):gmatch("%l+") do
-  CLASSES[name] = true
-end
+local CLASSES = " alnum alpha blank cntrl digit graph lower print punct space upper xdigit "
 local MOST = 2000 -- of a longer range in a set no other cases are looked for
 local WITH_CASES = { { 0x80, 0x2fff }, { 0xa640, 0xabff }, { 0xff00, 0xff5f }, { 0x10400, 0x10fff },
   { 0x118a0, 0x118df }, { 0x16e40, 0x16e7f }, { 0x1e900, 0x1e943 } }
@@ -173,7 +170,7 @@ function Scan:read_set()
   self.at = self.at + (complement and 2 or 1)
   repeat
     local class = self:looking("%[:(%l+):%]")
-    if CLASSES[class] then
+    if class and CLASSES:find(" " .. class .. " ", 1, true) then
       texts[#texts + 1] = "[:" .. class .. ":]"
       self.at = self.at + #class + 4
     else
@@ -238,8 +235,8 @@ end
 -- A pattern by a syntax, or a fixed string as a pattern of it, in pieces that speak of its bytes. With
 -- `fold` both cases match.
 function M.translate(pattern, syntax, fold, fixed)
-  local scan = { pattern = pattern, extended = syntax == "extended", fold = fold, fixed = fixed, at = 1, pieces = {} }
-  setmetatable(scan, Scan)
+  local scan = setmetatable({ pattern = pattern, fold = fold, fixed = fixed, at = 1, pieces = {} }, Scan)
+  scan.extended = syntax == "extended"
   while scan.at <= #pattern do
     scan:next()
   end

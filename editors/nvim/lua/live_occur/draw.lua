@@ -2,9 +2,9 @@
 -- the rows in view alone, each time that they are drawn; so a number is right at once.
 
 local List = require("live_occur.list")
-local marks = require("live_occur.marks")
 local row_texts = require("live_occur.row")
 local settings = require("live_occur.settings")
+local shared = require("live_occur.shared")
 
 local api = vim.api
 local M = { space = api.nvim_create_namespace("live_occur") }
@@ -35,7 +35,7 @@ local function edited_marks(list, row, text)
     return head_marks(number == 1 and "LiveOccurHeader" or "LiveOccurBuffer", edit.texts[number])
   end
   local same = number and text == edit.shown[number]
-  local line = file and edit.line_of(number)
+  local line = file and require("live_occur.edit").line_of(edit, number)
   local shown = line and row_texts.number(line + 1) or (" "):rep(row_texts.margin)
   return { { 0, nil, same and "LiveOccurNumber" or "LiveOccurEdited", shown } }
 end
@@ -45,40 +45,34 @@ function M.marks(list, row, text)
   if list.edit then
     return list.edit.ready and edited_marks(list, row, text) or {}
   end
-  local at, length = list:at(row), #text
-  if not at then
-    return row == 0 and head_marks("LiveOccurHeader", text) or {}
-  elseif at.stale then
+  local at = list:at(row)
+  if row == 0 or at and at.heading then
+    return head_marks(at and "LiveOccurBuffer" or "LiveOccurHeader", text)
+  elseif not at or at.stale then
     return {}
-  elseif at.heading then
-    return head_marks("LiveOccurBuffer", text)
   end
   local number = row_texts.number(list:line_of(at.file, at.place) + 1)
   local found = { { 0, nil, "LiveOccurNumber", number } }
   if settings.highlight then
-    M.add_parts(found, at.parts, row_texts.shift(at.parts), length)
+    M.add_parts(found, at.parts, row_texts.shift(at.parts), #text)
   end
   return found
 end
 
 -- Adds marks for the parts of a row that is so many bytes long, further right by `shift`.
 function M.add_parts(found, parts, shift, length)
-  for first, last in parts:gmatch("(%d+)%-(%d+)") do
-    local start = shift + tonumber(first)
-    if start >= length then
+  for first, last in shared.each_part(parts) do
+    if shift + first >= length then
       break
     end
-    found[#found + 1] = { start, math.min(shift + tonumber(last), length), "LiveOccurMatch" }
+    found[#found + 1] = { shift + first, math.min(shift + last, length), "LiveOccurMatch" }
   end
 end
 
 local function on_line(_, _, buffer, row)
   local list = List.all[buffer]
-  local text = list and api.nvim_buf_get_lines(buffer, row, row + 1, false)[1]
-  if not text then
-    return
-  end
-  for _, mark in ipairs(M.marks(list, row, text)) do
+  local text = list and shared.line(buffer, row)
+  for _, mark in ipairs(text and M.marks(list, row, text) or {}) do
     local first, last, group, shown = unpack(mark)
     local options = { ephemeral = true, priority = 100 }
     if shown then
@@ -95,14 +89,13 @@ local function show_near(list, ranges)
   api.nvim_buf_clear_namespace(list.buffer, near, 0, -1)
   local tab = (" "):rep(vim.bo[list.buffer].tabstop)
   local function show(row)
-    local shown = {}
-    for index, line in ipairs(list:between(row)) do
+    local shown = vim.tbl_map(function(line)
       local number = line and row_texts.number(line[1] + 1) or (" "):rep(row_texts.margin)
       local text = line and line[2]:gsub("\t", tab):gsub("[\n%z]", " ") or "--"
-      shown[index] = { { number, "LiveOccurNumber" }, { text, "LiveOccurNear" } }
-    end
+      return { { number, "LiveOccurNumber" }, { text, "LiveOccurNear" } }
+    end, list:between(row))
     if #shown > 0 then
-      local options = { id = row + 1, virt_lines = shown, virt_lines_leftcol = true }
+      local options = { virt_lines = shown, virt_lines_leftcol = true }
       api.nvim_buf_set_extmark(list.buffer, near, row, 0, options)
     end
   end
@@ -133,9 +126,7 @@ local function on_win(_, _, buffer)
   local list = List.all[buffer]
   if list and (list:around() or list.near) and not list.near_soon then
     list.near_soon = true
-    vim.schedule(function()
-      update_near(list)
-    end)
+    vim.schedule(function() update_near(list) end)
   end
   return list ~= nil
 end

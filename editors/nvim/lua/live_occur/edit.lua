@@ -1,27 +1,52 @@
 -- Rows that are edited.
 --
 -- While it lasts each row is its line alone, without the margin, so that all keys of Vim work. Each row
--- has a number (`identity.lua`), and a mark of this number is on its line in the searched buffer
--- (`marks.lua`): whatever is edited, a row is written into its own line or into none. Meanwhile the list
--- waits: no edit is sent, and no reply is on its way.
+-- has a number (`identity.lua`), and a mark of this number is on its line in the searched buffer: whatever
+-- is edited, a row is written into its own line or into none. Meanwhile the list waits: no edit is sent, and
+-- no reply is on its way.
 
 local Identity = require("live_occur.identity")
-local marks = require("live_occur.marks")
 local row_texts = require("live_occur.row")
 local settings = require("live_occur.settings")
+local shared = require("live_occur.shared")
 
 local api, fn, uv = vim.api, vim.fn, vim.uv or vim.loop
-local M = { head = "rows are edited: :w writes them, :e! gives them up" }
+local say, blame = shared.say, shared.blame
+local HEAD = "rows are edited: :w writes them, :e! gives them up"
 local SLICE = 2000 -- how many rows are made ready at once
 local NAMED = 3 -- how many rows a message names
 local SHOWN = 200 -- how many bytes of each it shows
+local PACE = 1e8 -- nanoseconds from one message of a write to the next
+local NOT_YET = "isn't written yet"
+local NEW_STEP = "let &l:undolevels = &l:undolevels" -- What follows is another step of undo.
+local M = {}
 
-local function say(text, kind)
-  api.nvim_echo({ { "LiveOccur: " .. text, kind } }, true, {})
+-- Marks
+
+-- Puts the mark of a row on its line. It covers the line and its end, and doesn't grow. It is sound until
+-- its line is taken out or replaced, or loses its end.
+local function pin(edit, file, number, line)
+  local options = { id = number, end_row = line + 1, end_right_gravity = false }
+  api.nvim_buf_set_extmark(file.buffer, edit.space, line, 0, options)
 end
 
-local function count_of(number, what)
-  return number .. " " .. what .. (number == 1 and " is" or "s are")
+-- The line of the row of this number, from 0, or nil. A mark that isn't sound counts `anyhow`.
+function M.line_of(edit, number, anyhow)
+  local buffer = edit.files[number].buffer
+  if edit.lines[number] or not shared.is_valid(buffer) then
+    return edit.lines[number]
+  end
+  local mark = api.nvim_buf_get_extmark_by_id(buffer, edit.space, number, { details = true })
+  return mark[1] and (anyhow or mark[3].end_row > mark[1]) and mark[1] or nil
+end
+
+-- Takes the marks of an edit out.
+function M.clear(list, edit)
+  for _, file in ipairs(list.files) do
+    if shared.is_valid(file.buffer) then
+      api.nvim_buf_clear_namespace(file.buffer, edit.space, 0, -1)
+    end
+  end
 end
 
 -- The beginning
@@ -29,47 +54,33 @@ end
 -- Makes rows ready from `first` on: marks are put on lines. Heads are empty, and their texts drawn over them.
 local function make_ready(list, edit, first, last)
   for row = first, last do
-    local at, text = list:at(row), edit.texts[row + 1]
-    edit.files[row + 1], edit.shown[row + 1] = false, ""
+    local at, number, text = list:at(row), row + 1, edit.texts[row + 1]
+    edit.files[number], edit.shown[number] = false, ""
     if at and at.place then
-      local line = list:line_of(at.file, at.place)
-      edit.files[row + 1], edit.shown[row + 1] = at.file, text
-      if at.file.path then
-        edit.lines[row + 1] = line
-        edit.cut[row + 1] = #text > settings.max_columns - 4 or nil
+      local file, line = at.file, list:line_of(at.file, at.place)
+      edit.files[number], edit.shown[number] = file, text
+      if file.path then
+        edit.lines[number], edit.cut[number] = line, #text > settings.max_columns - 4
       else
-        edit.cut[row + 1] = text ~= list:text_of(at.file, at.place) or nil
-        marks.pin(at.file.buffer, edit.space, row + 1, line)
+        edit.cut[number] = text ~= list:text_of(file, at.place)
+        pin(edit, file, number, line)
       end
     end
   end
   list:put(first, last + 1, vim.list_slice(edit.shown, first + 1, last + 1))
-  edit.done = last + 1
 end
 
--- The names of buffers of which no row can be written.
-local function read_only(list)
-  local names = {}
-  for _, file in ipairs(list.files) do
-    if file.hits:count() > 0 and M.refusal(file) then
-      names[#names + 1] = list:name_of(file)
-    end
-  end
-  return names
-end
-
+-- All rows are ready.
 local function open(list, edit)
-  local buffer = list.buffer
-  for option, value in pairs({ buftype = "acwrite", undolevels = vim.go.undolevels, modifiable = true }) do
-    vim.bo[buffer][option] = value
-  end
-  vim.bo[buffer].modified = false
-  edit.identity = Identity.new(buffer, edit.shown, function()
-    return list.edit == edit
-  end)
+  shared.set(list.buffer, { buftype = "acwrite", undolevels = vim.go.undolevels, modifiable = true })
+  vim.bo[list.buffer].modified = false
+  edit.identity = Identity.new(list.buffer, edit.shown, function() return list.edit == edit end)
   edit.ready = true
   list:redraw()
-  local names = read_only(list)
+  local names = {}
+  for _, file in ipairs(list.files) do
+    names[#names + 1] = file.hits:count() > 0 and M.refusal(file) and list:name_of(file) or nil
+  end
   if #names > 0 then
     say("rows of " .. table.concat(names, ", ") .. " can't be written", "WarningMsg")
   end
@@ -81,17 +92,15 @@ local function go_on(list, edit)
   if list.edit ~= edit or list.closed then
     return
   elseif list:has_edits() then
-    M.finish(list, edit.texts)
+    M.finish(list)
     list.edit_wanted = true
     return list:step()
   end
-  make_ready(list, edit, edit.done, math.min(edit.done + SLICE, #edit.texts) - 1)
-  if edit.done == #edit.texts then
+  make_ready(list, edit, #edit.files, math.min(#edit.files + SLICE, #edit.texts) - 1)
+  if #edit.files == #edit.texts then
     return open(list, edit)
   end
-  vim.defer_fn(function()
-    go_on(list, edit)
-  end, 1)
+  vim.defer_fn(function() go_on(list, edit) end, 1)
 end
 
 -- Begins an edit, if one is wanted and the list is right.
@@ -103,16 +112,10 @@ function M.start(list)
   if list:total() == 0 then
     return say("there is no row")
   end
-  local edit = { files = {}, cut = {}, shown = {}, lost = {}, lines = {}, done = 0 }
+  local edit = { files = {}, cut = {}, shown = {}, lost = {}, lines = {} }
   edit.texts = api.nvim_buf_get_lines(list.buffer, 0, -1, false)
-  edit.texts[1] = M.head .. "  " .. edit.texts[1]
+  edit.texts[1] = HEAD .. "  " .. edit.texts[1]
   edit.space = api.nvim_create_namespace("live_occur_rows_" .. list.buffer)
-  -- The line of the row of this number, from 0, or nil.
-  function edit.line_of(number)
-    local buffer = edit.files[number].buffer
-    local valid = buffer and api.nvim_buf_is_valid(buffer)
-    return edit.lines[number] or valid and marks.line(buffer, edit.space, number) or nil
-  end
   list.edit = edit
   require("live_occur.keys").unset(list)
   go_on(list, edit)
@@ -124,23 +127,10 @@ function M.opened(list, file)
   list:attach(file)
   for number, line in pairs(edit.lines) do
     if edit.files[number] == file then
-      if api.nvim_buf_get_lines(file.buffer, line, line + 1, false)[1] == edit.shown[number] then
-        marks.pin(file.buffer, edit.space, number, line)
+      if shared.line(file.buffer, line) == edit.shown[number] then
+        pin(edit, file, number, line)
       end
       edit.lines[number] = nil
-    end
-  end
-end
-
--- Opens the files of changed rows.
-local function open_files(list, edit, changes)
-  for _, change in ipairs(changes) do
-    local file = edit.files[change.number]
-    if file.path and not M.refusal(file) then
-      fn.bufload(list:open_buffer(file))
-      if file.path then
-        M.opened(list, file)
-      end
     end
   end
 end
@@ -149,39 +139,33 @@ end
 function M.begin(list)
   local rows = api.nvim_buf_line_count(list.buffer) - 1
   if list.ended then
-    return say("the list isn't kept right; r starts the program again", "ErrorMsg")
+    return blame("the list isn't kept right; r starts the program again")
   elseif rows > settings.edit_rows then
-    return say(("there are %d rows, and at most %d can be edited"):format(rows, settings.edit_rows), "ErrorMsg")
+    return blame(("there are %d rows, and at most %d can be edited"):format(rows, settings.edit_rows))
   end
   list.edit_wanted = true
   list:step()
-  M.start(list)
 end
 
 -- The end
 
--- Ends an edit: these are the rows from now on, and the list goes on.
-function M.finish(list, texts)
+-- Ends an edit: rows are as they were, or as they were written, and the list goes on.
+function M.finish(list)
   local edit = list.edit
-  local windows = list:keep_windows()
   list.edit = nil
-  for option, value in pairs({ buftype = "nofile", undolevels = -1, bufhidden = "hide" }) do
-    vim.bo[list.buffer][option] = value
-  end
-  list:put(0, -1, texts)
-  for _, file in ipairs(list.files) do
-    if file.buffer then
-      marks.clear(file.buffer, edit.space)
-    end
-  end
-  list:restore_windows(windows)
+  shared.set(list.buffer, { buftype = "nofile", undolevels = -1, bufhidden = "hide" })
+  list:put(0, -1, edit.texts)
+  M.clear(list, edit)
   require("live_occur.keys").set(list)
-  list.shown_header = nil
-  list:go_on()
+  list:put_headings()
+  list:step()
+  list:show_header()
+  list:redraw()
 end
 
+-- Ends an edit without a write.
 function M.give_up(list)
-  M.finish(list, list.edit.texts)
+  M.finish(list)
   say("the rows are as they were")
 end
 
@@ -192,25 +176,25 @@ function M.refusal(file)
   local buffer = file.buffer
   if file.path then
     return not uv.fs_access(file.path, "W") and "is read-only" or nil
-  elseif not api.nvim_buf_is_valid(buffer) or not api.nvim_buf_is_loaded(buffer) then
+  elseif not api.nvim_buf_is_loaded(buffer) then
     return "isn't loaded"
   elseif not vim.bo[buffer].modifiable or vim.bo[buffer].readonly then
     return "is read-only"
   end
 end
 
--- What was edited: `changes` are the numbers of rows that differ, with their texts, and `mixed` those of
--- rows that can't be told from one another; the others are counts of rows.
+-- What was edited: `changes` are the numbers of rows that differ, with their texts, by their files, and
+-- `mixed` those of rows that can't be told from one another; the others are counts of rows.
 local function compare(list, edit)
   local result, met = { changes = {}, mixed = {}, heads = 0, gone = 0, added = 0 }, {}
   for row, text in ipairs(api.nvim_buf_get_lines(list.buffer, 0, -1, false)) do
     local number, mixed = edit.identity:number(row - 1)
-    if number and text ~= edit.shown[number] then
-      if edit.files[number] then
-        table.insert(result.changes, { number = number, text = text })
-      else
-        result.heads = result.heads + 1
-      end
+    local file = number and edit.files[number]
+    if file and text ~= edit.shown[number] then
+      result.changes[file] = result.changes[file] or {}
+      table.insert(result.changes[file], { number = number, text = text })
+    elseif number and text ~= edit.shown[number] then
+      result.heads = result.heads + 1
     elseif not number and not mixed then
       result.added = result.added + 1
     end
@@ -227,176 +211,161 @@ local function compare(list, edit)
   return result
 end
 
--- The first place where two texts differ, and how many bytes after it differ in each; by whole
--- characters.
-local function difference(old, new)
-  local start, shorter = 0, math.min(#old, #new)
-  while start < shorter and old:byte(start + 1) == new:byte(start + 1) do
-    start = start + 1
-  end
-  start = row_texts.whole(old, start)
-  local rest = 0
-  while rest < shorter - start and old:byte(#old - rest) == new:byte(#new - rest) do
-    rest = rest + 1
-  end
-  while rest > 0 and row_texts.whole(old, #old - rest) ~= #old - rest do
-    rest = rest - 1
-  end
-  return start, #old - rest, #new - rest
-end
-
--- Writes rows into the lines of a file's buffer, as one step of undo. Returns how many were written;
--- others are added to `left`.
-local function write_lines(list, edit, file, changes, left)
-  local written = 0
-  vim.cmd("let &l:undolevels = &l:undolevels") -- What was edited before is a step of its own.
-  for _, change in ipairs(changes) do
-    local line = marks.line(file.buffer, edit.space, change.number)
-    local old = line and api.nvim_buf_get_lines(file.buffer, line, line + 1, false)[1]
-    if line and old == edit.shown[change.number] then
-      local start, old_end, new_end = difference(old, change.text)
-      api.nvim_buf_set_text(file.buffer, line, start, line, old_end, { change.text:sub(start + 1, new_end) })
-      edit.shown[change.number], edit.texts[change.number] = change.text, row_texts.text(change.text)
-      written = written + 1
-    else
-      table.insert(left, M.named(list, edit, change, "changed meanwhile"))
-    end
-  end
-  vim.cmd("let &l:undolevels = &l:undolevels")
-  return written
-end
-
 -- A row that is left alone, with the reason, and with the text that was typed.
-function M.named(list, edit, change, reason)
-  local file = edit.files[change.number]
-  local buffer = file.buffer
-  local line = edit.lines[change.number]
-  if buffer and api.nvim_buf_is_valid(buffer) then
-    line = line or api.nvim_buf_get_extmark_by_id(buffer, edit.space, change.number, {})[1]
-  end
-  line = line and ":" .. line + 1 or ""
-  local text = edit.cut[change.number] and "" or vim.trim(change.text)
+local function named(list, edit, change, reason)
+  local number = change.number
+  local line = M.line_of(edit, number, true)
+  local text = edit.cut[number] and "" or vim.trim(change.text)
   if #text > SHOWN then
     text = text:sub(1, row_texts.whole(text, SHOWN)) .. "…"
   end
-  return list:name_of(file) .. line .. " " .. reason .. (text == "" and "" or ": " .. text)
+  local place = list:name_of(edit.files[number]) .. (line and ":" .. line + 1 or "")
+  return place .. " " .. reason .. (text == "" and "" or ": " .. text)
 end
 
--- Saves a buffer's file. Returns whether it did, and a fault.
-local function save(buffer)
-  local ran, fault = pcall(api.nvim_buf_call, buffer, function()
-    vim.cmd("silent keepalt lockmarks write")
-  end)
-  return ran and not vim.bo[buffer].modified, fault
+-- Writes a row into its line: what differs, by whole characters. Returns a reason where that can't be.
+local function write_row(edit, file, change)
+  local line = M.line_of(edit, change.number)
+  local old = line and shared.line(file.buffer, line)
+  if not old or old ~= edit.shown[change.number] then
+    return "changed meanwhile"
+  end
+  local first, removed = shared.difference(old, change.text, string.byte)
+  local rest = #old - first - removed
+  while row_texts.whole(old, #old - rest) ~= #old - rest do
+    rest = rest - 1
+  end
+  first = row_texts.whole(old, first)
+  local text = change.text:sub(first + 1, #change.text - rest)
+  api.nvim_buf_set_text(file.buffer, line, first, line, #old - rest, { text })
+  edit.shown[change.number], edit.texts[change.number] = change.text, row_texts.text(change.text)
 end
 
 -- Whether another program changed the file of a buffer, which Vim would ask about. Where 'autoread' is
 -- on the buffer is loaded anew by this.
 local function changed_outside(buffer)
   local changed = false
-  local watch = api.nvim_create_autocmd("FileChangedShell", {
-    buffer = buffer,
-    callback = function()
-      changed, vim.v.fcs_choice = true, ""
-    end,
-  })
+  local function note()
+    changed, vim.v.fcs_choice = true, ""
+  end
+  local watch = api.nvim_create_autocmd("FileChangedShell", { buffer = buffer, callback = note })
   pcall(vim.cmd, "silent checktime " .. buffer)
   api.nvim_del_autocmd(watch)
   return changed
 end
 
--- Notes which files can be saved: those of buffers without other changes.
-local function note_clean(edit, changes)
-  edit.clean = {}
-  for _, change in ipairs(changes) do
-    local file = edit.files[change.number]
-    local buffer = file.buffer
-    if edit.clean[file] == nil then
-      local loaded = buffer and not file.path and api.nvim_buf_is_loaded(buffer)
-      local has_file = loaded and vim.bo[buffer].buftype == "" and api.nvim_buf_get_name(buffer) ~= ""
-      edit.clean[file] = has_file and not vim.bo[buffer].modified and not changed_outside(buffer)
-    end
-  end
+-- Whether the file of a buffer can be saved: it has one, and no other changes.
+local function is_clean(buffer)
+  return vim.bo[buffer].buftype == "" and api.nvim_buf_get_name(buffer) ~= "" and not vim.bo[buffer].modified
+    and not changed_outside(buffer)
 end
 
--- Why a text can't be written in an encoding, or nil. `encoding` is nil for one that has all characters.
+-- Why a text can't be written in an encoding, or nil.
 local function conversion_fault(encoding, text)
-  if encoding and text:find("[\128-\255]") then
+  if encoding ~= "" and not encoding:find("^u[tc][fs]") and text:find("[\128-\255]") then
     local back = fn.iconv(fn.iconv(text, "utf-8", encoding), encoding, "utf-8")
     return back ~= text and "has a character that " .. encoding .. " doesn't have" or nil
   end
 end
 
--- The changes of each file that can be written; others are added to `left`.
-local function by_file(list, edit, changes, left)
-  local of_files, refused, encodings = {}, {}, {}
-  for _, change in ipairs(changes) do
-    local file = edit.files[change.number]
-    if refused[file] == nil then
-      refused[file] = edit.lost[file] or M.refusal(file) or false
-      local encoding = not refused[file] and vim.bo[file.buffer].fileencoding or ""
-      encodings[file] = encoding ~= "" and not encoding:find("^u[tc][fs]") and encoding or nil
-    end
-    local reason = edit.cut[change.number] and "is shortened" or refused[file]
-      or conversion_fault(encodings[file], change.text)
-    if reason then
-      table.insert(left, M.named(list, edit, change, reason))
-    else
-      of_files[file] = of_files[file] or {}
-      table.insert(of_files[file], change)
-    end
+-- Opens a file while rows are edited. CTRL-C, which would let lines of it be missing, waits as a key.
+local function open_file(list, file)
+  local buffer = list:open_buffer(file)
+  vim.keymap.set("n", "<C-c>", "<C-c>", { buffer = buffer })
+  fn.bufload(buffer)
+  pcall(vim.keymap.del, "n", "<C-c>", { buffer = buffer })
+  if file.path then
+    M.opened(list, file)
   end
-  return of_files
 end
 
--- Writes the rows of one file, and saves it, if it had no other changes.
+-- Writes the rows of one file, which is opened, as one step of undo, and saves it, if it had no other changes.
 local function write_file(list, edit, file, changes, result)
-  local buffer, written = file.buffer, 0
+  local refused = result.stopped or M.refusal(file)
+  if file.path and not refused then
+    open_file(list, file)
+  end
+  local buffer, clean, written = file.buffer, not refused and is_clean(file.buffer), result.written
+  refused = refused or edit.lost[file] or M.refusal(file)
+  local encoding = not refused and vim.bo[buffer].fileencoding
+  local function write()
+    for _, change in ipairs(changes) do
+      local reason = edit.cut[change.number] and "is shortened" or refused
+        or conversion_fault(encoding, change.text) or write_row(edit, file, change)
+      if reason then
+        table.insert(result.left, named(list, edit, change, reason))
+      else
+        result.written = result.written + 1
+      end
+    end
+  end
+  if refused then
+    return write()
+  end
   api.nvim_buf_call(buffer, function()
-    written = write_lines(list, edit, file, changes, result.left)
+    vim.cmd(NEW_STEP)
+    write()
+    vim.cmd(NEW_STEP)
   end)
-  result.written = result.written + written
-  if written == 0 then
+  if result.written == written then
     return
   end
   local saved, fault = false, nil
-  if edit.clean[file] then
-    saved, fault = save(buffer)
+  if clean then
+    saved, fault = pcall(api.nvim_buf_call, buffer, function() vim.cmd("silent keepalt lockmarks write") end)
+    saved, fault = saved and not vim.bo[buffer].modified, not saved and shared.short(fault) or nil
   end
   table.insert(saved and result.saved or result.modified, list:name_of(file))
-  if fault then
-    table.insert(result.faults, (tostring(fault):gsub("^.-(E%d+:)", "%1")))
-  end
+  table.insert(result.faults, fault)
+  result.stopped = shared.is_interrupt(fault) and NOT_YET or nil
 end
 
--- Adds names to a message, and how many more there are.
-local function add_names(parts, kind, names)
-  local shown = vim.list_slice(names, 1, NAMED)
-  if #names > NAMED then
-    shown[#shown + 1] = ("%d more"):format(#names - NAMED)
-  end
-  if #names > 0 then
-    parts[#parts + 1] = kind .. ": " .. table.concat(shown, ", ")
+-- Writes the rows of several files. Between them CTRL-C ends it, and it says now and then how far it is.
+local function write_files(list, edit, changes, result)
+  local count, told = vim.tbl_count(changes), uv.hrtime()
+  local files = vim.tbl_filter(function(file) return changes[file] end, list.files)
+  for done, file in ipairs(files) do
+    if uv.hrtime() > told + PACE then
+      local text = ("LiveOccur: %d of %d files are written; CTRL-C ends that"):format(done - 1, count)
+      api.nvim_echo({ { text } }, false, {})
+      vim.cmd("redraw")
+      told = uv.hrtime()
+    end
+    for _ = 1, 2 do -- What came is done, and then what is typed is looked for.
+      result.stopped = select(2, vim.wait(0)) == -2 and NOT_YET or result.stopped
+    end
+    if shared.interrupted(write_file, list, edit, file, changes[file], result) then
+      result.stopped = NOT_YET
+      write_file(list, edit, file, changes[file], result)
+    end
   end
 end
 
 -- The message after a write.
 local function report(result, compared)
-  local parts = { count_of(result.written, "row") .. " written" }
-  local function add_count(number, what, rest)
-    if number > 0 then
-      parts[#parts + 1] = count_of(number, what) .. " " .. rest
+  local parts = {}
+  local function add_count(number, what, rest, least)
+    if number >= (least or 1) then
+      parts[#parts + 1] = shared.counted(number, what) .. (number == 1 and " is " or " are ") .. rest
     end
   end
-  add_names(parts, "saved", result.saved)
-  add_names(parts, "left modified", result.modified)
-  add_names(parts, "not saved", result.faults)
+  local function add_names(kind, names)
+    local shown = vim.list_slice(names, 1, NAMED)
+    shown[#shown + 1] = #names > NAMED and ("%d more"):format(#names - NAMED) or nil
+    if #names > 0 then
+      parts[#parts + 1] = kind .. ": " .. table.concat(shown, ", ")
+    end
+  end
+  add_count(result.written, "row", "written", 0)
+  add_names("saved", result.saved)
+  add_names("left modified", result.modified)
+  add_names("not saved", result.faults)
   add_count(compared.gone, "row", "deleted, and left in the buffer")
   add_count(compared.added, "row", "added, and ignored")
   if result.written == 0 then -- Else a command for all rows met them, too.
     add_count(compared.heads, "head", "edited, and left alone")
   end
-  add_names(parts, #result.left .. " left alone", result.left)
+  add_names(#result.left .. " left alone", result.left)
   if #result.left > 0 then
     parts[#parts + 1] = "the edit goes on"
   end
@@ -407,24 +376,20 @@ end
 function M.write(list, name)
   local edit = list.edit
   if not edit or name ~= api.nvim_buf_get_name(list.buffer) then
-    return say(":w takes no name here", "ErrorMsg")
+    return blame(":w takes no name here")
   end
   vim.bo[list.buffer].bufhidden = "hide" -- For :wq, after which there may be such rows.
   local compared = compare(list, edit)
-  open_files(list, edit, compared.changes)
-  note_clean(edit, compared.changes)
   local result = { written = 0, saved = {}, modified = {}, faults = {}, left = {} }
-  local of_files = by_file(list, edit, compared.changes, result.left)
-  for _, file in ipairs(list.files) do
-    if of_files[file] then
-      write_file(list, edit, file, of_files[file], result)
-    end
+  write_files(list, edit, compared.changes, result)
+  if list.edit ~= edit then
+    return -- It was given up, by what ran meanwhile.
   end
   for _, change in ipairs(compared.mixed) do
-    table.insert(result.left, M.named(list, edit, change, "is joined, split or filtered"))
+    table.insert(result.left, named(list, edit, change, "is joined, split or filtered"))
   end
   if #result.left == 0 then
-    M.finish(list, edit.texts)
+    M.finish(list)
   end
   report(result, compared)
 end

@@ -2,9 +2,10 @@
 
 local M = {}
 
+local health = vim.health or {}
+
 -- What writes a report of this kind: its name differs between the versions of Neovim.
 local function reporter(kind)
-  local health = vim.health or {}
   return health[kind] or health["report_" .. kind] or vim.fn["health#report_" .. kind]
 end
 

@@ -1,36 +1,31 @@
 -- The hits of one buffer, in order: for each its place, the number of lines before it, and its parts
 -- as the program writes them.
 --
--- They are in two stacks with a gap between them, at the last edit. In the first one are the hits
--- before it, with their places; in the second one those after it, the last hit at the bottom, with
--- the number of lines from theirs to the end. So an edit changes no hit but those of its lines.
+-- They are in arrays with a gap at the last edit. A place before it counts lines from the beginning, one
+-- after it those up to the end: so an edit changes no hit but those of its lines.
+
+local Array = require("live_occur.array")
 
 local Hits = {}
 Hits.__index = Hits
 
 function Hits.new()
-  local self = setmetatable({ lines = 0 }, Hits) -- the number of lines of the buffer
-  self:clear()
-  return self
-end
-
-function Hits:clear()
-  self.before, self.after = 0, 0 -- the numbers of hits in the two stacks
-  self.places, self.parts = {}, {}
-  self.from_end, self.parts_after = {}, {}
+  return setmetatable({ lines = 0, places = Array.new({}), parts = Array.new({}) }, Hits)
 end
 
 function Hits:count()
-  return self.before + self.after
+  return self.places.count + self.places.rest
+end
+
+-- The number of hits before the gap.
+function Hits:before()
+  return self.places.count
 end
 
 -- The place and the parts of a hit, by its number from 1.
 function Hits:get(number)
-  if number <= self.before then
-    return self.places[number], self.parts[number]
-  end
-  local index = self.before + self.after - number + 1
-  return self.lines - self.from_end[index], self.parts_after[index]
+  local place = self.places:get(number - 1)
+  return number > self.places.count and self.lines - place or place, self.parts:get(number - 1)
 end
 
 -- The number of hits with a place below this one.
@@ -47,47 +42,25 @@ function Hits:below(place)
   return low
 end
 
--- Moves the gap, so that this number of hits is before it.
-function Hits:move_gap(number)
-  local lines = self.lines
-  while self.before > number do
-    local top, index = self.before, self.after + 1
-    self.from_end[index], self.parts_after[index] = lines - self.places[top], self.parts[top]
-    self.places[top], self.parts[top] = nil, nil
-    self.before, self.after = top - 1, index
-  end
-  while self.before < number do
-    local top, index = self.after, self.before + 1
-    self.places[index], self.parts[index] = lines - self.from_end[top], self.parts_after[top]
-    self.from_end[top], self.parts_after[top] = nil, nil
-    self.after, self.before = top - 1, index
-  end
-end
-
 -- Takes out the hits of `removed` lines from line `front` on, in place of which there are `added`
 -- lines now. Returns how many hits are before them, and how many were taken out.
 function Hits:cut(front, removed, added)
-  if removed >= self.lines then -- All go, and their tables, too.
-    local count = self:count()
-    self:clear()
-    self.lines = added
-    return 0, count
+  local lines, first = self.lines, self:below(front)
+  local gone = self:below(front + removed) - first
+  if gone < self:count() then
+    self.places:splice(first, gone, {}, function(place) return lines - place end)
+    self.parts:splice(first, gone, {})
+  elseif gone > 0 then -- All go, and their tables, too.
+    self.places, self.parts = Array.new({}), Array.new({})
   end
-  self:move_gap(self:below(front))
-  local rest = self.lines - front - removed
-  local after = self.after
-  while self.after > 0 and self.from_end[self.after] > rest do
-    self.from_end[self.after], self.parts_after[self.after] = nil, nil
-    self.after = self.after - 1
-  end
-  self.lines = self.lines + added - removed
-  return self.before, after - self.after
+  self.lines = lines + added - removed
+  return first, gone
 end
 
 -- Puts a hit into the gap.
 function Hits:push(place, parts)
-  local index = self.before + 1
-  self.places[index], self.parts[index], self.before = place, parts, index
+  self.places:push(place)
+  self.parts:push(parts)
 end
 
 return Hits

@@ -8,33 +8,15 @@ local M = {}
 local NEAR = 50 -- hunks with at most this many lines between them are joined
 local MOST = 32 -- where there are more hunks, all are joined
 
--- One hunk in place of those from `first` to `last`, and of the lines between them.
-local function join(hunks, first, last)
-  local from, to = hunks[first], hunks[last]
+-- One hunk in place of those from `first` to `last`, and of the lines from `from` on and before `to`.
+local function join(hunks, first, last, from, to)
   local grown = 0
-  for index = first, last do
-    grown = grown + hunks[index].added - hunks[index].removed
-  end
-  local added = to.at + to.added - from.at
-  local joined = { at = from.at, added = added, removed = added - grown }
   for _ = first, last do
-    table.remove(hunks, first)
+    local hunk = table.remove(hunks, first)
+    from, to = math.min(from, hunk.at), math.max(to, hunk.at + hunk.added)
+    grown = grown + hunk.added - hunk.removed
   end
-  table.insert(hunks, first, joined)
-end
-
--- Extends the one hunk that an edit meets. This is all that most edits do.
-local function grow(hunk, at, removed, added)
-  local from, to = math.min(at, hunk.at), math.max(at + removed, hunk.at + hunk.added)
-  local size, grown = to - from, hunk.added - hunk.removed
-  hunk.at, hunk.removed, hunk.added = from, size - grown, size + added - removed
-end
-
--- Moves the hunks from this one on.
-local function move(hunks, index, lines)
-  for later = index, #hunks do
-    hunks[later].at = hunks[later].at + lines
-  end
+  table.insert(hunks, first, { at = from, removed = to - from - grown, added = to - from })
 end
 
 -- Notes that `removed` lines from `at` on, of the new text as it was until now, became `added`.
@@ -47,25 +29,13 @@ function M.note(hunks, at, removed, added)
   while hunks[last] and hunks[last].at <= at + removed + NEAR do
     last = last + 1
   end
-  if last == index + 1 then
-    grow(hunks[index], at, removed, added)
-    return move(hunks, index + 1, added - removed)
+  join(hunks, index, last - 1, at, at + removed)
+  hunks[index].added = hunks[index].added + added - removed
+  for later = index + 1, #hunks do
+    hunks[later].at = hunks[later].at + added - removed
   end
-  -- The edit as a hunk of text that is unchanged so far, over all hunks that it meets.
-  local from, to, grown = at, at + removed, 0
-  for met = index, last - 1 do
-    local hunk = hunks[met]
-    from, to = math.min(from, hunk.at), math.max(to, hunk.at + hunk.added)
-    grown = grown + hunk.added - hunk.removed
-  end
-  for _ = index, last - 1 do
-    table.remove(hunks, index)
-  end
-  local size = to - from
-  table.insert(hunks, index, { at = from, removed = size - grown, added = size + added - removed })
-  move(hunks, index + 1, added - removed)
   if #hunks > MOST then
-    join(hunks, 1, #hunks)
+    join(hunks, 1, #hunks, math.huge, 0)
   end
 end
 
@@ -90,8 +60,7 @@ end
 -- The place in the new text of a line of the old one; of a line that was removed, one near it.
 function M.place(hunks, place)
   local grown = 0
-  for index = 1, #hunks do
-    local hunk = hunks[index]
+  for _, hunk in ipairs(hunks) do
     local before = place - (hunk.at - grown)
     if before < 0 then
       break

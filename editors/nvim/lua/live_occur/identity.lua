@@ -7,56 +7,9 @@
 -- A row that was added has the number 0. Rows that were joined, split or replaced have a list of the
 -- numbers of all of them. A row that comes with the text of one that left is that one again.
 
+local Array = require("live_occur.array")
+
 local api, fn = vim.api, vim.fn
-
--- An array with a gap at its last change: the items after the gap are in reverse order.
-local Array = {}
-Array.__index = Array
-
-function Array.new(items)
-  return setmetatable({ before = vim.list_extend({}, items), count = #items, after = {}, rest = 0 }, Array)
-end
-
-function Array:size()
-  return self.count + self.rest
-end
-
--- The item with this index, from 0.
-function Array:get(index)
-  if index < self.count then
-    return self.before[index + 1]
-  end
-  return self.after[self:size() - index]
-end
-
-function Array:move_gap(index)
-  local before, after, count, rest = self.before, self.after, self.count, self.rest
-  while count > index do
-    rest = rest + 1
-    after[rest], before[count] = before[count], nil
-    count = count - 1
-  end
-  while count < index and rest > 0 do
-    count = count + 1
-    before[count], after[rest] = after[rest], nil
-    rest = rest - 1
-  end
-  self.count, self.rest = count, rest
-end
-
--- Puts items in the place of `count` others from `first` on, which are returned.
-function Array:splice(first, count, items)
-  self:move_gap(first + count)
-  local before, old = self.before, {}
-  for index = self.count, first + 1, -1 do
-    old[index - first], before[index] = before[index], nil
-  end
-  for index, item in ipairs(items) do
-    before[first + index] = item
-  end
-  self.count = first + #items
-  return old
-end
 
 local Identity = {}
 Identity.__index = Identity
@@ -68,7 +21,7 @@ function Identity.new(buffer, texts, goes_on)
   for number = 1, #texts do
     numbers[number], self.alive[number] = number, 1
   end
-  self.texts, self.numbers = Array.new(texts), Array.new(numbers)
+  self.texts, self.numbers = Array.new(vim.list_slice(texts)), Array.new(numbers)
   self.newest = api.nvim_buf_call(buffer, fn.changenr)
   api.nvim_buf_attach(buffer, false, {
     on_lines = function(_, _, _, first, last, new_last)
@@ -78,13 +31,10 @@ function Identity.new(buffer, texts, goes_on)
       self:note_lines(first, last - first, api.nvim_buf_get_lines(buffer, first, new_last, false))
     end,
     on_bytes = function(_, _, _, row, column, _, old, old_column, _, new, new_column)
-      if not goes_on() then
-        return true
-      end
       local part = (column > 0 or old_column > 0 or new_column > 0) and 1 or 0
-      api.nvim_buf_call(buffer, function()
-        self:note_rows(row, old, new, part)
-      end)
+      if goes_on() then
+        api.nvim_buf_call(buffer, function() self:note_rows(row, old, new, part) end)
+      end
     end,
   })
   return self
@@ -93,10 +43,8 @@ end
 -- The number of a row; else nil and, where it isn't one that was added, the numbers of which it may be.
 function Identity:number(row)
   local number = self.numbers:get(row)
-  if type(number) == "table" then
-    return nil, number
-  end
-  return number ~= 0 and number or nil
+  local is_mixed = type(number) == "table"
+  return number ~= 0 and not is_mixed and number or nil, is_mixed and number or nil
 end
 
 -- Puts numbers in the place of those of `count` rows, which are returned.
@@ -196,15 +144,13 @@ function Identity:settle()
   end
   self.came = nil
   local emptied = self.texts:size() == 1 and self.texts:get(0) == ""
-  local replaced, others, rest = {}, {}, {}
+  local replaced, others = {}, {}
   for _, number in ipairs(came.replaced) do
     replaced[number] = true
   end
   for row = came.row, came.row + came.count - 1 do
     local number = not emptied and self:returned(self.texts:get(row), replaced)
-    if not number and came.alone then
-      number = came.replaced[1]
-    end
+    number = number or came.alone and came.replaced[1]
     if number then
       self:put(row, 1, { number })
       replaced[number] = nil
@@ -212,9 +158,7 @@ function Identity:settle()
       others[#others + 1] = row
     end
   end
-  for _, number in ipairs(came.replaced) do
-    rest[#rest + 1] = replaced[number] and number or nil
-  end
+  local rest = vim.tbl_filter(function(number) return replaced[number] end, came.replaced)
   for _, row in ipairs(others) do
     self:put(row, 1, { #rest > 0 and not emptied and rest or 0 })
   end
@@ -222,9 +166,10 @@ end
 
 -- Rows have come in the place of `count` rows, and of those with the numbers `left`.
 function Identity:arrive(row, count, new, left)
-  local numbers, replaced = {}, vim.tbl_filter(function(number)
+  local function is_known(number)
     return number ~= 0
-  end, vim.tbl_flatten(left))
+  end
+  local numbers, replaced = {}, vim.tbl_filter(is_known, vim.tbl_flatten(left))
   for index = 1, new do
     numbers[index] = #replaced > 0 and replaced or 0
   end

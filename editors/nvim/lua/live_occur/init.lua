@@ -43,8 +43,7 @@ end
 -- Ends a list, and notes what it was, so that it can be resumed.
 local function finish(list, group)
   if not list.closed then
-    M.last = { buffers = {}, syntax = list.syntax, smart = list.smart, context = list.context, root = list.root,
-      flags = table.concat(vim.tbl_keys(list.flags)), patterns = list.patterns }
+    M.last = { buffers = {}, wish = list.wish, context = list.context, root = list.root }
     for _, file in ipairs(list.root and {} or list.files) do
       if shared.is_valid(file.buffer) then
         table.insert(M.last.buffers, file.buffer)
@@ -95,8 +94,8 @@ local function watch(list)
   on("BufWriteCmd", function(event) edit.write(list, event.file) end)
   on("BufWinEnter", list.set_window)
   on("CursorMoved", function() keys.moved(list) end)
-  on("BufLeave", function() keys.leave(list) end)
-  on("BufFilePost", function() list:rename() end, true)
+  on("BufLeave", function() keys.unmark() end)
+  on("BufFilePost", function() list:put_headings() end, true)
   on({ "BufReadPost", "BufNewFile", "BufWinEnter" }, function(event) list:loaded(event.buf) end, true)
 end
 
@@ -136,8 +135,8 @@ function M.open(pattern, buffers, options)
     return nil, fault
   end
   fault, place = list:change_now(function(wish)
-    wish.patterns, wish.syntax = wanted.patterns or vim.split(pattern, "\n"), wanted.syntax or wish.syntax
-    wish.smart = wanted.smart == nil and wish.smart or wanted.smart
+    wish.patterns = wanted.wish and wish.patterns or vim.split(pattern, "\n")
+    wish.syntax = wanted.syntax or wish.syntax
     switch(wish)
   end)
   if fault then
@@ -167,7 +166,9 @@ function M.command(call)
   local prompt = require("live_occur.prompt")
   local range = call.range > 0 and { call.line1, call.line2 } or nil
   local wanted, fault = prompt.read_words(call.args, range, call.bang)
-  if fault then
+  if prompt.reading then
+    return prompt.reading(wanted)
+  elseif fault then
     return blame(fault)
   elseif wanted.pattern ~= "" then
     return open_or_tell(wanted, call.mods)
@@ -175,7 +176,9 @@ function M.command(call)
   local function with(text)
     return vim.tbl_extend("force", wanted, { pattern = text })
   end
-  prompt.ask({ prompt = "List lines that match: " }, with, function(text) open_or_tell(with(text), call.mods) end)
+  prompt.ask({ prompt = "List lines that match: " }, with, function(text)
+    open_or_tell(with(text), call.mods)
+  end)
 end
 
 -- The list of a buffer, else the current one, else one in view.
@@ -234,7 +237,7 @@ function M.resume()
   if #buffers == 0 and not last.root then
     return blame("its buffers are gone")
   end
-  local pattern = table.concat(last.patterns, "\n")
+  local pattern = table.concat(last.wish.patterns, "\n")
   open_or_tell(vim.tbl_extend("force", last, { buffers = buffers, pattern = pattern }))
 end
 

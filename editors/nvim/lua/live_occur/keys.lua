@@ -1,6 +1,7 @@
 -- What the keys of a list do.
 
 local List = require("live_occur.list")
+local prompt = require("live_occur.prompt")
 local row_texts = require("live_occur.row")
 local shared = require("live_occur.shared")
 
@@ -10,15 +11,6 @@ local space = api.nvim_create_namespace("live_occur_shown")
 local PIECE = 5000 -- how many hits are put into the quickfix list at once
 local MINE = "LiveOccur: " -- what the description of each key begins with
 local M = {}
-
-function M.current()
-  return List.all[api.nvim_get_current_buf()]
-end
-
--- Asks for a text, and takes one that isn't empty.
-local function ask(options, take)
-  require("live_occur.prompt").ask(options, nil, take)
-end
 
 -- Going to lines
 
@@ -40,37 +32,30 @@ local function window_for(buffer)
   return usable or api.nvim_get_current_win()
 end
 
--- The list is left.
-function M.leave(list)
-  if not M.visiting then
-    M.unmark()
-    list.jumped = nil
-  end
-end
+-- The line that is shown, by its buffer and its window, is marked until the list is left.
+local shown = {}
 
--- The line that is shown is marked for as long as the list stays the current window.
 function M.unmark()
-  if M.marked and api.nvim_buf_is_valid(M.marked) then
-    api.nvim_buf_clear_namespace(M.marked, space, 0, -1)
+  if shared.is_valid(shown.buffer) then
+    api.nvim_buf_clear_namespace(shown.buffer, space, 0, -1)
   end
-  M.marked = nil
+  shown = {}
 end
 
--- Goes to a line of a file, from 0, in a window for it.
-function M.go_to(list, file, line, column, split, stay)
+-- Goes to a line of a file, from 0, in a window for it. That is a jump, but in a window that showed another
+-- line for the list just before.
+function M.go_to(list, file, line, column, split, shown_before)
   local buffer = list:open_buffer(file)
   api.nvim_set_current_win(window_for(buffer))
   if split then
     vim.cmd("split")
   end
-  if api.nvim_get_current_buf() ~= buffer and not pcall(vim.cmd, "buffer " .. buffer) then
+  if not pcall(vim.cmd, "buffer " .. buffer) then
     vim.cmd("sbuffer " .. buffer) -- The window's own buffer can't be left.
   end
-  local window = api.nvim_get_current_win()
-  if not stay or list.jumped ~= window then -- Many lines that are shown one after the other are one jump.
+  if api.nvim_get_current_win() ~= shown_before then
     vim.cmd("normal! m'")
   end
-  list.jumped = stay and window or nil
   line = math.min(line, api.nvim_buf_line_count(buffer) - 1)
   column = math.min(column, #shared.line(buffer, line) - 1)
   api.nvim_win_set_cursor(0, { line + 1, math.max(0, column) })
@@ -98,20 +83,19 @@ function M.visit(list, split, stay)
   if at.place then
     line, column = list:line_of(at.file, at.place), row_texts.column(at.parts)
   end
-  local list_window = api.nvim_get_current_win()
+  local list_window, shown_before = api.nvim_get_current_win(), stay and shown.window
   M.unmark()
-  M.visiting = stay
-  M.go_to(list, at.file, line, column, split, stay)
+  M.go_to(list, at.file, line, column, split, shown_before)
   if stay then
-    if fn.line(".") < fn.line("w0") + 1 or fn.line(".") > fn.line("w$") - 1 then
+    line = fn.line(".")
+    if line < fn.line("w0") + 1 or line > fn.line("w$") - 1 then
       vim.cmd("normal! zz")
     end
-    line, M.marked = fn.line(".") - 1, at.file.buffer
-    local options = { end_row = line + 1, hl_group = "LiveOccurChosen", hl_eol = true, strict = false }
-    api.nvim_buf_set_extmark(M.marked, space, line, 0, options)
+    shown = { buffer = at.file.buffer, window = api.nvim_get_current_win() }
+    local options = { end_row = line, hl_group = "LiveOccurChosen", hl_eol = true, strict = false }
+    api.nvim_buf_set_extmark(shown.buffer, space, line - 1, 0, options)
     api.nvim_set_current_win(list_window)
   end
-  M.visiting = false
 end
 
 -- Shows the line of the row, if the list follows, as the cursor moves.
@@ -127,19 +111,19 @@ end
 
 -- Asks for a pattern until one is taken, which is then that of this number: the prompt says why the one
 -- before was refused. Where nothing is typed the list stays as it is.
-local function ask_pattern(list, prompt, text, number, fault)
-  local typing = require("live_occur.prompt")
-  local options = { prompt = (fault and fault .. "; " or "") .. prompt, default = text }
-  typing.ask(options, function(pattern)
+local function ask_pattern(list, question, text, number, fault)
+  local options = { prompt = (fault and fault .. "; " or "") .. question, default = text }
+  prompt.ask(options, function(pattern)
     return { list = list, pattern = pattern, number = number }
   end, function(pattern)
-    local preview, switch = typing.left, typing.switch
+    local preview, switch = prompt.left, prompt.switch
     list:change(function(wish)
       wish.patterns[number or #wish.patterns + 1] = pattern
       switch(wish)
     end, function(problem, place)
       if problem then
-        return ask_pattern(list, prompt, pattern, number, place and problem:gsub(" in: .*", "") or problem)
+        local why = place and problem:gsub(" in: .*", "") or problem
+        return ask_pattern(list, question, pattern, number, why)
       end
       M.take_up(list, preview)
     end)
@@ -160,17 +144,24 @@ function M.show_fault(fault, pattern, place)
   }, true, {})
 end
 
-local function choose_pattern(list, prompt, take)
-  if #list.patterns == 0 then
-    return say("there is no pattern")
-  elseif #list.patterns == 1 then
-    return take(1)
-  end
-  shared.ask(vim.ui.select, list.patterns, { prompt = prompt }, function(_, number)
-    if number then
-      take(number)
+-- Lets one of some items be chosen, and takes its number and itself.
+local function choose(items, options, take)
+  shared.interrupted(vim.ui.select, items, options, function(item, number)
+    if item then
+      take(number, item)
     end
   end)
+end
+
+local function choose_pattern(list, question, take)
+  local patterns = list.wish.patterns
+  if #patterns == 0 then
+    say("there is no pattern")
+  elseif #patterns == 1 then
+    take(1)
+  else
+    choose(patterns, { prompt = question }, take)
+  end
 end
 
 local function drop_pattern(list)
@@ -181,14 +172,15 @@ end
 
 local function change_pattern(list)
   choose_pattern(list, "Change pattern", function(number)
-    ask_pattern(list, "Change pattern: ", list.patterns[number], number)
+    ask_pattern(list, "Change pattern: ", list.wish.patterns[number], number)
   end)
 end
 
 -- Options and buffers
 
 local function ask_context(list)
-  ask({ prompt = "Lines before and after: ", default = table.concat(list.context, " ") }, function(text)
+  local shown = table.concat(list.context, " ")
+  prompt.ask({ prompt = "Lines before and after: ", default = shown }, nil, function(text)
     local before, after = text:match("^%s*(%d+)%s+(%d+)%s*$")
     if not before then
       return blame("two numbers are needed")
@@ -203,7 +195,7 @@ local function toggle_follow(list)
 end
 
 local function add_buffer(list)
-  ask({ prompt = "Add buffer: ", completion = "buffer" }, function(text)
+  prompt.ask({ prompt = "Add buffer: ", completion = "buffer" }, nil, function(text)
     local buffer = fn.bufnr(text)
     if buffer < 1 then
       return blame("there is no one buffer " .. text)
@@ -213,14 +205,8 @@ local function add_buffer(list)
 end
 
 local function remove_buffer(list)
-  local function format(file)
-    return list:name_of(file)
-  end
-  shared.ask(vim.ui.select, list.files, { prompt = "Leave out buffer", format_item = format }, function(file)
-    if file then
-      list:remove_file(file)
-    end
-  end)
+  local options = { prompt = "Leave out buffer", format_item = function(file) return list:name_of(file) end }
+  choose(list.files, options, function(_, file) list:remove_file(file) end)
 end
 
 -- Quickfix
@@ -238,7 +224,7 @@ local function fill(list, id, first, tick)
     items[#items + 1] = { lnum = line, col = row_texts.column(parts) + 1, filename = file.path,
       bufnr = not file.path and file.buffer or nil, text = shared.line(list.buffer, row) }
   end)
-  local title = "LiveOccur " .. table.concat(list.patterns, "  ")
+  local title = "LiveOccur " .. table.concat(list.wish.patterns, "  ")
   local more = #items == PIECE or not list:settled()
   title = title .. (more and ("  %d so far"):format(first + #items - 1) or "")
   fn.setqflist({}, first == 1 and "r" or "a", { id = id, title = title, items = items })
@@ -254,9 +240,9 @@ function M.quickfix(list)
   end
   list:wait(100)
   fn.setqflist({}, " ", { title = "LiveOccur" })
-  fill(list, fn.getqflist({ id = 0 }).id, 1, api.nvim_buf_get_changedtick(list.buffer))
+  fill(list, fn.getqflist({ id = 0 }).id, 1)
   local first = fn.getqflist({ items = 1, size = 1 }).items[1]
-  if M.current() then -- So that :cnext takes another window than the list's.
+  if List.all[api.nvim_get_current_buf()] then -- So that :cnext takes another window than the list's.
     api.nvim_set_current_win(window_for(first and first.bufnr or 0))
   end
   vim.cmd("botright copen")

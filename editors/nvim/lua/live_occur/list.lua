@@ -6,8 +6,8 @@
 
 local Session = require("live_occur.session")
 local hunks = require("live_occur.hunks")
-local marks = require("live_occur.marks")
 local settings = require("live_occur.settings")
+local shared = require("live_occur.shared")
 
 local api, fn, uv = vim.api, vim.fn, vim.uv or vim.loop
 
@@ -19,10 +19,6 @@ for _, part in ipairs({ "sources", "wishes", "rows", "windows" }) do
   end
 end
 
-local function say(text, kind)
-  api.nvim_echo({ { "LiveOccur: " .. text, kind or "WarningMsg" } }, true, {})
-end
-
 -- Whether a command is typed: a buffer's text may be that of a preview then.
 function List.is_typing()
   return fn.mode():sub(1, 1) == "c"
@@ -30,30 +26,28 @@ end
 
 -- Making a list
 
--- A new list without patterns, which isn't shown yet. The options are `syntax`, `flags`, `range`, which is
--- the first and the last line that are searched, and `root`, a folder of which all files are searched.
--- Returns nil and a text where there is no program.
+-- A new list, which isn't shown yet. The options are `syntax`, `flags`, or the `wish` of another list, `range`,
+-- which is the first and the last line that are searched, and `root`, a folder of which all files are
+-- searched. Returns nil and a text where there is no program.
 function List.new(buffers, options)
   local self = setmetatable({
-    patterns = {},
-    syntax = options.syntax or settings.syntax,
-    flags = {},
-    smart = settings.smart_case,
-    context = { settings.context[1], settings.context[2] },
+    wish = options.wish or { patterns = {}, syntax = options.syntax or settings.syntax, flags = {},
+      smart = settings.smart_case },
+    context = settings.context,
     follow = settings.follow,
     files = {},
     hint = { 1, 1 }, -- the number of a file, and its first row
-    left_out = {}, -- how many files are left out, by the reason
     wishes = {}, -- changes of what matches that weren't answered yet
     question = 1, -- the number of the next question what changed
-    replies = {}, -- those to changes that are not yet applied
+    timer = uv.new_timer(),
   }, List)
-  for flag in (options.flags or settings.flags):gmatch("[ivx]") do
-    self.flags[flag] = true
+  self.at_pause = vim.schedule_wrap(function() self:step() end)
+  for flag in (options.wish and "" or options.flags or settings.flags):gmatch("[ivx]") do
+    self.wish.flags[flag] = true
   end
   local fault = self:start()
   if fault then
-    self:close()
+    self.timer:close()
     return nil, fault
   end
   for _, buffer in ipairs(buffers) do
@@ -67,43 +61,45 @@ end
 
 -- Makes the list's buffer.
 function List:make_buffer()
-  self.buffer = api.nvim_create_buf(false, true)
-  List.all[self.buffer] = self
-  local number = self.buffer
+  local buffer = api.nvim_create_buf(false, true)
+  self.buffer, List.all[buffer] = buffer, self
+  local number = buffer
   while fn.bufexists("live-occur://" .. number) == 1 do -- as after |:mksession|
     number = number + 1
   end
-  api.nvim_buf_set_name(self.buffer, "live-occur://" .. number)
-  local options = vim.bo[self.buffer]
-  options.bufhidden, options.undolevels, options.modifiable = "hide", -1, false
-  options.textwidth, options.wrapmargin, options.formatoptions = 0, 0, ""
-  options.autoindent, options.smartindent, options.cindent, options.indentexpr = false, false, false, ""
+  api.nvim_buf_set_name(buffer, "live-occur://" .. number)
+  shared.set(buffer, { bufhidden = "hide", undolevels = -1, modifiable = false, textwidth = 0, wrapmargin = 0,
+    formatoptions = "", autoindent = false, smartindent = false, cindent = false, indentexpr = "" })
   local searched = self.files[1] and self.files[1].buffer
   for _, name in ipairs({ "expandtab", "tabstop", "softtabstop", "shiftwidth" }) do
-    options[name] = searched and vim.bo[searched][name] or vim.go[name]
+    vim.bo[buffer][name] = searched and vim.bo[searched][name] or vim.go[name]
   end
   self:show_header()
+end
+
+-- Notes why the program is of no use any more.
+function List:fail(fault)
+  self.ended, self.wishes = fault, {}
+  self:show_header()
+  shared.blame(fault .. "; r in the list starts it again")
 end
 
 -- Starts the program. Returns a fault, if there is one.
 function List:start()
   local session, fault = Session.start(settings.program, settings.states, function(text)
-    self.ended, self.wishes = text, {}
+    self:fail(text)
     if self.trial then
       vim.schedule(require("live_occur.prompt").close)
     end
-    self:show_header()
-    say(text .. "; r in the list starts it again", "ErrorMsg")
   end)
+  self.ended = fault
   if not session then
-    self.ended = fault
     return fault
   end
-  self.session, self.ended, self.asked = session, nil, nil
-  self.replies, self.applying, self.paused, self.changed = {}, nil, false, false
-  self.wishes, self.known = {}, { syntax = "basic", texts = {}, flags = {}, wanted = self.syntax }
-  session:send("text " .. (self.from_disk and "on" or "off"), nil, self:accepted())
-  session:send("flag o on", nil, self:accepted())
+  self.session, self.asked, self.applying, self.paused, self.changed = session, nil, nil, false, false
+  self.wishes, self.known = {}, { syntax = "basic", texts = {}, flags = {}, wanted = self.wish.syntax }
+  self:order("text " .. (self.from_disk and "on" or "off"))
+  self:order("flag o on")
 end
 
 -- Sends a command that has to be accepted.
@@ -117,28 +113,22 @@ function List:accepted()
   return function(reply)
     if reply.kind ~= "ok" then
       session:close()
-      self.ended = "occur refused a command: " .. reply.text
-      self:show_header()
-      say(self.ended .. "; r in the list starts it again", "ErrorMsg")
+      self:fail("occur refused a command: " .. reply.text)
     end
   end
 end
 
 -- Starts the program again, with the patterns, the flags and the buffers of the list.
 function List:restart()
-  if self.session then
-    self.session:close()
-  end
+  self.session:close()
   local fault = self:start()
   if fault then
     self:show_header()
-    return say(fault, "ErrorMsg")
+    return shared.blame(fault)
   end
   self.had_hits = false
   self:put(1, -1, {})
-  self.files = vim.tbl_filter(function(file)
-    return not file.closed
-  end, self.files)
+  self.files = vim.tbl_filter(function(file) return not file.closed end, self.files)
   self:number_files()
   for _, file in ipairs(self.files) do
     self:forget(file)
@@ -153,18 +143,14 @@ function List:close()
   end
   self.closed = true
   self:stop_reading()
+  if self.edit then
+    require("live_occur.edit").clear(self, self.edit)
+  end
   for _, file in ipairs(self.files) do
     file.attached = nil
-    if self.edit and file.buffer then
-      marks.clear(file.buffer, self.edit.space)
-    end
   end
-  if self.timer then
-    self.timer:close()
-  end
-  if self.session then
-    self.session:close()
-  end
+  self.timer:close()
+  self.session:close()
   if self.buffer then
     List.all[self.buffer] = nil
   end
@@ -174,18 +160,8 @@ end
 
 -- Brings the list up to date at the next pause.
 function List:later()
-  if self.closed then
-    return
-  elseif not self.timer then
-    self.timer = uv.new_timer()
-    self.at_pause = vim.schedule_wrap(function()
-      self:step()
-    end)
-  end
-  local now = uv.now()
-  if self.later_at ~= now then -- One of many edits at once is enough.
+  if not self.closed then
     self.timer:start(settings.delay, 0, self.at_pause) -- anew, where it runs
-    self.later_at = now
   end
 end
 
@@ -195,21 +171,12 @@ function List:send_hunks(file, room)
     local first = file.from + hunk.at
     local lines = api.nvim_buf_get_lines(file.buffer, first, first + hunk.added, false)
     local command = ("splice %d %d %d %d"):format(file.index - 1, hunk.at, hunk.removed, hunk.added)
-    self.session:send(command, lines, self:accepted())
+    self:order(command, lines)
     hunk.question, self.changed = self.question, true
     table.insert(file.sent, hunk)
     room = room - hunk.added
   end
   return room
-end
-
--- Asks what changed.
-function List:ask_changes()
-  local files, question = vim.list_extend({}, self.files), self.question
-  self.asked, self.question, self.changed = true, question + 1, false
-  self.session:send("changes", nil, function(reply)
-    self:report(reply, files, question)
-  end)
 end
 
 -- Sends what was edited, at most a slice of it.
@@ -247,41 +214,25 @@ function List:step()
   end
   self:send()
   if self.changed and self.buffer then
-    self:ask_changes()
+    local files, question = vim.list_extend({}, self.files), self.question
+    self.asked, self.question, self.changed = true, question + 1, false
+    self.session:send("changes", nil, function(reply) self:report(reply, files, question) end)
   elseif self.due then
     self:later()
   end
-  self:start_edit()
-end
-
--- Begins to edit rows, if that is wanted and the list is right.
-function List:start_edit()
-  if self.edit_wanted then
-    require("live_occur.edit").start(self)
-  end
-end
-
--- Goes on after rows were edited.
-function List:go_on()
-  self:rename()
-  self:put_headings()
-  self:step()
-  self:show_header()
-  self:redraw()
+  require("live_occur.edit").start(self)
 end
 
 -- Brings the list up to date, and waits for it. Returns false if that takes too long.
 function List:wait(milliseconds)
   self:step()
-  return vim.wait(milliseconds or 10000, function()
-    return self:settled()
-  end, 1)
+  return vim.wait(milliseconds or 10000, function() return self:settled() end, 1)
 end
 
--- Whether there are edits that were not sent, or files that were not read.
+-- Whether there are edits that were not sent, or files that were not read, or that leave.
 function List:has_edits()
   for _, file in ipairs(self.files) do
-    if #file.pending > 0 or file.unread then
+    if #file.pending > 0 or file.unread or file.closed then
       return true
     end
   end
@@ -293,50 +244,45 @@ function List:settled()
   if self.closed or self.ended or self.edit then
     return true
   end
-  for _, file in ipairs(self.files) do
-    if file.closed then
-      return false
-    end
-  end
   return not (self.wishes[1] or self.asked or self.changed or self.session:busy() or self:has_edits())
 end
 
 -- The header
 
-local function counted(number, what)
-  return number .. " " .. what .. (number == 1 and "" or "s")
+-- How many files are left out, and why.
+local function left_out(files)
+  local total, counts = 0, {}
+  for _, file in ipairs(files) do
+    if file.path and file.reason then
+      total, counts[file.reason] = total + 1, (counts[file.reason] or 0) + 1
+    end
+  end
+  local reasons = {}
+  for reason, count in pairs(counts) do
+    reasons[#reasons + 1] = count .. " " .. reason
+  end
+  table.sort(reasons)
+  return total > 0 and ("%d left out (%s)"):format(total, table.concat(reasons, ", ")) or nil
 end
 
 function List:header()
-  local words = { self:options() }
+  local counted = shared.counted
+  local hits = counted(self:total(), "hit") .. ", " .. counted(#self.files, self.root and "file" or "buffer")
+  local words = { self:options(), table.concat(self.wish.patterns, "  "), hits, left_out(self.files) }
   if self:around() then
-    words[#words + 1] = ("-B %d -A %d"):format(self.context[1], self.context[2])
+    table.insert(words, 2, ("-B %d -A %d"):format(unpack(self.context)))
   end
-  words[#words + 1] = table.concat(self.patterns, "  ")
-  words[#words + 1] = counted(self:total(), "hit") .. ", " .. counted(#self.files, self.root and "file" or "buffer")
-  local left_out, reasons = 0, {}
-  for reason, count in pairs(self.left_out) do
-    left_out, reasons[#reasons + 1] = left_out + count, count .. " " .. reason
-  end
-  if left_out > 0 then
-    table.sort(reasons)
-    words[#words + 1] = ("%d left out (%s)"):format(left_out, table.concat(reasons, ", "))
-  end
-  if self.ended then
-    words[#words + 1] = self.ended
-  elseif self.due or self.paused or self.listing then
-    words[#words + 1] = "more to come"
-  end
+  local more = self.due or self.paused or self.listing
+  words[#words + 1] = self.ended or more and "more to come" or nil
   return table.concat(words, "  ")
 end
 
 function List:show_header()
-  if self.edit or self.trial or not self.buffer or not api.nvim_buf_is_valid(self.buffer) then
+  if self.edit or self.trial or not shared.is_valid(self.buffer) then
     return
   end
   local text = self:header():gsub("[\n%z]", " ")
-  if text ~= self.shown_header then
-    self.shown_header = text
+  if text ~= shared.line(self.buffer, 0) then
     self:put(0, 1, { text })
   end
 end

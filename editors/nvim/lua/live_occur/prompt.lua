@@ -25,35 +25,6 @@ Preview.__index = Preview
 
 -- What is typed
 
--- The line of an address such as 10, $-2 or 'a, or nil. One without a line is counted from `here`.
-local function line_of(address, here)
-  local base, rest = address:match("^%s*('.)(.*)$")
-  if not base then
-    base, rest = address:match("^%s*([%d.$]*)(.*)$")
-  end
-  local line = tonumber(base) or (base == "" or base == ".") and here or fn.line(base)
-  for sign, number in rest:gmatch("([+-])(%d*)") do
-    line = line + tonumber(sign .. (number == "" and "1" or number))
-  end
-  return not rest:gsub("[+-]%d*", ""):find("%S") and line > 0 and line or nil
-end
-
--- The first and the last line of a range, as far as it has plain addresses; nil and true for another.
-local function range_of(text)
-  if not text:find("%S") then
-    return nil
-  elseif vim.trim(text) == "%" then
-    return { 1, fn.line("$") }
-  end
-  local first, mark, last = text:match("^([^,;]*)([,;]?)(.*)$")
-  first = line_of(first, fn.line("."))
-  last = first and (mark == "" and first or line_of(last, mark == ";" and first or fn.line(".")))
-  if not last then
-    return nil, true
-  end
-  return { math.min(first, last), math.max(first, last) }
-end
-
 -- The buffers that `++buffers=` names.
 local function buffers_of(names)
   if names == "all" then
@@ -91,20 +62,32 @@ function M.read_words(words, range, bang)
   return wanted
 end
 
--- What is typed now would list this, or nil.
+-- What is typed now would list this, or nil. Vim itself reads a command of a plain range and nothing more:
+-- it is run, and says to `reading` what it would list.
 local function target()
   local kind, text = fn.getcmdtype(), fn.getcmdline()
   if kind == "@" and M.prompt then
     return M.prompt(text)
   end
-  local before, bang, words = text:match("^[%s:]*(.-)LiveOccur(!?)%s+(.*)$")
-  local range, unknown = range_of((before or ""):gsub("%l+%s", ""))
-  return kind == ":" and before and not unknown and M.read_words(words, range, bang == "!") or nil
+  local before, command = text:match("^[%s:]*(.-)(LiveOccur!?%s.*)$")
+  local range, wanted = (before or "?"):gsub("%l+%s", ""), nil
+  if kind ~= ":" or range:gsub("'.", ""):find("[^%d%s.,;$%%+-]") then
+    return nil
+  end
+  local view = fn.winsaveview()
+  function M.reading(read)
+    wanted = read
+  end
+  pcall(api.nvim_command, range .. command)
+  M.reading = nil
+  fn.winrestview(view)
+  return wanted
 end
 
 -- What tells one list from another that it can't take over.
 local function key_of(wanted)
-  return vim.inspect({ wanted.buffers, wanted.range, wanted.root, wanted.list and wanted.list.buffer, wanted.number })
+  local list = wanted.list and wanted.list.buffer
+  return vim.inspect({ wanted.buffers, wanted.range, wanted.root, list, wanted.number })
 end
 
 -- The list
@@ -149,11 +132,16 @@ function Preview:step()
   end
   local before = list.session.sent
   list:send()
-  if list.session.sent > before then
+  if list.session.sent > before or self.partial and not self:is_partial() then
     self:ask_page()
   elseif list.due then
     list:later()
   end
+end
+
+-- Whether files or edits are still to come.
+function Preview:is_partial()
+  return self.list.due or self.list:has_edits()
 end
 
 function Preview:ask_page()
@@ -187,7 +175,8 @@ end
 -- The rows that are shown for the hits of a page, and marks on them.
 function Preview:rows(total, hits, first)
   local list, file = self.list, nil
-  local so_far = (list.due or list:has_edits()) and " so far" or ""
+  self.partial = self:is_partial()
+  local so_far = self.partial and " so far" or ""
   local rows = { (self.fault or shared.counted(total, "hit") .. so_far) .. "  " .. list:options() }
   local found = { {} }
   for number, hit in ipairs(hits) do
@@ -252,14 +241,10 @@ function Preview:open(height)
   vim.wo[self.window].winhighlight, vim.wo[self.window].wrap = "NormalFloat:Normal", false
 end
 
--- Shows the hits of a page, where they aren't those of before.
+-- Shows the hits of a page.
 function Preview:show(total, hits, first)
-  self.total = total
   local rows, found = self:rows(total, hits, first)
-  if vim.deep_equal(rows, self.shown) and self.chosen == self.shown_chosen then
-    return
-  end
-  self.shown, self.shown_chosen = rows, self.chosen
+  self.total, self.shown = total, rows
   draw.start()
   self:open(#rows)
   api.nvim_buf_set_lines(self.buffer, 0, -1, false, rows)
@@ -346,7 +331,7 @@ local function set_keys()
   end
   function M.drop_keys()
     M.drop_keys = nil
-    for _, key in ipairs(api.nvim_buf_is_valid(buffer) and set or {}) do
+    for _, key in ipairs(set) do
       pcall(vim.keymap.del, "c", key, { buffer = buffer })
     end
   end
@@ -393,7 +378,6 @@ function M.shrink()
   if M.now and M.now:has_window() then
     timer:stop()
     api.nvim_buf_set_lines(M.now.buffer, 0, -1, false, {})
-    M.now.shown = nil
     local place = { relative = "editor", width = 1, height = 1, col = vim.o.columns - 1, row = vim.o.lines - 1 }
     api.nvim_win_set_config(M.now.window, place)
     M.now:clear()
@@ -437,7 +421,7 @@ end
 -- Asks for a text by `vim.ui.input`, and takes one that isn't empty; `listed` says what a text would list.
 function M.ask(options, listed, take)
   M.prompt = listed
-  shared.ask(vim.ui.input, options, function(text)
+  shared.interrupted(vim.ui.input, options, function(text)
     M.prompt = nil
     if text and text ~= "" then
       take(text)

@@ -5,8 +5,10 @@ local row_texts = require("live_occur.row")
 local settings = require("live_occur.settings")
 local shared = require("live_occur.shared")
 
-local api = vim.api
+local api, uv = vim.api, vim.uv or vim.loop
 local PIECE = 5000 -- how many rows are put at once
+local NO_HITS = { count = 0 }
+local PACE = 2e7 -- nanoseconds for which pieces of a reply are applied at once
 local M = {}
 
 -- Takes out the hunks of a file that were sent before a question, up to a line: a reply has told of them.
@@ -20,61 +22,39 @@ end
 
 -- Replies
 
--- Takes a reply to changes: `files` are those of the session at that time. Replies are applied one
--- after the other, and a long one in pieces, between which Neovim does what waits.
+-- Takes a reply to changes: `files` are those of the session at that time. A long one is applied in pieces,
+-- between which Neovim does what waits.
 function M:report(reply, files, question)
-  table.insert(self.replies, { reply, files, question })
-  if not self.applying then
-    self.applying = coroutine.create(function()
-      while self.replies[1] do
-        self:apply_reply(unpack(table.remove(self.replies, 1)))
-      end
-    end)
-    self:apply_more()
-  end
+  self.applying = coroutine.wrap(function() self:apply_reply(reply, files, question) end)
+  self:go_on(self.applying)
 end
 
--- Applies replies up to the next pause or to the end.
-function M:apply_more()
-  local applying = self.applying
-  local ran, fault = coroutine.resume(applying)
-  if self.applying == applying and coroutine.status(applying) == "dead" then
-    self.applying = nil
+-- Goes on with a reply, unless another one came. Rows are made of the lines of buffers, so that waits while
+-- a command is typed.
+function M:go_on(applying)
+  if self.applying ~= applying or self.closed then
+    return
+  elseif self.is_typing() then
+    return vim.defer_fn(function() self:go_on(applying) end, settings.delay)
   end
-  if not ran then
-    error(fault)
-  end
+  self.till = uv.hrtime() + PACE
+  applying()
 end
 
--- Ends a piece: what waits comes first, and then the next one; or, with a reply, more of that. Rows are
--- made of the lines of buffers, so it goes on when no command is typed.
-function M:pause(windows, reply)
+-- Ends a piece: what waits comes first, and then the next one; or, with a reply, more of that.
+function M:pause(reply)
   local applying = self.applying
   local function go_on()
-    if self.applying == applying and not self.closed then
-      self:apply_more()
-    end
-  end
-  for _, kept in ipairs(windows) do
-    kept.seen = api.nvim_win_get_cursor(kept.window)[1]
+    self:go_on(applying)
   end
   if reply then
     reply.waits = go_on
   else
-    vim.defer_fn(go_on, self.is_typing() and settings.delay or 1)
+    vim.defer_fn(go_on, 1)
   end
   self.paused = true
   self:show_header()
   coroutine.yield()
-  for index = #windows, 1, -1 do
-    local window, seen = windows[index].window, windows[index].seen
-    if not api.nvim_win_is_valid(window) or api.nvim_win_get_cursor(window)[1] ~= seen then
-      table.remove(windows, index) -- Its cursor was moved since.
-    end
-  end
-  if self.is_typing() then
-    self:pause(windows)
-  end
 end
 
 -- Applies the reply to a question.
@@ -83,26 +63,25 @@ function M:apply_reply(reply, files, question)
     self.asked = nil
     return self:accepted()(reply)
   end
-  local windows = self:keep_windows()
-  if self.is_typing() then
-    self:pause(windows)
-  end
-  local number = 1
-  while reply.blocks[number] or not reply.kind do
-    local block = reply.blocks[number]
-    if block then
-      self:apply(files[block.words[1] + 1], reply, block, windows, question)
-      number = number + 1
-    else
-      self:pause(windows, reply)
+  local number = 0
+  repeat
+    number = number + 1
+    while not reply.kind and not reply.pieces[number + 1] do
+      self:pause(reply)
     end
-  end
+    local piece, next_piece = reply.pieces[number], reply.pieces[number + 1]
+    if piece then
+      reply.pieces[number] = false -- It isn't needed any more.
+      self:apply_piece(files[piece.file + 1], piece, question)
+      self.session:taken(reply)
+      self:end_piece(files[piece.file + 1], next_piece)
+    end
+  until not piece
   for _, file in ipairs(files) do
     forget_sent(file, question, math.huge)
   end
-  if #reply.blocks > 0 then
-    self:to_first_hit(windows)
-    self:restore_windows(windows)
+  if number > 1 then
+    self:to_first_hit()
   end
   self.asked, self.paused = nil, false
   if self.due then
@@ -110,70 +89,44 @@ function M:apply_reply(reply, files, question)
   end
   self:show_header()
   self:redraw()
-  if #reply.blocks > 0 then
+  if number > 1 then
     require("live_occur").tell("LiveOccurUpdate", self.buffer)
   end
-  self:start_edit()
+  require("live_occur.edit").start(self)
 end
 
--- Applies one h line, with its hits.
-function M:apply(file, reply, block, windows, question)
-  local number = 1
-  -- The next piece of the block, which is whole once another one has come, or nil at its end.
-  local function next_piece()
-    while not block.done and not block.pieces[number + 1] do
-      self:pause(windows, reply)
-    end
-    return block.pieces[number]
+-- Takes the stale rows out that are left, unless the next piece has more hits of the same h line.
+function M:end_piece(file, next_piece)
+  local is_more = next_piece and not next_piece.front
+  while not is_more and file.stale > 0 and not file.closed do
+    self:pause()
+    self:apply_piece(file, NO_HITS)
   end
-  local piece = next_piece()
-  forget_sent(file, question, block.words[2] + block.words[4])
-  self:cut(file, block, windows)
-  while true do
-    self:apply_piece(file, piece, windows)
-    if piece then
-      block.pieces[number] = false -- It isn't needed any more.
-      self.session:taken(reply)
-    end
-    number = number + 1
-    local more = not block.done or block.pieces[number]
-    if not more and (file.closed or file.stale == 0) then
-      break
-    end
-    self:pause(windows)
-    piece = more and next_piece()
+  if is_more or uv.hrtime() > self.till then
+    self:pause()
   end
 end
 
--- Takes the hits of replaced lines out of a file. Their rows stay for now, as stale ones.
-function M:cut(file, block, windows)
+-- Puts the hits of a piece into a list. The rows of hits that went stay for now, as stale ones, and some of
+-- them are taken out.
+function M:apply_piece(file, piece, question)
+  if piece.front then
+    forget_sent(file, question, piece.front + piece.added)
+    file.stale = file.closed and 0 or select(2, file.hits:cut(piece.front, piece.removed, piece.added))
+  end
+  local texts, index = {}, file.hits:before()
   if file.closed then
     return
   end
-  local index, gone = file.hits:cut(block.words[2], block.words[3], block.words[4])
-  local row = self:hits_row(file) + index
-  self.move_kept(windows, row, row + gone, block.words[5])
-  file.stale = gone
-end
-
--- Puts the hits of a piece of an h line, if there is one, into a list, and takes some of the stale rows
--- after them out.
-function M:apply_piece(file, piece, windows)
-  local texts, index = {}, file.hits.before
-  if file.closed or not piece and file.stale == 0 and not file.heading then
-    return
-  end
-  for number = 1, piece and piece.count or 0 do
+  for number = 1, piece.count do
     local place, parts, start = piece.places[number], piece.parts[number], nil
     texts[number], start = row_texts.text(piece.lines[number] or self:text_of(file, place), parts)
     file.hits:push(place, row_texts.kept_parts(parts, start))
   end
-  local row = self:hits_row(file) + index
   local gone = math.min(file.stale, PIECE, settings.slice)
-  self:put(row, row + gone, texts)
-  self:grow(file, #texts - gone)
+  self:put_rows(file, self:hits_row(file) + index, gone, texts)
   file.stale = file.stale - gone
-  self:put_heading(file, self:row_of(file), windows)
+  self:put_heading(file, self:row_of(file))
 end
 
 -- Rows
@@ -195,14 +148,6 @@ function M:hits_row(file)
   return self:row_of(file) + (file.heading and 1 or 0)
 end
 
--- Notes that a file has so many rows more.
-function M:grow(file, count)
-  file.shown = file.shown + count
-  if file.index < self.hint[1] then
-    self.hint = { 1, 1 }
-  end
-end
-
 -- What a row of the list's buffer is: nil for the header, else a table with `file`, and `place` (of the last
 -- report) and `parts` for a hit, or `heading`. One that is about to be taken out is `stale`.
 function M:at(row)
@@ -218,11 +163,11 @@ function M:at(row)
   if not file then
     return nil
   end
-  local after = file.hits.before + file.stale
+  local after = file.hits:before() + file.stale
   local index = row - hint[2] + (file.heading and 0 or 1)
   if index == 0 then
     return { file = file, heading = true }
-  elseif file.closed or index > file.hits.before and index <= after then
+  elseif file.closed or index > file.hits:before() and index <= after then
     return { file = file, stale = true }
   end
   local place, parts = file.hits:get(index > after and index - file.stale or index)
@@ -239,55 +184,49 @@ function M:text_of(file, place)
   return shared.line(file.buffer, self:line_of(file, place)) or ""
 end
 
--- Replaces rows of the list's buffer, and moves what is kept of its windows with them.
-function M:put(first, last, texts, windows)
+-- Replaces rows of the list's buffer. The cursors of its windows stay on theirs.
+function M:put(first, last, texts)
   local buffer = self.buffer
   if not buffer or (first == last and #texts == 0) then
     return
   end
+  last = last < 0 and api.nvim_buf_line_count(buffer) or last
+  local windows = self:keep_windows()
   vim.bo[buffer].modifiable = true
   api.nvim_buf_set_lines(buffer, first, last, false, texts)
   vim.bo[buffer].modifiable, vim.bo[buffer].modified = false, false
-  self.move_kept(windows or {}, first, last, #texts)
+  self:restore_windows(windows, first, last, #texts)
 end
 
--- Puts the row with the name of a file, which is this one, or takes it out.
-function M:put_heading(file, row, windows)
-  local wanted = #self.files > 1 and file.hits:count() + file.stale > 0
-  if wanted ~= file.heading then
-    self:put(row, row + (file.heading and 1 or 0), wanted and { self:name_of(file) } or {}, windows)
-    self:grow(file, wanted and 1 or -1)
-    file.heading = wanted
+-- Puts rows of a file in the place of so many others from a row on.
+function M:put_rows(file, row, gone, texts)
+  self:put(row, row + gone, texts)
+  file.shown = file.shown + #texts - gone
+  if file.index < self.hint[1] then
+    self.hint = { 1, 1 }
+  end
+end
+
+-- Puts the row with the name of a file, which is this one, writes it anew, or takes it out.
+function M:put_heading(file, row)
+  local has_rows = #self.files > 1 and file.hits:count() + file.stale > 0
+  local heading = has_rows and self:name_of(file) or nil
+  if heading ~= file.heading then
+    self:put_rows(file, row, file.heading and 1 or 0, { heading })
+    file.heading = heading
   end
 end
 
 function M:put_headings()
-  local windows = self:keep_windows()
   local row = 1
-  for _, file in ipairs(self.buffer and self.files or {}) do
-    self:put_heading(file, row, windows)
-    row = row + file.shown
-  end
-  self:restore_windows(windows)
-end
-
--- Writes the names of all buffers anew.
-function M:rename()
-  if self.closed or self.edit or not self.buffer then
-    return
-  end
-  local row = 1
-  for _, file in ipairs(self.files) do
-    if file.heading then
-      self:put(row, row + 1, { self:name_of(file) })
-    end
+  for _, file in ipairs(self.buffer and not self.edit and self.files or {}) do
+    self:put_heading(file, row)
     row = row + file.shown
   end
 end
 
 -- Writes the rows of a list whose buffer was loaded anew, as by `:e`.
 function M:renew_rows()
-  self.shown_header = nil
   self:put(0, -1, { "" })
   self:restart()
 end
@@ -310,7 +249,7 @@ function M:each_hit(first, last, take)
     local head = row + (file.heading and 1 or 0) - 1
     for index = math.max(1, first - number), math.min(count, last - number) do
       local place, parts = file.hits:get(index)
-      local shown = index > file.hits.before and index + file.stale or index
+      local shown = index > file.hits:before() and index + file.stale or index
       take(file, self:line_of(file, place) + 1, parts, head + shown)
     end
     number, row = number + count, row + file.shown
@@ -335,7 +274,7 @@ local function lines_of(self, file, first, last)
   if not file.path then
     return shared.lines(file.buffer, first, last)
   elseif self.read ~= file.path then -- The last file that was read is kept.
-    self.read, self.read_lines = file.path, vim.split(self:read_file(file) or "\n", "\n", { plain = true })
+    self.read, self.read_lines = file.path, vim.split(self.read_file(file.path) or "\n", "\n", { plain = true })
   end
   return vim.list_slice(self.read_lines, first + 1, math.min(last, file.to))
 end

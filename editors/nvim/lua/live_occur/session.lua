@@ -11,19 +11,27 @@ Session.__index = Session
 -- Replies
 
 -- A reply is a table: `kind` is ok, refused, status or occur, `text` what follows it. The reply to
--- changes has `blocks`, one for each h line, with pieces: each has arrays of the places, parts and lines
--- of some hits. The reply to page has `total` and one such piece as `page`, with the numbers of files
--- too. After `text off` the lines are left out.
+-- changes has `pieces`, with the number of a file and arrays of the places, parts and lines of some hits:
+-- one for each h line, with its `front`, `removed` and `added`, and after it others for more of its hits.
+-- The reply to page has `total` and one piece as `page`, with the numbers of files too. After `text off`
+-- the lines are left out.
 --
--- A long reply to changes is given out before it is whole: it has no `kind` then. A block is whole
--- when it is `done`, and a piece when there is another one after it. `waits` is called when more of
--- the reply has come. Nothing is read while several pieces were not taken.
-local function new_piece()
-  return { count = 0, files = {}, places = {}, parts = {}, lines = {} }
+-- A long reply to changes is given out before it is whole: it has no `kind` then. A piece is whole when
+-- there is another one after it. `waits` is called when more of the reply has come. Nothing is read while
+-- several pieces were not taken.
+local function new_piece(file)
+  return { file = file, count = 0, files = {}, places = {}, parts = {}, lines = {} }
 end
 
 local function new_reply()
-  return { blocks = {}, ahead = 0 }
+  return { pieces = {}, ahead = 0 }
+end
+
+local function add_piece(reply, file)
+  local piece = new_piece(file)
+  table.insert(reply.pieces, piece)
+  reply.ahead = reply.ahead + 1
+  return piece
 end
 
 -- Reads a number in a text, from `start` on, and returns the place after it. No string is made for
@@ -53,14 +61,8 @@ end
 
 -- The piece of a reply for the next hit.
 local function piece_of(reply)
-  local pieces = reply.blocks[#reply.blocks].pieces
-  local last = pieces[#pieces]
-  if not last or last.count >= math.min(PIECE, settings.slice) then
-    last = new_piece()
-    pieces[#pieces + 1] = last
-    reply.ahead = reply.ahead + 1
-  end
-  return last
+  local last = reply.pieces[#reply.pieces]
+  return last.count < math.min(PIECE, settings.slice) and last or add_piece(reply, last.file)
 end
 
 -- Reads one line of a reply, and returns whether the reply ends with it.
@@ -79,12 +81,10 @@ local function read_line(reply, text, start, finish)
     reply.total, reply.page = tonumber(rest), new_piece()
     return false
   end
-  local last = reply.blocks[#reply.blocks]
-  if last then
-    last.done = true
-  end
   if kind == "h" then
-    table.insert(reply.blocks, { words = vim.tbl_map(tonumber, vim.split(rest, " ")), pieces = {} })
+    local file, front, removed, added = rest:match("^(%d+) (%d+) (%d+) (%d+)")
+    local piece = add_piece(reply, tonumber(file))
+    piece.front, piece.removed, piece.added = tonumber(front), tonumber(removed), tonumber(added)
     return false
   end
   reply.kind, reply.text = kind, rest
@@ -109,18 +109,15 @@ function Session:read(text)
     newline = text:find("\n", start, true)
   end
   self.rest = { text:sub(start) }
-  if #self.reply.blocks > 0 then
+  if #self.reply.pieces > 0 then
     self:give(self.reply)
   end
 end
 
 -- Gives a reply to the function that waits for it; or tells it that more has come.
 function Session:give(reply)
-  local wanted = reply.waits
-  if not reply.given then
-    reply.given, wanted = true, self.waiting[self.answered + 1]
-  end
-  reply.waits = nil
+  local wanted = reply.waits or not reply.given and self.waiting[self.answered + 1]
+  reply.given, reply.waits = true, nil
   if wanted then
     vim.schedule(function()
       if not self.closed then
@@ -151,16 +148,12 @@ end
 function Session:go_on()
   if self.stopped and not self.closed then
     self.stopped = false
-    self:read_output()
+    self.output:read_start(function(_, text)
+      if text then
+        self:read(text)
+      end
+    end)
   end
-end
-
-function Session:read_output()
-  self.output:read_start(function(_, text)
-    if text then
-      self:read(text)
-    end
-  end)
 end
 
 -- The process
@@ -168,7 +161,7 @@ end
 -- Starts the program. `ended` is called with a text when it ends by itself. Returns nothing and a
 -- text where it can't be started.
 function Session.start(program, states, ended)
-  local self = { rest = {}, reply = new_reply(), waiting = {}, sent = 0, answered = 0 }
+  local self = { rest = {}, reply = new_reply(), waiting = {}, sent = 0, answered = 0, stopped = true }
   setmetatable(self, Session)
   self.input, self.output, self.errors = uv.new_pipe(false), uv.new_pipe(false), uv.new_pipe(false)
   local said = {}
@@ -189,10 +182,8 @@ function Session.start(program, states, ended)
     self:close()
     return nil, program .. " can't be started: " .. tostring(self.pid)
   end
-  self:read_output()
-  self.errors:read_start(function(_, text)
-    said[#said + 1] = text
-  end)
+  self:go_on()
+  self.errors:read_start(function(_, text) said[#said + 1] = text end)
   return self
 end
 

@@ -23,17 +23,30 @@ function M.short(fault)
   return (tostring(fault):gsub("^.-(E%d+:)", "%1"))
 end
 
--- Calls a function that asks for something. CTRL-C ends that.
-function M.ask(call, ...)
+-- Whether a fault of Vim is that CTRL-C was typed.
+function M.is_interrupt(fault)
+  return tostring(fault):find("Keyboard interrupt", 1, true) ~= nil
+end
+
+-- Calls a function, and returns whether CTRL-C ended it.
+function M.interrupted(call, ...)
   local ran, problem = pcall(call, ...)
-  if not ran and not tostring(problem):find("Keyboard interrupt", 1, true) then
+  if not ran and not M.is_interrupt(problem) then
     error(problem, 0)
   end
+  return not ran
 end
 
 -- Whether there is such a buffer.
 function M.is_valid(buffer)
   return buffer ~= nil and api.nvim_buf_is_valid(buffer)
+end
+
+-- Sets options of a buffer.
+function M.set(buffer, options)
+  for name, value in pairs(options) do
+    vim.bo[buffer][name] = value
+  end
 end
 
 -- The lines of a buffer from `first` on and before `last`, from 0.
@@ -51,13 +64,14 @@ function M.counted(number, what)
   return number .. " " .. what .. (number == 1 and "" or "s")
 end
 
--- Where two lists differ: how many items are the same at first, and how many of each are then others.
-function M.difference(old, new)
+-- Where two lists or texts differ: how many items are the same at first, and how many of each are then
+-- others. `item` gives one of them by its number.
+function M.difference(old, new, item)
   local first, last, shorter = 0, 0, math.min(#old, #new)
-  while first < shorter and old[first + 1] == new[first + 1] do
+  while first < shorter and item(old, first + 1) == item(new, first + 1) do
     first = first + 1
   end
-  while last < shorter - first and old[#old - last] == new[#new - last] do
+  while last < shorter - first and item(old, #old - last) == item(new, #new - last) do
     last = last + 1
   end
   return first, #old - first - last, #new - first - last

@@ -28,7 +28,7 @@ end
 -- Lines that the program has of a file, and its rows, are no longer those of this session.
 function M:forget(file)
   file.pending, file.sent, file.hits = {}, {}, Hits.new()
-  file.shown, file.heading, file.stale, file.joined = 0, false, 0, nil
+  file.shown, file.heading, file.stale, file.joined = 0, nil, 0, nil
   if file.path then
     file.from, file.to, file.unread, file.state = 0, 0, true, nil
   else
@@ -88,11 +88,7 @@ function M:leave(file)
   if self.closed or self.files[file.index] ~= file then
     return
   end
-  local windows, row = self:keep_windows(), self:row_of(file)
-  local count = math.min(file.shown, settings.slice, 5000)
-  self:put(row, row + count, {}, windows)
-  self:grow(file, -count)
-  self:restore_windows(windows)
+  self:put_rows(file, self:row_of(file), math.min(file.shown, settings.slice, 5000), {})
   if file.shown > 0 then
     return vim.defer_fn(function() self:leave(file) end, 1)
   end
@@ -181,17 +177,17 @@ end
 -- Takes care that what is known of a buffer is right: it may have been unloaded, loaded anew or
 -- wiped since. While rows are edited that waits.
 function M:check(file)
-  local valid = shared.is_valid(file.buffer)
-  local loaded = valid and api.nvim_buf_is_loaded(file.buffer)
   if self.closed or file.closed or file.path or self.edit then
     return
-  elseif file.disk and not loaded then -- It is read from the disk again.
+  end
+  local loaded = api.nvim_buf_is_loaded(file.buffer)
+  if file.disk and not loaded then -- It is read from the disk again.
     for _, hunk in ipairs(file.pending) do -- The program has the lines without these edits.
       file.to = file.to - hunk.added + hunk.removed
     end
     file.path, file.unread, file.state, file.pending = file.disk, true, nil, {}
     self:later()
-  elseif not valid then
+  elseif not shared.is_valid(file.buffer) then
     file.pending = {}
     vim.schedule(function()
       if not file.closed and not self.closed then
@@ -207,19 +203,14 @@ end
 
 -- A buffer was loaded: if it is one of this list, its edits are followed from now on.
 function M:loaded(buffer)
-  local name = self.from_disk and api.nvim_buf_get_name(buffer)
+  local name, loaded = api.nvim_buf_get_name(buffer), api.nvim_buf_is_loaded(buffer)
+  local follow = self.edit and require("live_occur.edit").opened or self.attach
   for _, file in ipairs(self.files) do
-    if not file.attached and (file.buffer == buffer or file.path and file.path == name) then
-      if not file.path then
-        self:check(file)
-      elseif api.nvim_buf_is_loaded(buffer) then
-        file.buffer = buffer
-        if self.edit then
-          require("live_occur.edit").opened(self, file)
-        else
-          self:attach(file)
-        end
-      end
+    if not file.attached and loaded and file.path == name then
+      file.buffer = buffer
+      follow(self, file)
+    elseif not file.attached and file.buffer == buffer then
+      self:check(file)
     end
   end
 end
@@ -235,8 +226,10 @@ end
 
 -- Files
 
--- The text of a file, as a buffer would have it, or nil and the reason.
-local function text_of(path, stat)
+-- The text of a file that isn't open, as a buffer would have it, with a newline after each line; or nil and
+-- the reason.
+function M.read_file(path)
+  local stat = uv.fs_stat(path)
   if not stat or stat.type ~= "file" then
     return nil, "no file"
   elseif stat.size > settings.max_file_size then
@@ -266,11 +259,6 @@ local function text_of(path, stat)
   return text:sub(-1) == "\n" and text or text .. "\n"
 end
 
--- The lines of a file that isn't open, as a text with a newline after each, and nil where there is none.
-function M:read_file(file)
-  return text_of(file.path, uv.fs_stat(file.path))
-end
-
 -- Reads a file, and sends it if it has changed. Returns how many lines that are, and at least 1.
 function M:send_file(file)
   file.unread = nil
@@ -279,14 +267,7 @@ function M:send_file(file)
   if state == file.state then
     return 1
   end
-  local text, reason = text_of(file.path, stat)
-  local left_out = self.left_out
-  if file.reason then
-    left_out[file.reason] = left_out[file.reason] > 1 and left_out[file.reason] - 1 or nil
-  end
-  if reason then
-    left_out[reason] = (left_out[reason] or 0) + 1
-  end
+  local text, reason = M.read_file(file.path)
   text = text or ""
   local count = select(2, text:gsub("\n", "\n"))
   if file.joined then

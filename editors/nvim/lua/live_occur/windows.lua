@@ -1,5 +1,7 @@
 -- The windows of a list, and how they are drawn.
 
+local shared = require("live_occur.shared")
+
 local api, fn = vim.api, vim.fn
 local M = {}
 local drawn = api.nvim_create_namespace("live_occur_drawn")
@@ -23,68 +25,57 @@ function M:windows()
   return self.buffer and fn.win_findbuf(self.buffer) or {}
 end
 
+-- Where the windows of a list are: for each the row of its cursor, from 0, its column, and the first row.
 function M:keep_windows()
-  local kept = {}
-  for _, window in ipairs(self:windows()) do
-    local cursor = api.nvim_win_get_cursor(window)
-    local top = fn.line("w0", window) - 1
-    local row = cursor[1] - 1
-    kept[#kept + 1] = { window = window, row = row, first = row, column = cursor[2], above = row - top }
-  end
-  return kept
+  return vim.tbl_map(function(window)
+    local row, column = unpack(api.nvim_win_get_cursor(window))
+    return { window = window, row = row - 1, column = column, top = fn.line("w0", window) - 1 }
+  end, self:windows())
 end
 
--- Moves what is kept of windows as rows are replaced by so many.
-function M.move_kept(windows, first, last, count)
+-- Moves windows as rows from `first` on and before `last` were replaced by `count`.
+function M:restore_windows(windows, first, last, count)
+  local rows = api.nvim_buf_line_count(self.buffer)
   for _, kept in ipairs(windows) do
-    if kept.row >= last then
-      kept.row = kept.row + count - (last - first)
-    elseif kept.row >= first then
-      kept.row = math.max(first + math.min(kept.row - first, count - 1), 0)
+    local row, window = kept.row, kept.window
+    if row >= last then
+      row = row + count - (last - first)
+    elseif row >= first then
+      row = first + math.min(row - first, count - 1)
     end
+    self.show_row(window, math.max(0, math.min(row, rows - 1)), kept.column, kept.row - kept.top, kept.top == 0)
   end
 end
 
-function M:restore_windows(kept)
-  local count = self.buffer and api.nvim_buf_line_count(self.buffer)
-  for _, each in ipairs(kept) do
-    local row = math.max(0, math.min(each.row, count - 1))
-    local now = api.nvim_win_get_cursor(each.window)
-    local top = math.max(row - each.above, 0) + 1
-    if each.above == each.first and row < api.nvim_win_get_height(each.window) then
-      top = 1 -- It showed the header, and goes on to.
-    end
-    api.nvim_win_call(each.window, function()
-      if now[1] - 1 ~= row or fn.line("w0") ~= top then
-        fn.winrestview({ lnum = row + 1, col = each.column, topline = top })
-      end
+-- Puts the cursor of a window on a row, with so many rows above it. Where the window showed the header it
+-- goes on to.
+function M.show_row(window, row, column, above, has_header)
+  local top = math.max(row - above, 0)
+  top = has_header and row < api.nvim_win_get_height(window) and 0 or top
+  if api.nvim_win_get_cursor(window)[1] - 1 ~= row or fn.line("w0", window) - 1 ~= top then
+    api.nvim_win_call(window, function()
+      fn.winrestview({ lnum = row + 1, col = column, topline = top + 1 })
     end)
   end
 end
 
 -- When the first hits come, a cursor that is on the header moves to the first one; or, where a hit was chosen
 -- in a preview, to that.
-function M:to_first_hit(windows)
+function M:to_first_hit()
   local had, chosen = self.had_hits, self.chosen
-  self.had_hits = self:total() > 0
-  if chosen and chosen.file.hits.before >= chosen.file.hits:below(chosen.place + 1) then
-    local file = chosen.file
-    for _, kept in ipairs(windows) do
-      kept.row = self:row_of(file) + (file.heading and 1 or 0) + file.hits:below(chosen.place)
-      kept.above = math.min(kept.row, 3)
+  self.had_hits = api.nvim_buf_line_count(self.buffer) > 1
+  local hits = chosen and chosen.file.hits
+  local row = hits and hits:before() >= hits:below(chosen.place + 1)
+    and self:hits_row(chosen.file) + hits:below(chosen.place)
+  for _, kept in ipairs(self:keep_windows()) do
+    if row then
+      self.show_row(kept.window, row, kept.column, math.min(row, 3))
+    elseif self.had_hits and not had and kept.row == 0 then
+      self.show_row(kept.window, #self.files > 1 and 2 or 1, kept.column, 2)
     end
-    self.chosen = nil
-  elseif not self.due then
-    self.chosen = nil
   end
-  if had or not self.had_hits then
-    return
-  end
-  for _, kept in ipairs(windows) do
-    if kept.row == 0 then
-      kept.row = #self.files > 1 and 2 or 1
-      kept.above = kept.row
-    end
+  if row or not self.due then
+    self.chosen = nil
   end
 end
 
@@ -96,9 +87,9 @@ function M:redraw()
   self.redrawing = true
   vim.schedule(function()
     self.redrawing = false
-    if self.buffer and api.nvim_buf_is_valid(self.buffer) then
-      local options = { id = 1, end_row = api.nvim_buf_line_count(self.buffer), hl_group = "LiveOccurRow" }
-      options.strict = false
+    if shared.is_valid(self.buffer) then
+      local last = api.nvim_buf_line_count(self.buffer)
+      local options = { id = 1, end_row = last, hl_group = "LiveOccurRow", strict = false }
       api.nvim_buf_set_extmark(self.buffer, drawn, 0, 0, options)
     end
   end)

@@ -1,7 +1,7 @@
 -- What a list asks the program for: patterns, a syntax, flags.
 --
--- A change of these is a wish. It is sent as what differs from what the program has (`known`), and the list
--- takes it over once it is accepted. Wishes are answered one after the other.
+-- What a list wants is its `wish`. A change of it is sent as what differs from what the program has (`known`),
+-- and taken over once it is accepted. Changes are answered one after the other.
 
 local characters = require("live_occur.characters")
 local settings = require("live_occur.settings")
@@ -83,7 +83,7 @@ end
 -- those of its command.
 local function send_patterns(self, sent, finish)
   local known, texts = self.known, sent.texts
-  local first, old, new = shared.difference(known.texts, texts)
+  local first, old, new = shared.difference(known.texts, texts, rawget)
   local turned = sent.syntax ~= known.syntax -- by which the program might refuse the patterns that it has
   local function order(command, lines)
     self:order(command, lines)
@@ -128,7 +128,7 @@ local function send_flags(self, before, flags)
       self.changed = true
       self.session:send(("flag %s %s"):format(flag, flags[flag] and "on" or "off"), nil, function(reply)
         if reply.kind ~= "ok" then
-          self.flags[flag], self.known.flags[flag] = nil, nil
+          self.wish.flags[flag], self.known.flags[flag] = nil, nil
           shared.blame(reply.text)
         end
       end)
@@ -136,16 +136,11 @@ local function send_flags(self, before, flags)
   end
 end
 
--- What the list wants now, changed by a function.
-local function wanted_of(self, modify)
-  local wanted = vim.deepcopy({ patterns = self.patterns, syntax = self.syntax, smart = self.smart,
-    flags = self.flags })
-  modify(wanted)
-  return wanted
-end
-
-local function take(self, wish)
-  self.patterns, self.syntax, self.flags, self.smart = wish.patterns, wish.syntax, wish.flags, wish.smart
+-- What the list wants, changed by a function.
+local function changed(wish, modify)
+  wish = vim.deepcopy(wish)
+  modify(wish)
+  return wish
 end
 
 local function next_wish(self)
@@ -156,7 +151,7 @@ local function next_wish(self)
     return
   end
   wish.sent = true
-  local wanted, session, before = wanted_of(self, wish.modify), self.session, self.known
+  local wanted, session, before = changed(self.wish, wish.modify), self.session, self.known
   local sent = self:for_program(wanted)
   send_patterns(self, sent, function(reply, first)
     if self.session ~= session then
@@ -164,9 +159,7 @@ local function next_wish(self)
     elseif not reply then
       self.known = sent
       send_flags(self, before.flags, sent.flags)
-      if not wish.trial then
-        take(self, wanted)
-      end
+      self.wish = wish.trial and self.wish or wanted
     end
     table.remove(self.wishes, 1)
     if reply then
@@ -185,7 +178,7 @@ end
 function M:change(modify, done, trial)
   done = done or function() end
   if self.ended then
-    take(self, wanted_of(self, modify))
+    self.wish = changed(self.wish, modify)
     return done()
   end
   local count = #self.wishes
@@ -200,9 +193,7 @@ end
 -- Does so, and waits for the answer. Returns a fault, and its place in the pattern, if there is one.
 function M:change_now(modify)
   local answered, fault, place
-  self:change(modify, function(...)
-    answered, fault, place = true, ...
-  end)
+  self:change(modify, function(...) answered, fault, place = true, ... end)
   vim.wait(10000, function() return answered or self.ended end, 1)
   return fault or not answered and (self.ended or "no reply comes") or nil, place
 end
