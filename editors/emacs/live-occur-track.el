@@ -142,11 +142,10 @@ lines moved by that, in a list."
   moves                                 ; how lines moved since
   sent                           ; how they moved before, but since the hits
   tick size            ; of the buffer when its edits were known, or nil if lost
-  (place 1) (line 0)                    ; before this nothing has changed since
+  (place 1) (line 0)                    ; one that is known, and its line
   start tail          ; where a change begins, and how far from the end it ends
   span whole                ; how many newlines it has, and if of whole lines
-  touched (rest most-positive-fixnum)   ; likewise of changes that wait
-  stop)                ; a tick and a size, and where a line was then, and which
+  rest)     ; how far from the end changes that wait end, which begin at place
 
 (defvar-local live-occur--texts-here nil "What is known of this buffer's text.")
 
@@ -205,16 +204,14 @@ on where a field ends."
 
 (defun live-occur--go-to-line (text line)
   "Move to the beginning of LINE of TEXT, which is here, from one that is known."
-  (pcase-let* ((now (cons (buffer-chars-modified-tick) (buffer-size)))
-               (stop (live-occur--stop text))
-               (`(,place . ,at)
-                (cond ((equal now (car stop)) (cdr stop))
-                      ((and (live-occur--buffer text) (live-occur--known-p text))
-                       (cons (live-occur--place text) (live-occur--line text)))
-                      (t '(1 . 0)))))
-    (goto-char place)
-    (when (and (= 0 (forward-line (- line at))) (bolp))
-      (setf (live-occur--stop text) `(,now ,(point) . ,line)))))
+  (if (not (and (live-occur--buffer text) (live-occur--known-p text)))
+      (progn (goto-char (point-min)) (forward-line line))
+    (live-occur--settle text)
+    (goto-char (live-occur--place text))
+    (when (and (= 0 (forward-line (- line (live-occur--line text)))) (bolp))
+      (setf (live-occur--place text) (point)
+            (live-occur--line text) line
+            (live-occur--start text) nil))))
 
 ;;;; Changes
 
@@ -225,7 +222,7 @@ on where a field ends."
 ;; again.  A text that comes from a file or a program leaves the tick alone.
 ;;
 ;; A command may make many changes.  The lines of those that are near one another and have no
-;; newline are counted later: they are from `touched' to `rest' characters before the end.
+;; newline are counted later: they are from `place' to `rest' characters before the end.
 
 (defun live-occur--known-p (text)
   "Whether all edits of TEXT are known, and none is lost."
@@ -246,8 +243,7 @@ on where a field ends."
         (live-occur--place text) 1
         (live-occur--line text) 0
         (live-occur--start text) nil
-        (live-occur--touched text) nil
-        (live-occur--rest text) most-positive-fixnum)
+        (live-occur--rest text) nil)
   (cl-callf or (live-occur--sent text) (live-occur--hunks 0)))
 
 (defun live-occur--replaced (text lines)
@@ -285,14 +281,12 @@ A copy of a buffer has its local variables, and another text."
   (live-occur--for-texts text
     (if (not (live-occur--known-p text))
         (live-occur--lose text)
-      (let ((tail (- (buffer-size) end)))
-        (unless (<= (live-occur--place text) start
-                    (+ 200 (- (buffer-size) (live-occur--rest text))))
-          (live-occur--settle text)
-          (setf (live-occur--line text) (live-occur--line-at text start)
-                (live-occur--place text) start
-                (live-occur--rest text) tail))
-        (live-occur--expect text start tail)))))
+      (unless (when-let* ((rest (live-occur--rest text)))
+                (<= (live-occur--place text) start (+ 200 (- (buffer-size) rest))))
+        (live-occur--settle text)
+        (setf (live-occur--line text) (live-occur--line-at text start)
+              (live-occur--place text) start))
+      (live-occur--expect text start (- (buffer-size) end)))))
 
 (defun live-occur--expect (text start tail)
   "Expect a change of TEXT from START to TAIL before its end."
@@ -322,11 +316,9 @@ A copy of a buffer has its local variables, and another text."
   "Gather the change of TEXT that was expected from START to TAIL before its end.
 Answer whether lines have moved."
   (let ((old (live-occur--span text))
-        (whole (and (live-occur--whole text) (not (live-occur--touched text)))))
+        (whole (and (live-occur--whole text) (not (live-occur--rest text)))))
     (live-occur--expect text start tail)
-    (setf (live-occur--touched text)
-          (min start (or (live-occur--touched text) start))
-          (live-occur--rest text) (min tail (live-occur--rest text)))
+    (setf (live-occur--rest text) (min tail (or (live-occur--rest text) tail)))
     (let ((new (live-occur--span text)))
       (unless (= 0 old new)
         (live-occur--settle text (- new old) (and whole (live-occur--whole text))))
@@ -341,14 +333,13 @@ Answer whether lines have moved."
 (defun live-occur--settle (text &optional more whole)
   "Note the lines of TEXT that were touched, MORE of which came than went.
 With WHOLE the last of them wasn't."
-  (when-let* ((start (cl-shiftf (live-occur--touched text) nil)))
+  (when-let* ((rest (cl-shiftf (live-occur--rest text) nil)))
     (live-occur--in-whole (live-occur--buffer text)
-      (let ((line (live-occur--line-at text start))
-            (count (+ (if whole 0 1)
-                      (live-occur--count-newlines
-                       start (- (buffer-size) (live-occur--rest text))))))
-        (setf (live-occur--place text) start (live-occur--line text) line)
-        (live-occur--note (live-occur--edits text) line (- count (or more 0)) count)))))
+      (let ((count (+ (if whole 0 1)
+                      (live-occur--count-newlines (live-occur--place text)
+                                                  (- (buffer-size) rest)))))
+        (live-occur--note (live-occur--edits text) (live-occur--line text)
+                          (- count (or more 0)) count)))))
 
 (provide 'live-occur-track)
 

@@ -361,19 +361,18 @@ Answer whether they were there; point is where to look for lines later."
   (unless (executable-find live-occur-program)
     (user-error "There is no program %s: set live-occur-program" live-occur-program))
   (let ((default-directory temporary-file-directory)
-        (process-adaptive-read-buffering nil)
-        (output (generate-new-buffer " *live-occur replies*" t)))
-    (with-current-buffer output
-      (set-buffer-multibyte nil)
-      (setq-local cache-long-scans nil))
+        (process-adaptive-read-buffering nil))
     (setq live-occur--process
           (make-process
-           :name "live-occur" :buffer output :noquery t
+           :name "live-occur" :buffer (generate-new-buffer " *live-occur replies*" t) :noquery t
            :connection-type 'pipe :coding 'binary
            :command `(,live-occur-program
                       ,@(and live-occur-states (list "--states" (format "%d" live-occur-states))))
            :filter #'live-occur--read :sentinel #'live-occur--ended)))
   (process-put live-occur--process 'list (current-buffer))
+  (live-occur--in (process-buffer live-occur--process)
+    (set-buffer-multibyte nil)
+    (setq-local cache-long-scans nil))
   (setq live-occur--fault nil live-occur--asked nil live-occur--due nil
         live-occur--slice nil live-occur--more nil live-occur--trying nil
         live-occur--sent '(basic) live-occur--flags-sent nil)
@@ -449,7 +448,6 @@ It is what a buffer would have, but of no archive.  STATE is that of the file."
          (inhibit-modification-hooks t))
     (setq buffer-undo-list t live-occur--text-of source)
     (erase-buffer)
-    (setf (live-occur--stop source) nil)
     (cond ((nth 2 state) "no file")
           ((> (or (nth 1 state) 0) (or large-file-warning-threshold most-positive-fixnum))
            "too large")
@@ -484,7 +482,6 @@ The program has its text already if the file is the same as when it was read."
                    (equal (live-occur--state source)
                           (live-occur--file-state (live-occur--file source))))))
     (setf (live-occur--buffer source) buffer
-          (live-occur--stop source) nil
           (live-occur--unread source) nil
           (live-occur--why source) nil)
     (with-current-buffer (live-occur--list source) (push source live-occur--visited))
@@ -556,17 +553,19 @@ It goes on when replies come."
 
 (defun live-occur--send-next ()
   "Send the next block of a slice, or what ends or begins one, if any is due.
-The slice is a list of how many lines are left in it, the number of a source,
-and that and the sources whose turn comes later.  So the program gets them in
-order, and those that it has come first.  To read a file counts as some lines.
-The first slice is short, so that some hits come early."
-  (pcase-let* ((`(,left ,file . ,sources) live-occur--slice) (source (car sources)))
+The slice is a list of how many lines are left in it, and of the sources that
+have some, after their numbers.  So the program gets them in order, and those
+that it has come first.  To read a file counts as some lines.  The first slice
+is short, so that some hits come early."
+  (pcase-let ((`(,left (,file . ,source) . ,_) live-occur--slice))
     (cond ((not live-occur--slice)
            (when (or (live-occur--edited-p) (and live-occur--due (not live-occur--previewing)))
              (setq live-occur--slice
-                   `(,(if live-occur--more live-occur--slice-lines
-                        (max 1 (/ live-occur--slice-lines 10)))
-                     0 . ,live-occur--sources))))
+                   (cons (if live-occur--more live-occur--slice-lines
+                           (max 1 (/ live-occur--slice-lines 10)))
+                         (cl-loop for source in live-occur--sources for file from 0
+                                  when (live-occur--to-send-p source)
+                                  collect (cons file source))))))
           ((or (not source) (<= left 0))
            (setq live-occur--slice nil)
            (cond ((not live-occur--previewing) (live-occur--ask-for-changes))
@@ -580,12 +579,7 @@ The first slice is short, so that some hits come early."
            (cl-decf (car live-occur--slice) 50))
           ((live-occur--first-edit source)
            (cl-decf (car live-occur--slice) (live-occur--send-block source file left)))
-          (t (while (progn
-                      (pop (cddr live-occur--slice))
-                      (cl-incf (cadr live-occur--slice))
-                      (and (cddr live-occur--slice)
-                           (not (live-occur--to-send-p (caddr live-occur--slice))))))
-             t))))
+          (t (pop (cdr live-occur--slice))))))
 
 (defun live-occur--first-edit (source)
   "The first of the edits of SOURCE that are to be sent."
@@ -652,7 +646,8 @@ buffer's end there is none."
   place                      ; its number in the source when it was reported
   rows                       ; bytes
   parts-at                   ; where in them its matched parts begin
-  start end)                 ; where its line does, and where that ends
+  start end                  ; where its line does, and where that ends
+  text first stays)          ; of a row that is edited: see `live-occur--note-text'
 
 (defun live-occur--place-in (rows start)
   "The place of the hit in the bytes ROWS that begins at START."
@@ -930,22 +925,19 @@ the spots there."
   "List where point and the windows are in the COUNT rows from ROW on.
 An element has the hit, or else the row, the column, the window, and its mover."
   (unless (= count 0)
-    (let ((positions
-           (cons (list (point) nil (lambda (_ position) (goto-char position)))
-                 (cl-loop
-                  for window in (get-buffer-window-list nil nil t)
-                  collect (list (window-point window) window #'set-window-point)
-                  collect (list (window-start window) window
-                                (lambda (window start) (set-window-start window start t)))))))
-      (live-occur--at-row row
-        (cl-loop
-         with start = (point) and end = (line-beginning-position (1+ count))
-         for (position . how) in positions
-         when (or (and (<= start position) (< position end)) (= position end (point-max)))
-         collect (let ((row (live-occur--row-at position)))
-                   (goto-char position)
-                   `(,(or (live-occur--hit row) row)
-                     ,(- position (line-beginning-position)) . ,how)))))))
+    (pcase-let ((`(,start . ,end)
+                 (live-occur--at-row row (cons (point) (line-beginning-position (1+ count))))))
+      (cl-loop
+       for (position . how) in
+       `((,(point) nil ,(lambda (_ position) (goto-char position)))
+         ,@(cl-loop for window in (get-buffer-window-list nil nil t)
+                    collect (list (window-point window) window #'set-window-point)
+                    collect (list (window-start window) window
+                                  (lambda (window start) (set-window-start window start t)))))
+       when (or (and (<= start position) (< position end)) (= position end (1+ (buffer-size))))
+       collect (let ((row (live-occur--row-at position)))
+                 `(,(or (live-occur--hit row) row)
+                   ,(live-occur--at-row-start position (- position (point))) . ,how))))))
 
 (defun live-occur--go-to-spots (spots &optional new)
   "Go back to SPOTS, or to rows after them.
@@ -1062,13 +1054,10 @@ Where NAME is nil the head has none."
   "Give TEXT, which begins the line of HIT, the faces that it has there."
   (when (live-occur--in (live-occur--buffer (live-occur--hit-source hit)) font-lock-mode)
     (live-occur--at-line-of hit
-      (let* ((start (point)) (at start) (end (min (point-max) (+ start (length text)))))
-        (when (equal text (buffer-substring-no-properties start end))
-          (while (< at end)
-            (let ((next (next-single-property-change at 'face nil end)))
-              (put-text-property (- at start) (- next start) 'face
-                                 (get-text-property at 'face) text)
-              (setq at next))))))))
+      (let ((there (buffer-substring (point) (min (point-max) (+ (point) (length text))))))
+        (when (string-equal text there)
+          (pcase-dolist (`(,from ,to ,properties) (object-intervals there))
+            (put-text-property from to 'face (plist-get properties 'face) text)))))))
 
 (defun live-occur--shown-from (hit)
   "From which byte on the line of HIT is shown.
@@ -1209,7 +1198,7 @@ ABOVE is nil before the first hit of the list, and BELOW after the last one."
       (live-occur--in-text source
         (live-occur--go-to-line source from)
         (cl-loop for number from (1+ from) to to until (eobp)
-                 unless (or (and first (< (line-beginning-position) first))
+                 unless (or (and first (< (point) first))
                             (and end (<= end (line-end-position))))
                  concat (concat
                          (live-occur--head name number "-")
@@ -1324,8 +1313,8 @@ This is the `next-error-function' of lists."
     (cons syntax
           (mapcar (lambda (pattern)
                     (live-occur--translated
-                     pattern (or quoted (not characters) (eq syntax 'fixed))
-                     quoted syntax fold))
+                     (if quoted (live-occur--quoted pattern syntax) pattern)
+                     (and characters syntax) fold))
                   patterns))))
 
 (defun live-occur--want (patterns report)
@@ -1431,16 +1420,22 @@ TEXT has the patterns from number FIRST on, one a line."
 ;; is said of their bytes in UTF-8.  What is sent is kept in pieces, pairs of a place in the
 ;; pattern and bytes, by which the place of a fault is found in the pattern.
 
-(defun live-occur--translated (pattern plain quoted syntax fold)
+(defun live-occur--quoted (text syntax)
+  "A pattern in SYNTAX that matches TEXT."
+  (pcase syntax
+    ('fixed text)
+    ('basic (replace-regexp-in-string "[][\\.*^$]" "\\\\\\&" text))
+    (_ (replace-regexp-in-string "[][\\.*^$+?(){}|]" "\\\\\\&" text))))
+
+(defun live-occur--translated (pattern syntax fold)
   "PATTERN, read by SYNTAX, in pieces that speak of its bytes.
-A PLAIN one isn't translated, but with FOLD, for both cases, if it is QUOTED."
+It isn't translated without a SYNTAX.  With FOLD both cases match."
   (with-temp-buffer
     (insert pattern)
     (goto-char (point-min))
-    (append (cl-loop until (eobp)
-                     nconc (cond ((and plain (or (not quoted) (looking-at "[][\\.*^$]")))
-                                  (live-occur--as-it-is (1+ (point)) (and quoted "\\")))
-                                 (t (live-occur--next-pieces syntax fold))))
+    (append (if (memq syntax '(nil fixed))
+                (live-occur--as-it-is (point-max))
+              (cl-loop until (eobp) nconc (live-occur--next-pieces syntax fold)))
             (list (list (length pattern))))))
 
 (defun live-occur--next-pieces (syntax fold)
@@ -1462,10 +1457,10 @@ FOLD is as in `live-occur--translated'."
               place syntax (mapcar (lambda (one) (live-occur--bytes (string one)))
                                    (live-occur--cases (char-before) fold)))))))
 
-(defun live-occur--as-it-is (end &optional before)
-  "Pieces of the text from point to END, with BEFORE in front; move over it."
+(defun live-occur--as-it-is (end)
+  "Pieces of the text from point to END; move over it."
   (cl-loop while (< (point) end)
-           collect (cons (1- (point)) (live-occur--bytes (concat before (string (char-after)))))
+           collect (cons (1- (point)) (live-occur--bytes (string (char-after))))
            do (forward-char)))
 
 (defun live-occur--choice (place syntax texts)
@@ -1624,7 +1619,6 @@ FROM and TO are the bytes of characters that have equally many."
 (defun live-occur--follow-typing (list before after)
   "Let LIST follow what is typed in this minibuffer, between BEFORE and AFTER."
   (let ((tried (minibuffer-contents-no-properties))
-        (seen (minibuffer-contents-no-properties))
         (timer (timer-create))
         (minibuffer (current-buffer)))
     (setq live-occur--try-now
@@ -1638,8 +1632,8 @@ FROM and TO are the bytes of characters that have equally many."
     (add-hook 'minibuffer-exit-hook (lambda () (cancel-timer timer)) nil t)
     (add-hook 'post-command-hook
               (lambda ()
-                (unless (equal seen (setq seen (minibuffer-contents-no-properties)))
-                  (cancel-timer timer)
+                (cancel-timer timer)
+                (unless (equal tried (minibuffer-contents-no-properties))
                   (setq timer (run-with-timer live-occur-typing-delay nil live-occur--try-now))))
               nil t)))
 
@@ -1658,11 +1652,7 @@ FROM and TO are the bytes of characters that have equally many."
 
 (defun live-occur--symbol-at-point (syntax)
   "The symbol at point as a pattern in SYNTAX that matches it, or nil."
-  (when-let* ((symbol (thing-at-point 'symbol t)))
-    (pcase syntax
-      ('fixed symbol)
-      ('basic (replace-regexp-in-string "[][\\.*^$]" "\\\\\\&" symbol))
-      (_ (replace-regexp-in-string "[][\\.*^$+?(){}|]" "\\\\\\&" symbol)))))
+  (when-let* ((symbol (thing-at-point 'symbol t))) (live-occur--quoted symbol syntax)))
 
 (defun live-occur--prompt (list what)
   "A prompt of WHAT, or of the use of LIST, with its syntax and flags."
@@ -1756,8 +1746,7 @@ AFTER."
 
 (defun live-occur-change-pattern (place)
   "Change the pattern of number PLACE."
-  (interactive (list (live-occur--read-place "Change pattern: "))
-               live-occur-mode)
+  (interactive (list (live-occur--read-place "Change pattern: ")) live-occur-mode)
   (live-occur--ask (current-buffer) "Pattern" (nth place live-occur--patterns)
                    (seq-take live-occur--patterns place)
                    (seq-drop live-occur--patterns (1+ place))))
@@ -1810,7 +1799,7 @@ AFTER."
   number                                ; that of the hit shown, or asked for
   after                                 ; whether it is at this point or after it
   hit                                   ; that is shown, or nil
-  (page 0)                              ; the number of the first row shown
+  page                                  ; the number of the first row shown
   (low 0) (high 0)                      ; those of the hits that are listed
   mark row                              ; overlays over the hit and its row
   (fold #'ignore))                      ; folds again what is unfolded
@@ -1830,10 +1819,8 @@ Where that shows the list itself it is another one that shows a source."
   (with-current-buffer list
     (setq live-occur--wanted nil live-occur--looking nil)
     (when (eq (window-buffer window) list)
-      (setq window (cl-some (lambda (source)
-                              (when-let* ((buffer (live-occur--buffer source)))
-                                (get-buffer-window buffer)))
-                            live-occur--sources)))
+      (setq window (cl-some (lambda (source) (get-buffer-window (live-occur--buffer source)))
+                            (reverse live-occur--visited))))
     (when (and window live-occur-preview live-occur-typing-delay)
       (let* ((source (live-occur--source-of (window-buffer window))) (point (window-point window)))
         (setq live-occur--preview
@@ -1860,54 +1847,47 @@ it needs no text of lines, which may be long."
 (defun live-occur--ask-for-page ()
   "Ask how many hits there are, and for some, while a pattern is typed.
 What is looked for or shown stays if it can."
+  (live-occur--tell-more)
   (let ((stays (live-occur--stays-p)))
     (unless stays (setq live-occur--looking (cons live-occur--patterns t)))
     (live-occur--with-part
      (lambda (low high)
-       (live-occur--tell-more)
        (cond ((not live-occur--previewing))
-             (stays (setcar live-occur--page (- high low))
-                    (when live-occur--preview
-                      (setf (live-occur--preview-high live-occur--preview) high))
-                    (force-mode-line-update))
-             (t (live-occur--ask-about-hits
-                 low (min (max 50 (frame-height)) (- high low))
-                 (lambda (block)
-                   (live-occur--show-page block (- high low))
-                   (live-occur--look-between low high)))))))))
+             ((not stays) (live-occur--look-between low high))
+             (live-occur--page
+              (setcar live-occur--page (- high low))
+              (when live-occur--preview
+                (setf (live-occur--preview-high live-occur--preview) high))
+              (force-mode-line-update)))))))
 
 (defun live-occur--stays-p ()
   "Whether more is to come, and what is looked for or shown stays until then.
 It is the first hit after point, or one that keys have moved to: lines that come
 after it change nothing."
-  (and live-occur--page live-occur--more
+  (and live-occur--more
        (eq (car live-occur--looking) live-occur--patterns)
        (or (cdr live-occur--looking)
            (pcase live-occur--preview
              ((cl-struct live-occur--preview keyed after hit)
-              (and hit (or after (eq keyed live-occur--patterns))))))))
+              (and live-occur--page hit (or after (eq keyed live-occur--patterns))))))))
 
 (defun live-occur--look-between (low high)
-  "Show a hit from number LOW on and below HIGH, if hits are shown.
+  "Show a page of the hits from number LOW on and below HIGH, and one of them.
 It is the first at point or after it, or else the first of all.  Once keys have
 moved it is the one of the same number: what comes later has greater ones."
   (pcase live-occur--preview
-    ('nil (setcdr live-occur--looking nil))
+    ('nil (live-occur--show-number low low high))
     ((and preview (cl-struct live-occur--preview source line keyed number))
-     (setf (live-occur--preview-page preview) low
+     (setf (live-occur--preview-page preview) nil
            (live-occur--preview-low preview) low
            (live-occur--preview-high preview) high)
-     (cond ((= low high)
-            (setf (live-occur--preview-number preview) nil)
-            (live-occur--show-found nil))
-           ((and number (eq keyed live-occur--patterns))
-            (live-occur--show-number (min number (1- high))))
-           (t (live-occur--find-number
-               (or (seq-position live-occur--sources source #'eq) 0)
-               line low high
-               (lambda (number)
-                 (setf (live-occur--preview-after preview) (< number high))
-                 (live-occur--show-number (if (< number high) number low)))))))))
+     (if (and number (eq keyed live-occur--patterns))
+         (live-occur--show-number (max low (min number (1- high))) low high)
+       (live-occur--find-number
+        (or (seq-position live-occur--sources source #'eq) 0) line low high
+        (lambda (number)
+          (setf (live-occur--preview-after preview) (< number high))
+          (live-occur--show-number (if (< number high) number low) low high)))))))
 
 (defun live-occur--with-part (function)
   "Call FUNCTION with which hits are listed.
@@ -1942,23 +1922,28 @@ It is known that hits before number LOW come before it, and none from HIGH on."
   "Whether the page BLOCK has a hit, and that comes before LINE of FILE."
   (pcase (cdr block)
     (`(,(cl-struct live-occur--piece rows))
-     (let ((there (live-occur--place-in rows 0)))
-       (or (< there file)
-           (and (= there file)
-                (< (live-occur--place-in rows (1- (string-search " " rows 2))) line)))))))
+     (pcase-let ((`(,_ ,there ,at . ,_) (mapcar #'string-to-number (split-string rows " "))))
+       (or (< there file) (and (= there file) (< at line)))))))
 
-(defun live-occur--show-number (number)
-  "Show the hit of NUMBER."
-  (pcase-let* (((and preview (cl-struct live-occur--preview low high)) live-occur--preview)
-               (size (max 50 (frame-height)))
-               (first (if (< (- number low) size) low (- number (/ size 2)))))
-    (setf (live-occur--preview-number preview) number)
+(defun live-occur--show-number (number low high)
+  "Show the page of the hit of NUMBER, of those from LOW on and below HIGH.
+Show the hit itself, too, if hits are shown."
+  (let* ((preview live-occur--preview)
+         (size (max 50 (frame-height)))
+         (first (if (< (- number low) size) low (- number (/ size 2)))))
+    (when preview (setf (live-occur--preview-number preview) number))
     (live-occur--ask-about-hits
      first (min size (- high first))
      (lambda (block)
-       (let ((piece (nth (1+ (- number first)) block)))
-         (live-occur--show-found (and piece (live-occur--hit-on-page piece)))
-         (live-occur--show-row block first))))))
+       (setcdr live-occur--looking nil)
+       (when (and live-occur--previewing
+                  (not (and preview (eql first (live-occur--preview-page preview)))))
+         (live-occur--show-page block (- high low)))
+       (when preview
+         (let ((piece (nth (1+ (- number first)) block)))
+           (setf (live-occur--preview-page preview) first)
+           (live-occur--show-found preview (and piece (live-occur--hit-on-page piece)))
+           (live-occur--show-row preview (- number first))))))))
 
 (defun live-occur--show-in (preview buffer point start)
   "Let the window of PREVIEW show BUFFER from START on, if it can.
@@ -1980,12 +1965,10 @@ Move its POINT there, and answer whether it could."
     (dolist (overlay (list mark row)) (when overlay (delete-overlay overlay)))
     (live-occur--show-in preview buffer point start)))
 
-(defun live-occur--show-found (hit)
-  "Show HIT in the window, unless it is nil or outside of what is narrowed."
-  (setcdr live-occur--looking nil)
-  (funcall (cl-shiftf (live-occur--preview-fold live-occur--preview) #'ignore))
-  (let* ((preview live-occur--preview)
-         (window (live-occur--preview-window preview))
+(defun live-occur--show-found (preview hit)
+  "Show HIT by PREVIEW, unless it is nil or outside of what is narrowed."
+  (funcall (cl-shiftf (live-occur--preview-fold preview) #'ignore))
+  (let* ((window (live-occur--preview-window preview))
          (buffer (and hit (live-occur--text-buffer (live-occur--hit-source hit)
                                                    " *live-occur preview*"))))
     (unless (live-occur--in buffer
@@ -2021,20 +2004,15 @@ The hit may be one of a PAGE."
     (overlay-put overlay 'priority 1)
     overlay))
 
-(defun live-occur--show-row (block first)
-  "Show the row of the hit.  The page BLOCK begins with hit number FIRST."
-  (pcase-let (((and preview (cl-struct live-occur--preview number page low high))
-               live-occur--preview))
-    (when live-occur--previewing
-      (unless (= first page)
-        (live-occur--show-page block (- high low))
-        (setf (live-occur--preview-page preview) first))
-      (goto-char (point-min))
-      (forward-line (- number first))
-      (setf (live-occur--preview-row preview)
-            (live-occur--overlay (live-occur--preview-row preview)
-                                 (point) (line-beginning-position 2)))
-      (live-occur--move-windows (point)))))
+(defun live-occur--show-row (preview row)
+  "Mark ROW of the page that is shown with PREVIEW, and move to it."
+  (when live-occur--previewing
+    (goto-char (point-min))
+    (forward-line row)
+    (setf (live-occur--preview-row preview)
+          (live-occur--overlay (live-occur--preview-row preview)
+                               (point) (line-beginning-position 2)))
+    (live-occur--move-windows (point))))
 
 (defun live-occur-preview-next (&optional count)
   "While a pattern is typed, show the hit that is COUNT hits on.
@@ -2050,7 +2028,7 @@ It is waited for the one from which this counts."
             (message "There are no more hits")
           (setf (live-occur--preview-keyed preview) live-occur--patterns)
           (setq live-occur--looking (cons live-occur--patterns t))
-          (live-occur--show-number new))))))
+          (live-occur--show-number new low high))))))
 
 (defun live-occur-preview-previous (&optional count)
   "While a pattern is typed, show the hit that is COUNT hits back."
@@ -2376,7 +2354,7 @@ rows are edited, \\[live-occur-edit-mode] ends it, \
     ("f" next-error-follow-minor-mode "Show Lines as Point Moves"
      :style toggle :selected next-error-follow-minor-mode)
     ("e" live-occur-edit-mode "Edit Rows")
-    ("s" live-occur-save "Save Buffers Changed in Rows" :active live-occur--touched)
+    ("s" live-occur-save "Save Buffers Changed in Rows" :active (live-occur--changed-buffers))
     ("a" live-occur-add-pattern "Add Pattern...")
     ("c" live-occur-change-pattern "Change Pattern..." :active live-occur--patterns)
     ("d" live-occur-drop-pattern "Drop Pattern..." :active live-occur--patterns)
@@ -2486,7 +2464,6 @@ Undo works in the list, and in the buffers."
   (let ((on live-occur-edit-mode))
     (setq live-occur-edit-mode (not on) live-occur--alone 0)
     (cond (on
-           (live-occur--check)
            (live-occur--update)
            (live-occur--wait-for (lambda () (not (live-occur--busy-p))))
            (live-occur--check)
@@ -2557,13 +2534,11 @@ All of it is where its buffer is read-only, or its text is shortened."
          (why (cond ((and buffer (buffer-local-value 'buffer-read-only buffer))
                      (format "buffer %s" (buffer-name buffer)))
                     (short "a row that is shortened"))))
+    (setf (live-occur--hit-text hit) text (live-occur--hit-first hit) text)
     (add-text-properties (point) head
-                         `(read-only ,(or why "the head of a row")
-                           live-occur-hit ,hit live-occur-text ,text
-                           live-occur-first ,text front-sticky (read-only)
-                           rear-nonsticky ,(not why)))
-    (when why (put-text-property head end 'read-only why))
-    (put-text-property end (1+ end) 'read-only (or why "the end of a row"))))
+                         `(read-only ,(or why "the head of a row") live-occur-hit ,hit
+                           front-sticky (read-only) rear-nonsticky ,(not why)))
+    (put-text-property (if why head end) (1+ end) 'read-only (or why "the end of a row"))))
 
 (defun live-occur--row-changed (start end removed)
   "Make the change of rows from START to END in their lines as well.
@@ -2592,7 +2567,7 @@ or was edited in its buffer"
   "Make what changed of the row at point in its line as well, or tell why not.
 Answer whether the row and its line are the same."
   (let* ((hit (get-text-property (point) 'live-occur-hit))
-         (old (get-text-property (point) 'live-occur-text))
+         (old (and hit (live-occur--hit-text hit)))
          (text (and old (live-occur--row-text))))
     ;; A line of the list with text, and without a head, is no row.
     (cond ((not hit) (or (eolp) (get-text-property (point) 'live-occur-number)))
@@ -2600,7 +2575,7 @@ Answer whether the row and its line are the same."
           (t (condition-case problem
                  (or (with-local-quit
                        (live-occur--change-line hit old text)
-                       (live-occur--note-text text)
+                       (live-occur--note-text hit text)
                        t)
                      (user-error "Quit"))
                (error (message "%s; the row alone is edited"
@@ -2631,10 +2606,7 @@ or was edited there" (buffer-name)))
 
 (defun live-occur--line-is-p (text)
   "Whether TEXT, which may be nil, is what is from point to the line's end."
-  (when-let* ((end (and text (+ (point) (length text)))))
-    (and (<= end (point-max))
-         (memq (char-after end) '(nil ?\n))
-         (equal text (buffer-substring-no-properties (point) end)))))
+  (equal text (live-occur--text-after-point (1+ (length text)))))
 
 (defun live-occur--replace (old new)
   "Put the text NEW in the place of OLD, which is after point.
@@ -2664,17 +2636,14 @@ Undo knows places in the text, so numbers in that stay."
                 (new (1+ (live-occur--line-of hit)))
                 (end (1- (live-occur--after-head))))
             (with-silent-modifications
-              (put-text-property
-               (save-excursion (goto-char end)
-                               (skip-chars-backward "0-9")
-                               (point))
-               end 'display (unless (= old new) (number-to-string new))))))
+              (put-text-property (- end (length (number-to-string old))) end
+                                 'display (unless (= old new) (number-to-string new))))))
         (forward-line 1)))))
 
 (defun live-occur--follow-line (hit)
   "Bring the row of HIT at point up to date, unless its line is too long now.
 A row that is far too long itself, as it was edited so, stays as it is."
-  (when-let* ((old (get-text-property (point) 'live-occur-text))
+  (when-let* ((old (live-occur--hit-text hit))
               (most (max live-occur-max-columns (length old)))
               ((<= most (* 10 live-occur-max-columns)))
               (new (live-occur--at-line-of hit (live-occur--text-after-point (1+ most)))))
@@ -2683,7 +2652,7 @@ A row that is far too long itself, as it was edited so, stays as it is."
         (save-excursion
           (goto-char (live-occur--after-head))
           (live-occur--replace old new)))
-      (live-occur--note-text new t))))
+      (live-occur--note-text hit new t))))
 
 ;;;; What edits of rows have changed
 
@@ -2708,26 +2677,26 @@ Forget those that are gone or were, or are not modified."
   (pcase-dolist (`(,buffer ,_ ,hash) (live-occur--changed-buffers))
     (with-current-buffer buffer
       (when (and hash (verify-visited-file-modtime) (equal hash (buffer-hash)))
-        (set-buffer-modified-p nil))))
-  (live-occur--changed-buffers))
+        (set-buffer-modified-p nil)))))
 
-(defun live-occur--note-text (text &optional followed)
-  "Keep that the row at point and its line have TEXT, and mark what rows changed.
-If the row FOLLOWED its line that stays where changes are given up."
-  (let ((at (point)) (end (live-occur--after-head))
-        (first (get-text-property (point) 'live-occur-first)))
+(defun live-occur--note-text (hit text &optional followed)
+  "Keep that the row of HIT at point and its line have TEXT, and mark what changed.
+Changes are given up to the text that was the first.  If the row FOLLOWED its
+line that is this one, and what rows changed before stays."
+  (when followed
+    (unless (equal (live-occur--hit-first hit) (live-occur--hit-text hit))
+      (setf (live-occur--hit-stays hit) t))
+    (setf (live-occur--hit-first hit) text))
+  (setf (live-occur--hit-text hit) text)
+  ;; Overlays would be slow where they are many.
+  (let ((at (point)) (end (live-occur--after-head)))
     (with-silent-modifications
-      (when followed
-        (unless (equal first (get-text-property at 'live-occur-text))
-          (put-text-property at end 'live-occur-stays t))
-        (put-text-property at end 'live-occur-first (setq first text)))
-      (put-text-property at end 'live-occur-text text)
-      ;; Overlays would be slow where they are many.
       (while (< at end)
         (let ((next (next-single-property-change at 'face nil end))
               (face (car (last (ensure-list (get-text-property at 'face))))))
           (put-text-property at next 'face
-                             (if (equal first text) face (list 'live-occur-changed face)))
+                             (if (equal (live-occur--hit-first hit) text) face
+                               (list 'live-occur-changed face)))
           (setq at next))))))
 
 (defun live-occur-abort-changes ()
@@ -2754,16 +2723,16 @@ too"))
 
 (defun live-occur--put-back ()
   "Undo what was changed in the row at point, and answer whether all of it was."
-  (let ((hit (get-text-property (point) 'live-occur-hit))
-        (first (get-text-property (point) 'live-occur-first))
-        (last (get-text-property (point) 'live-occur-text)))
-    (and (or (equal first last)
-             (not (buffer-live-p (live-occur--buffer (live-occur--hit-source hit))))
-             (ignore-errors
-               (live-occur--change-line hit last first)
-               (live-occur--note-text first)
-               t))
-         (not (get-text-property (point) 'live-occur-stays)))))
+  (pcase (get-text-property (point) 'live-occur-hit)
+    ((and hit (cl-struct live-occur--hit source text first stays))
+     (and (or (equal first text)
+              (not (buffer-live-p (live-occur--buffer source)))
+              (ignore-errors
+                (live-occur--change-line hit text first)
+                (live-occur--note-text hit first)
+                t))
+          (not stays)))
+    (_ t)))
 
 (defun live-occur-save ()
   "Save the buffers of which lines were changed in rows.
@@ -2773,7 +2742,6 @@ An edit of rows is ended before that."
   (when live-occur-edit-mode (live-occur-edit-mode -1))
   (let ((buffers (mapcar #'car (live-occur--changed-buffers))))
     (save-some-buffers t (lambda () (memq (current-buffer) buffers))))
-  (live-occur--changed-buffers)
   (live-occur--tell-alone))
 
 ;;;; Commands to begin a list
@@ -2966,7 +2934,7 @@ FIRST says whether an item begins there, which nothing can repeat."
           ((found "\\\\\\([|)]\\)") (match-string 1))
           ((found "\\\\{\\([0-9,]*\\)\\\\}")
            (format "{%s}" (match-string 1)))
-          ((found "\\\\\\([^[:alnum:]_<>`'={}]\\)") (live-occur--quoted (match-string 1)))
+          ((found "\\\\\\([^[:alnum:]_<>`'={}]\\)") (live-occur--quoted (match-string 1) 'extended))
           ((looking-at "\\\\_?.?")
            (user-error "%s in a regexp can't be said in a pattern of lines" (match-string 0)))
           ((and (not first) (found "\\([*+?]\\)\\??")) (match-string 1))
@@ -2976,11 +2944,7 @@ FIRST says whether an item begins there, which nothing can repeat."
            (goto-char (1+ (match-beginning 0)))
            "$")
           ((found "\\.") ".")
-          (t (forward-char) (live-occur--quoted (string (char-before)))))))
-
-(defun live-occur--quoted (text)
-  "TEXT, which is one character, as an extended expression that matches it."
-  (replace-regexp-in-string "[][\\.*^$+?(){}|]" "\\\\\\&" text))
+          (t (forward-char) (live-occur--quoted (string (char-before)) 'extended)))))
 
 (provide 'live-occur)
 

@@ -1144,7 +1144,7 @@ Text that comes into an empty buffer so is reported after it has come alone."
   (should (equal-including-properties
            (live-occur--refused '("K" 0 2) "ab")
            #("K at 2: ab " 10 11 (face live-occur-fault))))
-  (let ((pieces (mapcar (lambda (pattern) (live-occur--translated pattern t nil 'basic nil))
+  (let ((pieces (mapcar (lambda (pattern) (live-occur--translated pattern nil nil))
                         '("a" "b" "" "é[z-a]"))))
     (cl-flet ((fault (reply first)
                 (live-occur--fault-in-text (live-occur--fault-in reply pieces) "\né[z-a]" first)))
@@ -1336,7 +1336,7 @@ Text that comes into an empty buffer so is reported after it has come alone."
                            found))))))))
 
 (ert-deftest live-occur-speaks-of-bytes-where-that-is-wanted ()
-  (should (equal (live-occur--translated (unibyte-string #x80) t nil 'fixed nil)
+  (should (equal (live-occur--translated (unibyte-string #x80) 'fixed nil)
                  (list (cons 0 (unibyte-string #x80)) (list 1))))
   (let ((live-occur-characters nil))
     (should (equal (live-occur-test--found 'basic "-" "^..$" "é") "é"))
@@ -1807,6 +1807,7 @@ It is the line at its point, and the row at that of the list."
           (let ((preview live-occur--preview))
             (live-occur-test--until (lambda ()
                                       (and (equal live-occur--patterns '("needle"))
+                                           live-occur--page
                                            (live-occur--preview-number preview))))
             (should (live-occur--edited-p))
             (let ((total (car live-occur--page)))
