@@ -19,6 +19,7 @@
 #                 Python, on AT&T's cases, rows and scripts of tests/, and beside the built grep on 100,000 patterns
 #                 (needs a C compiler and Python 3.11)
 # make figures    makes docs/figures/*.svg of crates.txt and of tables of the pages
+# make size       prints the size of code, specs and proofs in bytes, and how many functions there are
 # make evidence   writes docs/EVIDENCE.md: the newest run of each of the targets above
 # make install    copies the programs, stripped, with their manual pages and completions below $(DESTDIR)$(PREFIX), grep
 #                 by the name GREP_NAME; the Emacs client to $(DESTDIR)$(SITE_LISP) and the Neovim client to
@@ -43,7 +44,7 @@ EMACS = emacs
 NVIM = nvim
 
 .PHONY: all programs gate audit test test-program test-random test-growth test-changes test-memory test-editor test-nvim \
-    lib test-lib figures evidence install install-occur uninstall uninstall-occur install-lib \
+    lib test-lib figures size evidence install install-occur uninstall uninstall-occur install-lib \
     uninstall-lib dist deb clean
 
 all: programs
@@ -119,6 +120,9 @@ test-lib: build/lib/libgaxtrel.a build/grep
 
 figures:
 	tools/figures.py
+
+size:
+	tools/evidence.sh size tools/count.py --size
 
 # Each of the test targets above adds its run to build/evidence.tsv.
 evidence:

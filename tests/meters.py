@@ -76,7 +76,7 @@ MAY_BE_QUICK = {
     "the children of a node, each byte a step or passed": {"re_strings/trie.rt"},
     "splits lines": {"re_trees/split.rt", "re_runs/newline.rt", "re_runs/block.rt", "grep_io/input/newlines.rt",
                      "grep_io/input/window.rt", "grep_io/devices/byte_buffer.rt"},
-    "looks at patterns, not at lines": {"re_search/filter.rt", "re_search/plain.rt", "grep_session/patterns.rt"},
+    "looks at patterns, not at lines": {"re_search/filter.rt", "re_search/strings.rt", "grep_session/patterns.rt"},
 }
 """The files that may name it, by the reason."""
 
@@ -153,12 +153,18 @@ def code_of_readers(bench: Bench) -> Verdict:
     return judged(faults)
 
 
-@case("The crates that search make no meter.")
+MAKES_ONE = {"re_match/strings.rt"}
+"""The file of searches that makes a meter: what a look for strings passed goes from it to the lent one, as passed bytes or
+as steps."""
+
+
+@case("The crates that search make no meter, but in one file.")
 def sources_of_search(bench: Bench) -> Verdict:
     faults = []
     for crate in sorted(SEARCH):
         files = sorted((CRATES / crate / "src").glob("**/*.rt"))
-        named = [file for file in files if "fresh_meter" in file.read_text(encoding="utf-8")]
+        named = [file for file in files if "fresh_meter" in file.read_text(encoding="utf-8")
+                 and f"{crate}/{file.name}" not in MAKES_ONE]
         faults += [f"{crate}/{file.name} names fresh_meter" for file in named] if files else [f"{crate} has no source"]
     return judged(faults)
 

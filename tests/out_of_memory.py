@@ -26,8 +26,8 @@ UNFIT = re.compile(r"\btry_from\b")
 
 OTHERS = {
     "line_chunks/block.rt": 1, "line_chunks/chunks.rt": 1, "line_chunks/kept.rt": 1, "line_finds/found.rt": 1,
-    "line_finds/matches.rt": 2, "re_ends/kept.rt": 2, "re_ends/ranks.rt": 1, "re_strings/growth.rt": 1,
-    "re_strings/links.rt": 1, "re_steps/table.rt": 1, "re_syntax/fixed.rt": 1,
+    "line_finds/matches.rt": 2, "re_ends/groups.rt": 1, "re_ends/kept.rt": 2, "re_strings/growth.rt": 1,
+    "re_strings/links.rt": 1, "re_steps/table.rt": 1, "re_syntax/building.rt": 1, "grep_utility/pattern_list.rt": 1,
 }
 """How often these files answer so where none did. A number does not fit: of 2^32 bytes or lines in one chunk, of 2^64
 lines, of 2^32 nodes of a table of strings. `re_steps` has no room for one more set, `re_ends` for one more row or list,

@@ -3,6 +3,7 @@
 
     tools/count.py            prints the numbers
     tools/count.py --write    also writes the table of definitions into docs/SPECIFICATION.md
+    tools/count.py --size     prints the size of the house alone: bytes, functions, the crate with most of them
 
 Lines are counted by whole files, with comments and blank lines.
 """
@@ -73,10 +74,18 @@ def write_table() -> None:
     PAGE.write_text(front + BEGIN + table() + END + rest.partition(END)[2], encoding="utf-8")
 
 
-def functions() -> int:
-    """How many functions the crates have, those of tests among them."""
+def functions(crate: str = "*") -> int:
+    """How many functions a crate has, or all crates, those of tests among them."""
     function = re.compile(r"^ *(?:pub(?:\([a-z]+\))? )?fn ", re.MULTILINE)
-    return sum(len(function.findall(file.read_text(encoding="utf-8"))) for file in CRATES.glob("*/src/**/*.rt"))
+    return sum(len(function.findall(file.read_text(encoding="utf-8"))) for file in CRATES.glob(f"{crate}/src/**/*.rt"))
+
+
+def size() -> str:
+    """The size of the house, in one line."""
+    kinds = (("code", "src/**/*.rt"), ("specs", "specs/**/*.antt"), ("proofs", "proofs/**/*.antt"))
+    parts = [f"{name} {sum(file.stat().st_size for file in CRATES.glob(f'*/{files}')):,}" for name, files in kinds]
+    most, greatest = max((functions(folder.name), folder.name) for folder in CRATES.iterdir())
+    return f"{', '.join(parts)} bytes; {functions():,} functions, most in {greatest}: {most}"
 
 
 def cases() -> int:
@@ -87,9 +96,12 @@ def cases() -> int:
 
 
 def main() -> int:
-    if sys.argv[1:] not in ([], ["--write"]):
+    if sys.argv[1:] not in ([], ["--write"], ["--size"]):
         print(__doc__, file=sys.stderr)
         return 2
+    if sys.argv[1:] == ["--size"]:
+        print(size())
+        return 0
     print(table())
     print(f"{functions():,} functions")
     for folder in ("must-fail", "audit"):
