@@ -28,7 +28,7 @@ MOST_WORDS = {
     "docs/GUARANTEES.md": 2_070,
     "docs/SPECIFICATION.md": 5_090,
     "docs/ARCHITECTURE.md": 2_960,
-    "docs/PROVING.md": 4_440,
+    "docs/PROVING.md": 4_450,
     "docs/DECISIONS.md": 4_500,
     "docs/PERFORMANCE.md": 1_400,
     "docs/CHANGING.md": 1_600,
