@@ -1,10 +1,9 @@
 //! Files, devices and runs for the tests of searches and commands.
 use crate::marks::{refuse, was_refused};
-use grep_cmd::{PatternSource, Request, matchers_of, read_words, run_grep};
+use grep_cmd::{PatternSource, Request, read_words, run_grep, searchers_of};
 use grep_core::{CountedWrite, Limited, RunFault, SearchRequest, Status, Tally, search_all};
 use memory_files::{Content, MemoryFile, MemoryFiles};
 use re_auto::fresh_meter;
-use re_search::Filter;
 use std::alloc::{AllocError, Global};
 use std::process::Abort;
 use std::test::Fail;
@@ -184,14 +183,13 @@ pub fn searched_without<'a>(
     let words = words_of(alloc, line)?;
     let request = read_words(alloc, &words)?;
     let texts = pattern_lines(alloc, &request)?;
-    let mut matchers = matchers_of(alloc, &texts, request.syntax, &request.options)?;
+    let mut matchers = searchers_of(alloc, &texts, request.syntax, &request.options)?;
     let sources = named(alloc, &request.files, files, input)?;
     let mut memory = MemoryFiles::new(&sources, Content::new(b""));
     refuse(alloc, n)?;
     let search = SearchRequest {
         alloc,
         options: request.options,
-        filter: &Filter::none(),
     };
     let answer = search_all(
         &search,

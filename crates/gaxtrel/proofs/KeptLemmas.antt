@@ -2,25 +2,20 @@
 use Rattle.std.proofs.Common.{◌≡◌, ◌∙◌, ℕ, Bool, List, ◌++◌, length, map, take, refl, sym, ap, subst, arith}
 use Rattle.std.proofs.Math.Seq.{take-append_seam}
 use Rattle.grep_core.proofs.lemmas.CostLaws.{same_length}
-use Rattle.std.specs.Option.{ForSome}
 use Rattle.re_auto.specs.Searches.{AllAnswer, SameMatchers}
 use Rattle.re_search.specs.declared.matcher.Matcher.{Matcher}
-use Rattle.re_search.specs.Working.Filters.{AreNeeded}
 use Rattle.re_search.specs.Working.Matchers.{matched_expression, room_of, wants_whole}
 use Rattle.re_syntax.specs.declared.syntax.Syntax.{Syntax}
 use Rattle.re_syntax.specs.declared.syntax.Syntax.TheVariants.{Basic, Extended, Fixed}
 use Rattle.gaxtrel.specs.Calls.{syntax_number}
 
--- after a call on the matchers of a vector those that it keeps still agree on whether the whole line has to be matched, and still need the same strings
-pub still_right : {whole : Bool} {needed : _} (before now after rest : List Matcher) (len : ℕ) → SameMatchers matched_expression wants_whole room_of now after → now ≡ before → length now ≡ len
-    → AllAnswer whole (map wants_whole before) × ForSome needed (λ strings. AreNeeded strings (map matched_expression before))
-    → AllAnswer whole (map wants_whole (take len (after ++ rest))) × ForSome needed (λ strings. AreNeeded strings (map matched_expression (take len (after ++ rest))))
-still_right {whole} {needed} before now after rest len same was long (alike, need) =
+-- after a call on the matchers of a vector those that it keeps still agree on whether the whole line has to be matched
+pub still_right : {whole : Bool} (before now after rest : List Matcher) (len : ℕ) → SameMatchers matched_expression wants_whole room_of now after → now ≡ before → length now ≡ len
+    → AllAnswer whole (map wants_whole before) → AllAnswer whole (map wants_whole (take len (after ++ rest)))
+still_right {whole} before now after rest len same was long alike =
     let all : length after ≡ len = same_length wants_whole after now same.same_wholes ∙ long in
-    let is : take len (after ++ rest) ≡ after = ap (λ n. take n (after ++ rest)) (sym all) ∙ take-append_seam after rest in (
-      subst (AllAnswer whole) (sym (ap (map wants_whole) is ∙ same.same_wholes ∙ ap (map wants_whole) was)) alike,
-      subst (λ es. ForSome needed (λ strings. AreNeeded strings es)) (sym (ap (map matched_expression) is ∙ same.same_expressions ∙ ap (map matched_expression) was)) need,
-    )
+    let is : take len (after ++ rest) ≡ after = ap (λ n. take n (after ++ rest)) (sym all) ∙ take-append_seam after rest in
+    subst (AllAnswer whole) (sym (ap (map wants_whole) is ∙ same.same_wholes ∙ ap (map wants_whole) was)) alike
 
 -- ---- numbers of syntaxes
 

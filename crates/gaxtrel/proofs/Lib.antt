@@ -5,6 +5,7 @@ pub mod HandleValues
 pub mod PartLemmas
 pub mod TextLemmas
 pub mod KeptLemmas
+pub mod ServedLemmas
 pub mod CommandLemmas
 -- what may go to another thread
 pub mod PatternsSend

@@ -8,7 +8,6 @@ use Rattle.re_match.proofs.prefilter.Prefilter.TheSendSync as prefilter
 use Rattle.re_match.proofs.strings.Strings.TheSendSync as strings
 use Rattle.re_trees.proofs.bytes.ByteSet.TheSendSync as byte_set
 use Rattle.re_trees.proofs.tree.Tree.TheLaws.TheKnot
-use Rattle.re_search.proofs.filter.Filter.TheSendSync as filter
 use Rattle.std_alloc.proofs.boxed.Box.TheSendSync as box
 use Rattle.std.below.std_heap.proofs.GlobalAllocator.TheSendSync as heap
 use Rattle.std.proofs.Crossing
@@ -38,4 +37,4 @@ pub matcher : IsSend matcher_row.the_row
 matcher = search (strings.the_send, cached, box.the_send, global.the_send, heap.the_frees, sendable) depth 60 fits 20000
 
 pub patterns : IsSend patterns_row.the_row
-patterns = search (matcher, filter.the_send, Crossing.crosses, sendable) depth 60 fits 20000
+patterns = search (matcher, Crossing.crosses, sendable) depth 60 fits 20000

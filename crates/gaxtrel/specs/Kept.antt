@@ -1,9 +1,10 @@
 -- What C keeps of patterns.
-use Rattle.std.specs.Prelude.{◌≡◌, Bool, List, Option, Some, map}
+use Rattle.std.specs.Prelude.{◌≡◌, ◌≤◌, Bool, List, Option, Some, length, map}
 use Rattle.re_syntax.specs.Expression.{Expression}
 use Rattle.re_search.specs.declared.matcher.Matcher.{Matcher}
 use Rattle.re_search.specs.Working.Matchers.{matched_expression}
 use Rattle.re_search.specs.Working.Sought.{Sought}
+use Rattle.grep_core.specs.Working.SameChoice.{IsSameChoice}
 
 -- matchers, and whether the whole line has to be matched
 pub record Kept : Type 0 where
@@ -18,8 +19,14 @@ expressions_in kept = map matched_expression kept.matchers
 abbrev pub sought_in : Kept → Sought
 sought_in kept = record { expressions = expressions_in kept; whole = kept.whole }
 
+-- a search for the one is a search for the other: the expressions are the same choice, and no more
+pub record Serves (asked sought : Sought) : Type 0 where
+  pub same : IsSameChoice asked.expressions sought.expressions
+  pub fewer : length asked.expressions ≤ length sought.expressions
+  pub whole : asked.whole ≡ sought.whole
+
 -- something is kept, and it searches for this
 pub record IsFor (held : Option Kept) (sought : Sought) : Type 0 where
   pub kept : Kept
   pub is_there : held ≡ Some kept
-  pub is_sought : sought_in kept ≡ sought
+  pub serves : Serves (sought_in kept) sought

@@ -2,26 +2,23 @@
 ghost use Rattle.std.specs.Prelude.{◌≡◌, ◌↔◌, ◌⊎◌, [], ◌∷◌, List, IsTrue, IfOk, IfErr};
 ghost use Rattle.std.specs.Prelude.{All, length, map};
 ghost use Rattle.std.specs.List.{AllZip};
-ghost use Rattle.std.specs.Option.{ForSome};
 ghost use Rattle.re_syntax.specs.Expression.{Expression};
 ghost use Rattle.re_syntax.specs.Lines.{lines_of};
 ghost use Rattle.re_syntax.specs.Spelled.{IsMeant};
 ghost use Rattle.re_meter.specs.Meters.{AddsAtMost};
 ghost use Rattle.re_auto.specs.Searches.{FindsPart};
 ghost use Rattle.re_search.specs.Reading.{IsOutOfMemory, IsReadable, IsRefusedFor, IsSmallFor};
-ghost use Rattle.re_search.specs.Working.Filters.{AreNeeded};
-ghost use Rattle.re_search.specs.Working.Matchers.{matched_expression};
 ghost use Rattle.re_search.specs.Working.Sought.{CountsSought, IsSought};
 ghost use Rattle.grep_core.specs.Matchers.{IsFirstRefused};
-ghost use Rattle.gaxtrel.specs.Kept.{expressions_in, sought_in};
+ghost use Rattle.gaxtrel.specs.Kept.{Serves, expressions_in, sought_in};
 ghost use Rattle.gaxtrel.specs.Calls.{FindsLine, PutsParts, line_cost};
 
 use crate::line_parts::put_parts;
 use crate::part::GaxtrelPart;
 use crate::text_search::{count_in_text, is_matched, next_in_text};
 use grep_core::Options;
-use grep_utility::matchers_of;
-use re_search::{Filter, LineParts, Matcher, Meter, Span, Syntax, needed_strings, parts};
+use grep_utility::searchers_of;
+use re_search::{LineParts, Matcher, Meter, Span, Syntax, parts};
 use re_syntax::{FaultKind, PatternFault};
 use std::alloc::{AllocError, Global};
 use std::marker::Model;
@@ -29,22 +26,18 @@ use std::marker::Model;
 /// How many entries the cache of one pattern may have.
 const STATES: usize = 4096;
 
-/// The matchers of patterns, strings that all of them need, and whether the whole line has to be
-/// matched. Contracts see the matchers and that.
+/// The matchers of patterns, and whether the whole line has to be matched.
 #[derive(Drop)]
 pub struct Patterns {
     matchers: Vec<Matcher>,
-    needed: Filter,
     whole: bool,
 }
 
 impl Model for Patterns {
     ghost use Rattle.std.specs.Prelude.{map};
-    ghost use Rattle.std.specs.Option.{ForSome};
     ghost use Rattle.std.specs.Coded.{codes};
     ghost use Rattle.re_auto.specs.Searches.{AllAnswer};
-    ghost use Rattle.re_search.specs.Working.Filters.{AreNeeded};
-    ghost use Rattle.re_search.specs.Working.Matchers.{matched_expression, wants_whole};
+    ghost use Rattle.re_search.specs.Working.Matchers.{wants_whole};
     ghost use Rattle.re_search.specs.contracts.matcher.Matcher as matcher;
     ghost use Rattle.gaxtrel.specs.Kept.{Kept};
 
@@ -54,9 +47,7 @@ impl Model for Patterns {
 
     ghost view = { λ p. record { matchers = p.matchers.items; whole = p.whole } };
 
-    ghost invariant = { λ p. AllAnswer p.whole (map wants_whole p.matchers.items)
-        × ForSome p.needed
-        (λ strings. AreNeeded strings (map matched_expression p.matchers.items)) };
+    ghost invariant = { λ p. AllAnswer p.whole (map wants_whole p.matchers.items) };
 }
 
 impl Patterns {
@@ -74,7 +65,7 @@ impl Patterns {
     ) -> Result<Patterns, PatternFault>
         ensures made { IfOk result
             (λ p. (e : Expression) × IsMeant syntax fold text.now e × IsSmallFor syntax fold e
-            × (sought_in p ≡ record { expressions = e ∷ []; whole = whole })) }
+            × Serves (sought_in p) (record { expressions = e ∷ []; whole = whole })) }
         ensures refused { IfErr result
             (λ fault. IsOutOfMemory fault ⊎ IsRefusedFor syntax fold text.now fault) }
         ensures unreadable { IfErr result
@@ -90,11 +81,7 @@ impl Patterns {
                 at: 0,
             });
         };
-        Ok(Patterns {
-            matchers,
-            needed: Filter::none(),
-            whole,
-        })
+        Ok(Patterns { matchers, whole })
     }
 
     /// The patterns that are the lines of a text.
@@ -114,22 +101,17 @@ impl Patterns {
             (λ p. (es : List Expression)
             × AllZip (λ text e. IsMeant syntax fold text e) (lines_of texts.now) es
             × All (IsReadable syntax fold) (lines_of texts.now)
-            × (sought_in p ≡ record { expressions = es; whole = whole })) }
+            × Serves (sought_in p) (record { expressions = es; whole = whole })) }
         ensures refused { IfErr result
             (λ refused. IsOutOfMemory refused.1
             ⊎ IsFirstRefused syntax fold (lines_of texts.now) refused.0 refused.1) }
     {
         let options = reading(fold, whole);
-        let matchers = match matchers_of(alloc, texts, syntax, &options) {
+        let matchers = match searchers_of(alloc, texts, syntax, &options) {
             Ok(matchers) => matchers,
             Err(refused) => return Err(refused),
         };
-        let needed = needed_or_none(alloc, &matchers);
-        Ok(Patterns {
-            matchers,
-            needed,
-            whole,
-        })
+        Ok(Patterns { matchers, whole })
     }
 
     /// Whether some pattern matches the line.
@@ -140,7 +122,7 @@ impl Patterns {
             meter.new }
     {
         let whole = self.whole;
-        is_matched(&mut self.matchers, &self.needed, whole, line, meter)
+        is_matched(&mut self.matchers, whole, line, meter)
     }
 
     /// The part of the line that begins earliest at `from` or later, and of those that begin
@@ -199,7 +181,7 @@ impl Patterns {
             return None;
         }
         let (whole, rest) = (self.whole, &text[from..]);
-        let found = next_in_text(&mut self.matchers, &self.needed, whole, rest, meter);
+        let found = next_in_text(&mut self.matchers, whole, rest, meter);
         let Some(at) = found else {
             return None;
         };
@@ -217,7 +199,7 @@ impl Patterns {
             meter.new }
     {
         let whole = self.whole;
-        count_in_text(&mut self.matchers, &self.needed, whole, text, meter)
+        count_in_text(&mut self.matchers, whole, text, meter)
     }
 }
 
@@ -228,17 +210,6 @@ fn alone(alloc: Global, matcher: Matcher) -> Result<Vec<Matcher>, AllocError>
     let mut matchers = Vec::new(alloc);
     matchers.push(matcher)?;
     Ok(matchers)
-}
-
-// Strings that all of them need. Without memory for them a search does without.
-fn needed_or_none(alloc: Global, matchers: &[Matcher]) -> Filter
-    ensures { ForSome result
-        (λ strings. AreNeeded strings (map matched_expression matchers.now)) }
-{
-    match needed_strings(alloc, matchers) {
-        Ok(needed) => needed,
-        Err(_) => Filter::none(),
-    }
 }
 
 // The options by which patterns are read.

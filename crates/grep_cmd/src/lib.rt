@@ -7,7 +7,7 @@ mod script;
 
 pub use grep_utility::{
     FAILED, Files, OUT_OF_MEMORY, PatternSource, Request, USAGE, UsageFault, WRITE_ERROR,
-    matchers_of, read_words, run_grep, write_usage_fault,
+    read_words, run_grep, searchers_of, write_usage_fault,
 };
 pub use laws::editors_follow;
 pub use reports::show;

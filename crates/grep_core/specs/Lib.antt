@@ -11,7 +11,6 @@ pub use Rattle.grep_io.specs.Written
 pub use Rattle.grep_io.specs.Buffer
 pub use Rattle.grep_io.specs.Reading
 pub use Rattle.re_search.specs.Searches
-pub use Rattle.re_search.specs.Working.Filters
 -- what the contract of the whole command, or of the session, rests on
 pub mod Row
 pub mod Choose

@@ -11,7 +11,6 @@ pub use Rattle.grep_core.specs.Row.{output_line}
 pub use Rattle.grep_core.specs.Run.{AreReadings, Devices, FailuresMet, Finishes, LeftMet, RunGives, TakesAll, Writer, count_more, devices, files_of, writer}
 pub use Rattle.grep_core.specs.Sources.{Returns, source_at}
 pub use Rattle.grep_core.specs.Working.Handed.{AreHanded, StandsFor}
-pub use Rattle.grep_core.specs.Working.MatcherLists.{AreMatchers}
 pub use Rattle.grep_core.specs.Working.Numbered.{HasHanded, NextIs, Numbered}
 pub use Rattle.grep_core.specs.Working.SameChoice.{IsSameChoice}
 pub use Rattle.grep_core.specs.Written.{StopsWithin, Writes}
@@ -37,7 +36,7 @@ pub use Rattle.grep_utility.specs.Working.Numbers.{digit_of}
 unfoldable pub use Rattle.grep_utility.specs.Working.Operands.{StandsAt}
 pub use Rattle.grep_utility.specs.Working.Prepared.{HasNumber, IsDue, IsPrepared, due_text}
 pub use Rattle.grep_utility.specs.Working.Returned.{HasReturned}
-pub use Rattle.grep_utility.specs.Working.ServingMatchers.{AreGrouped, ArePatterns, AreReadAs, IsJoined, ServeFor}
+pub use Rattle.grep_utility.specs.Working.ServingMatchers.{AreGrouped, ArePatterns, AreReadAs, AreStrings, IsJoined, ServeFor}
 pub use Rattle.grep_utility.specs.Working.Tokens.{AreUsedUp, drafted, token_of, tokens_from, tokens_left, words_left}
 pub use Rattle.grep_utility.specs.Working.Worked.{BrokenFollows, RowFollows, broken_messages, broken_output, broken_text, broken_words, row_messages, row_output, row_text, row_words}
 pub use Rattle.grep_utility.specs.declared.patterns.FileRead.TheVariants.{Broken, Whole}
@@ -52,7 +51,6 @@ pub use Rattle.grep_utility.specs.declared.words.tokens.Argument.{Argument}
 pub use Rattle.grep_utility.specs.declared.words.tokens.Meaning.TheVariants.{Takes}
 pub use Rattle.re_search.specs.Meters.{Steps}
 pub use Rattle.re_search.specs.Reading.{IsOutOfMemory, IsReadable}
-pub use Rattle.re_search.specs.Working.Filters.{AreNeeded}
 pub use Rattle.re_search.specs.Working.Literals.{literal_meaning}
 pub use Rattle.re_search.specs.Working.Matchers.{matched_expression, wants_whole}
 pub use Rattle.re_search.specs.Working.Patterns.{IsCounted, IsPattern, meaning, meant_by, pattern_expression}

@@ -1,7 +1,5 @@
 //! The whole command (XCU grep).
 ghost use Rattle.std.specs.Prelude.{◌≡◌, map};
-ghost use Rattle.std.specs.Option.{ForSome};
-ghost use Rattle.re_search.specs.Working.Filters.{AreNeeded};
 ghost use Rattle.re_search.specs.Working.Matchers.{matched_expression, wants_whole};
 ghost use Rattle.re_search.specs.Searches.{AllAnswer};
 ghost use Rattle.grep_core.specs.Run.{writer, devices};
@@ -14,27 +12,24 @@ use crate::files::Files;
 use crate::message_texts::{end_search, report_fault, report_usage};
 use crate::operands::Operands;
 use crate::prepare::{Task, prepare};
-use crate::searchers::OwnedSearchers;
 use crate::texts::FAILED;
 use crate::words::read_words;
 use grep_core::{CountedWrite, SearchRequest, search_all};
-use re_search::Meter;
+use re_search::{Matcher, Meter};
 use std::alloc::Global;
 
 /// Searches the files of a request, and returns the exit status.
 fn search_request<F: Files, W: CountedWrite, N: CountedWrite>(
     task: &Task<'_>,
-    searchers: &mut OwnedSearchers,
+    matchers: &mut [Matcher],
     files: &mut F,
     out: &mut W,
     messages: &mut N,
     meter: &mut Meter,
 ) -> u8
     requires whole { AllAnswer task.now.request.now.options.line_regexp
-        (map wants_whole searchers.old.matchers.items) }
-    requires needed { ForSome searchers.old.needed
-        (λ strings. AreNeeded strings (map matched_expression searchers.old.matchers.items)) }
-    ensures { SearchEnds (map matched_expression searchers.old.matchers.items)
+        (map wants_whole matchers.old) }
+    ensures { SearchEnds (map matched_expression matchers.old)
         task.now.request.now.options
         (sources_named (F.folder files.old) (searched (texts_of task.now.request.now.files.items)))
         (Returns F.returned_readers files.old files.new)
@@ -47,11 +42,9 @@ fn search_request<F: Files, W: CountedWrite, N: CountedWrite>(
     let search = SearchRequest {
         alloc: task.alloc,
         options: task.request.options,
-        filter: &searchers.needed,
     };
     files.begin_search(&search.options);
     let mut operands = Operands::new(&mut *files, &task.request.files);
-    let matchers = &mut searchers.matchers;
     let found = search_all(&search, &mut operands, matchers, out, messages, meter);
     let _files = operands.into_files();
     end_search(messages, found)
@@ -111,7 +104,7 @@ pub fn run_grep<F: Files, W: CountedWrite, M: CountedWrite>(
         request: &request,
     };
     match prepare(&task, files) {
-        Ok(mut searchers) => search_request(&task, &mut searchers, files, out, messages, meter),
+        Ok(mut matchers) => search_request(&task, &mut matchers, files, out, messages, meter),
         Err(fault) => {
             report_fault(messages, fault);
             FAILED

@@ -8,11 +8,13 @@ ghost use Rattle.re_syntax.specs.Working.Trees.{expression_of};
 ghost use Rattle.re_search.specs.Working.Patterns.{pattern_expression, meant_by, IsCounted};
 ghost use Rattle.grep_utility.specs.Working.ServingMatchers.{AreGrouped};
 
-use crate::matchers::MOST_STATES;
 use grep_core::Options;
 use re_search::{Choice, Matcher, Pattern};
 use std::alloc::{AllocError, Global};
 use std::mem::replace;
+
+// How many entries the cache of a matcher may have.
+const MOST_STATES: usize = 16_384;
 
 /// The matchers of patterns, a choice of them each, and the choice that the next pattern joins.
 #[derive(Drop)]
@@ -27,13 +29,18 @@ pub struct Groups {
 
 impl Groups {
     // Adds the pattern.
-    fn add(&mut self, alloc: Global, pattern: Pattern, options: &Options) -> Result<(), AllocError>
+    fn add(
+        &mut self,
+        alloc: Global,
+        pattern: Pattern<'_>,
+        options: &Options,
+    ) -> Result<(), AllocError>
         requires { IsCounted options.now.ignore_case pattern }
         ensures { (es : List Expression) →
             AreGrouped options.now.line_regexp es self.old.matchers.items
             (map expression_of self.old.choice) →
             IfOk result (λ _. AreGrouped options.now.line_regexp
-            (es ++ meant_by options.now.ignore_case pattern ∷ [])
+            (es ++ meant_by options.now.ignore_case pattern.entry ∷ [])
             self.new.matchers.items (map expression_of self.new.choice)) }
     {
         let fold = options.ignore_case;
@@ -49,7 +56,7 @@ impl Groups {
     }
 
     // Whether the pattern joins the choice.
-    fn joins(&self, pattern: &Pattern) -> bool
+    fn joins(&self, pattern: &Pattern<'_>) -> bool
         ensures { IsTrue result → (fold : Bool) → IsCounted fold pattern.now →
             positions (alt (map expression_of self.now.choice))
             + positions (pattern_expression pattern.now) ≤ most_positions }
@@ -86,12 +93,12 @@ impl Groups {
 /// together, in order.
 pub fn joined_matchers(
     alloc: Global,
-    patterns: Vec<Pattern>,
+    patterns: Vec<Pattern<'_>>,
     options: &Options,
 ) -> Result<Vec<Matcher>, AllocError>
     requires { All (IsCounted options.now.ignore_case) patterns.items }
     ensures { IfOk result (λ matchers. AreGrouped options.now.line_regexp
-        (map (meant_by options.now.ignore_case) patterns.items) matchers.items []) }
+        (map (meant_by options.now.ignore_case) patterns.entry.items) matchers.items []) }
 {
     let mut groups = Groups {
         matchers: Vec::new(alloc),

@@ -18,8 +18,8 @@ pub fn out_of_memory() -> (usize, PatternFault)
 }
 
 /// Adds a pattern.
-fn add_pattern(patterns: &mut Vec<Pattern>, pattern: Pattern) -> Result<(), AllocError>
-    ensures { IfOk result (λ _. patterns.new.items ≡ patterns.old.items ++ pattern ∷ []) }
+fn add_pattern<'a>(patterns: &mut Vec<Pattern<'a>>, pattern: Pattern<'a>) -> Result<(), AllocError>
+    ensures { IfOk result (λ _. patterns.new.items ≡ patterns.old.items ++ pattern.entry ∷ []) }
 {
     patterns.push(pattern)?;
     Ok(())
@@ -29,13 +29,14 @@ fn add_pattern(patterns: &mut Vec<Pattern>, pattern: Pattern) -> Result<(), Allo
 ///
 /// # Errors
 ///
-/// Those of [`crate::matchers_of`].
+/// The place of the first pattern that is refused, counted from 0, and why; or `FaultKind::Memory`
+/// at 0 if an allocation fails.
 pub fn patterns_of(
     alloc: Global,
     texts: &[u8],
     syntax: Syntax,
     fold: bool,
-) -> Result<Vec<Pattern>, (usize, PatternFault)>
+) -> Result<Vec<Pattern<'_>>, (usize, PatternFault)>
     ensures ok { IfOk result
         (λ patterns. ArePatterns syntax fold (lines_of texts.now) patterns.items) }
     ensures err { IfErr result (λ refused. IsOutOfMemory refused.1

@@ -1,10 +1,7 @@
 //! A command before its search: its patterns are read.
 ghost use Rattle.std.specs.Prelude.{◌≡◌, ℕ, List, Option, nat_lt, length, map, IfOk, IfErr};
-ghost use Rattle.std.specs.Option.{ForSome};
 ghost use Rattle.re_syntax.specs.Bytes.{Text};
 ghost use Rattle.re_syntax.specs.Lines.{lines_of};
-ghost use Rattle.re_search.specs.Working.Filters.{AreNeeded};
-ghost use Rattle.re_search.specs.Working.Matchers.{matched_expression};
 ghost use Rattle.grep_core.specs.Sources.{Returns};
 ghost use Rattle.grep_utility.specs.Patterns.{OneReaderEach};
 ghost use Rattle.grep_utility.specs.Words.{asked};
@@ -12,8 +9,9 @@ ghost use Rattle.grep_utility.specs.Working.Prepared.{IsPrepared, IsDue};
 
 use crate::files::Files;
 use crate::patterns::{PatternsFault, read_patterns};
-use crate::searchers::{OwnedSearchers, has_more_than, searchers_of};
+use crate::searchers::{has_more_than, searchers_of};
 use crate::words::Request;
+use re_search::Matcher;
 use re_syntax::{FaultKind, MOST_PATTERNS, PatternFault};
 use std::alloc::Global;
 
@@ -35,20 +33,18 @@ pub enum CommandFault<'a> {
     Refused(usize, PatternFault),
 }
 
-/// The searchers for the patterns of a request, or why the command ends before its search.
+/// The matchers for the patterns of a request, or why the command ends before its search.
 pub fn prepare<'a, F: Files>(
     task: &Task<'a>,
     files: &mut F,
-) -> Result<OwnedSearchers, CommandFault<'a>>
+) -> Result<Vec<Matcher>, CommandFault<'a>>
     ensures same_loan { F.loan files.new ≡ F.loan files.old }
     ensures back { IfOk result (λ _. (left : List (Option Text))
         × OneReaderEach (asked task.now.request.now).sources left
         × Returns F.returned_readers files.old files.new left) }
-    ensures ok { IfOk result (λ searchers. IsPrepared (asked task.now.request.now) (F.folder files.old)
-        (F.folder files.new) searchers.matchers.items) }
+    ensures ok { IfOk result (λ matchers. IsPrepared (asked task.now.request.now) (F.folder files.old)
+        (F.folder files.new) matchers.items) }
     ensures none_failed { IfOk result (λ _. F.failures files.new ≡ F.failures files.old) }
-    ensures needed { IfOk result (λ searchers. ForSome searchers.needed
-        (λ strings. AreNeeded strings (map matched_expression searchers.matchers.items))) }
     ensures err { IfErr result (λ fault. IsDue (asked task.now.request.now) (F.folder files.old)
         (F.failures files.old) (F.failures files.new) fault) }
 {
@@ -61,7 +57,7 @@ pub fn prepare<'a, F: Files>(
         return Err(CommandFault::TooMany);
     }
     match searchers_of(task.alloc, &texts, request.syntax, &request.options) {
-        Ok(searchers) => Ok(searchers),
+        Ok(matchers) => Ok(matchers),
         Err((place, fault)) => {
             if fault.kind == FaultKind::Memory {
                 return Err(CommandFault::Unread(PatternsFault::Memory));

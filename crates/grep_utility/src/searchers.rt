@@ -1,20 +1,16 @@
-//! The matchers of a search: for all patterns together, or one for each.
+//! The matchers of a search, for all patterns together.
 ghost use Rattle.std.specs.Prelude.{◌≡◌, ◌+◌, ◌^◌, ◌<◌, ◌≤◌, ◌⊎◌, [], ◌∷◌, nat_lt, Bool};
 ghost use Rattle.std.specs.Prelude.{IfOk, IfErr, IfSome, length, map};
-ghost use Rattle.std.specs.Option.{ForSome};
 ghost use Rattle.re_syntax.specs.Lines.{lines_of};
-ghost use Rattle.re_search.specs.Working.Filters.{AreNeeded};
 ghost use Rattle.re_search.specs.Reading.{IsOutOfMemory};
-ghost use Rattle.re_search.specs.Working.Matchers.{matched_expression};
 ghost use Rattle.grep_core.specs.Matchers.{IsFirstRefused};
-ghost use Rattle.grep_core.specs.Working.MatcherLists.{AreMatchers};
 ghost use Rattle.grep_utility.specs.Working.ServingMatchers.{ServeFor, IsJoined, AreReadAs};
+ghost use Rattle.grep_utility.specs.Working.ServingMatchers.{AreStrings};
 
 use crate::joined::joined_matchers;
-use crate::matchers::matchers_of;
 use crate::pattern_list::{out_of_memory, patterns_of};
 use grep_core::Options;
-use re_search::{Filter, Matcher, Pattern, Strings, needed_strings};
+use re_search::{Matcher, Pattern, Strings, read_pattern};
 use re_syntax::{MOST_POSITIONS, PatternFault, Syntax, split_file};
 use std::alloc::{AllocError, Global};
 
@@ -28,82 +24,40 @@ const LONG: usize = 5;
 /// more than bytes, and the pass numbers its beginnings in 32 bits.
 const MOST_BYTES: usize = 4_294_967_294;
 
-/// What a search asks of each line: what `Searchers` of `re_search` borrows.
-#[derive(Drop)]
-pub struct OwnedSearchers {
-    /// The matchers that decide.
-    pub matchers: Vec<Matcher>,
-    /// Strings, if they are known: a line without any of them is matched by no matcher, so that it
-    /// need not be shown to them.
-    pub needed: Filter,
-}
-
 /// The matchers of a search for the patterns, which are the lines of `texts`: one for all that are
-/// strings, where that is quicker; one for each, where they are more than eight, each needs a
-/// string and no parts are asked for; else one automaton for as many as have 4,096 positions
-/// together.
+/// strings, where that is quicker; else one automaton for as many as have 4,096 positions together.
 ///
 /// # Errors
 ///
-/// Those of [`matchers_of`].
+/// Those of [`patterns_of`].
 pub fn searchers_of(
     alloc: Global,
     texts: &[u8],
     syntax: Syntax,
     options: &Options,
-) -> Result<OwnedSearchers, (usize, PatternFault)>
+) -> Result<Vec<Matcher>, (usize, PatternFault)>
     ensures ok { IfOk result
-        (λ s. ServeFor syntax options.now (lines_of texts.now) s.matchers.items) }
-    ensures needed { IfOk result
-        (λ s.
-        ForSome s.needed (λ strings. AreNeeded strings (map matched_expression s.matchers.items))) }
+        (λ matchers. ServeFor syntax options.now (lines_of texts.now) matchers.items) }
     ensures err { IfErr result (λ refused. IsOutOfMemory refused.1
         ⊎ IsFirstRefused syntax options.now.ignore_case (lines_of texts.now) refused.0 refused.1) }
 {
-    let patterns = patterns_of(alloc, texts, syntax, options.ignore_case)?;
-    if let Some(strings) = strings_of(alloc, texts, &patterns, options) {
-        drop(patterns);
+    if let Some(strings) = many_strings(alloc, texts, syntax, options.ignore_case) {
         let Ok(matchers) = joined(alloc, &strings, options) else {
             return Err(out_of_memory());
         };
-        let needed = Filter::none();
-        return Ok(OwnedSearchers { matchers, needed });
+        return Ok(matchers);
     }
-    if has_more_than(FEW, texts) && !options.only_matching {
-        let each = searchers_of_each(alloc, texts, syntax, options)?;
-        if !each.needed.is_empty() {
-            return Ok(each);
-        }
+    let patterns = patterns_of(alloc, texts, syntax, options.ignore_case)?;
+    if let Some(strings) = strings_of(alloc, texts, &patterns, options) {
+        let Ok(matchers) = joined(alloc, &strings, options) else {
+            return Err(out_of_memory());
+        };
+        return Ok(matchers);
     }
     let Ok(matchers) = joined_matchers(alloc, patterns, options) else {
         return Err(out_of_memory());
     };
-    let needed = Filter::none();
-    Ok(OwnedSearchers { matchers, needed })
-}
-
-/// A matcher for each pattern, and strings that all of them need, if they are known.
-fn searchers_of_each(
-    alloc: Global,
-    texts: &[u8],
-    syntax: Syntax,
-    options: &Options,
-) -> Result<OwnedSearchers, (usize, PatternFault)>
-    ensures ok { IfOk result
-        (λ s. AreMatchers syntax options.now (lines_of texts.now) s.matchers.items) }
-    ensures needed { IfOk result
-        (λ s.
-        ForSome s.needed (λ strings. AreNeeded strings (map matched_expression s.matchers.items))) }
-    ensures err { IfErr result (λ refused. IsOutOfMemory refused.1
-        ⊎ IsFirstRefused syntax options.now.ignore_case (lines_of texts.now) refused.0 refused.1) }
-{
-    let matchers = matchers_of(alloc, texts, syntax, options)?;
-    // Without memory for the filter the search does without one.
-    let needed = match needed_strings(alloc, &matchers) {
-        Ok(filter) => filter,
-        Err(_) => Filter::none(),
-    };
-    Ok(OwnedSearchers { matchers, needed })
+    Ok(matchers)
 }
 
 /// Whether there are more patterns than this, which are the lines of `texts`.
@@ -113,12 +67,33 @@ pub fn has_more_than(most: usize, texts: &[u8]) -> bool
     split_file(texts).nth(most).is_some()
 }
 
+/// The strings that the patterns are, each followed by a newline, where they are more than eight.
+/// No list of the patterns is made. `None`: a pattern is something else or refused, or out of
+/// memory.
+fn many_strings(alloc: Global, texts: &[u8], syntax: Syntax, fold: bool) -> Option<Vec<u8>>
+    ensures some { IfSome result (λ _. 1 ≤ length (lines_of texts.now)) }
+    ensures read { IfSome result
+        (λ strings. AreStrings syntax fold (lines_of texts.now) (lines_of strings.items)) }
+{
+    if texts.len() > MOST_BYTES || !has_more_than(FEW, texts) {
+        return None;
+    }
+    let mut strings = Vec::new(alloc);
+    for text in split_file(texts) {
+        let Ok(pattern) = read_pattern(alloc, text, syntax, fold) else {
+            return None;
+        };
+        pattern.add_strings(alloc, &mut strings)?;
+    }
+    Some(strings)
+}
+
 /// The strings that the patterns are, each followed by a newline, where one pass for all of them is
 /// quicker than an automaton. `None`: unknown, or out of memory.
 fn strings_of(
     alloc: Global,
     texts: &[u8],
-    patterns: &[Pattern],
+    patterns: &[Pattern<'_>],
     options: &Options,
 ) -> Option<Vec<u8>>
     ensures few { IfSome result (λ _. length texts.now + 1 < 2 ^ 32) }
@@ -139,7 +114,7 @@ fn strings_of(
 
 /// The strings that the patterns are, each followed by a newline. `None` if a pattern is something
 /// else, or if an allocation fails.
-fn read_strings(alloc: Global, patterns: &[Pattern]) -> Option<Vec<u8>>
+fn read_strings(alloc: Global, patterns: &[Pattern<'_>]) -> Option<Vec<u8>>
     ensures { IfSome result
         (λ strings. (fold : Bool) → AreReadAs fold patterns.now (lines_of strings.items)) }
 {

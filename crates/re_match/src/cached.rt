@@ -10,7 +10,7 @@ ghost use Rattle.re_auto.specs.declared.build.BuildFault.TheVariants.{Memory};
 ghost use Rattle.re_auto.specs.Working.Tables.{IsRefused};
 ghost use Rattle.re_auto.specs.Working.StateSets.{IsMadeFor};
 ghost use Rattle.re_auto.specs.Searches.{FindsPart};
-ghost use Rattle.re_needle.specs.Working.Needles.{IsNeeded, IsSettled};
+ghost use Rattle.re_match.specs.Working.Prefilters.{IsSaidAtOnce};
 ghost use Rattle.re_meter.specs.Meters.{AddsAtMost, AddsUpTo, many_built};
 ghost use Rattle.re_steps.specs.Working.Simulations.{AreSetsFor};
 ghost use Rattle.re_steps.specs.Working.Stages.{Cache, Searches, FinishesFrom, IsReadied, mode_for};
@@ -147,13 +147,6 @@ impl Cached {
         }
     }
 
-    /// A string that every matched stretch has, if one is known.
-    pub fn needed(&self) -> Option<&[u8]>
-        ensures { IfSome result (λ text. IsNeeded text.now (expression_of self.now.tree)) }
-    {
-        self.prefilter.text()
-    }
-
     // The mode in which lines are searched.
     #[inline(always)]
     fn mode(&self) -> Mode
@@ -169,7 +162,7 @@ impl Cached {
     #[inline(always)]
     fn settled(&self, line: &[u8], meter: &mut Meter) -> Option<bool>
         ensures settled { IfSome result
-            (λ reported. IsSettled (expression_of self.now.tree) self.now.whole line.now reported) }
+            (λ reported. IsSaidAtOnce (expression_of self.now.tree) self.now.whole line.now reported) }
         ensures looked { LooksOver (expression_of self.now.tree) line.now meter.old meter.new }
     {
         self.prefilter.settled(line, self.whole, meter)
@@ -322,16 +315,6 @@ impl LineMatch for Cached {
         self.searched(line, meter)
     }
 
-    #[inline(always)]
-    fn is_match_by_steps(&mut self, line: &[u8], meter: &mut Meter) -> bool
-        ensures reported { IsTrue result ↔
-            Matches (expression_of self.old.tree) line.now self.old.whole }
-        ensures steps { AddsUpTo (length line.now + 1) 0 meter.old meter.new }
-        ensures same { SameCached self.old self.new }
-    {
-        self.searched(line, meter)
-    }
-
     fn find(&mut self, line: &[u8], from: usize, meter: &mut Meter) -> Option<Span>
         requires { from ≤ length line.now }
         ensures reported { FindsPart (expression_of self.old.tree ∷ []) line.now false from result }
@@ -410,7 +393,7 @@ impl Sweeps for Cached {
     fn search_after(&mut self, stop: Stop, line: &[u8], meter: &mut Meter) -> bool {
         match stop {
             Stop::Unseen => self.is_match(line, meter),
-            Stop::Seen => self.is_match_by_steps(line, meter),
+            Stop::Seen => self.searched(line, meter),
             Stop::Matched => true,
         }
     }

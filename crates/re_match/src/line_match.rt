@@ -35,13 +35,6 @@ pub trait LineMatch {
         ensures same { SameMatcher expression whole room self.old self.new }
         ensures steps { AddsAtMost (length line.now + 1) meter.old meter.new };
 
-    /// The same by steps alone: no byte is passed. It is for a line that is likely to be matched, or
-    /// that was looked over already.
-    fn is_match_by_steps(&mut self, line: &[u8], meter: &mut Meter) -> bool
-        ensures reported { IsTrue result ↔ Matches (expression self.old) line.now (whole self.old) }
-        ensures same { SameMatcher expression whole room self.old self.new }
-        ensures steps { AddsUpTo (length line.now + 1) 0 meter.old meter.new };
-
     /// The leftmost-longest part that begins at `from` or later (XBD 9.1), if the whole line need not
     /// be matched. It takes at most one step for each byte from `from` on and one more, and passes at
     /// most as many bytes.
@@ -74,7 +67,7 @@ pub trait LineMatch {
     )
         requires window { IsWindowOf (expression self.old) line.now window }
         requires ends { length ends.old ≡ window.end - window.start }
-        requires spare { length spare.old ≡ window.end - window.start }
+        requires spare { window.end - window.start ≤ length spare.old }
         ensures added { AddsEnds
             (λ i m. FoundPast (expression self.old ∷ []) line.now false (window.start + i) m)
             ends.old ends.old ends.new }

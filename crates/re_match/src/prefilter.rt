@@ -1,22 +1,24 @@
 //! What is known of lines, parts and blocks by what each match contains.
-ghost use Rattle.std.specs.Prelude.{◌≡◌, ℕ, ◌+◌, ◌-◌, ◌<◌, ◌≤◌, ◌⊎◌, false, IfOk, IfSome, IsTrue, Some};
-ghost use Rattle.std.specs.Prelude.{drop, length, slice_range};
+ghost use Rattle.std.specs.Prelude.{◌≡◌, ℕ, ◌+◌, ◌-◌, ◌<◌, ◌≤◌, ◌⊎◌, Bool, false, IfOk, IfSome, IsTrue, Some};
+ghost use Rattle.std.specs.Prelude.{All, [], ◌∷◌, ◌++◌, drop, length, map, slice_range};
 ghost use Rattle.re_trees.specs.Expression.{Expression};
 ghost use Rattle.re_trees.specs.Working.Trees.{expression_of};
-ghost use Rattle.re_trees.specs.Lines.{HasNoNewline};
+ghost use Rattle.re_trees.specs.Bytes.{Text};
+ghost use Rattle.re_trees.specs.Lines.{HasNoNewline, lines_of, newline};
 ghost use Rattle.re_meter.specs.Meters.{AddsUpTo, Steps};
-ghost use Rattle.re_needle.specs.Working.Needles.{IsNeeded, IsNeedleFor, IsNeedleOf};
+ghost use Rattle.re_needle.specs.Working.Needles.{IsNeeded, IsNeedleOf};
 ghost use Rattle.re_runs.specs.Working.Finders.{runs_of};
-ghost use Rattle.re_needle.specs.Working.Needles.{IsSettled};
 ghost use Rattle.re_runs.specs.Working.Runs.{FindsRun, IsLongestRun};
 ghost use Rattle.re_match.specs.Working.Sweeps.{StopsAt, LooksOver};
 ghost use Rattle.re_match.specs.Working.Aheads.{AreEdgesFor, IsSaid};
 ghost use Rattle.re_match.specs.declared.ahead.Ahead.TheVariants.{In};
-ghost use Rattle.re_match.specs.Working.Prefilters.{IsPrefilterFor};
+ghost use Rattle.re_match.specs.Working.Prefilters.{AreNeeded, IsPrefilterFor, IsSaidAtOnce};
+ghost use Rattle.re_match.specs.Working.Prefilters.{NeedsOneOf};
 ghost use Rattle.re_runs.specs.Working.Blocks.{IsBlock, PassesUnmatched};
 
 use crate::ahead::Ahead;
 use crate::scan_backoff::ScanBackoff;
+use crate::string_set::{StringSet, add_line};
 use crate::sweeps::{Stop, Sweep};
 use crate::window::{Edges, rest_of};
 use re_auto::Meter;
@@ -26,6 +28,9 @@ use re_runs::{RunFinder, Swept, first_line_beginning_with, first_line_with_run, 
 use re_trees::{Span, Tree};
 use std::alloc::{AllocError, Global};
 
+// From how many branches on a choice has strings in place of a needle, which has a run of each.
+const MANY: usize = 9;
+
 // A search that begins so many bytes after its line does counts as a byte that a look passed.
 const WORTH_A_BYTE: usize = 32;
 
@@ -34,6 +39,8 @@ const WORTH_A_BYTE: usize = 32;
 #[derive(Drop)]
 pub struct Prefilter {
     needle: Option<Needle>,
+    // Strings, one of which each match contains: of a choice of many. They come before the needle.
+    strings: Option<StringSet>,
     // Whether the expression has a `^`.
     has_begin: bool,
     backoff: ScanBackoff,
@@ -45,37 +52,28 @@ impl Prefilter {
         ensures { IfOk result (IsPrefilterFor (expression_of tree.now)) }
     {
         let needle = Needle::of(alloc, tree)?;
-        let backoff = ScanBackoff::new(look_cost(&needle));
+        let strings = needed_strings(alloc, tree)?;
+        let backoff = ScanBackoff::new(look_cost(&needle, &strings));
         Ok(Prefilter {
             needle,
+            strings,
             has_begin: has_begin(tree),
             backoff,
         })
-    }
-
-    /// A string that every matched stretch has, if one is known.
-    pub fn text(&self) -> Option<&[u8]>
-        ensures { (e : Expression) → IsNeedleFor e self.now.needle →
-            IfSome result (λ text. IsNeeded text.now e) }
-    {
-        match &self.needle {
-            Some(needle) => {
-                let text = needle.finder.text()?;
-                Some(text)
-            }
-            None => None,
-        }
     }
 
     /// Whether the line is matched, if one look over it says so. A run that is common is looked for
     /// over blocks alone, and so is one that most lines had of late, unless it is all there is.
     #[inline(always)]
     pub fn settled(&self, line: &[u8], whole: bool, meter: &mut Meter) -> Option<bool>
-        ensures settled { (e : Expression) → IsNeedleFor e self.now.needle →
-            IfSome result (λ reported. IsSettled e whole line.now reported) }
-        ensures looked { (e : Expression) → IsNeedleFor e self.now.needle →
+        ensures settled { (e : Expression) → IsPrefilterFor e self.now →
+            IfSome result (λ reported. IsSaidAtOnce e whole line.now reported) }
+        ensures looked { (e : Expression) → IsPrefilterFor e self.now →
             LooksOver e line.now meter.old meter.new }
     {
+        if let Some(strings) = &self.strings {
+            return self.settled_by(strings, line, meter);
+        }
         let Some(needle) = &self.needle else {
             return None;
         };
@@ -97,6 +95,22 @@ impl Prefilter {
         None
     }
 
+    // The same by strings. They are looked for over blocks alone while most lines have one.
+    fn settled_by(&self, strings: &StringSet, line: &[u8], meter: &mut Meter) -> Option<bool>
+        ensures settled { (e : Expression) (whole : Bool) → AreNeeded strings.now e →
+            IfSome result (λ reported. IsSaidAtOnce e whole line.now reported) }
+        ensures looked { (e : Expression) → AreNeeded strings.now e →
+            LooksOver e line.now meter.old meter.new }
+    {
+        if self.backoff.rests() {
+            return None;
+        }
+        if strings.stands_in(line, meter) {
+            return None;
+        }
+        Some(false)
+    }
+
     // Looks for the first line of a block of whole lines that may be matched. No line before it is.
     fn first_line(&self, block: &[u8], whole: bool, meter: &mut Meter) -> Sweep
         requires { IsBlock block.now }
@@ -107,6 +121,9 @@ impl Prefilter {
         ensures low { result.start ≤ result.first }
         ensures steps { AddsUpTo 0 result.reached meter.old meter.new }
     {
+        if let Some(strings) = &self.strings {
+            return strings.first_line(block, meter);
+        }
         let Some(needle) = &self.needle else {
             return Sweep::none();
         };
@@ -150,10 +167,10 @@ impl Prefilter {
             IsSaid e line.now from meter.old meter.new result }
     {
         let Some(needle) = &self.needle else {
-            return Ahead::In(rest_of(line, from));
+            return edges.next(line, from, meter);
         };
         if needle.is_common {
-            return Ahead::In(rest_of(line, from));
+            return edges.next(line, from, meter);
         }
         let Some(place) = needle.finder.find(&line[from..], meter) else {
             return Ahead::Nothing;
@@ -234,10 +251,66 @@ fn has_run(finder: &RunFinder, block: &[u8], swept: Swept) -> bool
     has_no_newline(&block[at..end])
 }
 
-// What it costs to look for the needle.
-fn look_cost(needle: &Option<Needle>) -> LookCost {
+// What it costs to look for the strings, or else for the needle.
+fn look_cost(needle: &Option<Needle>, strings: &Option<StringSet>) -> LookCost {
+    if strings.is_some() {
+        return LookCost::High;
+    }
     match needle {
         Some(needle) => needle.look_cost(),
         None => LookCost::Low,
     }
+}
+
+// Strings, one of which each match of a choice of many contains. `None` if a branch isn't known to
+// need one. The only error is that an allocation failed.
+fn needed_strings(alloc: Global, tree: &Tree) -> Result<Option<StringSet>, AllocError>
+    ensures { IfOk result
+        (λ found. IfSome found (λ strings. AreNeeded strings (expression_of tree.now))) }
+{
+    let Tree::Alt(branches) = tree else {
+        return Ok(None);
+    };
+    if branches.len() < MANY {
+        return Ok(None);
+    }
+    let Some(texts) = needed_texts(alloc, branches)? else {
+        return Ok(None);
+    };
+    let strings = StringSet::new(alloc, &texts, false)?;
+    Ok(Some(strings))
+}
+
+// A string that each branch needs, each followed by a newline. `None` if one isn't known.
+fn needed_texts(alloc: Global, branches: &[Tree]) -> Result<Option<Vec<u8>>, AllocError>
+    ensures { IfOk result (λ found. IfSome found
+        (λ texts. All (NeedsOneOf (lines_of texts.items)) (map expression_of branches.now))) }
+{
+    let mut texts = Vec::new(alloc);
+    'branches: for place in 0..branches.len() {
+        let added = add_needed(alloc, &branches[place], &mut texts)?;
+        if !added {
+            return Ok(None);
+        }
+    }
+    Ok(Some(texts))
+}
+
+// Adds a string that the branch needs, and a newline. Whether one without a newline in it is known.
+fn add_needed(alloc: Global, branch: &Tree, texts: &mut Vec<u8>) -> Result<bool, AllocError>
+    ensures { IfOk result (λ added. IsTrue added →
+        (text : Text) × IsNeeded text (expression_of branch.now) × HasNoNewline text
+        × (texts.new.items ≡ texts.old.items ++ (text ++ newline ∷ []))) }
+{
+    let Some(needle) = Needle::of(alloc, branch)? else {
+        return Ok(false);
+    };
+    let Some(text) = needle.finder.text() else {
+        return Ok(false);
+    };
+    if !has_no_newline(text) {
+        return Ok(false);
+    }
+    add_line(texts, text)?;
+    Ok(true)
 }

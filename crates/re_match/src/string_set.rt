@@ -1,10 +1,10 @@
 //! Many fixed strings that are looked for at once.
 ghost use Rattle.std.specs.Prelude.{◌≡◌, ℕ, ◌+◌, ◌^◌, ◌<◌, ◌≤◌, ◌↔◌, [], ◌∷◌, true, false, IsTrue, IfOk};
-ghost use Rattle.std.specs.Prelude.{IfSome, length, map, slice_range};
+ghost use Rattle.std.specs.Prelude.{◌++◌, IfSome, length, map, slice_range};
 ghost use Rattle.re_strings.specs.Working.Branches.{AreAscending, HaveSame};
 ghost use Rattle.re_strings.specs.Working.FixedSets.{IsString};
 ghost use Rattle.re_trees.specs.Holds.{Matches};
-ghost use Rattle.re_trees.specs.Lines.{lines_of};
+ghost use Rattle.re_trees.specs.Lines.{lines_of, newline};
 ghost use Rattle.re_meter.specs.Meters.{AddsUpTo};
 ghost use Rattle.re_match.specs.Working.Literals.{any_literal, LooksForAny, ReachesPart};
 ghost use Rattle.re_match.specs.Working.Sweeps.{StopsAt};
@@ -151,6 +151,15 @@ impl StringSet {
     {
         self.table.add_ends(line, start, ends);
     }
+}
+
+/// Adds a text and a newline.
+pub fn add_line(texts: &mut Vec<u8>, text: &[u8]) -> Result<(), AllocError>
+    ensures { IfOk result (λ _. texts.new.items ≡ texts.old.items ++ (text.now ++ newline ∷ [])) }
+{
+    texts.extend_from_slice(text)?;
+    texts.push(b'\n')?;
+    Ok(())
 }
 
 // The lines of a text, in order.

@@ -6,7 +6,6 @@ ghost use Rattle.re_trees.specs.Expression.{byte, sequence};
 ghost use Rattle.re_trees.specs.Holds.{Matches};
 ghost use Rattle.re_trees.specs.Lines.{lines_of};
 ghost use Rattle.re_meter.specs.Meters.{AddsAtMost, AddsUpTo, many_built, many_passed};
-ghost use Rattle.re_needle.specs.Working.Needles.{IsNeeded};
 ghost use Rattle.re_runs.specs.Working.Blocks.{IsBlock, PassesUnmatched, CountsMatched};
 ghost use Rattle.re_runs.specs.Working.Blocks.{FindsMatched, next_cost};
 ghost use Rattle.re_match.specs.declared.strings.Look.TheVariants.{One};
@@ -152,7 +151,7 @@ impl Look {
     // that begin there.
     fn put_ends(&self, line: &[u8], start: usize, ends: &mut [usize], spare: &mut [usize])
         requires ends { length ends.old ≡ length line.now }
-        requires spare { length spare.old ≡ length line.now }
+        requires spare { length line.now ≤ length spare.old }
         requires small { start + length line.now < 2 ^ 64 }
         ensures added { AddsEnds (λ i m. (j : ℕ) × (m < start + j)
             × IsFound (look_expression self.now ∷ []) line.now false 0 i j) line.now ends.old ends.new }
@@ -220,16 +219,6 @@ impl Strings {
         }
     }
 
-    /// The string, if there is one, which is not empty.
-    pub fn needed(&self) -> Option<&[u8]>
-        ensures { IfSome result (λ text. IsNeeded text.now (matched_strings self.now)) }
-    {
-        match &self.look {
-            Look::One(finder) if !finder.needle().is_empty() => Some(finder.needle()),
-            _ => None,
-        }
-    }
-
     /// How many lines of a block of whole lines are matched, like [`LineMatch::count_matched`]. Where
     /// it is enough that a line has one string, each byte is passed at most once.
     pub fn count_lines(&mut self, block: &[u8], meter: &mut Meter) -> u64
@@ -265,6 +254,16 @@ impl Strings {
             Look::One(finder) => has_no_newline(finder.needle()),
             Look::Many(_) => true,
         }
+    }
+
+    // The same as `is_match`, of a line that was looked over already: no byte is passed.
+    fn searched(&mut self, line: &[u8], meter: &mut Meter) -> bool
+        ensures reported { IsTrue result ↔ Matches (matched_strings self.old) line.now self.old.whole }
+        ensures steps { AddsUpTo (length line.now + 1) 0 meter.old meter.new }
+        ensures same { self.new ≡ self.old }
+    {
+        meter.add_built(line.len() as u64 + 1);
+        self.is_match(line, &mut fresh_meter())
     }
 
     // Whether it is worth while to look ahead in a block now. One string is always looked for.
@@ -312,15 +311,6 @@ impl LineMatch for Strings {
         found
     }
 
-    fn is_match_by_steps(&mut self, line: &[u8], meter: &mut Meter) -> bool
-        ensures reported { IsTrue result ↔ Matches (matched_strings self.old) line.now self.old.whole }
-        ensures steps { AddsUpTo (length line.now + 1) 0 meter.old meter.new }
-        ensures same { self.new ≡ self.old }
-    {
-        meter.add_built(line.len() as u64 + 1);
-        self.is_match(line, &mut fresh_meter())
-    }
-
     fn find(&mut self, line: &[u8], from: usize, meter: &mut Meter) -> Option<Span>
         requires { from ≤ length line.now }
         ensures reported { FindsPart (matched_strings self.old ∷ []) line.now false from result }
@@ -352,7 +342,7 @@ impl LineMatch for Strings {
     )
         requires window { IsWindowOf (matched_strings self.old) line.now window }
         requires ends { length ends.old ≡ window.end - window.start }
-        requires spare { length spare.old ≡ window.end - window.start }
+        requires spare { window.end - window.start ≤ length spare.old }
         ensures added { AddsEnds
             (λ i m. FoundPast (matched_strings self.old ∷ []) line.now false (window.start + i) m)
             ends.old ends.old ends.new }
@@ -408,7 +398,7 @@ impl Sweeps for Strings {
     fn search_after(&mut self, stop: Stop, line: &[u8], meter: &mut Meter) -> bool {
         match stop {
             Stop::Unseen => self.is_match(line, meter),
-            Stop::Seen => self.is_match_by_steps(line, meter),
+            Stop::Seen => self.searched(line, meter),
             Stop::Matched => true,
         }
     }

@@ -5,14 +5,19 @@ ghost use Rattle.re_trees.specs.Expression.{Expression};
 ghost use Rattle.re_trees.specs.Working.Trees.{expression_of, members};
 ghost use Rattle.re_meter.specs.Meters.{AddsUpTo};
 ghost use Rattle.re_ends.specs.Working.GreatestEnds.{IsBorder};
-ghost use Rattle.re_match.specs.Working.Aheads.{AreEdgesFor, past};
+ghost use Rattle.re_match.specs.Working.Aheads.{AreEdgesFor, IsSaid, past};
 
+use crate::ahead::Ahead;
 use re_auto::{Automaton, Meter};
 use re_ends::Window;
+use re_runs::Survey;
 use re_trees::ByteSet;
 
 // Nearer places are not looked at again for where a match begins.
 const NEAR: usize = 16;
+
+// The bytes of matches are looked for if at most this number of 65,536 bytes of most texts are some.
+const FEW: u32 = 4_096;
 
 /// The bytes of matches, at which no stretch ends in which a match is.
 #[derive(Clone, Copy, Drop)]
@@ -21,6 +26,8 @@ pub struct Edges {
     pub bytes: ByteSet,
     // Whether a match can have each byte but NUL, so that a look for another byte isn't worth while.
     has_most: bool,
+    // Whether they are rare in most texts.
+    are_rare: bool,
 }
 
 impl Edges {
@@ -32,7 +39,28 @@ impl Edges {
         Edges {
             bytes,
             has_most: has_most(&bytes),
+            are_rare: Survey::of(&bytes).is_some_and(|survey| survey.share <= FEW),
         }
+    }
+
+    /// Where the next match of the line is: in the next stretch of bytes that matches can have, if they
+    /// are rare in most texts.
+    pub fn next(&self, line: &[u8], from: usize, meter: &mut Meter) -> Ahead
+        requires within { from < length line.now }
+        ensures { (e : Expression) → AreEdgesFor e self.now →
+            IsSaid e line.now from meter.old meter.new result }
+    {
+        if !self.are_rare {
+            return Ahead::In(rest_of(line, from));
+        }
+        let start = run_begin(&self.bytes, line, from);
+        if start == line.len() {
+            meter.add_passed(start - from);
+            return Ahead::Nothing;
+        }
+        meter.add_passed(start + 1 - from);
+        let end = self.end(line, start, meter);
+        Ahead::In(Window { start, end })
     }
 
     /// From where on a match that has the byte at `near` can begin, where the bytes before it were
@@ -102,6 +130,22 @@ fn run_start(set: &ByteSet, line: &[u8], near: usize, most: usize) -> Option<usi
         }
     }
     None
+}
+
+// The first place from `from` on whose byte is in the set, or the line's end.
+fn run_begin(set: &ByteSet, line: &[u8], from: usize) -> usize
+    requires { from ≤ length line.now }
+    ensures low { from ≤ result }
+    ensures high { result ≤ length line.now }
+    ensures before { (k : ℕ) → from ≤ k → k < result →
+        members set.now (slice_index line.now k) ≡ false }
+{
+    'bytes: for place in from..line.len() {
+        if set.has(line[place]) {
+            return place;
+        }
+    }
+    line.len()
 }
 
 // The first place from `from` on whose byte isn't in the set, or the line's end.

@@ -7,15 +7,9 @@ pub use Rattle.re_match.specs.Working.Aheads.{IsAhead, past}
 pub use Rattle.re_match.specs.declared.ahead.Ahead.TheVariants.{In}
 pub use Rattle.re_match.specs.Working.Literals.{Literals, any_literal}
 pub use Rattle.re_match.specs.Working.Same.{SameMatcher}
-pub use Rattle.re_match.specs.declared.sweeps.Stop.{Stop}
-pub use Rattle.re_match.specs.declared.sweeps.Stop.TheVariants.{Matched, Seen, Unseen}
-pub use Rattle.re_match.specs.declared.sweeps.Sweep.{Sweep}
 pub use Rattle.re_meter.specs.Meters.{AddsUpTo}
 pub use Rattle.re_runs.specs.Working.Blocks.{IsLineFrom}
-pub use Rattle.re_needle.specs.Working.Needles.{IsNeeded, StandsBetween}
 pub use Rattle.re_search.specs.Reading.{IsReadable, IsRefusedFor, IsSmallFor}
-pub use Rattle.re_search.specs.Working.Blocks.{StopsNear, left_for_all}
-pub use Rattle.re_search.specs.Working.Filters.{AreNeeded, NeedsOneOf, PassesByFilter}
 pub use Rattle.re_search.specs.Working.LineParts.{AreAllEnds, AreEnds, AreEndsIn, ArePartsOf, FindsBefore, LineEnds, spent}
 pub use Rattle.re_search.specs.Working.Matchers.{matched_expression}
 pub use Rattle.re_search.specs.Working.Patterns.{IsPattern, meaning, meant_by, pattern_expression}
@@ -41,7 +35,7 @@ pub use Rattle.re_syntax.specs.declared.fault.PatternFault.{PatternFault}
 pub use Rattle.re_trees.specs.declared.span.Span.{Span}
 pub use Rattle.re_syntax.specs.declared.syntax.Syntax.{Syntax}
 pub use Rattle.re_syntax.specs.declared.syntax.Syntax.TheVariants.{Fixed}
-pub use Rattle.std.proofs.Common.{All, Any, Bool, Global, IfSome, IsTrue, List, None, Option, Some, Vec, [], add-one, ap, append-nil, append_assoc, arith, drop, drop-drop, eq-eqb, false, get_or, if◌then◌else◌, inl, inr, is_some, length, length-append, length-drop, lt-ltb, map, max, mul-le-mul_left, mul-le-mul_right, nat_lt, refl, rules, set, slice_index, slice_range, slice_set, subst, sym, take, take-suc, take_all, true, true≢false, suc, zero, ℕ, ◌*◌, ◌++◌, ◌+◌, ◌-◌, ◌<◌, ◌^◌, ◌↔◌, ◌∙◌, ◌∷◌, ◌≡◌, ◌≢◌, ◌≤◌, ◌⊎◌}
+pub use Rattle.std.proofs.Common.{All, Any, Bool, IfSome, IsTrue, List, None, Option, Some, [], add-one, ap, append-nil, append_assoc, arith, drop, drop-drop, eq-eqb, false, get_or, if◌then◌else◌, inl, inr, is_some, length, length-append, length-drop, lt-ltb, map, max, mul-le-mul_left, mul-le-mul_right, nat_lt, refl, rules, set, slice_index, slice_range, slice_set, subst, sym, take, take-suc, take_all, true, true≢false, suc, zero, ℕ, ◌*◌, ◌++◌, ◌+◌, ◌-◌, ◌<◌, ◌^◌, ◌↔◌, ◌∙◌, ◌∷◌, ◌≡◌, ◌≢◌, ◌≤◌, ◌⊎◌}
 pub use Rattle.std.proofs.Math.Decide.{dec_le}
 pub use Rattle.std.proofs.Math.Seq.{map-set_same}
 pub use Rattle.std.proofs.lemmas.Bool.{cases_lt, false≢true}

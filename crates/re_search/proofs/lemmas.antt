@@ -3,12 +3,10 @@ pub use Rattle.re_runs.proofs.lemmas.BlockLemmas
 pub use Rattle.re_runs.proofs.lemmas.CountedBlocks
 pub use Rattle.re_runs.proofs.lemmas.NextLines
 pub mod PartOfBoth
-pub mod WithPartsMatchers
 pub mod OneMatcherMore
 pub mod KeptMatchers
 pub mod OneMatcher
 pub mod SearchedBlocks
-pub mod FilterLaws
 pub mod PlainLaws
 pub mod LinePartsLaws
 pub mod PlainStrings

@@ -2,7 +2,6 @@
 pub use Rattle.re_match.specs.Working.Literals
 pub mod Matchers
 pub mod Blocks
-pub mod Filters
 pub mod Sought
 pub mod Searchers
 pub mod LineParts

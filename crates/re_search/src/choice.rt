@@ -63,7 +63,7 @@ impl Choice {
     }
 
     /// Whether all would have at most 4,096 positions together with the pattern.
-    pub fn has_room(&self, pattern: &Pattern) -> bool
+    pub fn has_room(&self, pattern: &Pattern<'_>) -> bool
         ensures { (fold : Bool) → IsCounted fold pattern.now → IsTrue result ↔
             positions (alt (map expression_of self.now))
             + positions (pattern_expression pattern.now) ≤ most_positions }
@@ -72,12 +72,12 @@ impl Choice {
     }
 
     /// Adds the pattern; with `fold` both cases of each letter are alike.
-    pub fn add(&mut self, alloc: Global, pattern: Pattern, fold: bool) -> Result<(), AllocError>
+    pub fn add(&mut self, alloc: Global, pattern: Pattern<'_>, fold: bool) -> Result<(), AllocError>
         requires counted { IsCounted fold pattern }
         requires room { positions (alt (map expression_of self.old))
             + positions (pattern_expression pattern) ≤ most_positions }
         ensures { IfOk result (λ _. map expression_of self.new ≡
-            map expression_of self.old ++ meant_by fold pattern ∷ []) }
+            map expression_of self.old ++ meant_by fold pattern.entry ∷ []) }
     {
         let count = pattern.positions();
         let tree = pattern.into_tree(alloc, fold)?;

@@ -1,9 +1,7 @@
-//! Several matchers over one line or block, with the strings that all of them need. What the crates
-//! above use of one matcher is passed on.
+//! Several matchers over one line or block. What the crates above use of one matcher is passed on.
 #![tactic(auto)]
 
 mod choice;
-mod filter;
 mod line_parts;
 mod matcher;
 mod pattern;
@@ -12,7 +10,6 @@ mod several;
 mod strings;
 
 pub use choice::Choice;
-pub use filter::{Filter, needed_strings};
 pub use line_parts::{LineParts, next_part};
 pub use matcher::Matcher;
 pub use pattern::{Pattern, read_pattern};

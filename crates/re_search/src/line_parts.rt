@@ -42,7 +42,7 @@ impl Model for LineParts {
     ghost view = { λ p.
         record { room = p.room; seen = p.seen; first = p.first; ends = p.ends.items } };
 
-    ghost invariant = { λ p. (p.room ≤ vec_capacity p.ends) × (p.room ≤ vec_capacity p.spare)
+    ghost invariant = { λ p. (p.room ≤ vec_capacity p.ends) × (p.room ≤ length p.spare.items)
         × (p.first + length p.ends.items ≤ p.seen) × (p.seen < 2 ^ 64) };
 }
 
@@ -73,9 +73,8 @@ impl LineParts {
             return Ok(());
         }
         self.pass(0);
-        self.spare.clear();
-        self.spare.try_reserve(most)?;
         self.ends.try_reserve(most)?;
+        self.spare.resize(most, 0)?;
         self.room = most;
         Ok(())
     }
@@ -150,7 +149,6 @@ impl LineParts {
         ensures steps { AddsUpTo (window.end - window.start) 0 meter.old meter.new }
     {
         self.open(line, window);
-        fill(&mut self.spare, window.end - window.start);
         matcher.add_ends(line, window, &mut self.ends, &mut self.spare, meter);
     }
 
@@ -166,7 +164,6 @@ impl LineParts {
         ensures steps { AddsAtMost (length matchers.old * (length line.now + 1)) meter.old meter.new }
     {
         self.open(line, rest_of(line, 0));
-        fill(&mut self.spare, line.len());
         put_ends(matchers, line, &mut self.ends, &mut self.spare, meter);
     }
 }
@@ -332,7 +329,7 @@ fn put_ends<M: LineMatch>(
     meter: &mut Meter,
 )
     requires zeros { ends.old ≡ replicate (length line.now) 0 }
-    requires spare { length spare.old ≡ length line.now }
+    requires spare { length line.now ≤ length spare.old }
     ensures right { AreAllEnds
         (record { expressions = map M.expression matchers.old; whole = false }) line.now ends.new }
     ensures same_matchers { SameMatchers M.expression M.whole M.room matchers.old matchers.new }

@@ -5,7 +5,6 @@ ghost use Rattle.re_syntax.specs.Working.Trees.{expression_of};
 ghost use Rattle.re_syntax.specs.Holds.{Matches, positions};
 ghost use Rattle.re_syntax.specs.Profile.{most_positions, most_states};
 ghost use Rattle.re_syntax.specs.Spelled.{IsMeant, has_limit};
-ghost use Rattle.re_needle.specs.Working.Needles.{IsNeeded};
 ghost use Rattle.re_search.specs.Reading.{IsSmallFor, IsReadable, IsOutOfMemory};
 ghost use Rattle.re_search.specs.Reading.{IsRefusedFor};
 ghost use Rattle.re_search.specs.Working.Matchers.{matched_expression, wants_whole, is_fixed};
@@ -75,17 +74,6 @@ impl Matcher {
             _ => 0,
         }
     }
-
-    /// A string of one byte or more that every matched stretch has, if one is known. Of several
-    /// strings that are looked for at once none is.
-    pub fn needed(&self) -> Option<&[u8]>
-        ensures { IfSome result (λ text. IsNeeded text.now (matched_expression self.now)) }
-    {
-        match self {
-            Matcher::Strings(strings) => strings.needed(),
-            Matcher::Cached(cached) => cached.needed(),
-        }
-    }
 }
 
 impl LineMatch for Matcher {
@@ -107,13 +95,6 @@ impl LineMatch for Matcher {
         match self {
             Matcher::Strings(strings) => strings.is_match(line, meter),
             Matcher::Cached(cached) => cached.is_match(line, meter),
-        }
-    }
-
-    fn is_match_by_steps(&mut self, line: &[u8], meter: &mut Meter) -> bool {
-        match self {
-            Matcher::Strings(strings) => strings.is_match_by_steps(line, meter),
-            Matcher::Cached(cached) => cached.is_match_by_steps(line, meter),
         }
     }
 

@@ -14,7 +14,7 @@ ghost use Rattle.re_search.specs.Working.Patterns.{is_string, IsCounted, IsPatte
 ghost use Rattle.re_search.specs.Working.Strings.{AddsStrings, string_expression};
 
 use crate::matcher::{Matcher, fault_at_first, fixed_matcher, stepping_matcher};
-use crate::strings::{add_each, add_string, string_of};
+use crate::strings::{add_each, add_string, add_tree, string_of};
 use re_syntax::{FaultKind, MOST_POSITIONS, PatternFault, Syntax, Tree, count_positions, read};
 use std::alloc::{AllocError, Global};
 
@@ -24,14 +24,14 @@ const MOST_BYTES: usize = 65_536;
 
 /// What the text of a pattern is read as.
 #[derive(Drop)]
-pub enum Pattern {
-    /// A string.
-    String(Vec<u8>),
-    /// Anything else: its tree, and the number of the tree's positions, at most 4,096.
+pub enum Pattern<'a> {
+    /// A string in which no byte is special.
+    String(&'a [u8]),
+    /// An expression: its tree, and the number of the tree's positions, at most 4,096.
     Tree(Tree, usize),
 }
 
-impl Pattern {
+impl<'a> Pattern<'a> {
     // How many positions it has.
     pub(crate) fn positions(&self) -> usize
         ensures { (fold : Bool) → IsCounted fold self.now →
@@ -55,16 +55,16 @@ impl Pattern {
             Pattern::Tree(Tree::Alt(branches), _) if branches.len() > 1 => {
                 add_each(alloc, branches, strings)
             }
-            _ => None,
+            Pattern::Tree(tree, _) => add_tree(alloc, tree, strings),
         }
     }
 
     // The tree of its meaning.
     pub(crate) fn into_tree(self, alloc: Global, fold: bool) -> Result<Tree, AllocError>
-        ensures { IfOk result (λ tree. expression_of tree ≡ meant_by fold self) }
+        ensures { IfOk result (λ tree. expression_of tree ≡ meant_by fold self.entry) }
     {
         match self {
-            Pattern::String(text) => string_tree(alloc, &text, fold),
+            Pattern::String(text) => string_tree(alloc, text, fold),
             Pattern::Tree(tree, _) => Ok(meant(tree, fold)),
         }
     }
@@ -84,15 +84,16 @@ impl Pattern {
     ) -> Result<Matcher, AllocError>
         requires small { IsCounted fold self }
         requires some { 1 ≤ states }
-        ensures expression { IfOk result (λ m. matched_expression m ≡ meant_by fold self) }
+        ensures expression { IfOk result (λ m. matched_expression m ≡ meant_by fold self.entry) }
         ensures whole { IfOk result (λ m. wants_whole m ≡ whole) }
-        ensures kind { IfOk result (λ m. fold ≡ false → is_string self ≡ true → is_fixed m ≡ true) }
+        ensures kind { IfOk result
+            (λ m. fold ≡ false → is_string self.entry ≡ true → is_fixed m ≡ true) }
         ensures room { IfOk result (λ m. room_of m ≤ states) }
         ensures empty { IfOk result (λ m. entries_of m ≡ []) }
     {
         match self {
-            Pattern::String(text) => string_matcher(alloc, &text, fold, whole, states),
-            Pattern::Tree(tree, _) => stepping_matcher(alloc, meant(tree, fold), whole, states),
+            Pattern::String(text) if !fold => fixed_matcher(alloc, text, whole),
+            _ => tree_matcher(alloc, self.into_tree(alloc, fold)?, whole, states),
         }
     }
 }
@@ -118,27 +119,20 @@ fn string_tree(alloc: Global, text: &[u8], fold: bool) -> Result<Tree, AllocErro
     }
 }
 
-// The matcher for a string.
-fn string_matcher(
+// The matcher for a tree that is not too large.
+fn tree_matcher(
     alloc: Global,
-    text: &[u8],
-    fold: bool,
+    tree: Tree,
     whole: bool,
     states: usize,
 ) -> Result<Matcher, AllocError>
-    requires small { IsTrue fold → length text.now ≤ most_positions }
+    requires small { positions (expression_of tree) ≤ most_positions }
     requires some { 1 ≤ states }
-    ensures expression { IfOk result
-        (λ m. matched_expression m ≡ meaning fold (string_expression text.now)) }
+    ensures expression { IfOk result (λ m. matched_expression m ≡ expression_of tree) }
     ensures whole { IfOk result (λ m. wants_whole m ≡ whole) }
-    ensures kind { IfOk result (λ m. fold ≡ false → is_fixed m ≡ true) }
     ensures room { IfOk result (λ m. room_of m ≤ states) }
     ensures empty { IfOk result (λ m. entries_of m ≡ []) }
 {
-    if !fold {
-        return fixed_matcher(alloc, text, whole);
-    }
-    let tree = string_tree(alloc, text, fold)?;
     if let Some(string) = string_of(alloc, &tree) {
         return fixed_matcher(alloc, &string, whole);
     }
@@ -157,20 +151,20 @@ pub fn read_pattern(
     text: &[u8],
     syntax: Syntax,
     fold: bool,
-) -> Result<Pattern, PatternFault>
+) -> Result<Pattern<'_>, PatternFault>
     ensures read { IfOk result (IsPattern syntax fold text.now) }
     ensures refused { IfErr result
         (λ fault. IsOutOfMemory fault ⊎ IsRefusedFor syntax fold text.now fault) }
 {
     match syntax {
-        Syntax::Fixed => read_fixed(alloc, text, fold),
+        Syntax::Fixed => read_fixed(text, fold),
         Syntax::Basic => read_small(alloc, text, syntax, fold),
         Syntax::Extended => read_small(alloc, text, syntax, fold),
     }
 }
 
 // Reads a text in which no byte is special.
-fn read_fixed(alloc: Global, text: &[u8], fold: bool) -> Result<Pattern, PatternFault>
+fn read_fixed(text: &[u8], fold: bool) -> Result<Pattern<'_>, PatternFault>
     ensures read { IfOk result (IsPattern Fixed fold text.now) }
     ensures refused { IfErr result
         (λ fault. IsOutOfMemory fault ⊎ IsRefusedFor Fixed fold text.now fault) }
@@ -178,10 +172,7 @@ fn read_fixed(alloc: Global, text: &[u8], fold: bool) -> Result<Pattern, Pattern
     if fold && text.len() > MOST_POSITIONS {
         return Err(fault_at_first(FaultKind::TooLarge));
     }
-    match text.to_vec(alloc) {
-        Ok(string) => Ok(Pattern::String(string)),
-        Err(_) => Err(fault_at_first(FaultKind::Memory)),
-    }
+    Ok(Pattern::String(text))
 }
 
 // Reads a text whose expression has to be small.
@@ -190,7 +181,7 @@ fn read_small(
     text: &[u8],
     syntax: Syntax,
     fold: bool,
-) -> Result<Pattern, PatternFault>
+) -> Result<Pattern<'_>, PatternFault>
     requires { IsTrue (has_limit syntax fold) }
     ensures read { IfOk result (IsPattern syntax fold text.now) }
     ensures refused { IfErr result
@@ -203,8 +194,5 @@ fn read_small(
     if count > MOST_POSITIONS {
         return Err(fault_at_first(FaultKind::TooLarge));
     }
-    match string_of(alloc, &tree) {
-        Some(string) => Ok(Pattern::String(string)),
-        None => Ok(Pattern::Tree(tree, count)),
-    }
+    Ok(Pattern::Tree(tree, count))
 }

@@ -4,8 +4,8 @@ ghost use Rattle.re_syntax.specs.Expression.{byte, sequence};
 ghost use Rattle.re_syntax.specs.Working.Trees.{expression_of};
 ghost use Rattle.re_search.specs.Working.Strings.{AddsEach, string_expression};
 
-use crate::filter::add_line;
 use memchr::memchr;
+use re_match::add_line;
 use re_needle::one_byte;
 use re_syntax::Tree;
 use std::alloc::Global;
@@ -16,10 +16,19 @@ pub(crate) fn add_each(alloc: Global, trees: &[Tree], strings: &mut Vec<u8>) -> 
         (λ _. AddsEach (map expression_of trees.now) strings.old.items strings.new.items) }
 {
     'trees: for place in 0..trees.len() {
-        let string = string_of(alloc, &trees[place])?;
-        add_string(&string, strings)?;
+        add_tree(alloc, &trees[place], strings)?;
     }
     Some(())
+}
+
+/// Adds the string that the tree is, and a newline; `None` if it is none, or has a newline, or if
+/// out of memory.
+pub(crate) fn add_tree(alloc: Global, tree: &Tree, strings: &mut Vec<u8>) -> Option<()>
+    ensures { IfSome result
+        (λ _. AddsEach (expression_of tree.now ∷ []) strings.old.items strings.new.items) }
+{
+    let string = string_of(alloc, tree)?;
+    add_string(&string, strings)
 }
 
 /// Adds a string, and a newline; `None` if it has a newline, or if out of memory.
@@ -56,7 +65,7 @@ pub(crate) fn string_of(alloc: Global, tree: &Tree) -> Option<Vec<u8>>
 fn bytes_of(alloc: Global, trees: &[Tree]) -> Option<Vec<u8>>
     ensures { IfSome result (λ text. map expression_of trees.now ≡ map byte text.items) }
 {
-    let mut text = Vec::new(alloc);
+    let mut text = Vec::with_capacity(alloc, trees.len()).ok()?;
     'trees: for place in 0..trees.len() {
         let byte = one_byte(&trees[place])?;
         text.push(byte).ok()?;

@@ -26,7 +26,7 @@ pub fn add_occurrences(
 )
     requires some { 1 ≤ length text.now }
     requires ends { length ends.old ≡ length line.now }
-    requires spare { length spare.old ≡ length line.now }
+    requires spare { length line.now ≤ length spare.old }
     requires small { start + length line.now < 2 ^ 64 }
     ensures added { AddsEnds (λ i m. (m < start + (i + length text.now)) × OccursAt line.now text.now i)
         line.now ends.old ends.new }

@@ -9,7 +9,6 @@ mod cache;
 #[cfg(test)]
 mod ends;
 #[cfg(test)]
-mod filters;
 #[cfg(test)]
 mod half_bytes;
 #[cfg(test)]

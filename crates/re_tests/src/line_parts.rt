@@ -1,14 +1,14 @@
 //! All parts of a line, in one search of it, by steps and by passed bytes, also while each allocation
 //! fails in turn. Where none is refused, each line is searched once.
-ghost use Rattle.std.specs.Prelude.{◌≤◌, false, length, map};
+ghost use Rattle.std.specs.Prelude.{◌≤◌, false, IfOk, length, map};
 ghost use Rattle.re_search.specs.Searches.{AllAnswer};
 ghost use Rattle.re_search.specs.Working.Matchers.{wants_whole};
 
 use crate::cache::{MOST, REFUSE, WAS_REFUSED, ask};
-use crate::filters::all_made;
 use crate::matchers::ends_of;
 use re_auto::{Meter, fresh_meter};
-use re_search::{Filter, LineParts, Matcher, Searchers, parts};
+use re_search::{LineParts, Matcher, Searchers, Syntax, parts};
+use re_syntax::split_file;
 use std::alloc::{AllocError, Global};
 use std::process::Abort;
 use std::test::Fail;
@@ -54,6 +54,18 @@ fn again(alloc: Global, letters: &[u8], times: usize) -> Result<Vec<u8>, Fail> {
     Ok(line)
 }
 
+// The matchers of extended expressions, one a line.
+fn all_made(alloc: Global, texts: &[u8]) -> Result<Vec<Matcher>, Fail>
+    ensures { IfOk result (λ v. AllAnswer false (map wants_whole v.items)) }
+{
+    let mut matchers = Vec::new(alloc);
+    for text in split_file(texts) {
+        let matcher = Matcher::new(alloc, text, Syntax::Extended, false, false, 64)?;
+        matchers.push(matcher)?;
+    }
+    Ok(matchers)
+}
+
 // Compares each part with that of a search alone, and returns how many there are.
 fn count_parts(
     rt: &impl Abort,
@@ -67,8 +79,7 @@ fn count_parts(
     requires others { AllAnswer false (map wants_whole others.old) }
     requires room { length line.now ≤ line_parts.old.room }
 {
-    let none = Filter::none();
-    let mut searchers = Searchers::new(matchers, &none, false);
+    let mut searchers = Searchers::new(matchers, false);
     line_parts.begin();
     let mut from = 0;
     let mut count: u64 = 0;

@@ -34,7 +34,15 @@ const AT_LEAST: Pattern = (Syntax::Basic, b"[0-9]\\{2,\\}-2\\{2,3\\}", false, fa
 
 const BRANCHES: Pattern = (Syntax::Extended, b"queue|zebra|jukebox", false, false);
 
-static NEEDED: [Search; 14] = [
+// Of many branches a string of each is looked for.
+const MANY_BRANCHES: Pattern = (
+    Syntax::Extended,
+    b"a1[x-z]*|b2[x-z]*|c3[x-z]*|d4[x-z]*|e5[x-z]*|f6[x-z]*|g7[x-z]*|h8[x-z]*|i9[x-z]*",
+    false,
+    true,
+);
+
+static NEEDED: [Search; 15] = [
     (REPEATED, b"xxxaxb", false, 0, None),
     (GROUPED, b"abcd", false, 0, None),
     (IN_GROUPS, b"xbayabz", false, 0, None),
@@ -64,6 +72,7 @@ static NEEDED: [Search; 14] = [
     (DATE, b"2026-1-25", false, 0, None),
     (DATE, b"12026-111", true, 1, Some((1, 8))),
     (AT_LEAST, b"44-2x2", false, 0, None),
+    (MANY_BRANCHES, b"a2xyz", false, 0, None),
 ];
 
 fn needed() -> &'static [Search] {

@@ -28,22 +28,22 @@ alt-is_same es = λ line i j. (λ a. (alt-holds line i j es).0 (only line i j a)
     only line i j a = elim (Any-cases (λ e. Holds line e i j) (alt es) [] a) [ inl h ↦ h | inr none ↦ absurd (Any-none (λ e. Holds line e i j) none) ]
 
 -- the other way around
-other_way : (ds es : List Expression) → IsSameChoice ds es → IsSameChoice es ds
+pub other_way : (ds es : List Expression) → IsSameChoice ds es → IsSameChoice es ds
 other_way ds es same = λ line i j. ((same line i j).1, (same line i j).0)
 
 -- ---- lines
 
 -- some expression matches the line on the stretch on which another does
-Any-Matches : (ds es : List Expression) → IsSameChoice ds es → (line : Text) (w : Bool) → Any (λ d. Matches d line w) ds → Any (λ e. Matches e line w) es
+pub Any-Matches : (ds es : List Expression) → IsSameChoice ds es → (line : Text) (w : Bool) → Any (λ d. Matches d line w) ds → Any (λ e. Matches e line w) es
 Any-Matches ds es same line false a =
     let (i, j, on_line, h) : (i j : ℕ) × (j ≤ length line) × Holds line a.1 i j = a.4 in
     let b = (same line i j).0 (a.0, a.1, a.2, a.3, h) in
     (b.0, b.1, b.2, b.3, (i, j, on_line, b.4))
 Any-Matches ds es same line true a = (same line 0 (length line)).0 a
 
-module _ (ds es : List Expression) (options : Options) (same : IsSameChoice ds es) where
-  IsFound-same : (line : Text) (w : Bool) (from i j : ℕ) → IsFound ds line w from i j → IsFound es line w from i j
-  IsFound-same line w from i j f = record { begins = f.begins; not_empty = f.not_empty; on_line = f.on_line; is_whole = f.is_whole; holds = (same line i j).0 f.holds }
+-- a stretch is found for the one as for the others
+pub IsFound-same : (ds es : List Expression) → IsSameChoice ds es → (line : Text) (w : Bool) (from i j : ℕ) → IsFound ds line w from i j → IsFound es line w from i j
+IsFound-same ds es same line w from i j f = record { begins = f.begins; not_empty = f.not_empty; on_line = f.on_line; is_whole = f.is_whole; holds = (same line i j).0 f.holds }
 
 -- a file's line is selected by the one as by the others
 Selected-same : (ds es : List Expression) (options : Options) → IsSameChoice ds es → (line : Text) → Selected ds options line → Selected es options line
@@ -53,16 +53,17 @@ Selected-same ds es options same line = go options.invert_match
     go true h = λ m. h (Any-Matches es ds (other_way ds es same) line options.line_regexp m)
     go false h = Any-Matches ds es same line options.line_regexp h
 
-IsPart-same : (ds es : List Expression) → IsSameChoice ds es → (options : Options) (line : Text) (w : Bool) (from i j : ℕ) → IsPart ds line w from i j → IsPart es line w from i j
-IsPart-same ds es same options line w from i j p = record {
-  found = IsFound-same ds es options same line w from i j p.found;
-  earliest = λ k l f. p.earliest k l (IsFound-same es ds options (other_way ds es same) line w from k l f);
-  longest = λ l f. p.longest l (IsFound-same es ds options (other_way ds es same) line w from i l f);
+-- and so are parts
+pub IsPart-same : (ds es : List Expression) → IsSameChoice ds es → (line : Text) (w : Bool) (from i j : ℕ) → IsPart ds line w from i j → IsPart es line w from i j
+IsPart-same ds es same line w from i j p = record {
+  found = IsFound-same ds es same line w from i j p.found;
+  earliest = λ k l f. p.earliest k l (IsFound-same es ds (other_way ds es same) line w from k l f);
+  longest = λ l f. p.longest l (IsFound-same es ds (other_way ds es same) line w from i l f);
 }
 
-ArePartsFrom-same : (ds es : List Expression) → IsSameChoice ds es → (options : Options) (line : Text) (w : Bool) (from : ℕ) (ps : List (ℕ × ℕ)) → ArePartsFrom ds line w from ps → ArePartsFrom es line w from ps
-ArePartsFrom-same ds es same options line w from [] none = λ i j f. none i j (IsFound-same es ds options (other_way ds es same) line w from i j f)
-ArePartsFrom-same ds es same options line w from ((i, j) ∷ rest) p = (IsPart-same ds es same options line w from i j p.0, ArePartsFrom-same ds es same options line w j rest p.1)
+pub ArePartsFrom-same : (ds es : List Expression) → IsSameChoice ds es → (line : Text) (w : Bool) (from : ℕ) (ps : List (ℕ × ℕ)) → ArePartsFrom ds line w from ps → ArePartsFrom es line w from ps
+ArePartsFrom-same ds es same line w from [] none = λ i j f. none i j (IsFound-same es ds (other_way ds es same) line w from i j f)
+ArePartsFrom-same ds es same line w from ((i, j) ∷ rest) p = (IsPart-same ds es same line w from i j p.0, ArePartsFrom-same ds es same line w j rest p.1)
 
 -- ---- lists of what is chosen
 
@@ -133,7 +134,7 @@ module _ (options : Options) where
     CountOf-same many broken file out h = (h.0, SelectedLines-same many file h.0 h.1, h.2)
 
     PartsOfLine-same : (many : Bool) (file : File) (line : ℕ × Text) (out : List Text) → PartsOfLine ds options many file line out → PartsOfLine es options many file line out
-    PartsOfLine-same many file line out h = (h.0, ArePartsFrom-same ds es same options line.1 options.line_regexp 0 h.0 h.1, h.2)
+    PartsOfLine-same many file line out h = (h.0, ArePartsFrom-same ds es same line.1 options.line_regexp 0 h.0 h.1, h.2)
 
     OutAs-same : (many : Bool) (shape : Form) (files : List File) (out : List Text) → OutAs ds options many shape files out → OutAs es options many shape files out
     OutAs-same many nothing files out h = h

@@ -188,7 +188,7 @@ fn show_line<W: CountedWrite>(
 pub fn search_around<R: CountedRead, M: LineMatch, W: CountedWrite>(
     surroundings: &mut Surroundings,
     lines: &mut Lines<R>,
-    searchers: &mut Searchers<'_, '_, M>,
+    searchers: &mut Searchers<'_, M>,
     request: &FileRequest,
     out: &mut W,
     meter: &mut Meter,

@@ -31,7 +31,7 @@ fn count_selected(options: &Options, count: u64, matched: u64) -> u64
 /// written, and that after the last line. Buffered output is sent before a read, which may wait.
 pub fn count_lines<R: CountedRead, M: LineMatch, W: CountedWrite>(
     lines: &mut Lines<R>,
-    searchers: &mut Searchers<'_, '_, M>,
+    searchers: &mut Searchers<'_, M>,
     request: &FileRequest,
     out: &mut W,
     meter: &mut Meter,

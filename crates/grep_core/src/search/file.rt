@@ -36,7 +36,7 @@ pub fn count_found(selected: u64, found: bool) -> u64
 /// under `-q` and `-l` stops at the first. Buffered output is sent before a read, which may wait.
 fn search_lines<R: CountedRead, M: LineMatch, W: CountedWrite>(
     lines: &mut Lines<R>,
-    searchers: &mut Searchers<'_, '_, M>,
+    searchers: &mut Searchers<'_, M>,
     request: &FileRequest,
     line_parts: &mut LineParts,
     out: &mut W,
@@ -89,7 +89,7 @@ fn search_lines<R: CountedRead, M: LineMatch, W: CountedWrite>(
 fn search_opened<R: CountedRead, M: LineMatch, W: CountedWrite>(
     source: &SourceRequest,
     lines: &mut Lines<R>,
-    searchers: &mut Searchers<'_, '_, M>,
+    searchers: &mut Searchers<'_, M>,
     request: &FileRequest,
     line_parts: &mut LineParts,
     out: &mut W,
@@ -173,7 +173,7 @@ fn end_source<W: CountedWrite, N: CountedWrite>(
 pub fn search_source<S: Sources, M: LineMatch, W: CountedWrite, N: CountedWrite>(
     source: &SourceRequest,
     sources: &mut S,
-    searchers: &mut Searchers<'_, '_, M>,
+    searchers: &mut Searchers<'_, M>,
     line_parts: &mut LineParts,
     out: &mut W,
     messages: &mut N,

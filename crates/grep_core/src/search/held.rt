@@ -26,7 +26,7 @@ use re_search::{LineMatch, LineParts, Meter, Searchers};
 /// searched where that is not asked, and where not all of them can be numbered.
 pub fn next_held<'a, R: CountedRead, M: LineMatch>(
     lines: &'a Lines<R>,
-    searchers: &mut Searchers<'_, '_, M>,
+    searchers: &mut Searchers<'_, M>,
     asked: bool,
     meter: &mut Meter,
 ) -> SearchedBlock<'a>
@@ -99,7 +99,7 @@ fn write_run<W: CountedWrite>(
 // they are.
 fn write_matched<M: LineMatch, W: CountedWrite>(
     block: &[u8],
-    searchers: &mut Searchers<'_, '_, M>,
+    searchers: &mut Searchers<'_, M>,
     out: &mut W,
     meter: &mut Meter,
 ) -> Result<u64, WriteFault>
@@ -130,7 +130,7 @@ fn write_matched<M: LineMatch, W: CountedWrite>(
 /// nothing is written.
 pub fn write_searched<M: LineMatch, W: CountedWrite>(
     stretch: &SearchedBlock,
-    searchers: &mut Searchers<'_, '_, M>,
+    searchers: &mut Searchers<'_, M>,
     request: &FileRequest,
     number: u64,
     line_parts: &mut LineParts,
@@ -180,7 +180,7 @@ pub fn write_searched<M: LineMatch, W: CountedWrite>(
 #[inline(always)]
 pub fn write_held<R: CountedRead, M: LineMatch, W: CountedWrite>(
     lines: &Lines<R>,
-    searchers: &mut Searchers<'_, '_, M>,
+    searchers: &mut Searchers<'_, M>,
     request: &FileRequest,
     bare: bool,
     line_parts: &mut LineParts,

@@ -43,7 +43,7 @@ pub fn make_room(
 
 /// Writes the parts of a line, each after the line's head.
 fn write_parts<M: LineMatch, W: CountedWrite>(
-    searchers: &mut Searchers<'_, '_, M>,
+    searchers: &mut Searchers<'_, M>,
     request: &FileRequest,
     number: u64,
     line: &[u8],
@@ -78,7 +78,7 @@ fn write_parts<M: LineMatch, W: CountedWrite>(
 
 /// Writes the rows of a selected line, by what the options ask for.
 pub fn write_selected<M: LineMatch, W: CountedWrite>(
-    searchers: &mut Searchers<'_, '_, M>,
+    searchers: &mut Searchers<'_, M>,
     request: &FileRequest,
     number: u64,
     line: &[u8],
@@ -113,7 +113,7 @@ pub fn write_selected<M: LineMatch, W: CountedWrite>(
 /// Writes the rows of a line, if there are any, and returns whether it is selected. Where there is
 /// no room for its parts, nothing is written.
 pub fn search_line<M: LineMatch, W: CountedWrite>(
-    searchers: &mut Searchers<'_, '_, M>,
+    searchers: &mut Searchers<'_, M>,
     request: &FileRequest,
     number: u64,
     line: &[u8],

@@ -3,25 +3,22 @@ ghost use Rattle.std.specs.Prelude.{◌≡◌};
 
 use crate::options::Options;
 use crate::output::request::FileRequest;
-use re_search::Filter;
 use std::alloc::Global;
 
 /// What is asked of a search, besides its sources and its matchers.
 #[derive(Clone, Copy)]
-pub struct SearchRequest<'a> {
+pub struct SearchRequest {
     /// Where memory comes from.
     pub alloc: Global,
     /// The options of the run. `-i` is for the matchers to heed.
     pub options: Options,
-    /// Strings, if some are known: a line without them is matched by no matcher.
-    pub filter: &'a Filter,
 }
 
 /// What the search of a source is asked to do.
 #[derive(Clone, Copy)]
-pub struct SourceRequest<'a, 'f> {
+pub struct SourceRequest<'a> {
     /// What is asked of the search of all sources.
-    pub search: &'a SearchRequest<'f>,
+    pub search: &'a SearchRequest,
     /// The source's place among all, counted from 0.
     pub place: usize,
     /// Whether there are two sources or more: rows and counts then begin with the source's name.
@@ -31,7 +28,7 @@ pub struct SourceRequest<'a, 'f> {
     pub shown: bool,
 }
 
-impl SourceRequest<'_, '_> {
+impl SourceRequest<'_> {
     /// What is asked of the source's lines, by its name.
     pub fn of_file<'n>(&self, name: &'n [u8]) -> FileRequest<'n>
         ensures options { result.options ≡ self.now.search.now.options }

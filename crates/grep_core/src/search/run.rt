@@ -1,7 +1,5 @@
 //! The one pass over all sources.
 ghost use Rattle.std.specs.Prelude.{◌≡◌, map};
-ghost use Rattle.std.specs.Option.{ForSome};
-ghost use Rattle.re_search.specs.Working.Filters.{AreNeeded};
 ghost use Rattle.re_search.specs.Searches.{AllAnswer, SameMatchers};
 ghost use Rattle.grep_core.specs.Run.{writer, RunGives, devices};
 ghost use Rattle.grep_core.specs.Sources.{Returns};
@@ -12,14 +10,12 @@ use crate::search::requests::{SearchRequest, SourceRequest};
 use crate::sources::Sources;
 use crate::status::{FileFound, RunFault, Status};
 use grep_io::CountedWrite;
-use re_search::{Filter, LineMatch, LineParts, Meter, Searchers};
+use re_search::{LineMatch, LineParts, Meter, Searchers};
 
 /// One pass over all sources, in order, each opened at most once and read once from front to back
 /// (XCU grep). It writes the output and the messages that grep's definition gives for the files for
 /// which the sources stand, and returns its status. Every reader is returned. The matchers are
-/// those of the patterns, and `-i` is theirs to heed. If the request's filter has strings, a line
-/// without any of them is matched by no matcher; the filter is asked first, which spares most of the
-/// work where there are many matchers and few lines that they match.
+/// those of the patterns, and `-i` is theirs to heed.
 ///
 /// Under `-q` nothing is read after the first selected line, and under `-l` a source is left there;
 /// what is left unread may be anything that agrees with what is known of the source. A source of
@@ -47,8 +43,6 @@ pub fn search_all<S: Sources, M: LineMatch, W: CountedWrite, N: CountedWrite>(
 ) -> Result<Status, RunFault>
     requires in_order { S.stands_at sources.old 0 }
     requires whole { AllAnswer request.now.options.line_regexp (map M.whole matchers.old) }
-    requires needed { ForSome request.now.filter.now
-        (λ strings. AreNeeded strings (map M.expression matchers.old)) }
     ensures same_loan { S.loan sources.new ≡ S.loan sources.old }
     ensures run { RunGives (map M.expression matchers.old) request.now.options (S.listed sources.old)
         (Returns S.returned_readers sources.old sources.new)
@@ -60,7 +54,7 @@ pub fn search_all<S: Sources, M: LineMatch, W: CountedWrite, N: CountedWrite>(
     ensures same_matchers { SameMatchers M.expression M.whole M.room matchers.old matchers.new }
 {
     let whole = request.options.line_regexp;
-    let mut searchers = Searchers::new(matchers, request.filter, whole);
+    let mut searchers = Searchers::new(matchers, whole);
     let mut line_parts = LineParts::new(request.alloc);
     let count = sources.count();
     let many = count >= 2;

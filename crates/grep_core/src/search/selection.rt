@@ -12,7 +12,7 @@ use re_search::{LineMatch, Meter, Searchers};
 /// DESCRIPTION and option `-v`).
 #[inline(always)]
 pub fn is_selected<M: LineMatch>(
-    searchers: &mut Searchers<'_, '_, M>,
+    searchers: &mut Searchers<'_, M>,
     options: Options,
     line: &[u8],
     meter: &mut Meter,

@@ -43,6 +43,11 @@ abbrev pub AreReadAs : Bool → List Pattern → List Text → Type 0
 AreReadAs fold patterns strings =
     IsSameChoice (map (literal_meaning fold) strings) (map (meant_by fold) patterns)
 
+-- the texts are read as patterns that are these strings
+abbrev pub AreStrings : Syntax → Bool → List Text → List Text → Type 0
+AreStrings syntax fold texts strings =
+    (patterns : List Pattern) × ArePatterns syntax fold texts patterns × AreReadAs fold patterns strings
+
 -- there is one matcher, which looks for all strings
 pub record IsJoined (options : Options) (strings : List Text)
     (matchers : List Matcher) : Type 0 where

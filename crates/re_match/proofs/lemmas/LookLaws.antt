@@ -4,13 +4,15 @@ use Rattle.re_meter.specs.Meters.{Steps, AddsAtMost}
 use Rattle.re_meter.proofs.lemmas.Adding.{adds_none, adds_within, adds_both, only_passed}
 use Rattle.re_runs.specs.Working.Runs.{longest_of}
 use Rattle.re_runs.proofs.lemmas.Looks.{look_within}
+use Rattle.re_match.proofs.lemmas.NeededStrings.{look_for_any}
 
 module _ (e : Expression) (line : Text) where
   -- no byte is passed twice
   looks_once : (old new : Steps) → LooksOver e line old new → AddsUpTo 0 (length line) old new
   looks_once old new (inl same) = subst (AddsUpTo 0 (length line) old) (sym same) (adds_none 0 (length line) old)
   looks_once old new (inr (inl l)) = only_passed (length line) _ old new (look_within line l.found) l.passed
-  looks_once old new (inr (inr l)) = only_passed (length line) (min (longest_of l.runs) (length line)) old new (omega arith) l.passed
+  looks_once old new (inr (inr (inr l))) = look_for_any l.strings line old new l.looked
+  looks_once old new (inr (inr (inl l))) = only_passed (length line) (min (longest_of l.runs) (length line)) old new (omega arith) l.passed
 
   pub looks_over : (old new : Steps) → LooksOver e line old new → AddsAtMost (length line + 1) old new
   looks_over old new looked = adds_within 0 (length line + 1) (length line) (length line + 1) old new (omega arith) (omega arith) (looks_once old new looked)

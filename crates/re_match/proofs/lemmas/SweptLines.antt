@@ -33,14 +33,14 @@ stops_seen e whole block swept stops = record {
     another : Seen ≡ Matched → ⊥
     another same = cc
 
--- a sweep that says no more of a line says the same where the whole line has to be matched
-pub stops_either : (e : Expression) (whole : Bool) (block : Text) (sweep : Sweep) → sweep.first ≡ sweep.start → (sweep.stop ≡ Matched → ⊥) → StopsAt e false block sweep → StopsAt e whole block sweep
-stops_either e whole block sweep same unknown stops = record {
+-- a sweep that says no more of a line says the same for any expression, also of whole lines
+pub stops_either : (e f : Expression) (whole : Bool) (block : Text) (sweep : Sweep) → sweep.first ≡ sweep.start → (sweep.stop ≡ Matched → ⊥) → StopsAt e false block sweep → StopsAt f whole block sweep
+stops_either e f whole block sweep same unknown stops = record {
   within = stops.within;
   near = stops.near;
   unseen = stops.unseen;
   low = stops.low;
-  first = λ end cut. subst (λ n. IsSameFrom e whole block sweep.start n end) (sym same) (whole_line e whole block sweep.start end cut);
+  first = λ end cut. subst (λ n. IsSameFrom f whole block sweep.start n end) (sym same) (whole_line f whole block sweep.start end cut);
   matched = λ says. absurd (unknown says);
 }
 

@@ -38,6 +38,16 @@ module _ (e : Expression) (line : Text) where
     | inr ge ↦ ge
   ]
 
+  -- none begins at a byte that no match has
+  pub later_by_run : (edges : Edges) → AreEdgesFor e edges → ((x : ℕ) → slice_index line x < 256) → (from start : ℕ) → from ≤ start → ((k : ℕ) → from ≤ k → k < start → members edges.bytes (slice_index line k) ≡ false) → BeginsLater e line from start
+  later_by_run edges right small from start low before = (
+    low,
+    λ i j f. elim (dec_le start i) [
+      | yes h ↦ h
+      | no h ↦ absurd (let (q, t) = taken from i j i f (omega arith) f.not_empty in false≢true (sym (before i f.begins (omega (arith, h))) ∙ (right (slice_index line i) (small i)).1 (q, t)))
+    ],
+  )
+
   module _ (from near : ℕ) (needle : Needle) (of : IsNeedleOf e needle) (low : from ≤ near) (within : from ≤ length line) (next : FindsRun (drop from line) (runs_of needle.finder) (Some (near - from))) where
     -- no run is before the needle's next place
     none_before : (k : ℕ) → from ≤ k → RunStandsAt line (runs_of needle.finder) k → near ≤ k

@@ -7,7 +7,7 @@ use Rattle.re_auto.specs.Working.StateSets.{IsMadeFor}
 use Rattle.re_steps.specs.Working.Stages.{Cache, Searches, mode_for}
 use Rattle.re_steps.specs.Working.Rows.{IsKnownFor, cache_of}
 use Rattle.re_steps.specs.declared.table.StepTable.{StepTable}
-use Rattle.re_needle.specs.Working.Needles.{IsSettled}
+use Rattle.re_match.specs.Working.Prefilters.{IsSaidAtOnce}
 use Rattle.re_match.specs.Working.Sweeps.{LooksOver}
 use Rattle.re_trees.specs.declared.tree.Tree.{Tree}
 
@@ -36,7 +36,7 @@ IsTableFor e whole most table =
 -- the answer was known without a step
 pub record SaysAtOnce (e : Expression) (whole : Bool) (line : Text) (old new : Cache)
     (before after : Steps) (answer : Bool) : Type 0 where
-  pub settled : IsSettled e whole line answer
+  pub settled : IsSaidAtOnce e whole line answer
   pub cache : new ≡ old
   pub steps : after ≡ before
 

@@ -8,6 +8,8 @@ use Rattle.re_meter.specs.Meters.{Steps, many_passed}
 use Rattle.re_runs.specs.Working.Blocks.{IsLineFrom}
 use Rattle.re_needle.specs.Working.Needles.{RunIsNeeded, RunBegins}
 use Rattle.re_runs.specs.Working.Runs.{Runs, FindsRun, longest_of, look_cost}
+use Rattle.re_match.specs.Working.Literals.{Literals, LooksForAny}
+use Rattle.re_match.specs.Working.Prefilters.{AreNeeded}
 use Rattle.re_match.specs.declared.sweeps.Stop.{Stop}
 use Rattle.re_match.specs.declared.sweeps.Stop.TheVariants.{Unseen, Seen, Matched}
 use Rattle.re_match.specs.declared.sweeps.Sweep.{Sweep}
@@ -52,7 +54,14 @@ pub record LooksAtFirst (e : Expression) (line : Text) (old new : Steps) : Type 
   pub begins : RunBegins runs e
   pub passed : new ≡ many_passed (min (longest_of runs) (length line)) old
 
+-- strings were looked for, one of which each match contains
+pub record LooksForStrings (e : Expression) (line : Text) (old new : Steps) : Type 0 where
+  pub strings : Literals
+  pub needed : AreNeeded strings e
+  pub looked : LooksForAny strings line old new
+
 -- the line was looked over once, or not at all
 abbrev pub LooksOver : Expression → Text → Steps → Steps → Type 0
 LooksOver e line old new =
-    (new ≡ old) ⊎ (LooksForNeeded e line old new ⊎ LooksAtFirst e line old new)
+    (new ≡ old) ⊎ (LooksForNeeded e line old new
+    ⊎ (LooksAtFirst e line old new ⊎ LooksForStrings e line old new))

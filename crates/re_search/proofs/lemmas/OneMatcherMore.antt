@@ -1,7 +1,6 @@
 -- One matcher more of a list: what is known of those that were asked, before it was and afterwards.
-use Rattle.re_search.proofs.Prelude.{◌≡◌, ℕ, ◌+◌, ◌-◌, ◌*◌, ◌<◌, ◌≤◌, if◌then◌else◌, nat_lt, subst, Bool, true, false, inl, inr, List, [], ◌∷◌, ◌++◌, length, map, take, get_or, refl, sym, ap, ◌∙◌, arith, add-one, set, take-suc, map-set_same, false≢true, cases_lt, lt-ltb, get_or-map, length-map, Text, Expression, Matches, AddsUpTo, SomeMatches, DecidesMatchOfAll, AllAnswer, mul-le-mul_right}
+use Rattle.re_search.proofs.Prelude.{◌≡◌, ℕ, ◌+◌, ◌*◌, ◌<◌, Bool, true, false, inl, inr, List, [], ◌∷◌, ◌++◌, length, map, take, get_or, refl, sym, ap, ◌∙◌, arith, add-one, set, take-suc, map-set_same, false≢true, get_or-map, length-map, Text, Expression, Matches, SomeMatches, DecidesMatchOfAll, AllAnswer}
 use Rattle.re_auto.specs.Meters.{Steps}
-use Rattle.re_meter.proofs.lemmas.Adding.{adds_both as bounds_both, adds_within as bounds_within}
 use Rattle.re_match.proofs.lemmas.StepSums.{adds_up}
 use Rattle.re_auto.specs.Searches.{AddsAtMost}
 use Rattle.re_syntax.proofs.lemmas.SomeOfJoined.{Any-append-cases, Any-single}
@@ -50,23 +49,3 @@ module _ (es : List Expression) (wholes : List Bool) (line : Text) (i : ℕ) (e 
 -- the steps of one search more
 pub steps_more : (i n : ℕ) (old middle new : Steps) → AddsAtMost (i * n) old middle → AddsAtMost n middle new → AddsAtMost ((i + 1) * n) old new
 steps_more i n old middle new a b = adds_up (i * n) n ((i + 1) * n) old middle new (omega arith) a b
-
--- one matcher more is asked, by steps alone if it is one of the first
-pub asked_more : (i stepped n : ℕ) (old middle new : Steps) → AddsUpTo (i * n) ((i - stepped) * n) old middle → AddsUpTo n (if nat_lt i stepped then 0 else n) middle new → AddsUpTo ((i + 1) * n) ((i + 1 - stepped) * n) old new
-asked_more i stepped n old middle new a b = elim (cases_lt i stepped) [
-  | inl first ↦
-      (let one : AddsUpTo n 0 middle new = subst (λ t. AddsUpTo n (if t then 0 else n) middle new) (lt-ltb i stepped first) b in
-      let fewer : i - stepped ≤ i + 1 - stepped = omega arith in
-      let few = mul-le-mul_right n fewer in
-      bounds_within (i * n + n) ((i + 1) * n) ((i - stepped) * n + 0) ((i + 1 - stepped) * n) old new (omega arith) (omega (arith, few)) (bounds_both (i * n) n ((i - stepped) * n) 0 old middle new a one))
-  | inr later ↦
-      (let one : AddsUpTo n n middle new = within_some (nat_lt i stepped) b in
-      let next : i - stepped + 1 ≡ i + 1 - stepped = omega (arith, later) in
-      let sum : (i - stepped) * n + n ≡ (i - stepped + 1) * n = omega arith in
-      let same : (i - stepped + 1) * n ≡ (i + 1 - stepped) * n = ap (λ k. k * n) next in
-      bounds_within (i * n + n) ((i + 1) * n) ((i - stepped) * n + n) ((i + 1 - stepped) * n) old new (omega arith) (omega (arith, sum, same)) (bounds_both (i * n) n ((i - stepped) * n) n old middle new a one))
-]
-  where
-    within_some : (t : Bool) → AddsUpTo n (if t then 0 else n) middle new → AddsUpTo n n middle new
-    within_some true x = bounds_within n n 0 n middle new (omega arith) (omega arith) x
-    within_some false x = x

@@ -1,5 +1,6 @@
 -- What the text of a pattern is read as and means, and why it is refused.
-use Rattle.re_search.proofs.Prelude.{◌≡◌, ℕ, ◌+◌, ◌*◌, ◌<◌, ◌^◌, List, Vec, Global, [], ◌∷◌, ◌++◌, length, IsTrue, Bool, true, false, true≢false, inl, inr, map, refl, sym, ap, ◌∙◌, ◌≤◌, arith, subst, if◌then◌else◌, PatternFault, Syntax, Fixed, Text, HasPositions, TooLarge, Expression, empty, one_of, none_of, begin, end, cat_none, cat_more, alt_none, alt_more, repeat, byte, cat, alt, sequence, folded, copies, positions, most_positions, up_to_word, IsMeant, IsSpelled, as_fixed, expression_of, has_limit, IsSmallFor, IsReadable, IsRefusedFor, string_expression, Pattern, String, Tree, pattern_expression, meaning, meant_by, IsPattern}
+use Rattle.re_search.proofs.Prelude.{◌≡◌, ℕ, ◌+◌, ◌*◌, ◌<◌, ◌^◌, List, [], ◌∷◌, ◌++◌, length, IsTrue, Bool, true, false, true≢false, inl, inr, map, refl, sym, ap, ◌∙◌, ◌≤◌, arith, if◌then◌else◌, PatternFault, Syntax, Fixed, Text, HasPositions, TooLarge, Expression, empty, one_of, none_of, begin, end, cat_none, cat_more, alt_none, alt_more, repeat, byte, cat, alt, sequence, folded, copies, positions, most_positions, up_to_word, IsMeant, IsSpelled, as_fixed, expression_of, has_limit, IsSmallFor, IsReadable, IsRefusedFor, Pattern, String, Tree, pattern_expression, meaning, meant_by, IsPattern}
+use Rattle.std.specs.Borrow.{Bor}
 use Rattle.re_trees.specs.declared.tree.Tree.{Tree as SyntaxTree}
 use Rattle.re_syntax.proofs.lemmas.SpelledUnique.{spells_one}
 use Rattle.re_syntax.proofs.lemmas.TokenLaws.{fault_spells_none}
@@ -60,26 +61,18 @@ fixed_positions t count e small = record { expression = sequence (map byte t); s
 -- ---- of a pattern
 
 -- a fixed string is read as it is
-pub fixed_read : (fold : Bool) (text : Text) (string : Vec ℕ Global) → (IsTrue fold → length text ≤ most_positions) → string.items ≡ text → IsPattern Fixed fold text (String string)
-fixed_read fold text string few is = record {
-  spelled = subst (IsSpelled Fixed text) (ap string_expression (sym is)) as_fixed;
-  small = λ limited. omega (arith, few limited, ap length is, positions_string string.items);
-  counted = λ folded. omega (arith, few folded, ap length is);
+pub fixed_read : (fold : Bool) (text : Bor (List ℕ)) → (IsTrue fold → length text.now ≤ most_positions) → IsPattern Fixed fold text.now (String text)
+fixed_read fold text few = record {
+  spelled = as_fixed;
+  small = λ limited. omega (arith, few limited, positions_string text.now);
+  counted = few;
   kind = λ free. refl;
 }
 
--- a tree that has to be small is read, or the string that it is
-module _ (syntax : Syntax) (fold : Bool) (text : Text) (tree : SyntaxTree) (count : ℕ) (limited : IsTrue (has_limit syntax fold)) (spelled : IsSpelled syntax text (expression_of tree)) (counted : count ≡ up_to_word (positions (expression_of tree))) (few : count ≤ most_positions) where
-  pub tree_read : IsPattern syntax fold text (Tree tree count)
-  tree_read = record { spelled = spelled; small = λ h. omega (arith, counted, few); counted = (omega (arith, counted, few), few); kind = λ free. absurd (true≢false (sym limited ∙ free)) }
-
-  pub string_read : (string : Vec ℕ Global) → expression_of tree ≡ string_expression string.items → IsPattern syntax fold text (String string)
-  string_read string is = record {
-    spelled = subst (IsSpelled syntax text) is spelled;
-    small = λ h. omega (arith, counted, few, ap positions is);
-    counted = λ h. omega (arith, counted, few, ap positions is, positions_string string.items);
-    kind = λ free. absurd (true≢false (sym limited ∙ free));
-  }
+-- a tree that has to be small is read
+pub tree_read : (syntax : Syntax) (fold : Bool) (text : Text) (tree : SyntaxTree) (count : ℕ) → IsTrue (has_limit syntax fold) → IsSpelled syntax text (expression_of tree) → count ≡ up_to_word (positions (expression_of tree)) → count ≤ most_positions → IsPattern syntax fold text (Tree tree count)
+tree_read syntax fold text tree count limited spelled counted few =
+    record { spelled = spelled; small = λ h. omega (arith, counted, few); counted = (omega (arith, counted, few), few); kind = λ free. absurd (true≢false (sym limited ∙ free)) }
 
 -- what it means is what the text means
 pub read_meant : (syntax : Syntax) (fold : Bool) (text : Text) (pattern : Pattern) (e : Expression) → IsPattern syntax fold text pattern → e ≡ meant_by fold pattern → IsMeant syntax fold text e × IsSmallFor syntax fold e

@@ -14,7 +14,7 @@ use Rattle.re_search.specs.Working.Strings.{string_expression}
 
 -- its expression
 abbrev pub pattern_expression : Pattern → Expression
-pattern_expression (p.String text) = string_expression text.items
+pattern_expression (p.String text) = string_expression text.now
 pattern_expression (p.Tree tree count) = expression_of tree
 
 -- whether it is a string
@@ -31,7 +31,7 @@ meant_by fold pattern = meaning fold (pattern_expression pattern)
 
 -- its positions are known, and few where an automaton may be made for it
 abbrev pub IsCounted : Bool → Pattern → Type 0
-IsCounted fold (p.String text) = IsTrue fold → length text.items ≤ most_positions
+IsCounted fold (p.String text) = IsTrue fold → length text.now ≤ most_positions
 IsCounted fold (p.Tree tree count) =
     (count ≡ positions (expression_of tree)) × (count ≤ most_positions)
 

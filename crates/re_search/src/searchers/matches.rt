@@ -1,6 +1,5 @@
 //! What matchers are asked of a line and of a block, each in counted steps.
 ghost use Rattle.std.specs.Prelude.{◌≡◌, ℕ, ◌+◌, ◌*◌, ◌<◌, ◌≤◌, ◌↔◌, IsTrue, IfSome, length, map};
-ghost use Rattle.std.specs.Option.{ForSome};
 ghost use Rattle.re_syntax.specs.Lines.{lines_of};
 ghost use Rattle.re_auto.specs.Meters.{Steps};
 ghost use Rattle.re_auto.specs.Searches.{AddsAtMost, AllAnswer, FindsPart};
@@ -8,40 +7,29 @@ ghost use Rattle.re_search.specs.Working.LineParts.{ArePartsOf, spent};
 ghost use Rattle.re_search.specs.Working.Searchers.{SameSearchers, asks_whole, expressions_by};
 ghost use Rattle.re_search.specs.Working.Searchers.{sought_by};
 ghost use Rattle.re_runs.specs.Working.Blocks.{IsBlock, next_cost};
-ghost use Rattle.re_search.specs.Working.Blocks.{left_for_all};
-ghost use Rattle.re_meter.specs.Meters.{AddsUpTo};
 ghost use Rattle.re_search.specs.Working.Sought.{IsSought, FindsSought, CountsSought};
-ghost use Rattle.re_search.specs.Working.Filters.{AreNeeded};
 
-use crate::filter::Filter;
 use crate::line_parts::{LineParts, next_part};
 use crate::searchers::Searchers;
 use crate::several::is_matched;
 use re_auto::Meter;
-use re_match::{LineMatch, Stop};
+use re_match::LineMatch;
 use re_runs::line_end;
 use re_syntax::Span;
 
-impl<'a, 'f, M: LineMatch> Searchers<'a, 'f, M> {
-    /// These matchers, all of which give this answer to whether the whole line has to be matched. A
-    /// line without the strings of the filter, if it has any, is matched by none of them.
-    pub fn new(matchers: &'a mut [M], filter: &'f Filter, whole: bool) -> Searchers<'a, 'f, M>
-        requires alike { AllAnswer whole (map M.whole matchers.old) }
-        requires needed { ForSome filter.now (λ strings. AreNeeded strings (map M.expression matchers.old)) }
+impl<'a, M: LineMatch> Searchers<'a, M> {
+    /// These matchers, all of which give this answer to whether the whole line has to be matched.
+    pub fn new(matchers: &'a mut [M], whole: bool) -> Searchers<'a, M>
+        requires { AllAnswer whole (map M.whole matchers.old) }
         ensures same_matchers { result.matchers.now ≡ matchers.old }
         ensures same_whole { asks_whole result ≡ whole }
         ensures same_loan { result.matchers.ghost_name ≡ matchers.entry.ghost_name }
     {
-        Searchers {
-            matchers,
-            filter,
-            whole,
-        }
+        Searchers { matchers, whole }
     }
 
     /// Whether some matcher matches the line. It takes at most one step for each matcher and byte, and
-    /// one more for each matcher, and passes at most as many bytes. No matcher is asked if the line
-    /// has no string of the filter.
+    /// one more for each matcher, and passes at most as many bytes.
     pub fn is_matched(&mut self, line: &[u8], meter: &mut Meter) -> bool
         ensures reported { IsTrue result ↔ IsSought (sought_by M.expression self.old) line.now }
         ensures same { SameSearchers M.expression M.whole M.room self.old self.new }
@@ -49,16 +37,7 @@ impl<'a, 'f, M: LineMatch> Searchers<'a, 'f, M> {
             (length (expressions_by M.expression self.old) * (length line.now + 1)) meter.old
             meter.new }
     {
-        if self.matchers.len() == 0 {
-            return false;
-        }
-        if self.filter.is_empty() {
-            return is_matched(self.matchers, line, meter);
-        }
-        if self.filter.rules_out(line, meter) {
-            return false;
-        }
-        self.filter.is_matched(self.matchers, line, meter)
+        is_matched(self.matchers, line, meter)
     }
 
     /// The first line of a block of whole lines that some matcher matches, by its place without its
@@ -75,14 +54,11 @@ impl<'a, 'f, M: LineMatch> Searchers<'a, 'f, M> {
             (length (expressions_by M.expression self.old) * next_cost block.now result) meter.old
             meter.new }
     {
-        if self.matchers.len() == 0 {
-            return None;
-        }
-        if self.has_one_alone() {
+        if self.is_alone() {
             let matchers = &mut *self.matchers;
             return matchers[0].next_matched(block, meter);
         }
-        self.next_by_sweeps(block, meter)
+        self.next_by_lines(block, meter)
     }
 
     /// How many lines of a block of whole lines some matcher matches. It takes at most one step for
@@ -95,7 +71,7 @@ impl<'a, 'f, M: LineMatch> Searchers<'a, 'f, M> {
             (length (expressions_by M.expression self.old) * length block.now) meter.old
             meter.new }
     {
-        if self.has_one_alone() {
+        if self.is_alone() {
             let matchers = &mut *self.matchers;
             return matchers[0].count_matched(block, meter);
         }
@@ -141,17 +117,16 @@ impl<'a, 'f, M: LineMatch> Searchers<'a, 'f, M> {
         next_part(self.matchers, self.whole, line, from, parts, meter)
     }
 
-    // Whether there is one matcher, which is asked with nothing before it.
-    fn has_one_alone(&self) -> bool
+    // Whether there is one matcher.
+    fn is_alone(&self) -> bool
         ensures { IsTrue result → length self.now.matchers.now ≡ 1 }
     {
-        self.filter.is_empty() && self.matchers.len() == 1
+        self.matchers.len() == 1
     }
 
-    // The first line of a block that some matcher matches. The filter passes lines without what it has.
-    fn next_by_sweeps(&mut self, block: &[u8], meter: &mut Meter) -> Option<Span>
-        requires block { IsBlock block.now }
-        requires some { 1 ≤ length self.old.matchers.now }
+    // The first line of a block that some matcher matches. Each line is searched by itself.
+    fn next_by_lines(&mut self, block: &[u8], meter: &mut Meter) -> Option<Span>
+        requires { IsBlock block.now }
         ensures reported { FindsSought (sought_by M.expression self.old) (lines_of block.now) result }
         ensures within { IfSome result
             (λ at. (at.start ≤ at.end) × (at.end < length block.now)) }
@@ -162,34 +137,13 @@ impl<'a, 'f, M: LineMatch> Searchers<'a, 'f, M> {
     {
         let mut start = 0;
         'lines: loop {
-            let sweep = self.filter.sweep(&block[start..], meter);
-            let from = start + sweep.start;
-            let Some(end) = line_end(block, from) else {
+            let Some(end) = line_end(block, start) else {
                 return None;
             };
-            if self.is_matched_after(sweep.stop, &block[from..end], meter) {
-                return Some(Span { start: from, end });
+            if self.is_matched(&block[start..end], meter) {
+                return Some(Span { start, end });
             }
             start = end + 1;
-        }
-    }
-
-    // Whether some matcher matches the line at which a sweep stopped. If it was looked over, the
-    // strings of the filter are not looked for again.
-    #[inline(always)]
-    fn is_matched_after(&mut self, stop: Stop, line: &[u8], meter: &mut Meter) -> bool
-        requires some { 1 ≤ length self.old.matchers.now }
-        ensures reported { IsTrue result ↔ IsSought (sought_by M.expression self.old) line.now }
-        ensures same { SameSearchers M.expression M.whole M.room self.old self.new }
-        ensures steps { AddsUpTo
-            (length (expressions_by M.expression self.old) * (length line.now + 1))
-            (left_for_all stop (length (expressions_by M.expression self.old)) (length line.now + 1))
-            meter.old meter.new }
-    {
-        match stop {
-            Stop::Unseen => self.is_matched(line, meter),
-            Stop::Seen => self.filter.is_matched(self.matchers, line, meter),
-            Stop::Matched => self.filter.is_matched(self.matchers, line, meter),
         }
     }
 }

@@ -3,9 +3,6 @@ use Rattle.grep_core.proofs.lemmas.GivenLaws.{RunGives-given}
 use Rattle.grep_core.proofs.lemmas.SourceLaws.{gives_both}
 use Rattle.grep_utility.proofs.command.search_request.Goals as goal
 
-pub search_all-found-requires-clause-needed : goal.search_all-found-requires-clause-needed
-search_all-found-requires-clause-needed g c = rw c.deref_mut.ensures.value c.requires.needed
-
 pub returns : goal.returns
 returns g c =
     let old = c.args.files.now in

@@ -1,4 +1,6 @@
+use Rattle.grep_utility.proofs.Prelude.{arith, IsPattern}
 use Rattle.re_syntax.specs.Lines.{lines_of}
+use Rattle.std.proofs.lemmas.Slice.Zip.{AllZip-long}
 use Rattle.grep_utility.proofs.lemmas.GroupLemmas.{groups_serve}
 use Rattle.grep_utility.proofs.lemmas.ServingLemmas.{patterns_meant, joined_grouped}
 use Rattle.grep_utility.proofs.searchers.searchers_of.Goals as goal
@@ -6,11 +8,19 @@ use Rattle.grep_utility.proofs.searchers.searchers_of.Goals as goal
 pub returns-in-Some-clause-ok : goal.returns-in-Some-clause-ok
 returns-in-Some-clause-ok c =
     let options = c.args.options.now in
+    let texts = lines_of c.args.texts.now in
+    let (patterns, are, read) = c.in-Some.ensures.read in
+    groups_serve c.args.syntax options texts patterns c.in-Ok.matchers.items are
+    (joined_grouped options patterns (lines_of c.in-Some.strings.items) c.in-Ok.matchers.items read (omega (arith, c.in-Some.ensures.some, AllZip-long (IsPattern c.args.syntax options.ignore_case) texts patterns are)) (rw c.deref.ensures.value at c.in-Ok.ensures))
+
+pub returns-in-Some-strings_of-clause-ok : goal.returns-in-Some-strings_of-clause-ok
+returns-in-Some-strings_of-clause-ok c =
+    let options = c.args.options.now in
     let patterns = c.in_ok-patterns.patterns.items in
-    let matchers = c.in-Ok.matchers.items in
-    let same = c.deref.ensures.value in
+    let matchers = c.in-Ok-joined.matchers.items in
+    let same = c.deref-2.ensures.value in
     groups_serve c.args.syntax options (lines_of c.args.texts.now) patterns matchers c.in_ok-patterns.ensures.ok
-    (joined_grouped options patterns (lines_of c.in-Some.strings.items) matchers (rw same at (c.in-Some.ensures.read options.ignore_case)) (rw same at c.in-Some.ensures.some) (rw c.deref-in-Some.ensures.value at c.in-Ok.ensures))
+    (joined_grouped options patterns (lines_of c.in-Some-strings_of.strings.items) matchers (rw same at (c.in-Some-strings_of.ensures.read options.ignore_case)) (rw same at c.in-Some-strings_of.ensures.some) (rw c.deref-in-Some-strings_of.ensures.value at c.in-Ok-joined.ensures))
 
 pub joined_matchers-requires : goal.joined_matchers-requires
 joined_matchers-requires c = (patterns_meant c.args.syntax c.args.options.now.ignore_case (lines_of c.args.texts.now) c.in_ok-patterns.patterns.items c.in_ok-patterns.ensures.ok).2

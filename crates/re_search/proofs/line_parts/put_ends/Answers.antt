@@ -1,4 +1,4 @@
-use Rattle.re_search.proofs.Prelude.{◌≡◌, ◌∙◌, ◌+◌, ◌-◌, map, take, arith, length, take_all, length-map, length-replicate, get_or-replicate, ap, get_or}
+use Rattle.re_search.proofs.Prelude.{◌≡◌, ◌∙◌, ◌+◌, ◌-◌, map, take, arith, length, take_all, length-map, length-replicate, get_or-replicate, ap, refl, get_or}
 use Rattle.re_search.proofs.lemmas.OneMatcherMore.{one_more, steps_more}
 use Rattle.re_search.proofs.lemmas.KeptMatchers.{none_asked, one_kept}
 use Rattle.re_search.proofs.lemmas.LinePartsLaws.{no_ends, ends_more}
@@ -10,7 +10,7 @@ loop-matcher-init g c = record {
   right = no_ends c.args.line.now c.args.ends.now (λ i lt. ap (λ l. get_or l i 0) c.requires.zeros ∙ get_or-replicate _ i 0 0 lt);
   same_matchers = none_asked;
   room = ap length c.requires.zeros ∙ length-replicate _ _;
-  spare = c.requires.spare;
+  spare = refl;
   steps = adds_none _ _ _;
 }
 

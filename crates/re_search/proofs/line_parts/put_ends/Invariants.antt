@@ -7,6 +7,6 @@ invariant-loop-matcher g l = record {
   right : AreAllEnds (record { expressions = take l.matcher-index (map g.M.LineMatch.expression l.fn.matchers); whole = false }) l.line l.ends;
   same_matchers : SameMatchers g.M.LineMatch.expression g.M.LineMatch.whole g.M.LineMatch.room l.fn.matchers l.matchers;
   room : length l.ends ≡ length l.line;
-  spare : length l.spare ≡ length l.line;
+  spare : length l.spare ≡ length l.fn.spare;
   steps : AddsAtMost (l.matcher-index * (length l.line + 1)) l.fn.meter l.meter;
 }

@@ -1,5 +1,5 @@
 use Rattle.re_search.proofs.Prelude.{inr, arith}
-use Rattle.re_search.proofs.lemmas.ReadingLaws.{tree_read, string_read, too_many}
+use Rattle.re_search.proofs.lemmas.ReadingLaws.{tree_read, too_many}
 use Rattle.re_search.proofs.pattern.read_small.Goals as goal
 
 pub returns-then-branch-gt-MOST_POSITIONS-clause-refused : goal.returns-then-branch-gt-MOST_POSITIONS-clause-refused
@@ -8,8 +8,5 @@ returns-then-branch-gt-MOST_POSITIONS-clause-refused c = inr (too_many c.args.sy
 pub returns-then-count-gt-MOST_POSITIONS-clause-refused : goal.returns-then-count-gt-MOST_POSITIONS-clause-refused
 returns-then-count-gt-MOST_POSITIONS-clause-refused c = inr (too_many c.args.syntax c.args.fold c.args.text.now c.in_ok-tree.count c.fault_at_first-then-count-gt-MOST_POSITIONS.result c.requires (record { expression = _; spelled = c.in_ok-tree.ensures.read; counted = c.in_ok-tree.ensures.counted }) c.if-count-gt-MOST_POSITIONS.true c.fault_at_first-then-count-gt-MOST_POSITIONS.ensures)
 
-pub returns-in-Some-clause-read : goal.returns-in-Some-clause-read
-returns-in-Some-clause-read c = string_read c.args.syntax c.args.fold c.args.text.now c.in_ok-tree.tree c.in_ok-tree.count c.requires c.in_ok-tree.ensures.read c.in_ok-tree.ensures.counted (omega (arith, c.if-count-gt-MOST_POSITIONS.false)) c.in-Some.string c.in-Some.ensures
-
-pub returns-in-None-clause-read : goal.returns-in-None-clause-read
-returns-in-None-clause-read c = tree_read c.args.syntax c.args.fold c.args.text.now c.in_ok-tree.tree c.in_ok-tree.count c.requires c.in_ok-tree.ensures.read c.in_ok-tree.ensures.counted (omega (arith, c.if-count-gt-MOST_POSITIONS.false))
+pub returns-clause-read : goal.returns-clause-read
+returns-clause-read c = tree_read c.args.syntax c.args.fold c.args.text.now c.in_ok-tree.tree c.in_ok-tree.count c.requires c.in_ok-tree.ensures.read c.in_ok-tree.ensures.counted (omega (arith, c.if-count-gt-MOST_POSITIONS.false))

@@ -1,4 +1,4 @@
-use Rattle.re_search.proofs.Prelude.{[], ◌∷◌, ◌∙◌, ap, sym, subst, expression_of, string_expression, AddsEach}
+use Rattle.re_search.proofs.Prelude.{[], ◌∷◌, subst, expression_of, AddsEach}
 use Rattle.re_search.proofs.lemmas.PlainLaws.{no_strings, next_string}
 use Rattle.re_search.proofs.strings.add_each.Goals as goal
 
@@ -8,7 +8,7 @@ trees-init c = no_strings c.args.strings.now.items
 pub trees-preserved : goal.trees-preserved
 trees-preserved c =
     let old = c.trees.strings.items in
-    let new = c.add_string.new.strings.items in
+    let new = c.add_tree.new.strings.items in
     let tree = c.index-trees-place.result in
     next_string expression_of c.args.trees.now c.trees.place tree c.args.strings.now.items old new c.trees-test.true c.trees.invariant
-    (subst (λ e. AddsEach (e ∷ []) old new) (ap string_expression c.deref.ensures.value ∙ sym c.in_ok-string.ensures ∙ ap expression_of c.index-trees-place.is) c.in_ok-add_string.ensures)
+    (subst (λ t. AddsEach (expression_of t ∷ []) old new) c.index-trees-place.is c.in_ok-add_tree.ensures)

@@ -3,6 +3,3 @@ use Rattle.gaxtrel.proofs.patterns.Patterns.count_lines.Goals as goal
 
 pub invariant_of-self : goal.invariant_of-self
 invariant_of-self c = still_right _ _ _ _ _ c.count_in_text.ensures.same c.deref_mut.ensures.value c.deref_mut.ensures.len c.self.invariant
-
-pub count_in_text-requires-clause-needed : goal.count_in_text-requires-clause-needed
-count_in_text-requires-clause-needed c = rw c.deref_mut.ensures.value c.self.invariant.1

@@ -3,6 +3,3 @@ use Rattle.gaxtrel.proofs.patterns.Patterns.is_match.Goals as goal
 
 pub invariant_of-self : goal.invariant_of-self
 invariant_of-self c = still_right _ _ _ _ _ c.is_matched.ensures.same c.deref_mut.ensures.value c.deref_mut.ensures.len c.self.invariant
-
-pub is_matched-requires-clause-needed : goal.is_matched-requires-clause-needed
-is_matched-requires-clause-needed c = rw c.deref_mut.ensures.value c.self.invariant.1

@@ -9,9 +9,6 @@ use Rattle.gaxtrel.proofs.patterns.Patterns.next_line.Goals as goal
 pub invariant_of-self : goal.invariant_of-self
 invariant_of-self c = still_right _ _ _ _ _ c.next_in_text-found.ensures.same c.deref_mut.ensures.value c.deref_mut.ensures.len c.self.invariant
 
-pub next_in_text-found-requires-clause-needed : goal.next_in_text-found-requires-clause-needed
-next_in_text-found-requires-clause-needed c = rw c.deref_mut.ensures.value c.self.invariant.1
-
 pub invariant_of-self-2 : goal.invariant_of-self-2
 invariant_of-self-2 c = still_right _ _ _ _ _ c.next_in_text-found.ensures.same c.deref_mut.ensures.value c.deref_mut.ensures.len c.self.invariant
 

@@ -1,11 +1,11 @@
 use Rattle.re_match.proofs.Prelude.{expression_of, mode_for, inl, refl}
-use Rattle.re_needle.proofs.lemmas.NeedleLaws.{settled_says}
+use Rattle.re_match.proofs.lemmas.NeededStrings.{said_at_once}
 use Rattle.re_steps.proofs.lemmas.StageLaws.{searches_say, searches_steps}
 use Rattle.re_match.proofs.lemmas.LookLaws.{looks_over, looks_and_steps}
 use Rattle.re_match.proofs.cached.CachedLineMatch.is_match.Goals as goal
 
 pub returns-in-Some-clause-reported : goal.returns-in-Some-clause-reported
-returns-in-Some-clause-reported c = settled_says (expression_of c.args.self.now.tree) c.args.line.now c.args.self.now.whole c.in-Some.reported c.in-Some.ensures.settled
+returns-in-Some-clause-reported c = said_at_once (expression_of c.args.self.now.tree) c.args.line.now c.args.self.now.whole c.in-Some.reported c.in-Some.ensures.settled
 
 pub returns-in-Some-clause-steps : goal.returns-in-Some-clause-steps
 returns-in-Some-clause-steps c = looks_over (expression_of c.args.self.now.tree) c.args.line.now _ _ c.in-Some.ensures.looked

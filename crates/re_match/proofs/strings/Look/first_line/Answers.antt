@@ -16,4 +16,4 @@ returns-in-Many-clause-passes c =
 
 pub returns-in-Many-clause-stops : goal.returns-in-Many-clause-stops
 returns-in-Many-clause-stops c =
-    rw c.in-Many.is (λ whole. stops_either (any_literal c.in-Many.set.value) whole c.args.block.now c.first_line.result c.first_line.ensures.first c.first_line.ensures.unknown (rw c.deref.ensures at c.first_line.ensures.stops))
+    rw c.in-Many.is (λ whole. stops_either (any_literal c.in-Many.set.value) (any_literal c.in-Many.set.value) whole c.args.block.now c.first_line.result c.first_line.ensures.first c.first_line.ensures.unknown (rw c.deref.ensures at c.first_line.ensures.stops))

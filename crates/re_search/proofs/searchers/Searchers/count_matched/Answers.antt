@@ -37,9 +37,9 @@ pub invariant_of-self : goal.invariant_of-self
 invariant_of-self g c =
     let ms = c.args.self.now.matchers.now in
     let same : SameMatchers g.M.LineMatch.expression g.M.LineMatch.whole g.M.LineMatch.room ms (slice_set ms 0 c.count_matched.new.self) = one_kept none_asked 0 c.index-matchers-0.result c.count_matched.new.self c.count_matched.ensures.same in
-    record { alike = rw same.same_wholes c.args.self.now.alike; needed = λ x e. rw same.same_expressions (c.args.self.now.needed x e) }
+    record { alike = rw same.same_wholes c.args.self.now.alike }
 
-pub returns-then-has_one_alone-clause-reported : goal.returns-then-has_one_alone-clause-reported
-returns-then-has_one_alone-clause-reported g c =
-    let alone = sought_alone g.M.LineMatch.expression g.M.LineMatch.whole c.args.self.now.matchers.now c.index-matchers-0.result c.args.self.now.whole (c.if-has_one_alone.ensures refl) c.args.self.now.alike in
+pub returns-then-is_alone-clause-reported : goal.returns-then-is_alone-clause-reported
+returns-then-is_alone-clause-reported g c =
+    let alone = sought_alone g.M.LineMatch.expression g.M.LineMatch.whole c.args.self.now.matchers.now c.index-matchers-0.result c.args.self.now.whole (c.if-is_alone.ensures refl) c.args.self.now.alike in
     counts_same _ _ (λ line. (alone line).0) (λ line. (alone line).1) (lines_of c.args.block.now) c.count_matched.result c.count_matched.ensures.reported

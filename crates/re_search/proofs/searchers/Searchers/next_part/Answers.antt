@@ -3,4 +3,4 @@ use Rattle.re_search.proofs.searchers.Searchers.next_part.Goals as goal
 pub invariant_of-self : goal.invariant_of-self
 invariant_of-self g c =
     let same = c.next_part.ensures.same_matchers in
-    record { alike = rw same.same_wholes c.args.self.now.alike; needed = λ x e. rw same.same_expressions (c.args.self.now.needed x e) }
+    record { alike = rw same.same_wholes c.args.self.now.alike }

@@ -1,0 +1,60 @@
+-- What is found of a search that serves for another is found for that.
+use Rattle.std.proofs.Common.{◌≡◌, ◌≢◌, ◌∙◌, ℕ, ◌+◌, ◌*◌, ◌≤◌, ◌↔◌, List, Option, None, Some, length, refl, sym, ap, subst, arith}
+use Rattle.re_syntax.specs.Bytes.{Text}
+use Rattle.re_syntax.specs.Parts.{ArePartsFrom}
+use Rattle.re_trees.specs.declared.span.Span.{Span}
+use Rattle.re_meter.specs.Meters.{Steps, AddsAtMost}
+use Rattle.re_auto.specs.Searches.{FindsPart, SomeMatches}
+use Rattle.re_runs.proofs.lemmas.CountedBlocks.{counts_same}
+use Rattle.re_runs.proofs.lemmas.NextLines.{finds_same}
+use Rattle.re_search.specs.Working.Sought.{CountsSought, IsSought, Sought}
+use Rattle.grep_core.proofs.lemmas.CostLaws.{adds_for_more}
+use Rattle.grep_core.proofs.lemmas.SameChoice.{Any-Matches, ArePartsFrom-same, IsFound-same, IsPart-same, other_way}
+use Rattle.gaxtrel.specs.Kept.{IsFor, Kept, Serves, expressions_in, sought_in}
+use Rattle.gaxtrel.specs.Calls.{FindsLine, PutsParts, line_cost}
+use Rattle.gaxtrel.specs.declared.part.GaxtrelPart.{GaxtrelPart}
+
+-- a search serves for itself
+pub serves_itself : (asked sought : Sought) → asked ≡ sought → Serves asked sought
+serves_itself asked sought is = subst (Serves asked) is (record { same = λ line i j. (λ a. a, λ a. a); fewer = omega arith; whole = refl })
+
+-- what is held serves for what is searched for, and so does what is held after a call
+module _ (held : Option Kept) (sought : Sought) (is : IsFor held sought) (kept : Kept) (there : held ≡ Some kept) where
+  pub serves_held : Serves (sought_in kept) sought
+  serves_held =
+      let same : is.kept ≡ kept = (let both : Some is.kept ≡ Some kept = sym is.is_there ∙ there in cc) in
+      subst (λ (k : Kept). Serves (sought_in k) sought) same is.serves
+
+  pub still_for : (after : Option Kept) (now : Kept) → after ≡ Some now → sought_in now ≡ sought_in kept → IsFor after sought
+  still_for after now holds same = record { kept = now; is_there = holds; serves = subst (λ s. Serves s sought) (sym same) serves_held }
+
+module _ (asked sought : Sought) (serves : Serves asked sought) where
+  is_here : (line : Text) → IsSought asked line → IsSought sought line
+  is_here line is = subst (SomeMatches sought.expressions line) serves.whole (Any-Matches asked.expressions sought.expressions serves.same line asked.whole is)
+
+  is_there : (line : Text) → IsSought sought line → IsSought asked line
+  is_there line is = Any-Matches sought.expressions asked.expressions (other_way asked.expressions sought.expressions serves.same) line asked.whole (subst (SomeMatches sought.expressions line) (sym serves.whole) is)
+
+  pub line_served : (line : Text) → IsSought asked line ↔ IsSought sought line
+  line_served line = (is_here line, is_there line)
+
+  pub part_served : (line : Text) (from : ℕ) (found : Option Span) → FindsPart asked.expressions line asked.whole from found → FindsPart sought.expressions line sought.whole from found
+  part_served line from None none = subst (λ w. FindsPart sought.expressions line w from None) serves.whole (λ i j f. none i j (IsFound-same sought.expressions asked.expressions (other_way asked.expressions sought.expressions serves.same) line asked.whole from i j f))
+  part_served line from (Some s) part = subst (λ w. FindsPart sought.expressions line w from (Some s)) serves.whole (IsPart-same asked.expressions sought.expressions serves.same line asked.whole from s.start s.end part)
+
+  pub parts_served : (line : Text) (from : ℕ) (old new : List GaxtrelPart) (count : ℕ) → PutsParts asked line from old new count → PutsParts sought line from old new count
+  parts_served line from old new count (all, are, long, put) = (all, subst (λ w. ArePartsFrom sought.expressions line w from all) serves.whole (ArePartsFrom-same asked.expressions sought.expressions serves.same line asked.whole from all are), long, put)
+
+  pub count_served : (lines : List Text) (count : ℕ) → CountsSought asked lines count → CountsSought sought lines count
+  count_served lines count counts = counts_same (IsSought asked) (IsSought sought) is_here is_there lines count counts
+
+  pub cost_served : (text : Text) (old new : Steps) → AddsAtMost (line_cost (length asked.expressions) text) old new → AddsAtMost (line_cost (length sought.expressions) text) old new
+  cost_served text old new few = adds_for_more (length asked.expressions) (length sought.expressions) (length text + 1) old new serves.fewer few
+
+  pub next_served : (text : Text) (from : ℕ) (place : Option Span) (old new : Steps) → FindsLine asked text from place old new → FindsLine sought text from place old new
+  next_served text from place old new finds = record {
+    found = finds.found;
+    finds = finds_same (IsSought asked) (IsSought sought) is_here is_there _ finds.found finds.finds;
+    is_place = finds.is_place;
+    few = adds_for_more (length asked.expressions) (length sought.expressions) _ old new serves.fewer finds.few;
+  }

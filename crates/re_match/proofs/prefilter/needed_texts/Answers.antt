@@ -1,0 +1,23 @@
+use Rattle.re_match.proofs.Prelude.{◌≡◌, arith, map, ◌++◌, [], ◌∷◌, sym, ap, ◌∙◌, subst, All, HasNoNewline, lines_of, expression_of}
+use Rattle.std.proofs.lemmas.List.Elements.{All-push, All-map}
+use Rattle.re_match.specs.Working.Prefilters.{NeedsOneOf}
+use Rattle.re_trees.proofs.lemmas.LinesLaws.{lines_of-terminated, terminated-append}
+use Rattle.re_match.proofs.lemmas.NeededStrings.{needed_more}
+use Rattle.re_match.proofs.prefilter.needed_texts.Goals as goal
+
+pub branches-preserved : goal.branches-preserved
+branches-preserved c =
+    let strings = c.branches.invariant.0 in
+    let (text, needed, free, is) = c.in_ok-added.ensures c.if-not-added.false in (
+      strings ++ text ∷ [],
+      is ∙ ap (λ bytes. bytes ++ (text ++ 10 ∷ [])) c.branches.invariant.1 ∙ sym (terminated-append strings (text ∷ [])),
+      All-push HasNoNewline strings text c.branches.invariant.2 free,
+      needed_more strings text c.args.branches.now c.branches.place c.index-branches-place.result c.branches-test.true c.index-branches-place.is needed c.branches.invariant.3,
+    )
+
+pub returns : goal.returns
+returns c =
+    let strings = c.branches.invariant.0 in
+    let lines : lines_of c.branches.texts.items ≡ strings = ap lines_of c.branches.invariant.1 ∙ lines_of-terminated strings c.branches.invariant.2 in
+    subst (λ ts. All (NeedsOneOf ts) (map expression_of c.args.branches.now)) (sym lines)
+    (All-map (NeedsOneOf strings) expression_of c.args.branches.now (λ k d lt. c.branches.invariant.3 k d (omega (arith, lt, c.branches-test.false))))

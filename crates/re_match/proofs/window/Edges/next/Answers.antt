@@ -1,0 +1,28 @@
+use Rattle.re_match.proofs.Prelude.{rules, ℕ, ◌+◌, ◌-◌, ◌<◌, length, slice_index, arith, past}
+use Rattle.re_meter.proofs.lemmas.Adding.{only_passed}
+use Rattle.re_match.proofs.lemmas.StepSums.{adds_on, passes}
+use Rattle.re_match.proofs.lemmas.WindowLaws.{later_by_run}
+use Rattle.re_match.proofs.window.Edges.next.Goals as goal
+
+pub returns-then-start-line : goal.returns-then-start-line
+returns-then-start-line c = λ e right.
+    let line = c.args.line.now in
+    let small : (x : ℕ) → slice_index line x < 256 = search rules in
+    let start = c.run_begin-start.ensures in
+    let later = later_by_run e line c.args.self.now right small c.args.from c.run_begin-start.result start.low start.before in (
+      (λ i j f. let low = later.1 i j f in let some = f.not_empty in let on = f.on_line in omega (arith, low, some, on, c.if-start-line.true)),
+      passes (length line - c.args.from) (c.run_begin-start.result - c.args.from) _ _ (omega (arith, start.high)) c.add_passed.ensures,
+    )
+
+pub returns : goal.returns
+returns c = λ e right.
+    let line = c.args.line.now in
+    let from = c.args.from in
+    let small : (x : ℕ) → slice_index line x < 256 = search rules in
+    let start = c.run_begin-start.result in
+    let at = c.run_begin-start.ensures in
+    let end = c.end-end.result in
+    let high = c.end-end.ensures.low in (
+      (later_by_run e line c.args.self.now right small from start at.low at.before, (high, c.end-end.ensures.border e right)),
+      adds_on 0 0 (start + 1 - from) (past line end - start - 1) (start - from) (past line end - from) _ _ _ (omega arith) (omega (arith, at.low, high, at.high, c.if-start-line.false)) (only_passed (start + 1 - from) (start + 1 - from) _ _ (omega arith) c.add_passed-2.ensures) c.end-end.ensures.passed,
+    )
