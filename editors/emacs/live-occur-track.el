@@ -118,15 +118,18 @@ lines moved by that, in a list."
                                 collect (list (- at shift) at was is)
                                 do (cl-incf shift (- is was))))))))
 
-(defun live-occur--moved (line hunks)
-  "Where LINE of an old text is now, as HUNKS say; nil has none."
+(defun live-occur--moved (line hunks &optional alone)
+  "Where LINE of an old text is now, as HUNKS say; nil has none.
+If it was taken out it is at one near that, or with ALONE, nowhere."
   (let* ((index (and hunks (live-occur--index hunks))) (low 0) (high (length index)))
     (while (< low high)
       (let ((middle (/ (+ low high) 2)))
         (if (<= (car (aref index middle)) line) (setq low (1+ middle)) (setq high middle))))
     (if (= low 0) line
       (pcase-let* ((`(,from ,at ,was ,is) (aref index (1- low))) (after (- line from)))
-        (if (< after was) (min (+ at after) (max at (+ at is -1))) (+ at is (- after was)))))))
+        (cond ((>= after was) (+ at is (- after was)))
+              ((< after is) (+ at after))
+              ((not alone) (max at (+ at is -1))))))))
 
 ;;;; Texts
 

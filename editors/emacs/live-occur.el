@@ -212,26 +212,26 @@ It stays idle where the system tells that a file was written."
     (kill-buffer (process-buffer live-occur--process))))
 
 (defun live-occur--send (command function)
-  "Send COMMAND, a text or parts of one, and call FUNCTION here with the reply.
+  "Send COMMAND, and call FUNCTION here with the reply.
 FUNCTION gets the last line of the reply, and the blocks before it: each is a
 list of a line that says what comes, and of the rows in `live-occur--piece's."
   (let ((inhibit-quit t))
-    (cl-callf nconc (process-get live-occur--process 'unsent)
-      (list (cons (ensure-list command) function)))
+    (cl-callf nconc (process-get live-occur--process 'unsent) (list (cons command function)))
     (live-occur--write live-occur--process)))
 
 (defun live-occur--write (process)
-  "Send PROCESS what waits to be sent, as far as it fits."
-  (while (pcase-let* ((`(,parts . ,function) (car (process-get process 'unsent)))
-                      (length (apply #'+ (mapcar #'length parts))))
-           (when (and parts
+  "Send PROCESS what waits to be sent, as far as it fits.
+Emacs may take replies meanwhile, and send more: a command is one text for it."
+  (while (pcase-let* ((`(,text . ,function) (car (process-get process 'unsent)))
+                      (length (length text)))
+           (when (and text
                       (not (process-get process 'rest))
                       (live-occur--fits-p process length))
              (pop (process-get process 'unsent))
              (cl-callf nconc (process-get process 'waiting) (list (cons length function)))
              (if (<= length live-occur--flight)
-                 (dolist (part parts) (live-occur--write-text process part))
-               (process-put process 'rest (cons (apply #'concat parts) 0))
+                 (live-occur--write-text process text)
+               (process-put process 'rest (cons text 0))
                ;; A timer that begins in another one would wait for a redisplay.
                (process-put process 'timer
                             (run-with-timer 0 0.002 #'live-occur--write-part process)))
@@ -381,11 +381,11 @@ Answer whether they were there; point is where to look for lines later."
   (when live-occur--patterns (live-occur--want live-occur--patterns #'ignore)))
 
 (defun live-occur--command (words lines &optional count)
-  "A command of WORDS, in parts, with the text LINES, which are COUNT, or a list.
-To put a long text together would make garbage."
+  "A command of WORDS with the text LINES, which are COUNT, or a list."
   (let ((text (if count lines (concat (string-join lines "\n") "\n"))))
-    (cons (format "%s %d\n" words (or count (length lines)))
-          (unless (eql count 0) (cons text (unless (string-suffix-p "\n" text) '("\n")))))))
+    (concat (format "%s %d\n" words (or count (length lines)))
+            (unless (eql count 0) text)
+            (unless (or (eql count 0) (string-suffix-p "\n" text)) "\n"))))
 
 (defun live-occur--bytes (text)
   "The bytes of TEXT: UTF-8, and bytes that are no character as they are."
@@ -752,12 +752,13 @@ It is where it begins and ends, and then where the next is told of."
     (catch 'hit
       (live-occur--map-hits (lambda (hit) (throw 'hit hit)) row 1))))
 
-(defun live-occur--line-of (hit &optional page)
-  "The line at which HIT is now, which may be one of a PAGE."
+(defun live-occur--line-of (hit &optional page alone)
+  "The line at which HIT is now, which may be one of a PAGE.
+If that was taken out it is one near it, or with ALONE, nil."
   (let ((source (live-occur--hit-source hit)))
     (live-occur--moved (live-occur--moved (live-occur--hit-place hit)
                                           (unless page (live-occur--sent source)))
-                       (live-occur--moves source))))
+                       (live-occur--moves source) alone)))
 
 (defmacro live-occur--at-line-of (hit &rest body)
   "Run BODY at the line of HIT in its buffer, unless that is gone."
@@ -1303,10 +1304,9 @@ This is the `next-error-function' of lists."
   (let* ((fold (memq ?i flags))
          (characters
           (and live-occur-characters
-               (not (cl-find-if (lambda (source)
-                                  (live-occur--in (live-occur--buffer source)
-                                    (not enable-multibyte-characters)))
-                                live-occur--visited))))
+               (cl-loop for source in live-occur--visited
+                        always (buffer-local-value 'enable-multibyte-characters
+                                                   (live-occur--buffer source)))))
          (quoted (and characters fold (eq live-occur-syntax 'fixed)
                       (string-match-p "[[:nonascii:]]" (apply #'concat patterns))))
          (syntax (if quoted 'basic live-occur-syntax)))
@@ -2410,6 +2410,7 @@ rows are edited, \\[live-occur-edit-mode] ends it, \
               imenu-create-index-function #'live-occur--imenu
               truncate-lines t buffer-undo-list t inhibit-field-text-motion t
               bidi-paragraph-direction 'left-to-right ; Emacs looks far back in empty rows
+              gc-cons-threshold (max gc-cons-threshold 20000000) ; rows are much to look at
               live-occur--idle-timer
               (run-with-idle-timer live-occur-delay t #'live-occur--look (current-buffer)))
   (when live-occur-follow (next-error-follow-minor-mode))
@@ -2465,6 +2466,7 @@ Undo works in the list, and in the buffers."
     (setq live-occur-edit-mode (not on) live-occur--alone 0)
     (cond (on
            (live-occur--update)
+           (when (live-occur--busy-p) (message "Rows are edited once all lines are searched"))
            (live-occur--wait-for (lambda () (not (live-occur--busy-p))))
            (live-occur--check)
            (live-occur--make-all-to-edit))
@@ -2515,8 +2517,7 @@ Where that is quit the list is as before."
 (defun live-occur--in-steps (what total function)
   "Call FUNCTION with the first one and the number of some of TOTAL things.
 Between the calls tell WHAT with how far it is, and do what else there is."
-  (let ((reporter (make-progress-reporter what 0 total)) (first 0) (some 100)
-        (gc-cons-threshold (max gc-cons-threshold 20000000)))
+  (let ((reporter (make-progress-reporter what 0 total)) (first 0) (some 100))
     (while (< first total)
       (funcall function first (min some (- total first)))
       (progress-reporter-update reporter (cl-incf first some))
@@ -2592,17 +2593,18 @@ Take note of its buffer, with its text if it wasn't modified."
   (let* ((buffer (live-occur--visited-buffer (live-occur--hit-source hit)))
          (before (live-occur--in buffer
                    (list (live-occur--base buffer) (live-occur--visited-state)
-                         (unless (buffer-modified-p) (buffer-hash))))))
-    (live-occur--changed-buffers)
+                         (unless (buffer-modified-p) (buffer-hash)))))
+         (noted (assq (car before) live-occur--touched))
+         (changed (live-occur--changed-p noted)))
     (unless (live-occur--at-line-of hit
               (when buffer-read-only (user-error "Buffer %s is read-only" (buffer-name)))
-              (unless (live-occur--line-is-p old)
+              (unless (and (live-occur--line-of hit nil t) (live-occur--line-is-p old))
                 (user-error "The line of this row in %s is gone, \
 or was edited there" (buffer-name)))
               (let ((inhibit-modification-hooks nil)) (live-occur--replace old new))
               t)
       (user-error "The buffer of this row is gone"))
-    (unless (assq (car before) live-occur--touched) (push before live-occur--touched))))
+    (unless changed (setq live-occur--touched (cons before (delq noted live-occur--touched))))))
 
 (defun live-occur--line-is-p (text)
   "Whether TEXT, which may be nil, is what is from point to the line's end."
@@ -2641,9 +2643,10 @@ Undo knows places in the text, so numbers in that stay."
         (forward-line 1)))))
 
 (defun live-occur--follow-line (hit)
-  "Bring the row of HIT at point up to date, unless its line is too long now.
+  "Bring the row of HIT at point up to date, unless its line is gone or too long.
 A row that is far too long itself, as it was edited so, stays as it is."
   (when-let* ((old (live-occur--hit-text hit))
+              ((live-occur--line-of hit nil t))
               (most (max live-occur-max-columns (length old)))
               ((<= most (* 10 live-occur-max-columns)))
               (new (live-occur--at-line-of hit (live-occur--text-after-point (1+ most)))))
@@ -2663,14 +2666,15 @@ A row that is far too long itself, as it was edited so, stays as it is."
   "What is another value once this buffer was saved, or visits another file."
   (list buffer-file-name (visited-file-modtime) buffer-file-coding-system))
 
+(defun live-occur--changed-p (touched)
+  "Whether the buffer of TOUCHED is modified, and wasn't saved since."
+  (pcase-let ((`(,buffer ,state . ,_) touched))
+    (live-occur--in buffer
+      (and (buffer-modified-p) (equal state (live-occur--visited-state))))))
+
 (defun live-occur--changed-buffers ()
-  "The buffers that rows have changed and that weren't saved since.
-Forget those that are gone or were, or are not modified."
-  (cl-callf2 cl-remove-if-not
-      (pcase-lambda (`(,buffer ,state . ,_))
-        (live-occur--in buffer
-          (and (buffer-modified-p) (equal state (live-occur--visited-state)))))
-      live-occur--touched))
+  "The buffers that rows have changed, as far as they are to be saved."
+  (cl-callf2 cl-remove-if-not #'live-occur--changed-p live-occur--touched))
 
 (defun live-occur--unmodify ()
   "Mark touched buffers as not modified if their text is what it was then."
@@ -2741,7 +2745,9 @@ An edit of rows is ended before that."
   (setq live-occur--alone 0)
   (when live-occur-edit-mode (live-occur-edit-mode -1))
   (let ((buffers (mapcar #'car (live-occur--changed-buffers))))
-    (save-some-buffers t (lambda () (memq (current-buffer) buffers))))
+    (save-some-buffers t (lambda () (memq (current-buffer) buffers)))
+    (cl-callf2 seq-remove #'buffer-modified-p buffers)
+    (message "Saved: %s" (if buffers (mapconcat #'buffer-name buffers ", ") "nothing")))
   (live-occur--tell-alone))
 
 ;;;; Commands to begin a list

@@ -1760,17 +1760,18 @@ It is the line at its point, and the row at that of the list."
 (ert-deftest live-occur-shows-the-hit-after-point-while-more-is-to-come ()
   "A look that began later counts, also if one before it takes longer."
   (live-occur-test--with '("")
-    (dotimes (line 40000)
-      (insert (format "%s %d\n" (if (= 0 (mod line 3)) "two" "one") line)))
     (live-occur-test--in-windows
       (set-window-buffer nil a)
       (dolist (place '((0 . 0) (30100 . 30102) (39999 . 39999)))
-        (goto-char (point-min))
-        (forward-line (car place))
-        (set-window-point nil (point))
+        (erase-buffer)
         (let* ((live-occur--block 5000)
                (live-occur--slice-lines 1000)
                (list (live-occur "one")))
+          (insert (mapconcat (lambda (line) (format "%s %d\n" (if (= 0 (mod line 3)) "two" "one") line))
+                             (number-sequence 0 39999) ""))
+          (goto-char (point-min))
+          (forward-line (car place))
+          (set-window-point nil (point))
           (live-occur--begin-showing list (selected-window))
           (live-occur--try list nil "tw" nil nil)
           (with-current-buffer list
@@ -3277,6 +3278,39 @@ Its rows are there, and can be edited."
 
 ;;;; Editing rows
 
+(ert-deftest live-occur-edits-rows-once-all-lines-are-searched ()
+  (live-occur-test--with '("")
+    (live-occur-test--in-pieces
+      (cl-letf* ((told nil)
+                 ((symbol-function 'message)
+                  (lambda (&rest words) (push (apply #'format-message words) told)))
+                 (list (live-occur "one")))
+        (insert (apply #'concat (make-list 200 "one\n")))
+        (with-current-buffer list
+          (live-occur-edit-mode)
+          (should (= 200 (count-lines 1 (point-max))))
+          (live-occur-edit-mode -1)
+          (live-occur-test--wait)
+          (should (member "Rows are edited once all lines are searched" told))
+          (setq told nil)
+          (live-occur-edit-mode)
+          (should-not (member "Rows are edited once all lines are searched" told)))))))
+
+(ert-deftest live-occur-edits-rows-of-many-buffers ()
+  "A change asks about its own buffer alone."
+  (live-occur-test--with (make-list 30 "one\n")
+    (let ((list (live-occur-test--edited-list "one" buffers)) (asked 0))
+      (cl-letf* ((state (symbol-function 'live-occur--visited-state))
+                 ((symbol-function 'live-occur--visited-state)
+                  (lambda () (cl-incf asked) (funcall state))))
+        (dotimes (row 30) (live-occur-test--edit-row list (1+ row) "x")))
+      (should (< asked 100))
+      (with-current-buffer list
+        (should (= 30 (length (live-occur--changed-buffers))))
+        (live-occur-abort-changes))
+      (dolist (buffer buffers)
+        (should (equal (live-occur-test--text-of buffer) "one\n"))))))
+
 (ert-deftest live-occur-edits-rows ()
   (live-occur-test--with '("one\ntwo\nthree\n" "four\n")
     (live-occur-test--in-windows
@@ -3346,6 +3380,30 @@ Its rows are there, and can be edited."
           (should (equal told "Buffer a is read-only; the row alone is edited")))
         (live-occur-edit-mode -1))
       (should (equal (live-occur-test--rows list) "a:1:one\na:2:o3x\nb:1:four\n")))))
+
+(ert-deftest live-occur-leaves-rows-of-lines-that-are-gone-alone ()
+  "They show no other line, and are written into none, also where one is the same."
+  (live-occur-test--with '("one\ntwo\ntwo\no4\n")
+    (live-occur-test--in-windows
+      (let ((list (live-occur-test--edited-list "o")) told)
+        (dolist (gone '((1 . 5) (1 . 5)))
+          (delete-region (car gone) (cdr gone))
+          (with-current-buffer list
+            (live-occur--look list)
+            (should (equal (live-occur-test--text-shown) "1:one\n2:two\n3:two\n4:o4\n"))))
+        (cl-letf (((symbol-function 'message)
+                   (lambda (&rest words) (setq told (apply #'format words)))))
+          (dolist (row '(1 2))
+            (live-occur-test--edit-row list row "x")
+            (should (string-prefix-p "The line of this row in a is gone" told))))
+        (live-occur-test--edit-row list 3 "y")
+        (should (equal (buffer-string) "ytwo\no4\n"))
+        (ert-info ("a line that comes back")
+          (goto-char (point-min))
+          (insert "one\n")
+          (with-current-buffer list
+            (live-occur-edit-mode -1))
+          (should (equal (live-occur-test--rows list) "1:xone\n2:ytwo\n3:o4\n")))))))
 
 (ert-deftest live-occur-follows-lines-while-rows-are-edited ()
   (live-occur-test--with '("one\ntwo\n")
@@ -3523,7 +3581,7 @@ Its rows are there, and can be edited."
 (ert-deftest live-occur-writes-rows-after-an-error ()
   "No error ends that rows are written, and what it has kept from its line is written later."
   (dolist (function '(live-occur--row-text live-occur--visited-state live-occur--change-line
-                      live-occur--replace live-occur--same live-occur--changed-buffers live-occur--row-changed
+                      live-occur--replace live-occur--same live-occur--changed-p live-occur--row-changed
                       live-occur--write-row))
     (dolist (fault '(error quit))
       (live-occur-test--with '("one\ntwo\nfour\n")
@@ -3939,8 +3997,14 @@ up what the rows changed alone."
                   (live-occur-edit-mode -1))
                 (live-occur-test--rows list)
                 (should (buffer-modified-p (get-file-buffer file)))
-                (with-current-buffer list
-                  (call-interactively (key-binding "s")))
+                (cl-letf* ((told nil)
+                           ((symbol-function 'message)
+                            (lambda (&rest words) (push (apply #'format words) told))))
+                  (with-current-buffer list
+                    (call-interactively (key-binding "s"))
+                    (should (equal (car told) "Saved: file"))
+                    (call-interactively (key-binding "s"))
+                    (should (equal (car told) "Saved: nothing"))))
                 (should-not (buffer-modified-p (get-file-buffer file)))))))))))
 
 (ert-deftest live-occur-marks-rows-that-were-changed ()
@@ -4755,6 +4819,19 @@ TEXT is what is in each line."
         (should (equal (live-occur-test--places list)
                        (live-occur-test--grepped-places "needle")))))))
 
+(ert-deftest live-occur-sends-one-command-after-the-other ()
+  "Also where Emacs takes replies while it writes, by which more is sent."
+  (live-occur-test--with '("one\n")
+    (let* ((list (live-occur "o")) (send (symbol-function 'process-send-string)) (first t))
+      (insert "two\n")
+      (cl-letf (((symbol-function 'process-send-string)
+                 (lambda (process text)
+                   (funcall send process text)
+                   (when (cl-shiftf first nil)
+                     (with-current-buffer list
+                       (live-occur--order "text on\n"))))))
+        (should (equal (live-occur-test--rows list) "1:one\n2:two\n"))))))
+
 (ert-deftest live-occur-sends-no-more-than-waits ()
   "Of a text no more is copied than is on its way, and the next block."
   (live-occur-test--with (list (concat (apply #'concat (make-list 900 "a short line\n"))
@@ -4917,6 +4994,20 @@ TEXT is what is in each line."
       (let ((without (funcall best nil)) (with (funcall best t)))
         (live-occur-test--tell "70,000 words replaced: %.2f s, with a list %.2f s" without with)
         (should (< with (* 3 without)))))))
+
+(ert-deftest live-occur-lets-words-of-many-rows-be-replaced ()
+  "The collector, which has all rows to look at, comes a few times."
+  :tags '(unwatched)
+  (live-occur-test--with '("")
+    (dotimes (_ 20000) (insert "the quick brown fox\n"))
+    (let* ((live-occur-idle-rows 20000) (list (live-occur-test--edited-list "fox")))
+      (with-current-buffer list
+        (goto-char (point-min))
+        (let ((before gcs-done) (gc-cons-percentage 0))
+          (perform-replace "fox" "wolf" nil nil nil)
+          (should (< (- gcs-done before) 10)))
+        (live-occur-edit-mode -1)))
+    (should (= 20000 (how-many "wolf$" 1)))))
 
 (ert-deftest live-occur-gathers-many-changes ()
   "Also where newlines come and go, or one isn't told."

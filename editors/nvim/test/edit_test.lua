@@ -535,6 +535,7 @@ test("an edit waits for a list that isn't right yet", function()
   api.nvim_set_current_win(fn.win_findbuf(list.buffer)[1])
   keys("e")
   equal(list.edit, nil)
+  assert(bench.said:find("once all lines are searched", 1, true), bench.said)
   assert(vim.wait(5000, function()
     return list.edit and list.edit.ready
   end, 1), "no edit begins")
@@ -543,6 +544,13 @@ test("an edit waits for a list that isn't right yet", function()
   settings.slice = slice
   equal(lines(buffer)[200], "1 200")
   equal(#rows(list), 199)
+  bench.buffer({ "one", "one" })
+  list = bench.list("one")
+  bench.type(list, "e")
+  assert(vim.wait(5000, function()
+    return list.edit and list.edit.ready
+  end, 1), "no edit begins")
+  assert(list.edit.texts[1]:find("  2 hits, 1 buffer$"), list.edit.texts[1])
 end)
 
 test(":w with a name writes nothing, and the edit goes on", function()
@@ -564,7 +572,11 @@ test("too many rows can't be edited", function()
   settings.edit_rows = 2
   bench.buffer({ "one", "one", "one" })
   local list = bench.list("one")
+  bench.type(list, "e") -- The rows aren't there yet.
   rows(list)
+  equal(list.edit, nil)
+  assert(bench.said:find("there are 3 rows, and at most 2 can be edited", 1, true), bench.said)
+  bench.said = ""
   bench.type(list, "e")
   settings.edit_rows = most
   equal(list.edit, nil)

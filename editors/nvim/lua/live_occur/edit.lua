@@ -109,9 +109,13 @@ function M.start(list)
     return
   end
   list.edit_wanted = false
-  if list:total() == 0 then
+  local rows = list:total()
+  if rows == 0 then
     return say("there is no row")
+  elseif rows > settings.edit_rows then
+    return blame(("there are %d rows, and at most %d can be edited"):format(rows, settings.edit_rows))
   end
+  list:show_header()
   local edit = { files = {}, cut = {}, shown = {}, lost = {}, lines = {} }
   edit.texts = api.nvim_buf_get_lines(list.buffer, 0, -1, false)
   edit.texts[1] = HEAD .. "  " .. edit.texts[1]
@@ -137,14 +141,14 @@ end
 
 -- The key: begins an edit as soon as the list is right.
 function M.begin(list)
-  local rows = api.nvim_buf_line_count(list.buffer) - 1
   if list.ended then
     return blame("the list isn't kept right; r starts the program again")
-  elseif rows > settings.edit_rows then
-    return blame(("there are %d rows, and at most %d can be edited"):format(rows, settings.edit_rows))
   end
   list.edit_wanted = true
   list:step()
+  if list.edit_wanted then
+    say("rows are edited once all lines are searched")
+  end
 end
 
 -- The end

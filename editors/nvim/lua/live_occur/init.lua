@@ -125,10 +125,8 @@ function M.open(pattern, buffers, options)
   end
   local prompt = require("live_occur.prompt")
   local switch, preview = prompt.switch, prompt.take(wanted)
-  local list, fault, place
-  if preview then
-    list = preview.list
-  else
+  local list, fault, place = preview and preview.list, nil, nil
+  if not list then
     list, fault = require("live_occur.list").new(buffers, wanted)
   end
   if not list then

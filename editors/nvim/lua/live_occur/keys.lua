@@ -79,10 +79,8 @@ function M.visit(list, split, stay)
   if not at or at.stale then
     return
   end
-  local line, column = 0, 0
-  if at.place then
-    line, column = list:line_of(at.file, at.place), row_texts.column(at.parts)
-  end
+  local line = at.place and list:line_of(at.file, at.place) or 0
+  local column = at.place and row_texts.column(at.parts) or 0
   local list_window, shown_before = api.nvim_get_current_win(), stay and shown.window
   M.unmark()
   M.go_to(list, at.file, line, column, split, shown_before)
@@ -197,8 +195,8 @@ end
 local function add_buffer(list)
   prompt.ask({ prompt = "Add buffer: ", completion = "buffer" }, nil, function(text)
     local buffer = fn.bufnr(text)
-    if buffer < 1 then
-      return blame("there is no one buffer " .. text)
+    if buffer < 1 or List.all[buffer] then
+      return blame(buffer < 1 and "there is no one buffer " .. text or "a list isn't searched")
     end
     list:add_buffer(buffer)
   end)

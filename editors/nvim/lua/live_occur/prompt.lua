@@ -228,9 +228,8 @@ end
 function Preview:open(height)
   local above = vim.o.lines - vim.o.cmdheight
   height = math.max(1, math.min(height, above - 3))
-  local place = { relative = "editor", width = vim.o.columns, height = height, col = 0, style = "minimal" }
-  place.row = math.max(0, above - height - (vim.o.laststatus > 0 and 1 or 0))
-  place.focusable = false
+  local place = { relative = "editor", width = vim.o.columns, height = height, col = 0, focusable = false,
+    style = "minimal", row = math.max(0, above - height - (vim.o.laststatus > 0 and 1 or 0)) }
   if self:has_window() then
     return api.nvim_win_set_config(self.window, place)
   end
