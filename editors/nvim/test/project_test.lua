@@ -160,7 +160,7 @@ test("a long write says how far it is, and CTRL-C ends it between files", functi
     local said = run([[return vim.fn.execute("messages")]])
     assert(said:find(("%d left alone: "):format(40 - written), 1, true) and said:find("isn't written yet: 1"), said)
     run([[vim.api.nvim_clear_autocmds({ event = "BufWritePre" })]])
-    type(":silent write<CR>")
+    type("<C-\\><C-n>:silent write<CR>")
     assert(vim.wait(10000, function()
       return run("return list.edit == nil")
     end, 20), run([[return vim.fn.execute("messages")]]))
