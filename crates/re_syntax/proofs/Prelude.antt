@@ -9,10 +9,10 @@ pub use Rattle.re_syntax.specs.ExtendedTokens.{OpensDuplication, opens_interval,
 pub use Rattle.re_syntax.specs.IntervalFaults.{IsDisallowed, descending, least_too_large, most_too_large}
 pub use Rattle.re_syntax.specs.Intervals.{ClosedInterval, HasNoInterval, Interval, IsAllowed, IsNoPart, IsNumber, at_least, between, capped, exactly, up_to, value, value_after}
 pub use Rattle.re_syntax.specs.Laws.{BeginsWithOneBracket, HasNoOpenComma, HasOnePartList, HasOneSplit, KeepsStandard, SpellsOne}
-pub use Rattle.re_syntax.specs.Profile.{basic_refused, extended_refused, most_levels}
+pub use Rattle.re_syntax.specs.Profile.{basic_refused, most_levels}
 pub use Rattle.re_syntax.specs.Spelled.{IsSpelled, as_basic, as_extended, as_fixed}
 pub use Rattle.re_syntax.specs.Working.Ahead.{IsAfter}
-pub use Rattle.re_syntax.specs.Working.BasicSteps.{ComesAfterTail, HasNoSign, HasNoTail, HasNoTimes, OpensNoDuplication}
+pub use Rattle.re_syntax.specs.Working.BasicSteps.{HasNoSign, HasNoTail, HasNoTimes, OpensNoDuplication}
 pub use Rattle.re_syntax.specs.Working.BracketSteps.{MayGoOn, OpensNoClass}
 pub use Rattle.re_syntax.specs.Working.Counted.{up_to_word}
 pub use Rattle.re_syntax.specs.Working.Cursors.{IsAt, Passes, left}
@@ -26,12 +26,12 @@ pub use Rattle.re_syntax.specs.declared.bracket.ListPlace.{ListPlace}
 pub use Rattle.re_syntax.specs.declared.bracket.ListPlace.TheVariants.{AfterPoint, AfterRange}
 pub use Rattle.re_syntax.specs.declared.cursor.Cursor.{Cursor}
 pub use Rattle.re_syntax.specs.declared.fault.FaultKind.{FaultKind}
-pub use Rattle.re_syntax.specs.declared.fault.FaultKind.TheVariants.{BadClass, BadCollatingSymbol, BadInterval, BadRange, IntervalTooLarge, NothingToRepeat, TooDeep, TrailingBackslash, UnclosedBracket, UnclosedGroup, UnopenedGroup}
+pub use Rattle.re_syntax.specs.declared.fault.FaultKind.TheVariants.{BadRange, IntervalTooLarge, NothingToRepeat, TooDeep, TrailingBackslash, UnclosedGroup, UnopenedGroup}
 pub use Rattle.re_syntax.specs.declared.fault.PatternFault.{PatternFault}
 pub use Rattle.re_syntax.specs.declared.interval.Counts.{Counts}
 pub use Rattle.re_syntax.specs.declared.syntax.Syntax.{Syntax}
 pub use Rattle.re_syntax.specs.declared.syntax.Syntax.TheVariants.{Basic, Extended, Fixed}
-pub use Rattle.re_trees.specs.Bytes.{Begins, Bytes, Text, any_but_nul, class_name, in_class, nothing, only, range, union}
+pub use Rattle.re_trees.specs.Bytes.{Begins, Bytes, Text, class_name, in_class, nothing, only, range, union}
 pub use Rattle.re_trees.specs.Expression.{Expression, alt, begin, byte, cat, choice, empty, end, none_of, one_of, repeat, sequence}
 pub use Rattle.re_trees.specs.Holds.{Holds, positions}
 pub use Rattle.re_trees.specs.Parts.{AreParts, ArePartsFrom, IsFound, IsPart}

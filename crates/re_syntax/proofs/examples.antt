@@ -2,4 +2,3 @@ pub mod BracketRows
 pub mod BasicRows
 pub mod ExtendedRows
 pub mod RefusedRows
-pub mod Depth
