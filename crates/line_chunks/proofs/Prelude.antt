@@ -1,6 +1,6 @@
 -- The words of specs and of std that proofs of this crate use, passed on from one place. Declares nothing.
 pub use Rattle.line_chunks.specs.Working.Blocks.{IsCut, starts_from}
-pub use Rattle.line_chunks.specs.Working.Chunks.{AreFilled, FitColumns, KeptLine, all_of, has_room, is_matched, line_text, line_without, matched_count, new_line, no_line, seen, seen_from, with_column, with_columns, with_line}
+pub use Rattle.line_chunks.specs.Working.Chunks.{AreFilled, AreFull, FitColumns, IsLastFull, KeptLine, all_of, has_room, is_matched, line_text, line_without, matched_count, new_line, no_line, seen, seen_from, with_column, with_columns, with_line}
 pub use Rattle.line_chunks.specs.Working.Columns.{FitsNext, next_column}
 pub use Rattle.line_chunks.specs.Working.Places.{IsPlace}
 pub use Rattle.line_chunks.specs.Working.Sums.{AddsLines, AreSummed, IsSummedTo, chunks_of}

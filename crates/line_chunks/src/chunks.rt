@@ -1,8 +1,8 @@
 //! What is done with the chunks of a file.
-ghost use Rattle.std.specs.Prelude.{◌≡◌, ℕ, ◌+◌, ◌-◌, ◌<◌, ◌≤◌, ◌^◌, [], ◌∷◌, ◌++◌, length, map, take, drop, get_or, IfOk, OnErr, slice_set};
+ghost use Rattle.std.specs.Prelude.{◌≡◌, ℕ, ◌+◌, ◌-◌, ◌*◌, ◌<◌, ◌≤◌, ◌^◌, [], ◌∷◌, ◌++◌, length, map, take, drop, get_or, IfOk, OnErr, slice_set};
 ghost use Rattle.std.specs.List.{splice, remove_range};
 ghost use Rattle.re_trees.specs.Lines.{HasNoNewline};
-ghost use Rattle.line_chunks.specs.Working.Chunks.{new_line, has_room, with_line, matched_count, all_of, AreFilled};
+ghost use Rattle.line_chunks.specs.Working.Chunks.{new_line, has_room, with_line, matched_count, all_of, AreFilled, MakesFull};
 ghost use Rattle.line_chunks.specs.Working.Sums.{chunks_of, AreSummed, IsSummedTo};
 
 use crate::chunk::Chunk;
@@ -154,7 +154,10 @@ fn bytes_of(entries: &[Entry]) -> usize {
 
 /// The limit at which so many bytes fill chunks evenly: a chunk that grows beyond the limit becomes
 /// two halves, and not a full one and a remainder.
-fn even_limit(limit: usize, bytes: usize) -> usize {
+fn even_limit(limit: usize, bytes: usize) -> usize
+    ensures few { result ≤ limit }
+    ensures half { limit ≤ 2 * result }
+{
     if limit == 0 {
         return 0;
     }
@@ -162,7 +165,7 @@ fn even_limit(limit: usize, bytes: usize) -> usize {
     if chunks < 2 {
         return limit;
     }
-    (bytes / chunks).saturating_add(1)
+    (bytes / chunks).saturating_add(1).min(limit)
 }
 
 /// The limit at which chunks are filled evenly if they are made of the lines of chunk `first` that
@@ -170,6 +173,8 @@ fn even_limit(limit: usize, bytes: usize) -> usize {
 fn limit_of(limit: usize, entries: &[Entry], seams: Seams, new: &[Entry]) -> usize
     requires before_within { seams.before ≤ length (get_or (chunks_of entries.now) seams.first []) }
     requires after_within { seams.after ≤ length (get_or (chunks_of entries.now) seams.last []) }
+    ensures few { result ≤ limit }
+    ensures half { limit ≤ 2 * result }
 {
     let before = bytes_before(entries, seams.first, seams.before);
     let after = bytes_after(entries, seams.last, seams.after);
@@ -207,6 +212,8 @@ pub fn insert(
     ensures err { OnErr result (entries.new.items ≡ entries.old.items) }
     ensures summed { AreSummed 0 0 entries.new.items }
     ensures filled { AreFilled (chunks_of entries.old.items) → AreFilled (chunks_of entries.new.items) }
+    ensures made { IfOk result (λ _. 0 < length (all_of (chunks_of new.now)) →
+        MakesFull filling.limit (chunks_of entries.old.items) (chunks_of entries.new.items)) }
 {
     let (first, before) = find_seam(entries, start);
     let (last, after) = find_seam(entries, start + count);

@@ -3,7 +3,7 @@ ghost use Rattle.std.specs.Prelude.{◌≡◌, ℕ, ◌+◌, ◌<◌, ◌≤◌,
 ghost use Rattle.std.specs.List.{splice};
 ghost use Rattle.std.specs.Vec.Iter.{into_iter_items};
 ghost use Rattle.re_trees.specs.Lines.{HasNoNewline};
-ghost use Rattle.line_chunks.specs.Working.Chunks.{no_line, new_line, with_line, line_text, is_matched, matched_count, all_of, line_without, with_columns, FitColumns};
+ghost use Rattle.line_chunks.specs.Working.Chunks.{no_line, new_line, with_line, line_text, is_matched, matched_count, all_of, line_without, with_columns, FitColumns, MakesFull};
 
 use crate::chunk::Chunk;
 use crate::chunks::{add_line, insert, remove};
@@ -164,6 +164,8 @@ impl<const LIMIT: u32> KeptLines<LIMIT> {
             splice (all_of self.old) start (start + count) (all_of new.now)) }
         ensures err { OnErr result (self.new ≡ self.old) }
         ensures memory { all_of new.now ≡ [] → IfErr result (λ _. ⊥) }
+        ensures made { IfOk result (λ _. 0 < length (all_of new.now) →
+            MakesFull LIMIT self.old self.new) }
     {
         let left = self.len() - count;
         if new.len() == 0 {

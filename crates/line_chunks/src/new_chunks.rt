@@ -1,6 +1,6 @@
 //! New chunks of the lines of others.
 ghost use Rattle.std.specs.Prelude.{◌≡◌, ℕ, ◌+◌, ◌<◌, ◌≤◌, [], ◌∷◌, ◌++◌, length, take, drop, get_or, IfOk, slice_range};
-ghost use Rattle.line_chunks.specs.Working.Chunks.{AreFilled, all_of};
+ghost use Rattle.line_chunks.specs.Working.Chunks.{AreFilled, AreFull, IsLastFull, all_of};
 ghost use Rattle.line_chunks.specs.Working.Sums.{AddsLines, chunks_of};
 
 use crate::chunk::Chunk;
@@ -31,7 +31,8 @@ pub struct Seams {
 
 /// The number of bytes that the last chunk still takes.
 fn room_of(entries: &[Entry], limit: usize) -> usize
-    ensures { 0 < result → 0 < length entries.now }
+    ensures some { 0 < result → 0 < length entries.now }
+    ensures full { result ≡ 0 → IsLastFull limit (chunks_of entries.now) }
 {
     let count = entries.len();
     if count == 0 {
@@ -71,10 +72,11 @@ fn add_new(
     from: usize,
     to: usize,
 ) -> Result<(), AllocError>
+    requires full { IsLastFull filling.limit (chunks_of fresh.old.items) }
     requires in_order { from < to }
     requires within { to ≤ length chunk.now }
     ensures { IfOk result (λ _.
-        AddsLines fresh.old.items (slice_range chunk.now from to) fresh.new.items) }
+        AddsLines filling.limit fresh.old.items (slice_range chunk.now from to) fresh.new.items) }
 {
     let mut own = Chunk::with_room(filling.alloc, filling.limit.saturating_add(MARGIN))?;
     own.add_part(chunk, from, to)?;
@@ -106,8 +108,8 @@ fn extend_last(
     requires some { 0 < length fresh.old.items }
     requires in_order { from ≤ to }
     requires within { to ≤ length chunk.now }
-    ensures { IfOk result (λ _.
-        AddsLines fresh.old.items (slice_range chunk.now from to) fresh.new.items) }
+    ensures { IfOk result (λ _. (limit : ℕ) →
+        AddsLines limit fresh.old.items (slice_range chunk.now from to) fresh.new.items) }
 {
     let last = fresh.len() - 1;
     extend(&mut fresh[last], chunk, from, to)
@@ -127,7 +129,7 @@ fn add_piece(
     ensures more { IfOk result (λ at. from < at) }
     ensures within { IfOk result (λ at. at ≤ to) }
     ensures lines { IfOk result (λ at.
-        AddsLines fresh.old.items (slice_range chunk.now from at) fresh.new.items) }
+        AddsLines filling.limit fresh.old.items (slice_range chunk.now from at) fresh.new.items) }
 {
     let room = room_of(fresh, filling.limit);
     if room == 0 {
@@ -151,7 +153,7 @@ fn add_lines(
     requires in_order { from ≤ to }
     requires within { to ≤ length chunk.now }
     ensures { IfOk result (λ _.
-        AddsLines fresh.old.items (slice_range chunk.now from to) fresh.new.items) }
+        AddsLines filling.limit fresh.old.items (slice_range chunk.now from to) fresh.new.items) }
 {
     let mut at = from;
     while at < to {
@@ -171,7 +173,7 @@ fn add_part(
 ) -> Result<(), AllocError>
     requires in_order { from ≤ to }
     requires within { to ≤ length (get_or (chunks_of entries.now) k []) }
-    ensures { IfOk result (λ _. AddsLines fresh.old.items
+    ensures { IfOk result (λ _. AddsLines filling.limit fresh.old.items
         (slice_range (get_or (chunks_of entries.now) k []) from to) fresh.new.items) }
 {
     if from >= to {
@@ -184,7 +186,7 @@ fn add_part(
 /// Adds the lines of all these chunks.
 fn add_all(filling: Filling, fresh: &mut Vec<Entry>, entries: &[Entry]) -> Result<(), AllocError>
     ensures { IfOk result (λ _.
-        AddsLines fresh.old.items (all_of (chunks_of entries.now)) fresh.new.items) }
+        AddsLines filling.limit fresh.old.items (all_of (chunks_of entries.now)) fresh.new.items) }
 {
     for entry in entries {
         let size = entry.chunk.len();
@@ -214,6 +216,7 @@ pub fn build(
     requires before_within { seams.before ≤ length (get_or (chunks_of entries.now) seams.first []) }
     requires after_within { seams.after ≤ length (get_or (chunks_of entries.now) seams.last []) }
     ensures filled { IfOk result (λ fresh. AreFilled (chunks_of fresh.items)) }
+    ensures full { IfOk result (λ fresh. AreFull filling.limit (chunks_of fresh.items)) }
     ensures lines { IfOk result (λ fresh. all_of (chunks_of fresh.items) ≡
         take seams.before (get_or (chunks_of entries.now) seams.first []) ++
         (all_of (chunks_of new.now) ++ drop seams.after (get_or (chunks_of entries.now) seams.last []))) }

@@ -122,10 +122,10 @@ impl Found {
         requires in_order { from ≤ to }
         requires within { to ≤ other.now.size }
         ensures size { IfOk result (λ _. self.new.size ≡ self.old.size + (to - from)) }
-        ensures old { IfOk result (λ _. (k : ℕ) → k < self.old.size → finds_at self.new k ≡ finds_at self.old k) }
+        ensures old { (k : ℕ) → k < self.old.size → finds_at self.new k ≡ finds_at self.old k }
         ensures new { IfOk result (λ _. (k : ℕ) → k < to - from →
             finds_at self.new (self.old.size + k) ≡ finds_at other.now (from + k)) }
-        ensures err { OnErr result ((self.new.size ≡ self.old.size) × ((k : ℕ) → k < self.old.size → finds_at self.new k ≡ finds_at self.old k)) }
+        ensures err { OnErr result (self.new.size ≡ self.old.size) }
     {
         let size = self.marks.len();
         let Some(end) = size.checked_add(to - from) else {

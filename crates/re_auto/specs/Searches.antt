@@ -22,11 +22,6 @@ SomeMatches es line whole = Any (λ e. Matches e line whole) es
 abbrev pub AllAnswer : Bool → List Bool → Type 0
 AllAnswer whole wholes = All (λ w. w ≡ whole) wholes
 
--- the span is the next part for these expressions, by the answer that all matchers give
-abbrev pub FindsPartOfAll : List Expression → List Bool → Text → ℕ → Option Span → Type 0
-FindsPartOfAll es wholes line from found =
-    (whole : Bool) → AllAnswer whole wholes → FindsPart es line whole from found
-
 -- the verdict says whether some expression matches the line, by the answer that all matchers give
 abbrev pub DecidesMatchOfAll : List Expression → List Bool → Text → Bool → Type 0
 DecidesMatchOfAll es wholes line verdict =

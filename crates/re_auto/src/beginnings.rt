@@ -1,4 +1,4 @@
-//! The bytes that a stretch inside a line can begin with.
+//! Sets of bytes, the next of which in a line is found quickly.
 ghost use Rattle.std.specs.Prelude.{◌≡◌, ℕ, ◌+◌, false, ◌<◌, ◌≤◌, IfSome, MatchOption, length};
 ghost use Rattle.std.specs.Prelude.{slice_index, slice_index_or};
 ghost use Rattle.re_auto.specs.Working.Beginnings.{IsMarked, IsFirstMarked, IsNextMark, Names};

@@ -27,7 +27,12 @@ pub fn add_within(into: &mut [u64], row: &[u64], range: WordRange)
     ensures len { length into.new ≡ length into.old }
     ensures added { (e : ℕ) → Has into.new e ↔ (Has into.old e ⊎ Has row.now e) }
 {
-    'words: for k in range.first as usize..range.past as usize {
+    let first = range.first as usize;
+    if first + 1 == range.past as usize {
+        into[first] |= row[first];
+        return;
+    }
+    'words: for k in first..range.past as usize {
         into[k] |= row[k];
     }
 }

@@ -11,6 +11,7 @@ mod ranges;
 mod step;
 mod tables;
 
+pub use beginnings::Beginnings;
 pub use build::BuildFault;
 pub use laws::{fronts_decide, positions_decide};
 pub use mode::Mode;

@@ -7,7 +7,7 @@ ghost use Rattle.re_strings.specs.Working.FixedSets.{AreFallbacks, AreFallbacksO
 ghost use Rattle.re_strings.specs.Working.FixedSets.{Labels, Steps, StepsOn, Occurs, NoneBetween, EndsIn};
 ghost use Rattle.re_strings.specs.Working.FixedSets.{StandsSince, StandsAtNode, IsBestOccurrence};
 ghost use Rattle.re_strings.specs.Working.FixedSets.{better_ending};
-ghost use Rattle.re_strings.specs.Working.Reached.{Reaches, IsSettled, EndsFirst, end_cost};
+ghost use Rattle.re_strings.specs.Working.Reached.{Reaches, IsNear, IsSettled, EndsFirst, end_cost};
 ghost use Rattle.re_meter.specs.Meters.{many_passed};
 ghost use Rattle.re_strings.specs.Working.Keys.{keys};
 ghost use Rattle.re_trees.specs.declared.span.Span.{Span};
@@ -98,8 +98,8 @@ impl AhoCorasick {
         ensures best { (all : Labels) → IsTableOf all self.now →
             IsBestOccurrence all.strings from (keys self.now.fold line.now) (length line.now)
             result }
-        ensures reached { Reaches (IsSettled self.now line.now from result) line.now from meter.old
-            meter.new }
+        ensures reached { Reaches (IsSettled self.now line.now from result)
+            (IsNear self.now result) line.now from meter.old meter.new }
     {
         if self.fold {
             return self.find_by(line, from, meter, true);
@@ -116,8 +116,8 @@ impl AhoCorasick {
         ensures best { (all : Labels) → IsTableOf all self.now →
             IsBestOccurrence all.strings from (keys self.now.fold line.now) (length line.now)
             result }
-        ensures reached { Reaches (IsSettled self.now line.now from result) line.now from meter.old
-            meter.new }
+        ensures reached { Reaches (IsSettled self.now line.now from result)
+            (IsNear self.now result) line.now from meter.old meter.new }
     {
         let mut place = from;
         let mut node = 0;
@@ -173,6 +173,7 @@ impl AhoCorasick {
         requires in_trie { node < length self.now.trie.bytes.items }
         requires alike { fold ≡ self.now.fold }
         ensures on { (place < result.0) × (result.0 ≤ length line.now) }
+        ensures next { 0 < node → result.0 ≡ place + 1 }
         ensures in_trie { result.1 < length self.now.trie.bytes.items }
         ensures stands { (all : Labels) → IsTableOf all self.now → (from : ℕ) → from ≤ place →
             StandsSince all from (keys self.now.fold line.now) place node

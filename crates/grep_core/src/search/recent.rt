@@ -38,7 +38,7 @@ impl Model for RecentLines {
       lines = last_of a.held (map (λ line. line.items) a.lines.items);
     } };
 
-    ghost invariant = { λ a. (a.held ≤ length a.lines.items) × (a.held ≤ a.limit) };
+    ghost invariant = { λ a. (a.held ≤ length a.lines.items) × (length a.lines.items ≤ a.limit) };
 }
 
 // How many lines are held once one more is added.

@@ -170,25 +170,26 @@ pub seam_end : (es : List Entry) (count first last end : ℕ) → count ≡ leng
 seam_end es count first last end many order within next past =
     grind (arith, many, order, within, next, past, length-chunks_of es)
 
+pub chunks_put : (es new fresh : List Entry) (first end : ℕ) → new ≡ take first es ++ (fresh ++ drop end es)
+    → chunks_of new ≡ take first (chunks_of es) ++ (chunks_of fresh ++ drop end (chunks_of es))
+chunks_put es new fresh first end is =
+    ap chunks_of is ∙ map-append (λ (e : Entry). e.chunk) (take first es) (fresh ++ drop end es) ∙
+    ap (λ xs. xs ++ chunks_of (fresh ++ drop end es)) (chunks_of-take first es) ∙
+    ap (λ xs. take first (chunks_of es) ++ xs) (map-append (λ (e : Entry). e.chunk) fresh (drop end es)) ∙
+    ap (λ xs. take first (chunks_of es) ++ (chunks_of fresh ++ xs))
+    (sym (drop-map (λ (e : Entry). e.chunk) end es))
+
 module _ (es new fresh : List Entry) (lines : List KeptLine) (start count first before last after end : ℕ)
     (p : IsPlace (chunks_of es) start first before) (q : IsPlace (chunks_of es) (start + count) last after)
     (rest : drop end (chunks_of es) ≡ drop (last + 1) (chunks_of es))
     (is : new ≡ take first es ++ (fresh ++ drop end es))
     (made : all_of (chunks_of fresh) ≡
     take before (get_or (chunks_of es) first []) ++ (lines ++ drop after (get_or (chunks_of es) last []))) where
-  chunks_put : chunks_of new ≡ take first (chunks_of es) ++ (chunks_of fresh ++ drop end (chunks_of es))
-  chunks_put =
-      ap chunks_of is ∙ map-append (λ (e : Entry). e.chunk) (take first es) (fresh ++ drop end es) ∙
-      ap (λ xs. xs ++ chunks_of (fresh ++ drop end es)) (chunks_of-take first es) ∙
-      ap (λ xs. take first (chunks_of es) ++ xs) (map-append (λ (e : Entry). e.chunk) fresh (drop end es)) ∙
-      ap (λ xs. take first (chunks_of es) ++ (chunks_of fresh ++ xs))
-      (sym (drop-map (λ (e : Entry). e.chunk) end es))
-
   pub lines_put : all_of (chunks_of new) ≡
       take start (all_of (chunks_of es)) ++ (lines ++ drop (start + count) (all_of (chunks_of es)))
   lines_put =
       put_in (chunks_of es) start count first before last after p q (chunks_of fresh) (drop end (chunks_of es))
-      (chunks_of new) lines rest chunks_put made
+      (chunks_of new) lines rest (chunks_put es new fresh first end is) made
 
   pub put_summed : AreSummed 0 0 es → IsSummedTo new first
   put_summed s =
@@ -223,7 +224,7 @@ module _ (es new fresh : List Entry) (lines : List KeptLine) (start count first 
 
   pub put_filled : AreFilled (chunks_of fresh) → AreFilled (chunks_of es) → AreFilled (chunks_of new)
   put_filled own filled =
-      subst AreFilled (sym chunks_put)
+      subst AreFilled (sym (chunks_put es new fresh first end is))
       (All-append (λ xs. 1 ≤ length xs) (take first (chunks_of es)) (chunks_of fresh ++ drop end (chunks_of es))
       (All-take (λ xs. 1 ≤ length xs) first (chunks_of es) filled)
       (All-append (λ xs. 1 ≤ length xs) (chunks_of fresh) (drop end (chunks_of es)) own

@@ -1,5 +1,5 @@
 -- Lines with what was found in each, in chunks.
-use Rattle.std.specs.Prelude.{◌≡◌, ℕ, suc, ◌+◌, ◌==◌, Bool, ◌≤◌, not, List, [], ◌∷◌, ◌++◌, All, length, map, if◌then◌else◌, nat_lt, Option, Some, None, IfSome, ⊤}
+use Rattle.std.specs.Prelude.{◌≡◌, ℕ, suc, ◌+◌, ◌*◌, ◌==◌, Bool, ◌<◌, ◌≤◌, not, List, [], ◌∷◌, ◌++◌, All, length, map, take, drop, get_or, if◌then◌else◌, nat_lt, Option, Some, None, IfSome, ⊤}
 use Rattle.re_trees.specs.Bytes.{Text}
 use Rattle.re_trees.specs.Lines.{terminated}
 use Rattle.line_finds.specs.Working.Finds.{Finds, no_finds, FoundIn, finds_at, without}
@@ -53,6 +53,27 @@ all_of (lines ∷ chunks) = lines ++ all_of chunks
 -- each chunk has a line
 abbrev pub AreFilled : List (List KeptLine) → Type 0
 AreFilled chunks = All (λ lines. 1 ≤ length lines) chunks
+
+-- the last chunk, if there is one, has `limit` bytes or more; each of the others has
+abbrev pub IsLastFull : ℕ → List (List KeptLine) → Type 0
+IsLastFull limit chunks =
+    (k : ℕ) → k + 1 ≡ length chunks →
+    limit ≤ length (terminated (map line_text (get_or chunks k [])))
+
+abbrev pub AreFull : ℕ → List (List KeptLine) → Type 0
+AreFull limit chunks =
+    (k : ℕ) → k + 1 < length chunks →
+    limit ≤ length (terminated (map line_text (get_or chunks k [])))
+
+-- in place of some chunks there are others, each of which but the last has half of `limit` bytes
+pub record MakesFull (limit : ℕ) (old new : List (List KeptLine)) : Type 0 where
+  pub from : ℕ
+  pub to : ℕ
+  pub made : List (List KeptLine)
+  pub new_is : new ≡ take from old ++ (made ++ drop to old)
+  pub least : ℕ
+  pub half : limit ≤ 2 * least
+  pub full : AreFull least made
 
 -- ---- a line is added
 

@@ -1,16 +1,19 @@
 -- Chunks with the numbers of their lines, summed up.
 use Rattle.std.specs.Prelude.{◌≡◌, ℕ, ◌+◌, ◌≤◌, List, [], ◌∷◌, ◌++◌, length, map, take, ⊤}
-use Rattle.line_chunks.specs.Working.Chunks.{KeptLine, AreFilled, all_of, matched_count}
+use Rattle.line_chunks.specs.Working.Chunks.{KeptLine, AreFilled, AreFull, all_of, matched_count}
 use Rattle.line_chunks.specs.declared.entries.Entry.{Entry}
 
 -- the chunks of the entries
 abbrev pub chunks_of : List Entry → List (List KeptLine)
 chunks_of entries = map (λ entry. entry.chunk) entries
 
--- these lines were added after those of the entries, and no chunk without lines
-pub record AddsLines (old : List Entry) (lines : List KeptLine) (new : List Entry) : Type 0 where
+-- these lines were added after those of the entries, and no chunk without lines, nor one after a
+-- chunk of fewer than `limit` bytes
+pub record AddsLines (limit : ℕ) (old : List Entry) (lines : List KeptLine)
+    (new : List Entry) : Type 0 where
   pub all : all_of (chunks_of new) ≡ all_of (chunks_of old) ++ lines
   pub filled : AreFilled (chunks_of old) → AreFilled (chunks_of new)
+  pub full : AreFull limit (chunks_of old) → AreFull limit (chunks_of new)
 
 -- each entry has the numbers of lines and of matched lines up to its chunk's end, where so many are
 -- before the first

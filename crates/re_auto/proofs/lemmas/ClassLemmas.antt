@@ -1,5 +1,5 @@
 -- Classes of bytes: rows that are appended to a table, and the bytes that are marked one by one.
-use Rattle.re_auto.proofs.Prelude.{◌≡◌, ℕ, suc, ◌+◌, ◌-◌, ◌*◌, ◌<◌, ◌≤◌, max, Bool, false, IsTrue, List, [], ◌∷◌, ◌++◌, length, length-append, take, drop, get_or, set, inl, inr, ◌↔◌, refl, sym, ap, ◌∙◌, subst, arith, eq-eqb, eqb-true, drop-append_seam, cases_eq, cases_lt, or_cases, or_left, or_right, take-append-le, drop-take, get_or_append_left, get_or-append_right, get_or-set_same, get_or-set_other, row_of, IsClassed, Bytes, only, union}
+use Rattle.re_auto.proofs.Prelude.{◌≡◌, ◌≢◌, ℕ, suc, ◌+◌, ◌-◌, ◌*◌, ◌<◌, ◌≤◌, max, Bool, false, IsTrue, List, [], ◌∷◌, ◌++◌, length, length-append, take, drop, get_or, set, inl, inr, ◌↔◌, refl, sym, ap, ◌∙◌, subst, arith, drop-append_seam, cases_eq, take-append-le, drop-take, get_or_append_left, get_or-append_right, get_or-set_same, get_or-set_other, row_of, IsClassed}
 use Rattle.re_auto.proofs.lemmas.RowLemmas.{row_within}
 
 -- a row within a table stays where more is appended
@@ -22,8 +22,8 @@ row_appended table row width count long same =
     take_all (x ∷ xs) = ap (λ ys. x ∷ ys) (take_all xs)
 
 -- a new class has its row appended
-pub new_class : (count width : ℕ) (row old new : List ℕ) (class : ℕ) → length old ≡ count * width → length row ≡ width → class ≡ count → new ≡ old ++ row → IsClassed count width row old new class
-new_class count width row old new class table same is appended =
+pub new_class : (count width : ℕ) (row old new : List ℕ) (class : ℕ) → length old ≡ count * width → length row ≡ width → class ≡ count → new ≡ old ++ row → ((k : ℕ) → k < class → row_of old width k ≢ row) → IsClassed count width row old new class
+new_class count width row old new class table same is appended first =
     let longer : length (old ++ row) ≡ count * width + width = omega (arith, length-append old row) in
     let more : max count (class + 1) ≡ suc count = omega arith in
     let product : suc count * width ≡ count * width + width = omega arith in record {
@@ -31,6 +31,7 @@ new_class count width row old new class table same is appended =
       longer = ap length appended ∙ longer ∙ sym product ∙ ap (λ n. n * width) (sym more);
       kept = λ k lt. ap (λ xs. row_of xs width k) appended ∙ row_stays old row width k (rw table (row_within k count width lt));
       same = ap (λ xs. row_of xs width class) appended ∙ ap (row_of (old ++ row) width) is ∙ row_appended old row width count table same;
+      first = first;
     }
 
 -- one more byte is marked
@@ -41,29 +42,6 @@ one_marked marks c mark S within before here k lt =
       | inl same ↦ subst (λ j. IsTrue (get_or (set marks c mark) j false) ↔ S j) (sym same) (rw (get_or-set_same marks c mark false within) here)
       | inr other ↦ rw (get_or-set_other marks c k mark false other) (before k (omega arith))
     ]
-
--- one more byte of those that some position takes: it is one of them, or it is not
-module _ (takes : ℕ → ℕ → Type 0) (set : Bytes) (byte : ℕ) (before : (c : ℕ) → IsTrue (set c) ↔ ((c < byte) × ((q : ℕ) × takes q c))) where
-  pub byte_taken : (new : Bytes) → new ≡ union set (only byte) → ((q : ℕ) × takes q byte) → (c : ℕ) → IsTrue (new c) ↔ ((c < byte + 1) × ((q : ℕ) × takes q c))
-  byte_taken new is here c = subst (λ (s : Bytes). IsTrue (s c) ↔ ((c < byte + 1) × ((q : ℕ) × takes q c))) (sym is) (
-    λ h. elim (or_cases _ _ h) [
-      | inl old ↦ let known = (before c).0 old in (omega (arith, known.0), known.1)
-      | inr same ↦ let e = eqb-true c byte same in (omega (arith, e), (here.0, subst (takes here.0) (sym e) here.1))
-    ],
-    λ h. elim (cases_lt c byte) [
-      | inl lt ↦ or_left _ _ ((before c).1 (lt, h.1))
-      | inr ge ↦ or_right _ _ (eq-eqb c byte (omega (arith, ge, h.0)))
-    ],
-  )
-
-  pub byte_not_taken : ((q : ℕ) → takes q byte → ⊥) → (c : ℕ) → IsTrue (set c) ↔ ((c < byte + 1) × ((q : ℕ) × takes q c))
-  byte_not_taken none c = (
-    λ h. let known = (before c).0 h in (omega (arith, known.0), known.1),
-    λ h. (before c).1 (elim (cases_eq c byte) [
-      | inl same ↦ absurd (none h.1.0 (subst (takes h.1.0) same h.1.1))
-      | inr other ↦ (omega (arith, other, h.0), h.1)
-    ]),
-  )
 
 -- one more entry of a list, of which something holds as of those before
 pub pushed : (P : ℕ → ℕ → Type 0) (xs : List ℕ) (x n : ℕ) → length xs ≡ n → ((b : ℕ) → b < n → P b (get_or xs b 0)) → P n x → (b : ℕ) → b < n + 1 → P b (get_or (xs ++ (x ∷ [])) b 0)

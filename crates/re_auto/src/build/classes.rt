@@ -1,5 +1,5 @@
 //! Bytes by the positions that take them: bytes with equal rows share a class.
-ghost use Rattle.std.specs.Prelude.{◌≡◌, ℕ, ◌*◌, ◌<◌, ◌≤◌, ◌↔◌, IsTrue, IfOk, length};
+ghost use Rattle.std.specs.Prelude.{◌≡◌, ℕ, ◌*◌, ◌<◌, ◌≤◌, ◌≢◌, ◌↔◌, IsTrue, IfOk, length};
 ghost use Rattle.re_auto.specs.Working.Bits.{Has, row_of};
 ghost use Rattle.re_auto.specs.Working.ByteClasses.{AreClasses, IsClassed};
 ghost use Rattle.re_auto.specs.Working.Tables.{Marks};
@@ -56,6 +56,7 @@ fn find_class(takes: &[u64], width: usize, count: usize, row: &[u64]) -> usize
     requires same { length row.now ≡ width }
     ensures within { result ≤ count }
     ensures found { result < count → row_of takes.now width result ≡ row.now }
+    ensures first { (k : ℕ) → k < result → row_of takes.now width k ≢ row.now }
 {
     'classes: for class in 0..count {
         if bits::row(takes, width, class) == row {

@@ -2,7 +2,7 @@
 ghost use Rattle.std.specs.Prelude.{◌≡◌, ℕ, suc, ◌-◌, Bool, List, true, false, ◌<◌, ◌≤◌, ◌↔◌, Some};
 ghost use Rattle.std.specs.Prelude.{IsTrue, IfOk, IfErr, length, slice_get, slice_index};
 ghost use Rattle.re_trees.specs.Bytes.{Text};
-ghost use Rattle.re_trees.specs.Working.Trees.{expression_of, members};
+ghost use Rattle.re_trees.specs.Working.Trees.{expression_of};
 ghost use Rattle.re_trees.specs.Holds.{Holds, positions};
 ghost use Rattle.re_trees.specs.Limits.{most_positions};
 ghost use Rattle.re_auto.specs.declared.mode.Mode.TheVariants.{Search};
@@ -11,12 +11,13 @@ ghost use Rattle.re_meter.specs.Meters.{many_built};
 ghost use Rattle.re_auto.specs.Working.Positions.{part_of, is_begin, is_end};
 ghost use Rattle.re_auto.specs.Working.Preceding.{ArePrecedingFor};
 ghost use Rattle.re_auto.specs.Working.SteppedSets.{MayBegin, IsNext};
-ghost use Rattle.re_auto.specs.Working.Tables.{words_for, CanBegin, IsRefused};
+ghost use Rattle.re_auto.specs.Working.Tables.{words_for, CanBegin, IsRefused, Marks};
 ghost use Rattle.re_auto.specs.Working.StateSets.{IsMadeFor, IsNowhere, StandsAt, IsNextSet};
 ghost use Rattle.re_auto.specs.Working.StateSets.{IsAccepting, AreAlikeInClasses};
 
 mod one_word;
 
+use crate::beginnings::Beginnings;
 use crate::bits;
 use crate::build::BuildFault;
 use crate::build::fill::build_tables;
@@ -25,7 +26,7 @@ use crate::step::preceding::Preceding;
 use crate::step::state_set::StateSet;
 use crate::tables::Tables;
 use re_meter::Meter;
-use re_trees::{ByteSet, Tree};
+use re_trees::Tree;
 use std::alloc::{AllocError, Global};
 use std::marker::Model;
 
@@ -253,18 +254,15 @@ impl Automaton {
     }
 
     /// The bytes that some position takes.
-    pub fn bytes(&self) -> ByteSet
-        ensures { (c : ℕ) → c < 256 → IsTrue (members result c) ↔
-            ((q : ℕ) × (part_of (expression_of self.now) 0).takes q c) }
+    pub fn bytes(&self) -> Beginnings
+        ensures { Marks result (λ c. (q : ℕ) × (part_of (expression_of self.now) 0).takes q c) }
     {
-        let mut bytes = ByteSet::empty();
+        let mut marks = [false; 256];
         'bytes: for byte in 0..256usize {
             let taking = self.taking(byte as u8);
-            if bits::meets(taking, taking) {
-                bytes = bytes.union(ByteSet::only(byte as u8));
-            }
+            marks[byte] = bits::meets(taking, taking);
         }
-        bytes
+        Beginnings::of(marks)
     }
 
     /// The positions that take the byte.

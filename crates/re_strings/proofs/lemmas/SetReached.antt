@@ -1,10 +1,27 @@
 -- When a search for many fixed strings is over, and what it counted.
-use Rattle.re_strings.proofs.Prelude.{◌≡◌, ℕ, zero, suc, ◌-◌, ◌<◌, ◌≤◌, [], Bool, true, false, length, take, drop, nat_eq, Option, Some, None, refl, sym, ap, ◌∙◌, arith, if◌then◌else◌, eqb-false, none-some, Text, better_span, Span, IsFront, EndsIn, Labels, StandsAtNode, StandsSince, IsBestOccurrence, better_ending}
+use Rattle.re_strings.proofs.Prelude.{◌≡◌, ℕ, zero, suc, ◌-◌, ◌<◌, ◌≤◌, [], Bool, true, false, length, take, drop, nat_eq, nat_lt, Option, Some, None, refl, sym, ap, ◌∙◌, arith, if◌then◌else◌, eqb-false, none-some, Text, better_span, Span, IsFront, EndsIn, Labels, StandsAtNode, StandsSince, IsBestOccurrence, better_ending}
 use Rattle.re_strings.proofs.lemmas.SetSearch.{read_length, node_length, begun_at}
 
--- once a string was found, its node or a later one is the longest end of all that was read
+-- once a string was found, its node or a later one is the longest end of all that was read, and begins
+-- no later
 abbrev pub IsBegun : Labels → ℕ → Text → ℕ → ℕ → Option Span → Type 0
-IsBegun all from line place node best = (known : Span) → best ≡ Some known → (0 < node) × StandsAtNode all from line place node
+IsBegun all from line place node best = (known : Span) → best ≡ Some known → (0 < node) × StandsAtNode all from line place node × (place - length (all.label node) ≤ known.start)
+
+-- where the better of two begins
+abbrev begin_of : Option Span → ℕ
+begin_of None = 0
+begin_of (Some s) = s.start
+
+better_low : (low next e : ℕ) (best : Span) → low ≤ best.start → low ≤ next - e → low ≤ begin_of (better_ending (Some best) next e)
+better_low low next e best old new = ending (nat_eq e 0)
+  where
+    spanned : (b : Bool) → low ≤ begin_of (if b then Some best else Some (record { start = next - e; end = next }))
+    spanned true = old
+    spanned false = new
+
+    ending : (b : Bool) → low ≤ begin_of (if b then Some best else better_span (Some best) (record { start = next - e; end = next }))
+    ending true = old
+    ending false = spanned (nat_lt best.start (next - e))
 
 module _ (all : Labels) (from : ℕ) (line : Text) (root : all.label 0 ≡ []) where
   -- a node with a label isn't the root
@@ -19,18 +36,22 @@ module _ (all : Labels) (from : ℕ) (line : Text) (root : all.label 0 ≡ []) w
   unfolding IsBestOccurrence
   begun_on place next n m e depth None result lt within old begun on s ends deep late is known found = go (nat_eq e 0) refl (sym is ∙ found)
     where
-      go : (b : Bool) → nat_eq e 0 ≡ b → (if b then None else better_span None (record { start = next - e; end = next })) ≡ Some known → (0 < m) × StandsAtNode all from line next m
+      go : (b : Bool) → nat_eq e 0 ≡ b → (if b then None else better_span None (record { start = next - e; end = next })) ≡ Some known → (0 < m) × StandsAtNode all from line next m × (next - length (all.label m) ≤ known.start)
       go true same nothing = absurd (none-some known nothing)
       go false some same =
           let long : 0 < e = let more = eqb-false e 0 some in omega (arith, more) in
           let fits = ends.within in
-          (not_root m (omega (arith, fits, long)), begun_at all from line next m e within s ends long)
+          let start : next - e ≡ known.start = ap begin_of same in
+          (not_root m (omega (arith, fits, long)), begun_at all from line next m e within s ends long, omega (arith, start, fits))
   begun_on place next n m e depth (Some best) result lt within old begun on s ends deep late is known found =
       let had = begun best refl in
       let low = late best refl in
       let inside = old.0.1 in
       let before = old.1 in
-      (not_root m (omega (arith, low, lt, inside, before, deep)), on had.0 had.1)
+      let fits = ends.within in
+      let start = ap begin_of (sym is ∙ found) in
+      let least = better_low (next - length (all.label m)) next e best (omega (arith, low, deep)) (omega (arith, fits)) in
+      (not_root m (omega (arith, low, lt, inside, before, deep)), on had.0 had.1, omega (arith, start, least))
 
 -- once the node begins after a string, none that begins no later can go on
 pub settled : (all : Labels) (from : ℕ) (line : Text) (place n depth start : ℕ) → place ≤ length line → StandsAtNode all from line place n → depth ≡ length (all.label n) → start < place - depth

@@ -1,5 +1,5 @@
 -- How far a search of a line went, and what it counted.
-use Rattle.std.specs.Prelude.{◌≡◌, ℕ, ◌-◌, ◌<◌, ◌≤◌, ◌⊎◌, List, length, take, drop, Option, Some, None, MatchOption}
+use Rattle.std.specs.Prelude.{◌≡◌, ℕ, ◌+◌, ◌-◌, ◌<◌, ◌≤◌, ◌⊎◌, List, length, take, drop, Option, Some, None, MatchOption}
 use Rattle.re_trees.specs.Bytes.{Text}
 use Rattle.re_trees.specs.declared.span.Span.{Span}
 use Rattle.re_meter.specs.Meters.{Steps, many_passed}
@@ -9,12 +9,21 @@ use Rattle.re_strings.specs.Working.FixedSets.{Labels, IsTableOf, IsFront, Occur
 
 -- the search from place `from` went up to a place, where the line ends or the search was over, and
 -- counted the bytes up to there
-pub record Reaches (IsOver : ℕ → Type 0) (line : Text) (from : ℕ) (old new : Steps) : Type 0 where
+pub record Reaches (IsOver IsNear : ℕ → Type 0) (line : Text) (from : ℕ)
+    (old new : Steps) : Type 0 where
   pub place : ℕ
   pub low : from ≤ place
   pub within : place ≤ length line
   pub passed : new ≡ many_passed (place - from) old
   pub over : (place ≡ length line) ⊎ IsOver place
+  pub near : IsNear place
+
+-- from the beginning of the string that was found on, the search read at most one byte more than
+-- some node has
+abbrev pub IsNear : AhoCorasick → Option Span → ℕ → Type 0
+IsNear t found place =
+    (all : Labels) → IsTableOf all t → (s : Span) → found ≡ Some s →
+    (n : ℕ) × (n < length t.trie.bytes.items) × (place ≤ s.start + length (all.label n) + 1)
 
 -- no string that begins at `from` or later, and no later than the one that was found, can go on at
 -- this place

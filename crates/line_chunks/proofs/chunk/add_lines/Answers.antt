@@ -13,7 +13,7 @@ pub returns-in-Err-clause-err : goal.returns-in-Err-clause-err
 returns-in-Err-clause-err c =
     part_undone c.args.block.now c.add_part.new.self c.remove.new.self c.args.found.now c.add_part-2.new.self
     (take (c.args.to - c.args.from) (drop c.args.from c.other.inside.block)) c.len-before.result c.len.result
-    c.len-before.ensures c.in_ok-add_part.ensures.ok c.len.ensures c.remove.ensures c.in-Err.ensures.err.1
+    c.len-before.ensures c.in_ok-add_part.ensures.ok c.len.ensures c.remove.ensures c.in-Err.ensures.old
     c.requires.size
 
 pub returns-clause-ok : goal.returns-clause-ok

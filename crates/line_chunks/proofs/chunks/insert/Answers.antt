@@ -1,6 +1,6 @@
 use Rattle.line_chunks.proofs.Prelude.{AreFilled, ap, subst, sym, ◌∙◌, all_of, chunks_of}
 use Rattle.line_chunks.proofs.lemmas.Sums.{length-chunks_of}
-use Rattle.line_chunks.proofs.lemmas.Edits.{seam_in, seam_order, seam_end, rest_same, made_in, lines_put, put_summed, put_few, put_filled}
+use Rattle.line_chunks.proofs.lemmas.Edits.{seam_in, seam_order, seam_end, rest_same, made_in, lines_put, put_summed, put_few, put_filled, chunks_put}
 use Rattle.line_chunks.proofs.chunks.insert.Goals as goal
 
 pub put_chunks-requires-clause-in_order : goal.put_chunks-requires-clause-in_order
@@ -80,3 +80,14 @@ returns-clause-ok c =
     (made_in c.deref-4.result.now es c.in_ok-fresh.fresh.items (all_of (chunks_of c.args.new.now))
     c.find_seam-first.result.0 c.find_seam-first.result.1 c.find_seam-last.result.0 c.find_seam-last.result.1
     c.deref-4.ensures.value c.in_ok-fresh.ensures.lines)
+
+pub returns-clause-made : goal.returns-clause-made
+returns-clause-made c = λ some. record {
+  from = c.find_seam-first.result.0;
+  to = c.chunk_end-end.result;
+  made = chunks_of c.in_ok-fresh.fresh.items;
+  new_is = c.sum_from.ensures.chunks ∙ chunks_put c.args.entries.now.items c.put_chunks.new.entries.items c.in_ok-fresh.fresh.items c.find_seam-first.result.0 c.chunk_end-end.result c.in_ok-put_chunks.ensures.ok;
+  least = c.limit_of-limit.result;
+  half = c.limit_of-limit.ensures.half;
+  full = c.in_ok-fresh.ensures.full;
+}

@@ -13,5 +13,5 @@ loop-entry-preserved c =
 
 pub returns : goal.returns
 returns c =
-    subst (λ es. AddsLines c.args.fresh.now.items (all_of (chunks_of es)) c.loop-entry.fresh.items)
+    subst (λ es. AddsLines c.args.filling.limit c.args.fresh.now.items (all_of (chunks_of es)) c.loop-entry.fresh.items)
     (take_all c.loop-entry.entry-index c.args.entries.now c.loop-entry-test.false) c.loop-entry.invariant

@@ -3,4 +3,4 @@ use Rattle.line_chunks.proofs.new_chunks.add_all.Given as goal
 
 abbrev pub invariant-loop-entry : goal.invariant-loop-entry
 invariant-loop-entry l =
-    AddsLines l.fn.fresh.items (all_of (chunks_of (take l.entry-index l.entries))) l.fresh.items
+    AddsLines l.filling.limit l.fn.fresh.items (all_of (chunks_of (take l.entry-index l.entries))) l.fresh.items

@@ -24,5 +24,5 @@ loop-at-preserved c = record {
 pub returns : goal.returns
 returns c =
     let last : c.loop-at.at ≡ c.args.to = omega (arith, c.loop-at-test.false, c.loop-at.invariant.within) in
-    subst (λ n. AddsLines c.args.fresh.now.items (take (n - c.args.from) (drop c.args.from c.args.chunk.now)) c.loop-at.fresh.items)
+    subst (λ n. AddsLines c.args.filling.limit c.args.fresh.now.items (take (n - c.args.from) (drop c.args.from c.args.chunk.now)) c.loop-at.fresh.items)
     last c.loop-at.invariant.lines

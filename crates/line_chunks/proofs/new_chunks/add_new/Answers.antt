@@ -13,3 +13,4 @@ returns c =
       c.requires.in_order,
       c.requires.within,
     ))
+    c.requires.full

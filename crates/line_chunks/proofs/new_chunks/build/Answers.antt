@@ -6,8 +6,15 @@ pub returns-clause-filled : goal.returns-clause-filled
 returns-clause-filled c =
     let front = slice_range (get_or (chunks_of c.args.entries.now) c.args.seams.first []) 0 c.args.seams.before in
     (adds_three c.add_part.new.fresh.items c.add_all.new.fresh.items c.add_part-2.new.fresh.items front _ _
-    (subst (λ es. AddsLines es front c.add_part.new.fresh.items) c.new-fresh.ensures.items c.in_ok-add_part.ensures)
+    (subst (λ es. AddsLines c.args.filling.limit es front c.add_part.new.fresh.items) c.new-fresh.ensures.items c.in_ok-add_part.ensures)
     c.in_ok-add_all.ensures c.in_ok-add_part-2.ensures).1
+
+pub returns-clause-full : goal.returns-clause-full
+returns-clause-full c =
+    let front = slice_range (get_or (chunks_of c.args.entries.now) c.args.seams.first []) 0 c.args.seams.before in
+    (adds_three c.add_part.new.fresh.items c.add_all.new.fresh.items c.add_part-2.new.fresh.items front _ _
+    (subst (λ es. AddsLines c.args.filling.limit es front c.add_part.new.fresh.items) c.new-fresh.ensures.items c.in_ok-add_part.ensures)
+    c.in_ok-add_all.ensures c.in_ok-add_part-2.ensures).2
 
 pub returns-clause-lines : goal.returns-clause-lines
 returns-clause-lines c =
@@ -21,6 +28,6 @@ returns-clause-lines c =
     (omega (arith, length-drop c.args.seams.after last, c.size_at-size.ensures)) in
     (adds_three c.add_part.new.fresh.items c.add_all.new.fresh.items c.add_part-2.new.fresh.items
     (slice_range first 0 c.args.seams.before) added left
-    (subst (λ es. AddsLines es (slice_range first 0 c.args.seams.before) c.add_part.new.fresh.items) c.new-fresh.ensures.items c.in_ok-add_part.ensures)
+    (subst (λ es. AddsLines c.args.filling.limit es (slice_range first 0 c.args.seams.before) c.add_part.new.fresh.items) c.new-fresh.ensures.items c.in_ok-add_part.ensures)
     c.in_ok-add_all.ensures c.in_ok-add_part-2.ensures).0 ∙
     ap (λ n. take n first ++ (added ++ left)) before ∙ ap (λ t. take c.args.seams.before first ++ (added ++ t)) back

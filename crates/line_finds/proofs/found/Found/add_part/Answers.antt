@@ -44,10 +44,12 @@ returns-in-Err-clause-err c =
     let marks = old.marks.items in
     let new = c.truncate.new.self.items in
     let same : new ≡ marks = cut_off marks (replicate (c.in-Some.end - length marks) false) c.add_marks.new.marks.items new c.len-size.result c.in_ok-add_marks.ensures.ok (omega (arith, c.len-size.ensures)) c.truncate.ensures.items in
-    let size : length marks ≡ c.args.self.now.size = λ i. (c.self.view_is i).size in (
-      ap length same ∙ size,
-      λ k low. found_same (ap (numbers_at k) c.in-Err.ensures.matches) (c.in-Err.ensures.same.old_stay k (omega (arith, low, size, c.len-size.ensures))) ∙ ap (λ f. finds_at f k) c.self.view_is,
-    )
+    ap length same ∙ (λ i. (c.self.view_is i).size)
+
+pub returns-in-Err-clause-old : goal.returns-in-Err-clause-old
+returns-in-Err-clause-old c =
+    let size : length c.self.inside.marks.items ≡ c.args.self.now.size = λ i. (c.self.view_is i).size in
+    λ k low. found_same (ap (numbers_at k) c.in-Err.ensures.matches) (c.in-Err.ensures.same.old_stay k (omega (arith, low, size, c.len-size.ensures))) ∙ ap (λ f. finds_at f k) c.self.view_is
 
 pub returns-clause-size : goal.returns-clause-size
 returns-clause-size c =

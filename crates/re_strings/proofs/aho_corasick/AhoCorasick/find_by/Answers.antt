@@ -85,6 +85,11 @@ returns-then-begins_before-clause-reached c =
             (c.pass-beyond.ensures.begun all t c.args.from begun.0 begun.1) (sym read ∙ t.depths c.pass-beyond.result.1 c.pass-beyond.ensures.in_trie)
             (let h = early.2 in omega (arith, h, c.saturating_sub.ensures))),
       );
+      near = λ all t s found.
+          let begun = c.places.invariant.begun all t s found in
+          let next = c.pass-beyond.ensures.next begun.0 in
+          let last = begun.2 in
+          (c.places.node, c.places.invariant.in_trie, omega (arith, next, last));
     }
 
 pub returns-clause-reached : goal.returns-clause-reached
@@ -96,6 +101,7 @@ returns-clause-reached c =
       within = within;
       passed = c.add_passed-2.ensures ∙ ap (many_passed (c.places.place - c.args.from)) c.places.invariant.uncounted;
       over = inl (omega (arith, within, c.places-test.false));
+      near = λ all t s found. let last = (c.places.invariant.begun all t s found).2 in (c.places.node, c.places.invariant.in_trie, omega (arith, last));
     }
 
 pub returns-clause-best : goal.returns-clause-best

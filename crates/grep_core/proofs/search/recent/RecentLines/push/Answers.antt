@@ -1,4 +1,4 @@
-use Rattle.grep_core.proofs.Prelude.{rules, [], ◌∷◌, ◌≡◌, ◌∙◌, ◌<◌, ap, length, LastLines, with_lines}
+use Rattle.grep_core.proofs.Prelude.{rules, arith, [], ◌∷◌, ◌≡◌, ◌∙◌, ◌<◌, ap, length, LastLines, with_lines}
 use Rattle.grep_core.proofs.lemmas.RecentLinesLemmas.{pushed}
 use Rattle.grep_core.proofs.search.recent.RecentLines.push.Goals as goal
 
@@ -9,5 +9,5 @@ returns-clause-ok c =
     let free : c.held_with-self-inside.result < length c.push_back.new.self.items = search rules in
     ap (λ ls. let r : LastLines = record { limit = i.limit; lines = ls } in r)
     (pushed (λ line. line.items) i.limit i.held c.held_with-self-inside.result i.lines.items c.push_back.new.self.items c.pop_front.new.self.items c.replace-next.result c.args.line.now
-    c.self.invariant.0 c.self.invariant.1 c.held_with-self-inside.ensures c.in_ok-push_back.ensures.items is_line c.pop_front.ensures.rest free)
+    c.self.invariant.0 (omega (arith, c.self.invariant.0, c.self.invariant.1)) c.held_with-self-inside.ensures c.in_ok-push_back.ensures.items is_line c.pop_front.ensures.rest free)
     ∙ ap (λ (h : LastLines). with_lines h (c.args.line.now ∷ [])) c.self.view_is

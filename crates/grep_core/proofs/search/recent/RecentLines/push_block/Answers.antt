@@ -7,7 +7,7 @@ use Rattle.grep_core.proofs.search.recent.RecentLines.push_block.Goals as goal
 pub loop-line-init : goal.loop-line-init
 loop-line-init c =
     let i = c.self.inside in
-    let few = few_held (λ line. line.items) i.held i.limit i.lines.items c.self.invariant.0 c.self.invariant.1 in
+    let few = few_held (λ line. line.items) i.held i.limit i.lines.items c.self.invariant.0 (omega (arith, c.self.invariant.0, c.self.invariant.1)) in
     let block = c.args.block.now in
     let start = c.last_lines-start.result in
     let rest : take (length block - start) (drop start block) ≡ drop start block = take_all (length block - start) (drop start block) (omega (arith, length-drop start block)) in
