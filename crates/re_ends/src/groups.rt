@@ -1,5 +1,5 @@
 //! Groups of positions by their greatest ends at a place of a line, and a step back on them.
-ghost use Rattle.std.specs.Prelude.{◌≡◌, ℕ, suc, Bool, List, ◌+◌, ◌-◌, ◌*◌, ◌^◌, ◌<◌, ◌≤◌, ◌↔◌, ◌⊎◌, [], ◌∷◌, ◌++◌};
+ghost use Rattle.std.specs.Prelude.{◌≡◌, ℕ, suc, Bool, List, ◌+◌, ◌-◌, ◌*◌, ◌/◌, ◌^◌, ◌<◌, ◌≤◌, ◌↔◌, ◌⊎◌, [], ◌∷◌, ◌++◌};
 ghost use Rattle.std.specs.Prelude.{IfOk, IsTrue, length, slice_index, vec_capacity};
 ghost use Rattle.std.specs.Int.{bit_at};
 ghost use Rattle.re_trees.specs.Expression.{Expression};
@@ -207,12 +207,31 @@ fn take_met(met: &mut [u64], left: &mut [u64], range: WordRange, group: u16, row
     ensures made { AreMembers group row.new.items }
     ensures room { vec_capacity row.old ≤ vec_capacity row.new }
 {
-    'words: for k in range.first as usize..range.past as usize {
+    let past = range.past as usize;
+    let mut k = next_word(met, range.first as usize, past);
+    'words: while k < past {
         let word = met[k] & left[k];
         met[k] = 0;
         left[k] &= !word;
         put_members(row, group, k, word);
+        k = next_word(met, k + 1, past);
     }
+}
+
+// The first word from one on and before another that is not 0, or the other.
+#[inline(always)]
+fn next_word(set: &[u64], from: usize, past: usize) -> usize
+    requires order { from ≤ past }
+    requires within { past ≤ length set.now }
+    ensures from { from ≤ result }
+    ensures first { (q : ℕ) → Has set.now q → from ≤ q / 64 → result ≤ q / 64 }
+{
+    'words: for k in from..past {
+        if set[k] != 0 {
+            return k;
+        }
+    }
+    past
 }
 
 // Makes the positions of word `k` of a set members of the group.

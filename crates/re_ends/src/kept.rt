@@ -175,7 +175,7 @@ impl KeptSteps {
         if step.op == UNKNOWN {
             return false;
         }
-        list.pick(&self.lists[(step.op - LISTED) as usize], place);
+        list.pick(&self.lists[(step.op - LISTED) as usize], step.count, place);
         true
     }
 

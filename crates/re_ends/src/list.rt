@@ -1,12 +1,11 @@
 //! The ends of groups, the greatest first.
-ghost use Rattle.std.specs.Prelude.{◌≡◌, ℕ, ◌+◌, ◌*◌, ◌^◌, ◌<◌, ◌≤◌, List, [], ◌∷◌, ◌++◌, take};
+ghost use Rattle.std.specs.Prelude.{◌≡◌, ℕ, ◌+◌, ◌-◌, ◌*◌, ◌^◌, ◌<◌, ◌≤◌, List, [], ◌∷◌, ◌++◌, take};
 ghost use Rattle.std.specs.Prelude.{IfOk, drop, length, max, set, slice_index};
 ghost use Rattle.std.specs.List.{range_with_len};
-ghost use Rattle.re_ends.specs.Working.Groups.{Fits, Leaves, end_of, numbers_of};
+ghost use Rattle.re_ends.specs.Working.Groups.{Fits, Grow, Leaves, end_of, numbers_of};
 
 use std::alloc::{AllocError, Global};
 use std::marker::Model;
-use std::mem;
 
 /// Numbers that follow each other.
 #[derive(Clone, Copy, Drop)]
@@ -22,7 +21,6 @@ pub struct Run {
 #[derive(Drop)]
 pub struct EndList {
     buffer: Vec<usize>,
-    spare: Vec<usize>,
     base: usize,
     count: usize,
 }
@@ -38,8 +36,7 @@ impl Model for EndList {
       most = length l.buffer.items;
     } };
 
-    ghost invariant = { λ l. (l.base + l.count ≤ length l.buffer.items) ×
-        (length l.spare.items ≡ length l.buffer.items) };
+    ghost invariant = { λ l. l.base + l.count ≤ length l.buffer.items };
 }
 
 // How many ends come before those that stay are moved, at least.
@@ -52,10 +49,8 @@ impl EndList {
         ensures most { IfOk result (λ l. most < l.most) }
     {
         let buffer = vec![in alloc; 0; most * 2 + SPACE]?;
-        let spare = vec![in alloc; 0; most * 2 + SPACE]?;
         Ok(EndList {
             buffer,
-            spare,
             base: 0,
             count: 0,
         })
@@ -113,17 +108,17 @@ impl EndList {
         self.count += 1;
     }
 
-    /// Puts the place last, and leaves the ends with the numbers of these runs.
-    pub fn pick(&mut self, runs: &[Run], place: usize)
-        requires { Fits (numbers_of runs.now) self.old }
+    /// Puts the place last, and leaves the ends with the numbers of these runs, so many.
+    pub fn pick(&mut self, runs: &[Run], count: u16, place: usize)
+        requires fits { Fits (numbers_of runs.now) self.old }
+        requires count { count ≡ length (numbers_of runs.now) }
         ensures picked { Leaves (numbers_of runs.now) (self.old.ends ++ place ∷ []) self.new.ends }
         ensures most { self.new.most ≡ self.old.most }
     {
         self.put_last(place);
-        let ends = &self.buffer[self.base..self.base + self.count];
-        self.count = copy_runs(ends, runs, &mut self.spare);
-        mem::swap(&mut self.buffer, &mut self.spare);
-        self.base = 0;
+        let at = join_runs(&mut self.buffer, self.base, runs);
+        self.base += at;
+        self.count = count as usize;
     }
 }
 
@@ -137,21 +132,31 @@ fn move_back(buffer: &mut [usize], from: usize, count: usize)
     buffer.copy_within(from..from + count, 0);
 }
 
-// Puts the ends with the numbers of these runs first. Returns how many they are.
-fn copy_runs(ends: &[usize], runs: &[Run], into: &mut [usize]) -> usize
-    requires room { length (numbers_of runs.now) ≤ length into.old }
+// Of the elements from `base` on, moves those of each run right before those of the run after it.
+// Returns the number at which the first are then.
+fn join_runs(buffer: &mut [usize], base: usize, runs: &[Run]) -> usize
+    requires base { base ≤ length buffer.old }
+    requires grow { Grow (numbers_of runs.now) }
     requires within { (k : ℕ) → k < length (numbers_of runs.now) →
-        slice_index (numbers_of runs.now) k < length ends.now }
-    ensures len { length into.new ≡ length into.old }
-    ensures fits { result ≤ length into.new }
-    ensures picked { Leaves (numbers_of runs.now) ends.now (take result into.new) }
+        base + slice_index (numbers_of runs.now) k < length buffer.old }
+    ensures len { length buffer.new ≡ length buffer.old }
+    ensures within { base + result + length (numbers_of runs.now) ≤ length buffer.old }
+    ensures joined { (k : ℕ) → k < length (numbers_of runs.now) →
+        slice_index buffer.new (base + result + k) ≡
+        slice_index buffer.old (base + slice_index (numbers_of runs.now) k) }
 {
-    let mut at = 0;
-    'runs: for k in 0..runs.len() {
-        let first = runs[k].first as usize;
+    let count = runs.len();
+    if count == 0 {
+        return 0;
+    }
+    let mut k = count - 1;
+    let mut at = runs[k].first as usize;
+    'runs: while k > 0 {
+        k -= 1;
         let count = runs[k].more as usize + 1;
-        into[at..at + count].copy_from_slice(&ends[first..first + count]);
-        at += count;
+        at -= count;
+        let from = base + runs[k].first as usize;
+        buffer.copy_within(from..from + count, base + at);
     }
     at
 }

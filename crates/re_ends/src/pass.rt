@@ -145,7 +145,8 @@ impl Pass {
         *built = built.saturating_add(1);
         let after = self.steps.row(from.row);
         self.groups.step(asked.automaton, after, byte, at_end);
-        self.list.pick(&self.groups.runs, from.place);
+        let count = self.groups.count;
+        self.list.pick(&self.groups.runs, count, from.place);
         let Some(to) = self
             .steps
             .row_of(asked.alloc, asked.automaton, &self.groups)

@@ -64,11 +64,11 @@ step_stands {e} {line} {steps} {ends} {groups} {kept} {into} new place {row} som
     }
 
 -- and there is room for its ends
-pub step_fits : {n : ℕ} {part : Part} {at_end : Bool} {line : Text} {place c : ℕ} {groups kept into : List ℕ} (list : Ends) → IsRow n groups → IsRow n into → IsStep part at_end groups c kept into → StandAt part line place groups list.ends → n < list.most → Fits kept list
-step_fits {groups = groups} {kept = kept} {into = into} list row new step stand room =
+pub step_fits : {n : ℕ} {part : Part} {at_end : Bool} {line : Text} {place c : ℕ} {groups kept into : List ℕ} (list : Ends) → IsRow n groups → IsStep part at_end groups c kept into → StandAt part line place groups list.ends → n < list.most → Fits kept list
+step_fits {groups = groups} list row step stand room =
     let same = as_many groups step.count (length list.ends) step.groups stand.groups in (
       omega (arith, few_groups groups (length list.ends) row.in_turn stand.groups, row.few, room),
-      omega (arith, few_groups into (length kept) new.in_turn step.made, new.few, room),
+      step.grow,
       λ k lt. let few = step.few k lt in omega (arith, few, same),
     )
 
@@ -78,7 +78,7 @@ module _ {e : Expression} {line : Text} {steps : KeptSteps} {list : Ends} {place
   kept_step = subst (λ (s : Step). IsKeptStep (part_of e 0) steps.width steps.rows.items steps.lists.items (is_end line place) at.groups (slice_index line (place - 1)) s) (sym is) (right.kept row (is_end line place) at.groups (slice_index line (place - 1)) at.row byte (subst (λ (s : Step). s.op < unknown) is held))
 
   pub kept_fits : positions e < list.most → (kept : List ℕ) × IsOperation steps.lists.items step.op kept × (length kept ≡ step.count) × Fits kept list
-  kept_fits room = (kept_step.kept, kept_step.op, kept_step.count, step_fits _ (row_is right at.row) (row_is right kept_step.row) kept_step.right at.stands room)
+  kept_fits room = (kept_step.kept, kept_step.op, kept_step.count, step_fits _ (row_is right at.row) kept_step.right at.stands room)
 
   module _ (new : Ends) (some : 0 < place) (moved : (kept : List ℕ) → IsOperation steps.lists.items step.op kept → length kept ≡ step.count → Leaves kept (list.ends ++ place ∷ []) new.ends) where
     pub walked : IsAtRow e line steps new (place - 1) step.row

@@ -27,11 +27,15 @@ end_of ends (suc k) = slice_index ends k
 abbrev pub Leaves : List ℕ → List ℕ → List ℕ → Type 0
 Leaves kept old new = new ≡ map (λ k. slice_index old k) kept
 
--- they are among those of the list and one more, and there is room
+-- the numbers grow
+abbrev pub Grow : List ℕ → Type 0
+Grow xs = (j k : ℕ) → j < k → k < length xs → slice_index xs j < slice_index xs k
+
+-- they grow and are among those of the list and one more, and there is room
 abbrev pub Fits : List ℕ → Ends → Type 0
 Fits kept list =
-    (length list.ends < list.most) × (length kept ≤ list.most)
-    × ((k : ℕ) → k < length kept → slice_index kept k ≤ length list.ends)
+    (length list.ends < list.most) × Grow kept ×
+    ((k : ℕ) → k < length kept → slice_index kept k ≤ length list.ends)
 
 -- the numbers of runs
 abbrev pub numbers : Run → List ℕ
@@ -70,10 +74,6 @@ pub record IsRow (n : ℕ) (row : List ℕ) : Type 0 where
   pub in_turn : AreInTurn row
   pub count : ℕ
   pub groups : HasGroups row count
-
--- the numbers grow
-abbrev pub Grow : List ℕ → Type 0
-Grow xs = (j k : ℕ) → j < k → k < length xs → slice_index xs j < slice_index xs k
 
 -- the ends fall
 abbrev pub Fall : List ℕ → Type 0

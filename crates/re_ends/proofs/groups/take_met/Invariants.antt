@@ -1,4 +1,4 @@
-use Rattle.re_ends.proofs.Prelude.{ℕ, ◌/◌, ◌<◌, ◌≤◌, ◌⊎◌, ◌↔◌, ◌≡◌, length, Has}
+use Rattle.re_ends.proofs.Prelude.{ℕ, ◌-◌, ◌/◌, ◌<◌, ◌≤◌, ◌⊎◌, ◌↔◌, ◌≡◌, length, Has}
 use Rattle.std.specs.Prelude.{vec_capacity}
 use Rattle.re_ends.specs.Working.Groups.{In}
 use Rattle.re_ends.specs.Working.Closing.{AreMembers}
@@ -15,3 +15,6 @@ invariant-words l = record {
   made : AreMembers l.group l.row.items;
   room : vec_capacity l.fn.row ≤ vec_capacity l.row;
 }
+
+abbrev pub decreases-words : goal.decreases-words
+decreases-words l = l.past - l.k

@@ -31,7 +31,8 @@ pick-requires c =
     let held : c.args.step.op < unknown = search rules in
     let (kept, operation, count, fits) = c.requires held in
     let (runs, at, same) = operation.1 (omega (arith, c.if-step-lt-LISTED.false)) in
-    subst (λ l. Fits l c.args.list.now) (same ∙ ap (λ v. numbers_of v.items) (sym (c.index.ensures ∙ get_or_from_slice_get c.args.self.now.lists.items (c.args.step.op - listed) runs c.index.result.now at)) ∙ ap numbers_of (sym c.deref.ensures.value)) fits
+    let is = same ∙ ap (λ v. numbers_of v.items) (sym (c.index.ensures ∙ get_or_from_slice_get c.args.self.now.lists.items (c.args.step.op - listed) runs c.index.result.now at)) ∙ ap numbers_of (sym c.deref.ensures.value) in
+    record { fits = subst (λ l. Fits l c.args.list.now) is fits; count = sym count ∙ ap length is }
 
 pub returns-clause-moved : goal.returns-clause-moved
 returns-clause-moved c = λ kept operation long yes.

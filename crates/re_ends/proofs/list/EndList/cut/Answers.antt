@@ -6,7 +6,7 @@ use Rattle.re_ends.proofs.list.EndList.cut.Goals as goal
 pub invariant_of-self : goal.invariant_of-self
 invariant_of-self c =
     let s = c.self.inside in
-    (omega (arith, c.self.invariant.0, c.requires.few, ap (λ e. length e.ends) c.self.view_is, ap length c.put_last.ensures.last, length-take s.count (drop s.base s.buffer.items), length-append c.args.self.now.ends (c.args.place ∷ [])), c.self.invariant.1)
+    omega (arith, c.self.invariant, c.requires.few, ap (λ e. length e.ends) c.self.view_is, ap length c.put_last.ensures.last, length-take s.count (drop s.base s.buffer.items), length-append c.args.self.now.ends (c.args.place ∷ []))
 
 pub returns-clause-cut : goal.returns-clause-cut
 returns-clause-cut c =

@@ -1,22 +1,42 @@
-use Rattle.re_ends.proofs.Prelude.{arith, ap, subst, length, length-append, take, drop, ◌≡◌, ◌+◌, ◌-◌, ◌∙◌, ◌++◌, ◌∷◌, [], with_items_is}
-use Rattle.re_ends.specs.Working.Groups.{Leaves, numbers_of}
-use Rattle.re_ends.proofs.list.EndList.pick.Goals.{After-deref}
+use Rattle.re_ends.proofs.Prelude.{arith, ap, subst, sym, length, length-append, map, slice_index, take, drop, ◌≡◌, ◌+◌, ◌<◌, ◌∙◌, ◌++◌, ◌∷◌, [], with_items_is}
+use Rattle.std.proofs.lemmas.List.{ext_get_or, get_or-drop, get_or-map, get_or-take, length-drop, length-map, length-take}
+use Rattle.re_ends.specs.Working.Groups.{numbers_of}
+use Rattle.re_ends.proofs.list.EndList.pick.Goals.{After-self}
 use Rattle.re_ends.proofs.list.EndList.pick.Goals as goal
 
--- the ends that are copied
-part : (c : After-deref) → take (c.self.inside.base + c.self.inside.count - c.self.inside.base) (drop c.self.inside.base c.deref.result.now) ≡ c.args.self.now.ends ++ c.args.place ∷ []
-part c =
+-- the ends that there are, and how many
+held : (c : After-self) → (take c.self.inside.count (drop c.self.inside.base c.self.inside.buffer.items) ≡ c.args.self.now.ends ++ c.args.place ∷ []) × (c.self.inside.count ≡ length c.args.self.now.ends + 1)
+held c =
     let s = c.self.inside in
-    let count : s.base + s.count - s.base ≡ s.count = omega arith in
-    ap (λ l. take (s.base + s.count - s.base) (drop s.base l)) c.deref.ensures.value ∙ ap (λ n. take n (drop s.base s.buffer.items)) count ∙ ap (λ e. e.ends) c.self.view_is ∙ c.put_last.ensures.last
+    let is : take s.count (drop s.base s.buffer.items) ≡ c.args.self.now.ends ++ c.args.place ∷ [] = ap (λ e. e.ends) c.self.view_is ∙ c.put_last.ensures.last in
+    (is, omega (arith, ap length is, length-take s.count (drop s.base s.buffer.items), length-drop s.base s.buffer.items, c.self.invariant, length-append c.args.self.now.ends (c.args.place ∷ [])))
 
-pub copy_runs-self-inside-requires-clause-room : goal.copy_runs-self-inside-requires-clause-room
-copy_runs-self-inside-requires-clause-room c = omega (arith, c.requires.1, c.put_last.ensures.most, ap (λ e. e.most) c.self.view_is, c.self.invariant.1, ap length c.deref_mut.ensures.value)
-
-pub copy_runs-self-inside-requires-clause-within : goal.copy_runs-self-inside-requires-clause-within
-copy_runs-self-inside-requires-clause-within c = λ k lt. let le = c.requires.2 k lt in omega (arith, le, ap length (part (goal.at.copy_runs-self-inside-requires-clause-within c).After-deref), length-append c.args.self.now.ends (c.args.place ∷ []))
+pub join_runs-at-requires : goal.join_runs-at-requires
+join_runs-at-requires c =
+    let many = (held (goal.at.join_runs-at-requires c).After-self).1 in
+    record {
+      base = omega (arith, c.self.invariant, ap length c.deref_mut.ensures.value);
+      grow = c.requires.fits.1;
+      within = λ k lt. let le = c.requires.fits.2 k lt in omega (arith, le, many, c.self.invariant, ap length c.deref_mut.ensures.value);
+    }
 
 pub returns-clause-picked : goal.returns-clause-picked
 returns-clause-picked c =
-    rw (c.swap.ensures.x_after, with_items_is c.self.inside.spare c.copy_runs-self-inside.new.into (c.copy_runs-self-inside.ensures.len ∙ c.deref_mut.ensures.len))
-    (subst (λ l. Leaves (numbers_of c.args.runs.now) l (take c.copy_runs-self-inside.result c.copy_runs-self-inside.new.into)) (part (goal.at.returns-clause-picked c).After-deref) c.copy_runs-self-inside.ensures.picked)
+    let s = c.self.inside in
+    let (is, many) = held (goal.at.returns-clause-picked c).After-self in
+    let kept = numbers_of c.args.runs.now in
+    let j = c.join_runs-at in
+    let all = take s.count (drop s.base s.buffer.items) in
+    rw (with_items_is s.buffer j.new.buffer (j.ensures.len ∙ c.deref_mut.ensures.len))
+    (subst (λ l. take c.args.count (drop (s.base + j.result) j.new.buffer) ≡ map (λ k. slice_index l k) kept) is (ext_get_or 0 (take c.args.count (drop (s.base + j.result) j.new.buffer)) (map (λ k. slice_index all k) kept) (omega (arith, length-take c.args.count (drop (s.base + j.result) j.new.buffer), length-drop (s.base + j.result) j.new.buffer, length-map kept (λ k. slice_index all k), c.requires.count, j.ensures.within, j.ensures.len))
+    (λ i lt.
+    let less : i < length kept = omega (arith, lt, length-take c.args.count (drop (s.base + j.result) j.new.buffer), c.requires.count) in
+    let le = c.requires.fits.2 i less in
+    get_or-take c.args.count (drop (s.base + j.result) j.new.buffer) i 0 (omega (arith, less, c.requires.count)) ∙ get_or-drop (s.base + j.result) j.new.buffer i 0 ∙ j.ensures.joined i less ∙ ap (λ l. slice_index l (s.base + slice_index kept i)) c.deref_mut.ensures.value
+    ∙ sym (get_or-map (λ k. slice_index all k) kept i 0 0 less ∙ get_or-take s.count (drop s.base s.buffer.items) (slice_index kept i) 0 (omega (arith, le, many)) ∙ get_or-drop s.base s.buffer.items (slice_index kept i) 0))))
+
+pub invariant_of-self : goal.invariant_of-self
+invariant_of-self c = omega (arith, c.join_runs-at.ensures.within, c.requires.count, c.join_runs-at.ensures.len, ap length c.deref_mut.ensures.value, ap length (with_items_is c.self.inside.buffer c.join_runs-at.new.buffer (c.join_runs-at.ensures.len ∙ c.deref_mut.ensures.len)))
+
+pub overflow_add-self : goal.overflow_add-self
+overflow_add-self c = omega (arith, c.join_runs-at.ensures.within, ap length c.deref_mut.ensures.value, c.self.inside.buffer.ok)

@@ -1,4 +1,4 @@
-use Rattle.re_ends.proofs.Prelude.{arith, subst, sym, false, ℕ, ◌-◌, ◌∷◌, ◌++◌, [], expression_of, is_end}
+use Rattle.re_ends.proofs.Prelude.{arith, ap, length, subst, sym, false, ℕ, ◌-◌, ◌∙◌, ◌∷◌, ◌++◌, [], expression_of, is_end}
 use Rattle.re_ends.specs.declared.kept.KeptSteps.{KeptSteps}
 use Rattle.re_ends.specs.Working.Groups.{Fits, Leaves, numbers_of}
 use Rattle.re_ends.specs.Working.KeptSteps.{IsRowIn}
@@ -25,7 +25,10 @@ pub pick-requires : goal.pick-requires
 pick-requires c =
     let at = c.requires.at.1 in
     let same = c.row-after.ensures (is_end c.args.asked.now.line.now c.args.from.place) at.groups at.row in
-    subst (λ l. Fits (numbers_of l) c.args.self.now.list) (sym c.deref.ensures.value) (laws.step_fits _ (row_is c.requires.at.0.steps at.row) c.step.ensures.row (rw same at c.step.ensures.right) at.stands c.requires.at.0.most)
+    record {
+      fits = subst (λ l. Fits (numbers_of l) c.args.self.now.list) (sym c.deref.ensures.value) (laws.step_fits _ (row_is c.requires.at.0.steps at.row) (rw same at c.step.ensures.right) at.stands c.requires.at.0.most);
+      count = c.step.ensures.count ∙ ap (λ l. length (numbers_of l)) (sym c.deref.ensures.value);
+    }
 
 pub put-requires-clause-from : goal.put-requires-clause-from
 put-requires-clause-from c =
