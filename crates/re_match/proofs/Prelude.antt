@@ -7,11 +7,11 @@ pub use Rattle.re_match.specs.Working.Literals.{Literals, any_literal, literal_m
 pub use Rattle.re_match.specs.Working.Strings.{IsPartOfLines, look_expression}
 pub use Rattle.re_match.specs.Working.Aheads.{BeginsLater, past}
 pub use Rattle.re_match.specs.Working.Same.{SameMatcher}
-pub use Rattle.re_match.specs.Working.Sweeps.{IsSameFrom, LooksOver, StopsAt, left_for}
+pub use Rattle.re_match.specs.Working.Sweeps.{IsSameFrom, LooksOver, StopsAt, left_for, stepped, steps_left, steps_to}
 pub use Rattle.re_match.specs.declared.strings.Look.{Look}
 pub use Rattle.re_match.specs.declared.strings.Look.TheVariants.{Many, One}
 pub use Rattle.re_match.specs.declared.sweeps.Stop.{Stop}
-pub use Rattle.re_match.specs.declared.sweeps.Stop.TheVariants.{Matched, Seen, Unseen}
+pub use Rattle.re_match.specs.declared.sweeps.Stop.TheVariants.{Decided, Seen, Unseen}
 pub use Rattle.re_match.specs.declared.sweeps.Sweep.{Sweep}
 pub use Rattle.re_auto.specs.declared.mode.Mode.{Mode}
 pub use Rattle.re_meter.specs.Meters.{AddsUpTo, Steps, many_passed}

@@ -10,3 +10,4 @@ pub mod SweptLines
 pub mod NeededStrings
 pub mod LookLaws
 pub mod SameLaws
+pub mod WalkedLines

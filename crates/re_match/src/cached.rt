@@ -18,7 +18,11 @@ ghost use Rattle.re_ends.specs.Working.GreatestEnds.{AddsEnds, FoundPast, FindsI
 ghost use Rattle.re_ends.specs.Working.EndTables.{AreEndsFor};
 ghost use Rattle.re_match.specs.Working.Aheads.{AreEdgesFor, CountsAhead, IsAhead, IsSaid, IsWindowOf, past};
 ghost use Rattle.re_match.specs.Working.CachedMatchers.{AnswersLine, SameCached, no_cache};
-ghost use Rattle.re_match.specs.Working.Sweeps.{LooksOver};
+ghost use Rattle.re_match.specs.Working.Sweeps.{LooksOver, StopsAt, steps_to};
+ghost use Rattle.re_runs.specs.Working.Blocks.{IsBlock, PassesUnmatched};
+ghost use Rattle.re_steps.specs.Working.Rows.{IsKnownFor, IsReady, IsRow, Lasts};
+ghost use Rattle.re_steps.specs.Working.Stages.{Stage};
+ghost use Rattle.re_steps.specs.Working.Walks.{IsAt, IsReported};
 
 use crate::ahead::Ahead;
 use crate::line_match::LineMatch;
@@ -27,7 +31,8 @@ use crate::sweeps::{Stop, Sweep, Sweeps, next_by_sweeps};
 use crate::window::Edges;
 use re_auto::{Automaton, BuildFault, Meter, Mode, StateSet};
 use re_ends::{Asked, EndTable, Window};
-use re_steps::{LineSearch, Outcome, SetPair, StepTable};
+use re_runs::line_end;
+use re_steps::{LineSearch, Outcome, SetPair, Spot, StepTable};
 use re_trees::{Span, Tree};
 use std::alloc::Global;
 use std::marker::Model;
@@ -215,12 +220,58 @@ impl Cached {
         if !table.is_ready(&asked) {
             return self.sets.search(&self.automaton, mode, line, meter);
         }
-        match table.search(&asked, meter) {
-            Outcome::Reported(reported) => reported,
-            Outcome::GaveUp(place) => {
-                table.give_up();
-                finish(&mut self.sets, &asked, &table.scratch, place, meter)
-            }
+        if table.is_matched_at_once(&asked) {
+            return true;
+        }
+        let from = table.first_spot();
+        search_on(table, &mut self.sets, &asked, from, meter)
+    }
+
+    // Passes lines of a block by kept steps. The first that ends after `most` bytes, or in which
+    // something else comes up, is decided.
+    #[inline(always)]
+    fn walk(&mut self, block: &[u8], most: usize, meter: &mut Meter) -> Sweep
+        requires { IsBlock block.now }
+        ensures passes { PassesUnmatched (expression_of self.old.tree) self.old.whole block.now
+            result.start }
+        ensures stops { StopsAt (expression_of self.old.tree) self.old.whole block.now result }
+        ensures same { SameCached self.old self.new }
+        ensures steps { AddsUpTo (steps_to result) result.reached meter.old meter.new }
+    {
+        let mode = self.mode();
+        let Some(table) = &mut self.table else {
+            return Sweep::none();
+        };
+        if block.is_empty() {
+            return Sweep::none();
+        }
+        if !table.walks() {
+            return Sweep::none();
+        }
+        let asked = LineSearch {
+            alloc: self.alloc,
+            automaton: &self.automaton,
+            mode,
+            line: block,
+        };
+        if table.is_matched_at_once(&asked) {
+            return Sweep::none();
+        }
+        let lines = table.walk_lines(&asked, most.min(block.len() - 1));
+        let Some(end) = line_end(block, lines.start) else {
+            return Sweep::none();
+        };
+        let asked = LineSearch {
+            line: &block[lines.start..end],
+            ..asked
+        };
+        let from = table.count_walk(lines, meter);
+        let answer = search_on(table, &mut self.sets, &asked, from, meter);
+        Sweep {
+            start: lines.start,
+            first: lines.start,
+            reached: end + 1,
+            stop: Stop::Decided(answer),
         }
     }
 
@@ -270,6 +321,35 @@ fn place_after(line: &[u8], window: Window) -> usize
     ensures { result ≡ past line.now window.end }
 {
     (window.end + 1).min(line.len())
+}
+
+// The rest of a search, from a spot on.
+#[inline(always)]
+fn search_on(
+    table: &mut StepTable,
+    sets: &mut SetPair,
+    asked: &LineSearch,
+    from: Spot,
+    meter: &mut Meter,
+) -> bool
+    requires ready { IsReady asked.now table.old }
+    requires within { from.place ≤ length asked.now.line.now }
+    requires row { IsRow table.old from.row }
+    requires made { AreSetsFor (expression_of asked.now.automaton.now) sets.old }
+    ensures made { AreSetsFor (expression_of asked.now.automaton.now) sets.new }
+    ensures lasts { Lasts asked.now table.old table.new }
+    ensures known { IsKnownFor (expression_of asked.now.automaton.now) asked.now.mode table.new }
+    ensures finishes { (first : Stage) →
+        IsAt asked.now first table.old meter.old from.place from.row →
+        IsReported asked.now first table.new meter.new result }
+{
+    match table.search_from(asked, from, meter) {
+        Outcome::Reported(reported) => reported,
+        Outcome::GaveUp(place) => {
+            table.give_up();
+            finish(sets, asked, &table.scratch, place, meter)
+        }
+    }
 }
 
 // The rest of a search, by steps alone, from a place where the search has this set.
@@ -371,6 +451,7 @@ impl LineMatch for Cached {
     }
 
     fn next_matched(&mut self, block: &[u8], meter: &mut Meter) -> Option<Span> {
+        self.prefilter.begin();
         next_by_sweeps(self, block, meter)
     }
 }
@@ -385,7 +466,13 @@ impl Sweeps for Cached {
     ghost room = { λ c. c.most };
 
     #[inline(always)]
-    fn sweep(&self, block: &[u8], meter: &mut Meter) -> Sweep {
+    fn sweep(&mut self, block: &[u8], meter: &mut Meter) -> Sweep {
+        let most = self.prefilter.walk(self.whole);
+        if most > 0 {
+            let sweep = self.walk(block, most, meter);
+            self.prefilter.note_walk(sweep.reached);
+            return sweep;
+        }
         self.prefilter.sweep(block, self.whole, meter)
     }
 
@@ -394,7 +481,7 @@ impl Sweeps for Cached {
         match stop {
             Stop::Unseen => self.is_match(line, meter),
             Stop::Seen => self.searched(line, meter),
-            Stop::Matched => true,
+            Stop::Decided(answer) => answer,
         }
     }
 }

@@ -31,9 +31,6 @@ use std::alloc::{AllocError, Global};
 // From how many branches on a choice has strings in place of a needle, which has a run of each.
 const MANY: usize = 9;
 
-// A search that begins so many bytes after its line does counts as a byte that a look passed.
-const WORTH_A_BYTE: usize = 32;
-
 /// What each match of an expression contains, if that is known. It is looked for in lines, and in
 /// blocks where such looks pay.
 #[derive(Drop)]
@@ -111,6 +108,40 @@ impl Prefilter {
         Some(false)
     }
 
+    /// A block begins.
+    #[inline(always)]
+    pub fn begin(&self) {
+        self.backoff.begin();
+    }
+
+    // Whether lines of blocks are walked over. They are not where a look decides each line, or the first
+    // bytes of most lines do.
+    #[inline(always)]
+    fn walks(&self, whole: bool) -> bool {
+        if whole {
+            return false;
+        }
+        match &self.needle {
+            Some(needle) => !needle.is_all,
+            None => true,
+        }
+    }
+
+    /// How many bytes of a block are walked over before the next look.
+    #[inline(always)]
+    pub fn walk(&self, whole: bool) -> usize {
+        if !self.walks(whole) {
+            return 0;
+        }
+        self.backoff.walk()
+    }
+
+    /// Notes a walk over so many bytes.
+    #[inline(always)]
+    pub fn note_walk(&self, bytes: usize) {
+        self.backoff.note_walk(bytes);
+    }
+
     // Looks for the first line of a block of whole lines that may be matched. No line before it is.
     fn first_line(&self, block: &[u8], whole: bool, meter: &mut Meter) -> Sweep
         requires { IsBlock block.now }
@@ -133,7 +164,7 @@ impl Prefilter {
         }
         let swept = first_line_with_run(&needle.finder, block, meter);
         if needle.is_all && !whole && has_run(&needle.finder, block, swept) {
-            return Sweep::of(block, swept, Stop::Matched);
+            return Sweep::of(block, swept, Stop::Decided(true));
         }
         let first = self.first_place(needle, whole, swept);
         Sweep {
@@ -158,20 +189,17 @@ impl Prefilter {
         swept.start
     }
 
-    /// Where the next match of the line is, if the whole line need not be matched. A needle that is
-    /// common isn't looked for.
+    /// Where the next match of the line is, if the whole line need not be matched.
     #[inline(always)]
     pub fn next_match(&self, edges: &Edges, line: &[u8], from: usize, meter: &mut Meter) -> Ahead
         requires { from < length line.now }
         ensures { (e : Expression) → IsPrefilterFor e self.now → AreEdgesFor e edges.now →
             IsSaid e line.now from meter.old meter.new result }
     {
-        let Some(needle) = &self.needle else {
-            return edges.next(line, from, meter);
+        let needle = match &self.needle {
+            Some(needle) if needle.is_sought() => needle,
+            _ => return edges.next(line, from, meter),
         };
-        if needle.is_common {
-            return edges.next(line, from, meter);
-        }
         let Some(place) = needle.finder.find(&line[from..], meter) else {
             return Ahead::Nothing;
         };
@@ -200,8 +228,7 @@ impl Prefilter {
             return Sweep::none();
         }
         let sweep = self.first_line(block, whole, meter);
-        let ahead = (sweep.first - sweep.start) / WORTH_A_BYTE;
-        self.backoff.note(sweep.start + ahead);
+        self.backoff.note(sweep.first, self.walks(whole));
         meter.add_built(sweep.start as u64);
         sweep
     }

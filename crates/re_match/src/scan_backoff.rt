@@ -3,14 +3,19 @@
 use re_needle::LookCost;
 use std::cell::Cell;
 
+// How many bytes that are walked over count as a line.
+const LINE: usize = 64;
+
 /// When to look ahead, by how well earlier looks have paid. After a look that passed too few bytes to
 /// pay, one line is searched without a look. Each further look that does not pay doubles the number of
 /// such lines, up to a limit that the cost of a look sets. One that pays sets the number back to one.
 #[derive(Drop)]
 pub struct ScanBackoff {
     cost: LookCost,
-    rest: Cell<u32>,
-    next_rest: Cell<u32>,
+    rest: Cell<usize>,
+    next_rest: Cell<usize>,
+    // Whether the next line is searched by itself.
+    is_alone: Cell<bool>,
 }
 
 impl ScanBackoff {
@@ -20,6 +25,7 @@ impl ScanBackoff {
             cost,
             rest: Cell::new(0),
             next_rest: Cell::new(1),
+            is_alone: Cell::new(false),
         }
     }
 
@@ -34,16 +40,39 @@ impl ScanBackoff {
         false
     }
 
+    /// A block begins. Its first line is searched by itself, since each line may be matched.
+    #[inline(always)]
+    pub fn begin(&self) {
+        self.is_alone.set(true);
+    }
+
+    /// How many bytes are walked over before the next look.
+    #[inline(always)]
+    pub fn walk(&self) -> usize {
+        if self.is_alone.replace(false) {
+            return 0;
+        }
+        self.rest.get().saturating_mul(LINE)
+    }
+
+    /// Notes a walk over so many bytes. After one over none, the next line is searched by itself.
+    #[inline(always)]
+    pub fn note_walk(&self, bytes: usize) {
+        self.is_alone.set(bytes == 0);
+        self.rest
+            .set(self.rest.get().saturating_sub(bytes / LINE + 1));
+    }
+
     /// Whether lines are searched without a look now.
     #[inline(always)]
     pub fn rests(&self) -> bool {
         self.rest.get() > 0
     }
 
-    /// A look passed `bytes` bytes.
+    /// A look passed `bytes` bytes, of a block that is walked over or not.
     #[inline(always)]
-    pub fn note(&self, bytes: usize) {
-        if bytes >= worth_a_look(self.cost) {
+    pub fn note(&self, bytes: usize, walks: bool) {
+        if bytes >= worth_a_look(self.cost, walks) {
             self.next_rest.set(1);
             return;
         }
@@ -54,18 +83,24 @@ impl ScanBackoff {
     }
 }
 
-// From how many passed bytes on a look has paid. A cheap one has paid if it passed any.
+// From how many passed bytes on a look has paid. A cheap one has paid if it passed any, or more than a
+// walk over kept steps would have in its time.
 #[inline(always)]
-fn worth_a_look(cost: LookCost) -> usize {
+fn worth_a_look(cost: LookCost, walks: bool) -> usize {
     match cost {
-        LookCost::Low => 1,
+        LookCost::Low => {
+            if walks {
+                return 32;
+            }
+            1
+        }
         LookCost::High => 512,
     }
 }
 
 // The most lines between two looks.
 #[inline(always)]
-fn most_rest(cost: LookCost) -> u32 {
+fn most_rest(cost: LookCost) -> usize {
     match cost {
         LookCost::Low => 1_024,
         LookCost::High => 64,

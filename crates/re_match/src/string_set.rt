@@ -1,6 +1,6 @@
 //! Many fixed strings that are looked for at once.
 ghost use Rattle.std.specs.Prelude.{◌≡◌, ℕ, ◌+◌, ◌^◌, ◌<◌, ◌≤◌, ◌↔◌, [], ◌∷◌, true, false, IsTrue, IfOk};
-ghost use Rattle.std.specs.Prelude.{◌++◌, IfSome, length, map, slice_range};
+ghost use Rattle.std.specs.Prelude.{◌++◌, Bool, IfSome, length, map, slice_range};
 ghost use Rattle.re_strings.specs.Working.Branches.{AreAscending, HaveSame};
 ghost use Rattle.re_strings.specs.Working.FixedSets.{IsString};
 ghost use Rattle.re_trees.specs.Holds.{Matches};
@@ -8,7 +8,7 @@ ghost use Rattle.re_trees.specs.Lines.{lines_of, newline};
 ghost use Rattle.re_meter.specs.Meters.{AddsUpTo};
 ghost use Rattle.re_match.specs.Working.Literals.{any_literal, LooksForAny, ReachesPart};
 ghost use Rattle.re_match.specs.Working.Sweeps.{StopsAt};
-ghost use Rattle.re_match.specs.declared.sweeps.Stop.TheVariants.{Matched};
+ghost use Rattle.re_match.specs.declared.sweeps.Stop.TheVariants.{Decided};
 ghost use Rattle.re_strings.specs.Working.Keys.{keys};
 ghost use Rattle.re_auto.specs.Searches.{FindsPart};
 ghost use Rattle.re_runs.specs.Working.Blocks.{IsBlock, IsLineFrom, PassesUnmatched};
@@ -117,7 +117,7 @@ impl StringSet {
         ensures stops { StopsAt (any_literal self.now) false block.now result }
         ensures found { (end : ℕ) → IsLineFrom block.now result.start end →
             Matches (any_literal self.now) (slice_range block.now result.start end) false }
-        ensures unknown { result.stop ≡ Matched → ⊥ }
+        ensures unknown { (answer : Bool) → result.stop ≡ Decided answer → ⊥ }
         ensures first { result.first ≡ result.start }
         ensures looked { LooksForAny self.now block.now meter.old meter.new }
         ensures steps { AddsUpTo 0 result.reached meter.old meter.new }

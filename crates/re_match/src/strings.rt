@@ -384,12 +384,12 @@ impl Sweeps for Strings {
 
     ghost room = { λ s. 0 };
 
-    fn sweep(&self, block: &[u8], meter: &mut Meter) -> Sweep {
+    fn sweep(&mut self, block: &[u8], meter: &mut Meter) -> Sweep {
         if !self.should_scan() {
             return Sweep::none();
         }
         let sweep = self.look.first_line(block, meter);
-        self.backoff.note(sweep.start);
+        self.backoff.note(sweep.start, false);
         meter.add_built(sweep.start as u64);
         sweep
     }
@@ -399,7 +399,7 @@ impl Sweeps for Strings {
         match stop {
             Stop::Unseen => self.is_match(line, meter),
             Stop::Seen => self.searched(line, meter),
-            Stop::Matched => true,
+            Stop::Decided(answer) => answer,
         }
     }
 }

@@ -5,10 +5,10 @@ ghost use Rattle.re_trees.specs.Expression.{Expression};
 ghost use Rattle.re_trees.specs.Holds.{Matches};
 ghost use Rattle.re_trees.specs.Lines.{lines_of};
 ghost use Rattle.re_meter.specs.Meters.{AddsAtMost, AddsUpTo};
-ghost use Rattle.re_match.specs.declared.sweeps.Stop.TheVariants.{Unseen, Seen, Matched};
+ghost use Rattle.re_match.specs.declared.sweeps.Stop.TheVariants.{Unseen, Seen, Decided};
 ghost use Rattle.re_runs.specs.Working.Runs.{look_cost};
 ghost use Rattle.re_match.specs.Working.Same.{SameMatcher};
-ghost use Rattle.re_match.specs.Working.Sweeps.{StopsAt, left_for};
+ghost use Rattle.re_match.specs.Working.Sweeps.{StopsAt, left_for, steps_left, steps_to};
 ghost use Rattle.re_runs.specs.Working.Blocks.{IsBlock, PassesUnmatched};
 ghost use Rattle.re_runs.specs.Working.Blocks.{FindsMatched, next_cost};
 
@@ -23,8 +23,8 @@ pub enum Stop {
     Unseen,
     /// It may be matched.
     Seen,
-    /// It is matched.
-    Matched,
+    /// Whether it is matched.
+    Decided(bool),
 }
 
 /// Where a sweep over a block of whole lines stopped.
@@ -97,26 +97,29 @@ pub trait Sweeps {
     ghost room: { Self → ℕ };
 
     /// Passes whole lines of a block of whole lines, none of which is matched. It takes at most one
-    /// step for each of their bytes, and passes each byte that it looks over once.
-    fn sweep(&self, block: &[u8], meter: &mut Meter) -> Sweep
+    /// step for each of their bytes, and of the line where it stops if it decides that, and passes each
+    /// byte that it looks over once.
+    fn sweep(&mut self, block: &[u8], meter: &mut Meter) -> Sweep
         requires { IsBlock block.now }
-        ensures passes { PassesUnmatched (expression self.now) (whole self.now) block.now
+        ensures passes { PassesUnmatched (expression self.old) (whole self.old) block.now
             result.start }
-        ensures stops { StopsAt (expression self.now) (whole self.now) block.now result }
-        ensures steps { AddsUpTo result.start result.reached meter.old meter.new };
+        ensures stops { StopsAt (expression self.old) (whole self.old) block.now result }
+        ensures same { SameMatcher expression whole room self.old self.new }
+        ensures steps { AddsUpTo (steps_to result) result.reached meter.old meter.new };
 
     /// Whether the line is matched at which a sweep stopped. A line that it looked over is not looked
     /// over again.
     fn search_after(&mut self, stop: Stop, line: &[u8], meter: &mut Meter) -> bool
-        requires { stop ≡ Matched → Matches (expression self.old) line.now (whole self.old) }
+        requires { (answer : Bool) → stop ≡ Decided answer →
+            IsTrue answer ↔ Matches (expression self.old) line.now (whole self.old) }
         ensures reported { IsTrue result ↔ Matches (expression self.old) line.now (whole self.old) }
         ensures same { SameMatcher expression whole room self.old self.new }
-        ensures steps { AddsUpTo (length line.now + 1) (left_for stop (length line.now + 1))
-            meter.old meter.new };
+        ensures steps { AddsUpTo (steps_left stop (length line.now + 1))
+            (left_for stop (length line.now + 1)) meter.old meter.new };
 }
 
 /// The first line of a block of whole lines that is matched, like `LineMatch::next_matched`. Each
-/// line at which a sweep stops is searched, if the sweep doesn't say that it is matched, from the
+/// line at which a sweep stops is searched, if the sweep doesn't decide it, from the
 /// first place on at which a match may begin.
 pub fn next_by_sweeps<M: Sweeps>(matcher: &mut M, block: &[u8], meter: &mut Meter) -> Option<Span>
     requires { IsBlock block.now }

@@ -1,33 +1,26 @@
 //! The stretch of a line in which the next match is, by the bytes that matches have.
-ghost use Rattle.std.specs.Prelude.{◌≡◌, ℕ, ◌+◌, ◌-◌, ◌<◌, ◌≤◌, false, IfSome, IfNone, length};
-ghost use Rattle.std.specs.Prelude.{slice_index};
+ghost use Rattle.std.specs.Prelude.{◌≡◌, ◌+◌, ◌-◌, ◌<◌, ◌≤◌, IfSome, IfNone, length, slice_index};
 ghost use Rattle.re_trees.specs.Expression.{Expression};
-ghost use Rattle.re_trees.specs.Working.Trees.{expression_of, members};
+ghost use Rattle.re_trees.specs.Working.Trees.{expression_of};
 ghost use Rattle.re_meter.specs.Meters.{AddsUpTo};
+ghost use Rattle.re_auto.specs.Working.Beginnings.{IsMarked};
 ghost use Rattle.re_ends.specs.Working.GreatestEnds.{IsBorder};
 ghost use Rattle.re_match.specs.Working.Aheads.{AreEdgesFor, IsSaid, past};
 
 use crate::ahead::Ahead;
-use re_auto::{Automaton, Meter};
+use re_auto::{Automaton, Beginnings, Meter};
 use re_ends::Window;
-use re_runs::Survey;
-use re_trees::ByteSet;
 
 // Nearer places are not looked at again for where a match begins.
-const NEAR: usize = 16;
-
-// The bytes of matches are looked for if at most this number of 65,536 bytes of most texts are some.
-const FEW: u32 = 4_096;
+const NEAR: usize = 8;
 
 /// The bytes of matches, at which no stretch ends in which a match is.
-#[derive(Clone, Copy, Drop)]
+#[derive(Drop)]
 pub struct Edges {
     /// Bytes, among which are all of each match.
-    pub bytes: ByteSet,
+    pub bytes: Beginnings,
     // Whether a match can have each byte but NUL, so that a look for another byte isn't worth while.
     has_most: bool,
-    // Whether they are rare in most texts.
-    are_rare: bool,
 }
 
 impl Edges {
@@ -36,24 +29,17 @@ impl Edges {
         ensures { AreEdgesFor (expression_of automaton.now) result }
     {
         let bytes = automaton.bytes();
-        Edges {
-            bytes,
-            has_most: has_most(&bytes),
-            are_rare: Survey::of(&bytes).is_some_and(|survey| survey.share <= FEW),
-        }
+        let has_most = has_most(&bytes);
+        Edges { bytes, has_most }
     }
 
-    /// Where the next match of the line is: in the next stretch of bytes that matches can have, if they
-    /// are rare in most texts.
+    /// Where the next match of the line is: in the next stretch of bytes that matches can have.
     pub fn next(&self, line: &[u8], from: usize, meter: &mut Meter) -> Ahead
         requires within { from < length line.now }
         ensures { (e : Expression) → AreEdgesFor e self.now →
             IsSaid e line.now from meter.old meter.new result }
     {
-        if !self.are_rare {
-            return Ahead::In(rest_of(line, from));
-        }
-        let start = run_begin(&self.bytes, line, from);
+        let start = self.bytes.next_in(line, from);
         if start == line.len() {
             meter.add_passed(start - from);
             return Ahead::Nothing;
@@ -72,7 +58,7 @@ impl Edges {
         ensures low { IfSome result (λ start. from ≤ start) }
         ensures high { IfSome result (λ start. start ≤ near) }
         ensures outside { IfSome result (λ start. from < start →
-            members self.now.bytes (slice_index line.now (start - 1)) ≡ false) }
+            ¬ IsMarked self.now.bytes (slice_index line.now (start - 1))) }
         ensures steps { IfSome result (λ start. AddsUpTo (start - from) 0 meter.old meter.new) }
         ensures none { IfNone result (AddsUpTo 0 (length line.now - near - 1) meter.old meter.new) }
     {
@@ -106,7 +92,7 @@ impl Edges {
 }
 
 // Whether the set has all bytes but NUL, like those that a period means.
-fn has_most(set: &ByteSet) -> bool {
+fn has_most(set: &Beginnings) -> bool {
     'bytes: for byte in 1..256usize {
         if !set.has(byte as u8) {
             return false;
@@ -116,13 +102,12 @@ fn has_most(set: &ByteSet) -> bool {
 }
 
 // Where the bytes of the set begin that come directly before `near`. It looks at `most` bytes at most.
-fn run_start(set: &ByteSet, line: &[u8], near: usize, most: usize) -> Option<usize>
+fn run_start(set: &Beginnings, line: &[u8], near: usize, most: usize) -> Option<usize>
     requires near { near ≤ length line.now }
     requires most { most ≤ near }
     ensures low { IfSome result (λ start. near + 1 ≤ start + most) }
     ensures high { IfSome result (λ start. start ≤ near) }
-    ensures outside { IfSome result
-        (λ start. members set.now (slice_index line.now (start - 1)) ≡ false) }
+    ensures outside { IfSome result (λ start. ¬ IsMarked set.now (slice_index line.now (start - 1))) }
 {
     'bytes: for back in 0..most {
         if !set.has(line[near - back - 1]) {
@@ -132,29 +117,12 @@ fn run_start(set: &ByteSet, line: &[u8], near: usize, most: usize) -> Option<usi
     None
 }
 
-// The first place from `from` on whose byte is in the set, or the line's end.
-fn run_begin(set: &ByteSet, line: &[u8], from: usize) -> usize
-    requires { from ≤ length line.now }
-    ensures low { from ≤ result }
-    ensures high { result ≤ length line.now }
-    ensures before { (k : ℕ) → from ≤ k → k < result →
-        members set.now (slice_index line.now k) ≡ false }
-{
-    'bytes: for place in from..line.len() {
-        if set.has(line[place]) {
-            return place;
-        }
-    }
-    line.len()
-}
-
 // The first place from `from` on whose byte isn't in the set, or the line's end.
-fn run_end(set: &ByteSet, line: &[u8], from: usize) -> usize
+fn run_end(set: &Beginnings, line: &[u8], from: usize) -> usize
     requires { from ≤ length line.now }
     ensures low { from ≤ result }
     ensures high { result ≤ length line.now }
-    ensures outside { result < length line.now →
-        members set.now (slice_index line.now result) ≡ false }
+    ensures outside { result < length line.now → ¬ IsMarked set.now (slice_index line.now result) }
 {
     'bytes: for place in from..line.len() {
         if !set.has(line[place]) {

@@ -24,6 +24,9 @@ const MANY_SETS: usize = 8;
 // table of ranks counts all bytes from 0xC0 on as common, too.
 const COMMON: u8 = 250;
 
+// Sets that are at no more than this number of 65,536 places of most texts are at few.
+const FEW: u64 = 4_096;
+
 /// Runs of bytes, or of sets of bytes, one of which every match of an expression contains.
 #[derive(Drop)]
 pub struct Needle {
@@ -74,6 +77,11 @@ impl Needle {
             RunFinder::Text(_) => 0,
             RunFinder::Sets(finder) => finder.stops(),
         }
+    }
+
+    /// Whether the next match of a line is looked for by it: it isn't common, or sets at few places.
+    pub fn is_sought(&self) -> bool {
+        !self.is_common || self.finder.text().is_none() && self.stops() <= FEW
     }
 
     /// What the search for it over a block costs.

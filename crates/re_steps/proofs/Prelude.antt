@@ -12,23 +12,26 @@ pub use Rattle.re_auto.specs.declared.mode.Mode.{Mode}
 pub use Rattle.re_auto.specs.declared.mode.Mode.TheVariants.{Search, Whole}
 pub use Rattle.re_auto.specs.declared.step.state_set.StateSet.{StateSet}
 pub use Rattle.re_meter.specs.Meters.{AddsUpTo, Steps, many_built, many_reused}
+pub use Rattle.re_runs.specs.Working.Blocks.{IsBlock, IsLineFrom, PassesUnmatched}
 pub use Rattle.re_steps.specs.Working.Pairs.{IsKeptOrLost, Mirrors, shown, unknown}
 pub use Rattle.re_steps.specs.Working.Rows.{AreExtended, AreSound, ComesTo, HasFirstRows, IsCellOf, IsKnownCell, IsMarkOf, IsRightFor, IsRow, IsRowOf, Lands, LandsAlone, Lasts, Rows, SaysNext, cache_of, cell_at, expression_in, limit, row_under, rows_of, walked}
 pub use Rattle.re_steps.specs.Working.Simulations.{AreSetsFor, EndsAt}
 unfoldable pub use Rattle.re_steps.specs.Working.Simulations.{NoneEndsBefore}
 pub use Rattle.re_steps.specs.Working.Stages.{AreAlike, Cache, Finishes, GoesOver, HoldsNoOther, IsHeld, IsPlain, IsReadied, Searches, Stage, mode_for}
 unfoldable pub use Rattle.re_steps.specs.Working.Stages.{Goes}
-pub use Rattle.re_steps.specs.Working.Walks.{Arrives, HasLanded, IsAt, LeadsOn}
+pub use Rattle.re_steps.specs.Working.Walks.{Arrives, GoesOverLines, HasLanded, IsAt, IsAtOf, LeadsOn}
 pub use Rattle.re_steps.specs.declared.table.Acceptance.{Acceptance}
 pub use Rattle.re_steps.specs.declared.table.LineSearch.{LineSearch}
 pub use Rattle.re_steps.specs.declared.table.StepTable.{StepTable}
+pub use Rattle.re_steps.specs.declared.walk.Lines.{Lines}
 pub use Rattle.re_steps.specs.declared.walk.Spot.{Spot}
 pub use Rattle.re_steps.specs.declared.walk.Went.{Went}
 pub use Rattle.re_trees.specs.Bytes.{Text}
 pub use Rattle.re_trees.specs.Expression.{Expression}
 pub use Rattle.re_trees.specs.Holds.{Holds, Matches, positions}
+pub use Rattle.re_trees.specs.Lines.{HasNoNewline, newline}
 pub use Rattle.re_trees.specs.Working.Trees.{expression_of}
-pub use Rattle.std.proofs.Common.{Bool, IfNone, IfSome, IsSome, IsTrue, List, None, Option, Some, [], add-one, ap, arith, cond, eq-eqb, false, get_or, get_or-set_other, get_or-set_same, if◌then◌else◌, inl, inr, length, length-append, length-set, lt-ltb, ltb-true, nat_eq, nat_lt, ne_eqb, position, refl, replicate, set, slice_get, slice_index, subst, suc, sym, take, take_all, true, zero, ℕ, ◌&&◌, ◌*◌, ◌++◌, ◌+◌, ◌-◌, ◌/◌, ◌<◌, ◌↔◌, ◌∙◌, ◌∷◌, ◌≡◌, ◌≤◌, ◌⊎◌}
+pub use Rattle.std.proofs.Common.{Bool, IfNone, IfSome, IsSome, IsTrue, List, None, Option, Some, [], add-one, ap, arith, cond, eq-eqb, false, get_or, get_or-set_other, get_or-set_same, if◌then◌else◌, inl, inr, length, length-append, length-set, lt-ltb, ltb-true, nat_eq, nat_lt, ne_eqb, position, refl, replicate, set, slice_get, slice_index, slice_range, subst, suc, sym, take, take_all, true, zero, ℕ, ◌&&◌, ◌*◌, ◌++◌, ◌+◌, ◌-◌, ◌/◌, ◌<◌, ◌↔◌, ◌∙◌, ◌∷◌, ◌≡◌, ◌≤◌, ◌⊎◌}
 pub use Rattle.std.proofs.Math.Bool.{beq}
 pub use Rattle.std.proofs.Math.Seq.{get_or-append_right}
 pub use Rattle.std.proofs.lemmas.Bool.{cases_eq, cases_lt, false≢true}

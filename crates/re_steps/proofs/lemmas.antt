@@ -4,3 +4,4 @@ pub mod PairLemmas
 pub mod StateSetKeys
 pub mod RowLaws
 pub mod WalkLaws
+pub mod LineWalks

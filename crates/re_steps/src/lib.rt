@@ -11,4 +11,4 @@ mod walk;
 
 pub use sets::SetPair;
 pub use table::{LineSearch, StepTable};
-pub use walk::Outcome;
+pub use walk::{Lines, Outcome, Spot};

@@ -16,7 +16,7 @@ const BYTES_A_MISS: usize = 32;
 const PASSES: u32 = 64;
 
 // From this mean length on, passing bytes is quicker than reading their cells.
-const WORTH_PASSING: usize = 8;
+const WORTH_PASSING: usize = 16;
 
 /// What is known of the searches so far.
 #[derive(Drop)]

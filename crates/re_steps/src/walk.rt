@@ -2,15 +2,16 @@
 ghost use Rattle.std.specs.Prelude.{◌≡◌, ℕ, ◌+◌, ◌-◌, ◌*◌, ◌<◌, ◌≤◌, true, false, Some, IsTrue};
 ghost use Rattle.std.specs.Prelude.{IfSome, IfNone, length, slice_get, slice_index};
 ghost use Rattle.re_auto.specs.declared.step.state_set.StateSet.{StateSet as Set};
-ghost use Rattle.re_meter.specs.Meters.{Steps, many_built};
+ghost use Rattle.re_meter.specs.Meters.{Steps, many_built, many_reused};
 ghost use Rattle.re_auto.specs.Working.StateSets.{IsNextSet};
 ghost use Rattle.re_steps.specs.Working.Pairs.{unknown};
 ghost use Rattle.re_steps.specs.Working.Stages.{Stage, EndsInside, HoldsNoOther, IsPlain};
 ghost use Rattle.re_steps.specs.Working.Rows.{limit, expression_in, IsRightFor, IsReady, Lasts};
 ghost use Rattle.re_steps.specs.Working.Rows.{Keeps, IsRowOf, IsRow, IsKnownCell, cell_at};
-ghost use Rattle.re_steps.specs.Working.Rows.{cache_of, row_under, walked};
+ghost use Rattle.re_steps.specs.Working.Rows.{cache_of, row_under, rows_of, walked};
 ghost use Rattle.re_steps.specs.Working.Walks.{IsAt, LandsBy, LandsUnkept, LeadsOn, Arrives};
-ghost use Rattle.re_steps.specs.Working.Walks.{Gives};
+ghost use Rattle.re_steps.specs.Working.Walks.{Ends, GoesOverLines};
+ghost use Rattle.re_runs.specs.Working.Blocks.{IsBlock};
 
 use crate::pairs::UNKNOWN;
 use crate::table::{LIMIT, LineSearch, StepTable};
@@ -22,6 +23,17 @@ pub struct Spot {
     /// The place.
     pub place: usize,
     /// The row.
+    pub row: usize,
+}
+
+/// Where a walk over lines ended.
+#[derive(Clone, Copy, Drop)]
+pub struct Lines {
+    /// Where the line begins.
+    pub start: usize,
+    /// The place.
+    pub place: usize,
+    /// The row of the set there.
     pub row: usize,
 }
 
@@ -57,20 +69,17 @@ pub enum Outcome {
 }
 
 impl StepTable {
-    /// Searches the line. It gives up after some byte if memory or room runs out, or keeping pairs
-    /// doesn't pay. Then the scratch set is the one there, and the rows must not be used any more.
-    pub fn search(&mut self, asked: &LineSearch, meter: &mut Meter) -> Outcome
+    /// Goes on from a spot to the line's end. It gives up after some byte if memory or room runs out, or
+    /// keeping pairs doesn't pay. Then the scratch set is the one there, and the rows must not be used
+    /// any more.
+    pub fn search_from(&mut self, asked: &LineSearch, from: Spot, meter: &mut Meter) -> Outcome
         requires ready { IsReady asked.now self.old }
+        requires within { from.place ≤ length asked.now.line.now }
+        requires row { IsRow self.old from.row }
         ensures lasts { Lasts asked.now self.old self.new }
-        ensures gives { Gives asked.now self.old meter.old self.new meter.new result }
+        ensures ends { Ends asked.now self.old meter.old from self.new meter.new result }
     {
-        if self.is_matched_at_once(asked) {
-            return Outcome::Reported(true);
-        }
-        let mut spot = Spot {
-            place: 0,
-            row: self.stride.row(1),
-        };
+        let mut spot = from;
         'places: while spot.place < asked.line.len() {
             match self.onward(asked, spot, meter) {
                 Went::To(next) => spot = next,
@@ -81,9 +90,91 @@ impl StepTable {
         Outcome::Reported(self.mark(self.stride.number(spot.row)).at_end)
     }
 
-    // Whether a matched stretch ends at the first place of the line, which is not its last.
+    /// Whether it is worth while to go over lines by held pairs.
     #[inline(always)]
-    fn is_matched_at_once(&self, asked: &LineSearch) -> bool
+    pub fn walks(&self) -> bool
+        ensures { IsTrue result → length self.now.marks.items ≡ 0 → ⊥ }
+    {
+        !self.marks.is_empty() && !self.pace.passes()
+    }
+
+    /// Counts the steps of a walk over lines, and returns where it is on the last line.
+    #[inline(always)]
+    pub fn count_walk(&mut self, lines: Lines, meter: &mut Meter) -> Spot
+        requires low { lines.start ≤ lines.place }
+        ensures spot { result ≡ record { place = lines.place - lines.start; row = lines.row } }
+        ensures counted { meter.new ≡
+            walked (lines.place - lines.start) (many_reused lines.start meter.old) }
+        ensures same { rows_of self.new ≡ rows_of self.old }
+        ensures scratch { self.new.scratch ≡ self.old.scratch }
+    {
+        let place = lines.place - lines.start;
+        meter.add_reused_steps(lines.start as u64);
+        meter.add_reused_steps(place as u64);
+        self.pace.note_reused(lines.place);
+        Spot {
+            place,
+            row: lines.row,
+        }
+    }
+
+    /// The spot at a line's first place.
+    #[inline(always)]
+    pub fn first_spot(&self) -> Spot
+        requires { self.now.stride ≤ 256 }
+        ensures { result ≡ record { place = 0; row = 1 * self.now.stride } }
+    {
+        Spot {
+            place: 0,
+            row: self.stride.row(1),
+        }
+    }
+
+    /// Goes over lines of a block whose pairs are held, none of which is matched, and over bytes of
+    /// the line after them, which does not begin after the place `most` and its newline.
+    #[inline(never)]
+    pub fn walk_lines(&self, asked: &LineSearch, most: usize) -> Lines
+        requires right { IsRightFor asked.now self.now }
+        requires plain { (start : Set) → slice_get self.now.sets.keys 1 ≡ Some start →
+            IsPlain (expression_in asked.now) asked.now.mode start }
+        requires block { IsBlock asked.now.line.now }
+        requires within { most < length asked.now.line.now }
+        ensures { GoesOverLines asked.now self.now result }
+    {
+        let block = asked.line;
+        let classes = self.classes.as_slice();
+        let cells = self.pairs.cells();
+        let first = self.stride.row(1);
+        let mut lines = Lines {
+            start: 0,
+            place: 0,
+            row: first,
+        };
+        'places: loop {
+            let byte = block[lines.place];
+            if byte == b'\n' {
+                if lines.place >= most || self.mark(self.stride.number(lines.row)).at_end {
+                    return lines;
+                }
+                lines = Lines {
+                    start: lines.place + 1,
+                    place: lines.place + 1,
+                    row: first,
+                };
+                continue;
+            }
+            let cell = cell_in(cells, lines.row, classes[byte as usize] as usize);
+            if cell >= LIMIT {
+                return lines;
+            }
+            lines.row = cell as usize;
+            lines.place += 1;
+        }
+    }
+
+    /// Whether a matched stretch ends at the first place of the line, which is not its last.
+    #[inline(always)]
+    pub fn is_matched_at_once(&self, asked: &LineSearch) -> bool
         requires right { IsRightFor asked.now self.now }
         ensures yes { (start : Set) → slice_get self.now.sets.keys 1 ≡ Some start → IsTrue result →
             EndsInside (expression_in asked.now) asked.now.mode asked.now.line.now 0 start true }

@@ -1,5 +1,5 @@
 -- The line of a block in which the first of many strings ends.
-use Rattle.re_match.proofs.Prelude.{◌≡◌, ◌≢◌, ℕ, suc, ◌+◌, ◌-◌, ◌<◌, ◌≤◌, Bool, true, false, inl, inr, List, [], ◌∷◌, ◌++◌, All, Some, length, map, take, drop, get_or, slice_range, refl, sym, ap, ◌∙◌, subst, arith, length-drop, length-take, length-append, take-append-drop, ⊤, Text, Matches, newline, terminated, HasNoNewline, IsLineFrom, PassesAll, IsString, Occurs, key, keys, EndsFirst, Literals, any_literal, StopsAt, Unseen, Seen, Matched, dec_le, eqb-true, eq-eqb, get_or-append-add, get_or_append_left, get_or-drop, get_or-map, get_or-take, length-map, map-append, All-head}
+use Rattle.re_match.proofs.Prelude.{◌≡◌, ◌≢◌, ℕ, suc, ◌+◌, ◌-◌, ◌<◌, ◌≤◌, Bool, true, false, inl, inr, List, [], ◌∷◌, ◌++◌, All, Some, length, map, take, drop, get_or, slice_range, refl, sym, ap, ◌∙◌, subst, arith, length-drop, length-take, length-append, take-append-drop, ⊤, Text, Matches, newline, terminated, HasNoNewline, IsLineFrom, PassesAll, IsString, Occurs, key, keys, EndsFirst, Literals, any_literal, StopsAt, Unseen, Seen, Decided, dec_le, eqb-true, eq-eqb, get_or-append-add, get_or_append_left, get_or-drop, get_or-map, get_or-take, length-map, map-append, All-head}
 use Rattle.re_trees.proofs.lemmas.Decisions.{Any-cases, Any-none}
 use Rattle.re_trees.proofs.lemmas.LinesLaws.{all_head, all_tail, none_before, none_in_empty, rest_has_none}
 use Rattle.re_runs.proofs.lemmas.BlockLemmas.{passed_within}
@@ -131,11 +131,11 @@ module _ (l : Literals) (none_empty : IsString (map (keys l.fold) l.texts) [] �
       unseen = λ no. absurd (other no);
       low = omega arith;
       first = λ end cut. whole_line (any_literal l) false block start end cut;
-      matched = λ no. absurd (another no);
+      decided = λ answer no. absurd (another answer no);
     }
       where
         other : Seen ≡ Unseen → ⊥
         other same = cc
 
-        another : Seen ≡ Matched → ⊥
-        another same = cc
+        another : (answer : Bool) → Seen ≡ Decided answer → ⊥
+        another answer same = cc

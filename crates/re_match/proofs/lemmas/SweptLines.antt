@@ -1,5 +1,5 @@
 -- What a look over a block says of the line in which it stopped.
-use Rattle.re_match.proofs.Prelude.{◌≡◌, ◌∙◌, ℕ, ◌+◌, ◌-◌, ◌<◌, ◌≤◌, ◌↔◌, ◌++◌, ◌∷◌, inr, List, Bool, true, false, Some, length, take, drop, get_or, slice_range, slice_index, sym, ap, subst, refl, arith, length-take, length-drop, IsTrue, Text, Expression, Matches, newline, HasNoNewline, AddsUpTo, IsLineFrom, StopsInLine, PassesUnmatched, IsJustRun, Runs, RunStandsAt, FindsRun, look_cost, set_at, Swept, Sweep, Stop, Unseen, Seen, Matched, StopsAt, IsSameFrom, left_for, dec_le, get_or-drop, get_or-take, get_or-append-add, drop-drop}
+use Rattle.re_match.proofs.Prelude.{◌≡◌, ◌∙◌, ℕ, ◌+◌, ◌-◌, ◌<◌, ◌≤◌, ◌↔◌, ◌++◌, ◌∷◌, inr, List, Bool, true, false, Some, length, take, drop, get_or, slice_range, slice_index, sym, ap, subst, refl, arith, length-take, length-drop, IsTrue, Text, Expression, Matches, newline, HasNoNewline, AddsUpTo, IsLineFrom, StopsInLine, PassesUnmatched, IsJustRun, Runs, RunStandsAt, FindsRun, look_cost, set_at, Swept, Sweep, Stop, Unseen, Seen, Decided, StopsAt, IsSameFrom, left_for, stepped, steps_left, steps_to, dec_le, get_or-drop, get_or-take, get_or-append-add, drop-drop}
 use Rattle.re_trees.specs.Bytes.{Bytes}
 use Rattle.re_runs.specs.Working.Runs.{IsLongestRun, IsNoWider, RunIsAt}
 use Rattle.re_meter.specs.Meters.{Steps, AddsAtMost}
@@ -24,24 +24,24 @@ stops_seen e whole block swept stops = record {
   unseen = λ no. absurd (other no);
   low = omega arith;
   first = λ end cut. whole_line e whole block swept.start end cut;
-  matched = λ no. absurd (another no);
+  decided = λ answer no. absurd (another answer no);
 }
   where
     other : Seen ≡ Unseen → ⊥
     other same = cc
 
-    another : Seen ≡ Matched → ⊥
-    another same = cc
+    another : (answer : Bool) → Seen ≡ Decided answer → ⊥
+    another answer same = cc
 
 -- a sweep that says no more of a line says the same for any expression, also of whole lines
-pub stops_either : (e f : Expression) (whole : Bool) (block : Text) (sweep : Sweep) → sweep.first ≡ sweep.start → (sweep.stop ≡ Matched → ⊥) → StopsAt e false block sweep → StopsAt f whole block sweep
+pub stops_either : (e f : Expression) (whole : Bool) (block : Text) (sweep : Sweep) → sweep.first ≡ sweep.start → ((answer : Bool) → sweep.stop ≡ Decided answer → ⊥) → StopsAt e false block sweep → StopsAt f whole block sweep
 stops_either e f whole block sweep same unknown stops = record {
   within = stops.within;
   near = stops.near;
   unseen = stops.unseen;
   low = stops.low;
   first = λ end cut. subst (λ n. IsSameFrom f whole block sweep.start n end) (sym same) (whole_line f whole block sweep.start end cut);
-  matched = λ says. absurd (unknown says);
+  decided = λ answer says. absurd (unknown answer says);
 }
 
 -- a run without a newline that was found in the block is in the line in which the look stopped
@@ -82,24 +82,34 @@ module _ (block : Text) (run : List Bytes) (start at end : ℕ) (there : RunIsAt
         subst (λ b. IsTrue (set_at run j b)) (sym same) (there.takes j below);
   }
 
+-- two answers are one
+pub same_answer : (one other : Bool) → Decided one ≡ Decided other → one ≡ other
+same_answer one other same = ap answer_of same
+  where
+    answer_of : Stop → Bool
+    answer_of Unseen = false
+    answer_of Seen = false
+    answer_of (Decided answer) = answer
+
 -- a look that stopped in a line says that it is matched, if the expression holds where one of the runs is
 pub stops_matched : (e : Expression) (runs : Runs) (block : Text) (swept : Swept) (at last : ℕ) → IsJustRun runs e → IsNoWider 1 runs → swept.place ≡ Some at → IsLongestRun block runs at last → swept.start ≤ at
-    → HasNoNewline (slice_range block at last) → StopsInLine block swept → StopsAt e false block (record { start = swept.start; first = swept.start; reached = look_cost block swept.place; stop = Matched })
+    → HasNoNewline (slice_range block at last) → StopsInLine block swept → StopsAt e false block (record { start = swept.start; first = swept.start; reached = look_cost block swept.place; stop = Decided true })
 stops_matched e runs block swept at last is wide place longest low free stops = record {
   within = look_within block swept.place;
   near = stops;
   unseen = λ no. absurd (other no);
   low = omega arith;
   first = λ end cut. whole_line e false block swept.start end cut;
-  matched = λ _ end cut.
+  decided = λ answer says end cut.
       let (n, run, lt, here, (there, same)) = longest.ends in
       let some : 1 ≤ length run = subst (λ r. 1 ≤ length r) here (wide n run lt) in
       let near = subst (λ p. look_cost block p ≤ end + 1) place (stops end cut) in
       let in_line = is_in_line block run swept.start at end there some low near (subst (λ l. HasNoNewline (slice_range block at l)) same free) cut in
-      (settled_says e (slice_range block swept.start end) false true (inr (inr (record { runs = runs; is = is; any = refl; place = at - swept.start; stands = (n, run, lt, here, in_line); yes = refl })))).0 refl;
+      subst (λ b. IsTrue b ↔ Matches e (slice_range block swept.start end) false) (same_answer true answer says)
+      (settled_says e (slice_range block swept.start end) false true (inr (inr (record { runs = runs; is = is; any = refl; place = at - swept.start; stands = (n, run, lt, here, in_line); yes = refl }))));
 }
   where
-    other : Matched ≡ Unseen → ⊥
+    other : Decided true ≡ Unseen → ⊥
     other same = cc
 
 -- ---- a line that is searched from the first run on with which each match begins
@@ -141,11 +151,8 @@ stops_at_head e runs block swept at free begins wide place found low stops =
           let fits = there.fits in
           let near = subst (λ p. look_cost block p ≤ end + 1) place (stops end cut) in
           from_head e runs block swept.start at end free begins finds low (omega (arith, near, fits, some)) cut;
-      matched = λ no. absurd (seen_is_unknown no);
+      decided = seen.decided;
     }
-  where
-    seen_is_unknown : Seen ≡ Matched → ⊥
-    seen_is_unknown same = cc
 
 -- a piece of the rest of a block is one of the block
 slice_after : (block : Text) (s a end : ℕ) → slice_range (drop s block) a (end - s) ≡ slice_range block (s + a) end
@@ -177,19 +184,21 @@ module _ (e : Expression) (whole : Bool) (block : Text) (start end : ℕ) (sweep
       let (high, alike) = stops.first (end - start) there in
       (omega (arith, high, cut.0), subst (λ (l : Text). Matches e (slice_range block (start + sweep.first) end) whole ↔ Matches e l whole) same (subst (λ (l : Text). Matches e l whole ↔ Matches e (slice_range (drop start block) sweep.start (end - start)) whole) (slice_after block start sweep.first end) alike))
 
-  pub matched_at : sweep.stop ≡ Matched → Matches e (slice_range block (start + sweep.first) end) whole
-  matched_at says = let (there, same) = line_after block start sweep.start end cut in same_line.1.1 (subst (λ (l : Text). Matches e l whole) same (stops.matched says (end - start) there))
+  pub decided_at : (answer : Bool) → sweep.stop ≡ Decided answer → IsTrue answer ↔ Matches e (slice_range block (start + sweep.first) end) whole
+  decided_at answer says =
+      let (there, same) = line_after block start sweep.start end cut in
+      let right = subst (λ (l : Text). IsTrue answer ↔ Matches e l whole) same (stops.decided answer says (end - start) there) in
+      (λ yes. same_line.1.1 (right.0 yes), λ m. right.1 (same_line.1.0 m))
 
   abbrev pub searched : Text
   searched = slice_range block (start + sweep.first) end
 
   -- the work of a sweep, and of the search of that line
-  pub turn_adds : (old begun swept new : Steps) → AddsAtMost start old begun → AddsUpTo sweep.start sweep.reached begun swept → AddsUpTo (length searched + 1) (left_for sweep.stop (length searched + 1)) swept new → AddsAtMost (end + 1) old new
+  pub turn_adds : (old begun swept new : Steps) → AddsAtMost start old begun → AddsUpTo (steps_to sweep) sweep.reached begun swept → AddsUpTo (steps_left sweep.stop (length searched + 1)) (left_for sweep.stop (length searched + 1)) swept new → AddsAtMost (end + 1) old new
   turn_adds old begun swept new a b d =
       let line = length searched in
-      let steps : start + sweep.start + (line + 1) ≤ end + 1 = omega (arith, long, low, high) in
-      adds_within (start + sweep.start + (line + 1)) (end + 1) (start + sweep.reached + left_for sweep.stop (line + 1)) (end + 1) old new steps (bytes sweep.stop refl)
-      (adds_both (start + sweep.start) (line + 1) (start + sweep.reached) (left_for sweep.stop (line + 1)) old swept new (adds_both start sweep.start start sweep.reached old begun swept a b) d)
+      adds_within (start + steps_to sweep + steps_left sweep.stop (line + 1)) (end + 1) (start + sweep.reached + left_for sweep.stop (line + 1)) (end + 1) old new (steps sweep.stop) (bytes sweep.stop refl)
+      (adds_both (start + steps_to sweep) (steps_left sweep.stop (line + 1)) (start + sweep.reached) (left_for sweep.stop (line + 1)) old swept new (adds_both start (steps_to sweep) start sweep.reached old begun swept a b) d)
     where
       long : length searched ≡ end - (start + sweep.first)
       long = omega (arith, length-take (end - (start + sweep.first)) (drop (start + sweep.first) block), length-drop (start + sweep.first) block, cut.1)
@@ -206,13 +215,25 @@ module _ (e : Expression) (whole : Bool) (block : Text) (start end : ℕ) (sweep
       bytes : (stop : Stop) → sweep.stop ≡ stop → start + sweep.reached + left_for stop (length searched + 1) ≤ end + 1
       bytes Unseen is = let few = stops.unseen is in omega (arith, few, long, low, high)
       bytes Seen is = omega (arith, near, cut.0)
-      bytes Matched is = omega (arith, near, cut.0)
+      bytes (Decided answer) is = omega (arith, near, cut.0)
+
+      steps : (stop : Stop) → start + stepped stop sweep.start sweep.reached + steps_left stop (length searched + 1) ≤ end + 1
+      steps Unseen = omega (arith, long, low, high)
+      steps Seen = omega (arith, long, low, high)
+      steps (Decided answer) = omega (arith, near, low, high, cut.0)
+
+-- no further than where the sweep stopped, or what it looked over
+stepped_high : (stop : Stop) (start reached most : ℕ) → start ≤ most → reached ≤ most → stepped stop start reached ≤ most
+stepped_high Unseen start reached most low high = low
+stepped_high Seen start reached most low high = low
+stepped_high (Decided answer) start reached most low high = omega (arith, low, high)
 
 -- the work of a sweep after which no line is left
 pub last_sweep : (e : Expression) (whole : Bool) (block : Text) (start : ℕ) (sweep : Sweep) (old begun swept : Steps) → start ≤ length block → PassesUnmatched e whole (drop start block) sweep.start → StopsAt e whole (drop start block) sweep
-    → AddsAtMost start old begun → AddsUpTo sweep.start sweep.reached begun swept → AddsAtMost (length block) old swept
+    → AddsAtMost start old begun → AddsUpTo (steps_to sweep) sweep.reached begun swept → AddsAtMost (length block) old swept
 last_sweep e whole block start sweep old begun swept within passes stops a b =
     let few = passed_within (λ line. ¬ Matches e line whole) (drop start block) sweep.start passes in
     let reached = stops.within in
-    adds_within (start + sweep.start) (length block) (start + sweep.reached) (length block) old swept (omega (arith, few, within, length-drop start block)) (omega (arith, reached, within, length-drop start block))
-    (adds_both start sweep.start start sweep.reached old begun swept a b)
+    let steps = stepped_high sweep.stop sweep.start sweep.reached (length (drop start block)) few reached in
+    adds_within (start + steps_to sweep) (length block) (start + sweep.reached) (length block) old swept (omega (arith, steps, within, length-drop start block)) (omega (arith, reached, within, length-drop start block))
+    (adds_both start (steps_to sweep) start sweep.reached old begun swept a b)

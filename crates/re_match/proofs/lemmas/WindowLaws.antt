@@ -1,8 +1,8 @@
 -- The stretch of a line in which the next match is.
-use Rattle.re_match.proofs.Prelude.{RunStandsAt, ◌≡◌, ◌∙◌, sym, false≢true, slice_index, slice_range, ℕ, ◌+◌, ◌-◌, ◌<◌, ◌≤◌, ◌↔◌, inl, inr, subst, false, None, IsTrue, List, Bool, [], ◌∷◌, length, drop, Some, arith, length-drop, length-take-le, cases_lt, dec_le, Text, Expression, Holds, IsFound, IsPart, Span, Needle, FindsRun, IsNeedleOf, runs_of, AddsEnds, FoundPast, MatchesPast}
-use Rattle.re_trees.specs.Working.Trees.{members}
+use Rattle.re_match.proofs.Prelude.{RunStandsAt, ◌≡◌, sym, slice_index, slice_range, ℕ, ◌+◌, ◌-◌, ◌<◌, ◌≤◌, ◌↔◌, inl, inr, subst, false, None, IsTrue, List, Bool, [], ◌∷◌, length, drop, Some, arith, length-drop, length-take-le, cases_lt, dec_le, Text, Expression, Holds, IsFound, IsPart, Span, Needle, FindsRun, IsNeedleOf, runs_of, AddsEnds, FoundPast, MatchesPast}
 use Rattle.re_trees.proofs.lemmas.Decisions.{Any-first}
 use Rattle.re_trees.proofs.lemmas.SomeOfJoined.{Any-single}
+use Rattle.re_auto.specs.Working.Beginnings.{IsMarked}
 use Rattle.re_auto.specs.Working.Positions.{part_of}
 use Rattle.re_auto.proofs.lemmas.PositionsDecide.{each_byte_taken}
 use Rattle.re_runs.proofs.lemmas.RunLaws.{run_rest, run_whole}
@@ -39,12 +39,12 @@ module _ (e : Expression) (line : Text) where
   ]
 
   -- none begins at a byte that no match has
-  pub later_by_run : (edges : Edges) → AreEdgesFor e edges → ((x : ℕ) → slice_index line x < 256) → (from start : ℕ) → from ≤ start → ((k : ℕ) → from ≤ k → k < start → members edges.bytes (slice_index line k) ≡ false) → BeginsLater e line from start
+  pub later_by_run : (edges : Edges) → AreEdgesFor e edges → ((x : ℕ) → slice_index line x < 256) → (from start : ℕ) → from ≤ start → ((k : ℕ) → from ≤ k → k < start → ¬ IsMarked edges.bytes (slice_index line k)) → BeginsLater e line from start
   later_by_run edges right small from start low before = (
     low,
     λ i j f. elim (dec_le start i) [
       | yes h ↦ h
-      | no h ↦ absurd (let (q, t) = taken from i j i f (omega arith) f.not_empty in false≢true (sym (before i f.begins (omega (arith, h))) ∙ (right (slice_index line i) (small i)).1 (q, t)))
+      | no h ↦ absurd (before i f.begins (omega (arith, h)) ((right.1 (slice_index line i) (small i)).1 (taken from i j i f (omega arith) f.not_empty)))
     ],
   )
 
@@ -68,7 +68,7 @@ module _ (e : Expression) (line : Text) where
     later_by_needle first = (low, λ i j f. none_before i f.begins (of.first first line i j f.on_line (Any-single (λ x. Holds line x i j) e f.holds)))
 
     -- else none begins before the bytes of matches that come directly before it
-    pub later_by_bytes : (edges : Edges) → AreEdgesFor e edges → ((x : ℕ) → slice_index line x < 256) → (start : ℕ) → from ≤ start → start ≤ near → (from < start → members edges.bytes (slice_index line (start - 1)) ≡ false) → BeginsLater e line from start
+    pub later_by_bytes : (edges : Edges) → AreEdgesFor e edges → ((x : ℕ) → slice_index line x < 256) → (start : ℕ) → from ≤ start → start ≤ near → (from < start → ¬ IsMarked edges.bytes (slice_index line (start - 1))) → BeginsLater e line from start
     later_by_bytes edges right small start after high outside = (after, not_before)
       where
         not_before : (i j : ℕ) → IsFound (e ∷ []) line false from i j → start ≤ i
@@ -79,7 +79,7 @@ module _ (e : Expression) (line : Text) where
             let far = none_before m (omega (arith, begins, at_or_after)) (n, run, lt, at, there) in
             elim (dec_le start i) [
               | yes h ↦ h
-              | no h ↦ absurd (false≢true (sym (outside (omega (arith, h, begins))) ∙ (right (slice_index line (start - 1)) (small (start - 1))).1 (taken from i j (start - 1) f (omega (arith, h)) (omega (arith, far, inside, some, high, h, begins)))))
+              | no h ↦ absurd (outside (omega (arith, h, begins)) ((right.1 (slice_index line (start - 1)) (small (start - 1))).1 (taken from i j (start - 1) f (omega (arith, h)) (omega (arith, far, inside, some, high, h, begins)))))
             ]
 
   module _ (from place start end : ℕ) (later : BeginsLater e line from place) (next : BeginsLater e line place start) (border : IsBorder e line end) where

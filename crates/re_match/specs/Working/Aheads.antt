@@ -1,10 +1,10 @@
 -- What a matcher says of the next part of a line, and the steps that it takes to say so.
-use Rattle.std.specs.Prelude.{ℕ, ◌+◌, ◌-◌, ◌<◌, ◌≤◌, ◌↔◌, IsTrue, false, [], ◌∷◌, min, length}
+use Rattle.std.specs.Prelude.{ℕ, ◌+◌, ◌-◌, ◌≤◌, false, [], ◌∷◌, min, length}
 use Rattle.re_trees.specs.Bytes.{Text}
 use Rattle.re_trees.specs.Expression.{Expression}
 use Rattle.re_trees.specs.Parts.{IsFound, IsPart}
-use Rattle.re_trees.specs.Working.Trees.{members}
 use Rattle.re_auto.specs.Working.Positions.{part_of}
+use Rattle.re_auto.specs.Working.Tables.{Marks}
 use Rattle.re_meter.specs.Meters.{Steps, AddsAtMost, AddsUpTo}
 use Rattle.re_ends.specs.Working.GreatestEnds.{IsBorder}
 use Rattle.re_ends.specs.declared.table.Window.{Window}
@@ -45,7 +45,6 @@ abbrev pub IsSaid : Expression → Text → ℕ → Steps → Steps → Ahead �
 IsSaid e line from before after ahead =
     IsAhead e line from ahead × CountsAhead line from before after ahead
 
--- they are the bytes that positions take
+-- the bytes that positions take are marked
 abbrev pub AreEdgesFor : Expression → Edges → Type 0
-AreEdgesFor e edges =
-    (c : ℕ) → c < 256 → IsTrue (members edges.bytes c) ↔ ((q : ℕ) × (part_of e 0).takes q c)
+AreEdgesFor e edges = Marks edges.bytes (λ c. (q : ℕ) × (part_of e 0).takes q c)

@@ -1,8 +1,8 @@
 -- Searches that go on by what is held, and where they get.
-use Rattle.re_steps.proofs.Prelude.{◌≡◌, ℕ, zero, suc, ◌+◌, ◌-◌, ◌*◌, ◌<◌, ◌≤◌, Bool, true, false, ◌⊎◌, inl, inr, List, Option, Some, None, length, nat_eq, nat_lt, get_or, slice_get, slice_index, refl, sym, ap, ◌∙◌, subst, arith, IsSome, lookup, Text, Expression, Mode, the_type, Search, Whole, StateSet, Steps, many_built, many_reused, IsSame, IsNextSet, Acceptance, unknown, shown, Mirrors, IsKeptOrLost, Cache, Stage, IsHeld, HoldsNoOther, IsPlain, GoesOver, Goes, LineSearch, StepTable, Spot, Went, Rows, limit, expression_in, AreSound, IsRightFor, IsRowOf, SaysNext, ComesTo, Lands, LandsAlone, cell_at, cache_of, row_under, walked, IsAt, HasLanded, LeadsOn, Arrives, false≢true, lt-ltb, ltb-true, cases_eq, slice_get_within, slice_get-get_or, get_or_from_slice_get}
+use Rattle.re_steps.proofs.Prelude.{◌≡◌, ℕ, zero, suc, ◌+◌, ◌-◌, ◌*◌, ◌<◌, ◌≤◌, Bool, true, false, ◌⊎◌, inl, inr, List, Option, Some, None, length, nat_eq, nat_lt, get_or, slice_get, slice_index, refl, sym, ap, ◌∙◌, subst, arith, IsSome, lookup, Text, Expression, Mode, the_type, Search, Whole, StateSet, Steps, many_built, many_reused, IsSame, IsNextSet, Acceptance, unknown, shown, Mirrors, IsKeptOrLost, Cache, Stage, IsHeld, HoldsNoOther, GoesOver, Goes, LineSearch, StepTable, Spot, Went, Rows, limit, AreSound, IsRightFor, IsRowOf, SaysNext, ComesTo, Lands, LandsAlone, cell_at, cache_of, row_under, walked, IsAt, HasLanded, LeadsOn, Arrives, false≢true, lt-ltb, ltb-true, cases_eq, slice_get_within, slice_get-get_or, get_or_from_slice_get}
 use denote.Enum.Bare.{sameb}
 use Rattle.re_steps.specs.declared.walk.Went.TheVariants as w
-use Rattle.re_steps.proofs.lemmas.StageLaws.{nothing_held, goes_nowhere, goes_on, same_sym}
+use Rattle.re_steps.proofs.lemmas.StageLaws.{nothing_held, goes_on, same_sym}
 use Rattle.re_steps.proofs.lemmas.RowLaws.{cell_within, same_place, number_within}
 
 -- over no byte
@@ -215,11 +215,3 @@ module _ (asked : LineSearch) (t : StepTable) (right : IsRightFor asked t) (step
   -- the stage at the first place of a line
   abbrev pub first_stage : Stage
   first_stage = record { set = right.first.start; cache = cache_of t; steps = steps }
-
-  pub comes_first : (0 < length asked.line.now → IsPlain (expression_in asked) asked.mode right.first.start) → IsAt asked first_stage t steps 0 (1 * t.stride)
-  comes_first plain = record {
-    set = right.first.start;
-    row = record { number = 1; row = refl; is = right.first.is_start };
-    plain = plain;
-    goes = goes_nowhere (expression_in asked) asked.mode asked.line.now first_stage;
-  }

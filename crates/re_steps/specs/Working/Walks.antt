@@ -1,24 +1,30 @@
 -- Where a search gets that goes on over a line by held pairs.
-use Rattle.std.specs.Prelude.{◌≡◌, ℕ, suc, ◌<◌, ◌≤◌, Bool, [], Some, length, slice_get}
+use Rattle.std.specs.Prelude.{◌≡◌, ℕ, suc, ◌-◌, ◌*◌, ◌<◌, ◌≤◌, Bool, [], Some, length, slice_get, slice_range}
 use Rattle.re_trees.specs.Bytes.{Text}
 use Rattle.re_auto.specs.declared.step.state_set.StateSet.{StateSet}
 use Rattle.re_meter.specs.Meters.{Steps}
-use Rattle.re_auto.specs.Working.StateSets.{StandsAt}
+use Rattle.re_runs.specs.Working.Blocks.{IsLineFrom, PassesUnmatched}
 use Rattle.re_steps.specs.declared.table.LineSearch.{LineSearch}
 use Rattle.re_steps.specs.declared.table.StepTable.{StepTable}
+use Rattle.re_steps.specs.declared.walk.Lines.{Lines}
 use Rattle.re_steps.specs.declared.walk.Spot.{Spot}
 use Rattle.re_steps.specs.declared.walk.Went.{Went}
 use Rattle.re_steps.specs.declared.walk.Went.TheVariants as w
 use Rattle.re_steps.specs.declared.walk.Outcome.{Outcome}
 use Rattle.re_steps.specs.declared.walk.Outcome.TheVariants as o
-use Rattle.re_steps.specs.Working.Rows.{IsRightFor, IsRow, ComesTo, Lands, LandsAlone, cache_of}
+use Rattle.re_steps.specs.Working.Rows.{IsRightFor, IsRow, ComesTo, Lands, LandsAlone, cache_of, walked}
 use Rattle.re_steps.specs.Working.Rows.{expression_in}
-use Rattle.re_steps.specs.Working.Stages.{Cache, Stage, Goes, Finishes, Searches}
+use Rattle.re_steps.specs.Working.Stages.{Cache, Stage, Goes, Finishes, mode_for}
 
 -- a search that came from a first stage is at place j in this row of the table
 abbrev pub IsAt : LineSearch → Stage → StepTable → Steps → ℕ → ℕ → Type 0
 IsAt asked first t steps j r =
     ComesTo (expression_in asked) asked.mode asked.line.now first (cache_of t) steps j r
+
+-- the same on another line
+abbrev pub IsAtOf : LineSearch → Text → Stage → StepTable → Steps → ℕ → ℕ → Type 0
+IsAtOf asked line first t steps j r =
+    ComesTo (expression_in asked) asked.mode line first (cache_of t) steps j r
 
 -- it has its answer
 abbrev pub IsReported : LineSearch → Stage → StepTable → Steps → Bool → Type 0
@@ -90,24 +96,23 @@ Arrives asked old before spot new after (w.Reported answer) =
 Arrives asked old before spot new after (w.Alone k) =
     ComesAlone asked old before spot new.scratch after k
 
--- a search from the first place of the line is at place k with this set, and nothing is held any
--- more
-pub record IsLeftAt (asked : LineSearch) (old : Cache) (before : Steps) (set : StateSet)
-    (after : Steps) (k : ℕ) : Type 0 where
-  pub within : k ≤ length asked.line.now
-  pub first : Stage
-  pub stands : StandsAt (expression_in asked) asked.mode asked.line.now 0 first.set
-  pub cache : first.cache ≡ old
-  pub steps : first.steps ≡ before
-  pub goes : (cache : Cache) → cache.entries ≡ [] →
-      Goes (expression_in asked) asked.mode asked.line.now k first
-      (record { set = set; cache = cache; steps = after })
-
 -- a search has its answer, or it left the rest of the line
-abbrev pub Gives : LineSearch → StepTable → Steps → StepTable → Steps → Outcome → Type 0
-Gives asked old before new after (o.Reported answer) =
-    IsRightFor asked new ×
-    Searches (expression_in asked) asked.mode asked.line.now (cache_of old) (cache_of new) before
-    after answer
-Gives asked old before new after (o.GaveUp k) =
-    IsLeftAt asked (cache_of old) before new.scratch after k
+abbrev pub Ends : LineSearch → StepTable → Steps → Spot → StepTable → Steps → Outcome → Type 0
+Ends asked old before spot new after (o.Reported answer) =
+    ComesToSay asked old before spot new after answer
+Ends asked old before spot new after (o.GaveUp k) =
+    ComesAlone asked old before spot new.scratch after k
+
+-- A walk by held pairs is at a place of a line of the block. No line before that one is matched.
+pub record GoesOverLines (asked : LineSearch) (t : StepTable) (lines : Lines) : Type 0 where
+  pub passed : (whole : Bool) → asked.mode ≡ mode_for whole →
+      PassesUnmatched (expression_in asked) whole asked.line.now lines.start
+  pub end : ℕ
+  pub cut : IsLineFrom asked.line.now lines.start end
+  pub low : lines.start ≤ lines.place
+  pub high : lines.place ≤ end
+  pub row : IsRow t lines.row
+  pub comes : (first : Stage) (steps : Steps) →
+      IsAtOf asked (slice_range asked.line.now lines.start end) first t steps 0 (1 * t.stride) →
+      IsAtOf asked (slice_range asked.line.now lines.start end) first t
+      (walked (lines.place - lines.start) steps) (lines.place - lines.start) lines.row

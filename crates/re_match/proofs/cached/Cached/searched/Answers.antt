@@ -1,5 +1,9 @@
-use Rattle.re_match.proofs.Prelude.{◌≡◌, Bool, refl, inl, sym, subst, Text, expression_of, Steps, Cache, Goes, IsReadied, Searches, mode_for, cache_in, cache_of, CachedMatcher, SameCached, Mode}
-use Rattle.re_steps.proofs.lemmas.StageLaws.{searches_readied}
+use Rattle.re_match.proofs.Prelude.{◌≡◌, arith, true, Bool, refl, inl, sym, subst, Text, expression_of, Steps, Cache, IsReadied, Searches, mode_for, cache_in, cache_of, CachedMatcher, SameCached, Mode}
+use Rattle.std.proofs.Common.{◌*◌}
+use Rattle.re_steps.proofs.lemmas.StageLaws.{searches_readied, goes_nowhere}
+use Rattle.re_steps.specs.Working.Stages.{Stage}
+use Rattle.re_steps.specs.Working.Rows.{ComesTo}
+use Rattle.re_steps.specs.declared.walk.Spot.{Spot}
 use Rattle.re_match.proofs.cached.Cached.searched.Goals as goal
 
 -- the table was made ready, then its rows, and then the line was searched
@@ -22,23 +26,46 @@ returns-then-not-is_ready-clause-searches c =
     readied_for c.args.line.now c.args.self.now c.ready_table.new.self now now c.mode-mode.result c.args.meter.now c.search-then-not-is_ready.new.meter c.search-then-not-is_ready.result c.ready_table.ensures.readied c.ready_table.ensures.same
     (rw (← c.self.view_is, c.in-Some.is) c.is_ready.ensures.readied) c.mode-mode.ensures (rw (← c.self.view_is) (c.search-then-not-is_ready.ensures.searches now (c.if-not-is_ready.ensures.blank refl).entries))
 
-pub returns-in-Reported-clause-searches : goal.returns-in-Reported-clause-searches
-returns-in-Reported-clause-searches c =
-    readied_for c.args.line.now c.args.self.now c.ready_table.new.self (cache_of c.is_ready.new.self) (cache_of c.search-2.new.self) c.mode-mode.result c.args.meter.now c.search-2.new.meter c.in-Reported.reported c.ready_table.ensures.readied c.ready_table.ensures.same
-    (rw (← c.self.view_is, c.in-Some.is) c.is_ready.ensures.readied) c.mode-mode.ensures (rw (← c.self.view_is) c.in-Reported.ensures.gives.1)
+pub search_on-requires-clause-row : goal.search_on-requires-clause-row
+search_on-requires-clause-row c =
+    let right = c.if-not-is_ready.ensures.right refl in
+    rw c.first_spot-from.ensures (right.first.start, record { number = 1; row = refl; is = right.first.is_start })
 
-pub returns-in-GaveUp-clause-searches : goal.returns-in-GaveUp-clause-searches
-returns-in-GaveUp-clause-searches c =
-    let left = c.in-GaveUp.ensures.gives in
-    let now = cache_of c.give_up.new.self in
-    let none = c.give_up.ensures.blank.entries in
-    readied_for c.args.line.now c.args.self.now c.ready_table.new.self (cache_of c.is_ready.new.self) now c.mode-mode.result c.args.meter.now c.finish.new.meter c.finish.result c.ready_table.ensures.readied c.ready_table.ensures.same
+pub returns-then-is_matched_at_once-clause-searches : goal.returns-then-is_matched_at_once-clause-searches
+returns-then-is_matched_at_once-clause-searches c =
+    let right = c.if-not-is_ready.ensures.right refl in
+    let now = cache_of c.is_ready.new.self in
+    let first : Stage = record { set = right.first.start; cache = now; steps = c.args.meter.now } in
+    readied_for c.args.line.now c.args.self.now c.ready_table.new.self now now c.mode-mode.result c.args.meter.now c.args.meter.now true c.ready_table.ensures.readied c.ready_table.ensures.same
     (rw (← c.self.view_is, c.in-Some.is) c.is_ready.ensures.readied) c.mode-mode.ensures
     (rw (← c.self.view_is) (record {
-      first = left.first;
-      stands = left.stands;
-      cache = inl left.cache;
-      steps = left.steps;
-      finishes = c.finish.ensures.finishes left.first now none
-          (subst (λ set. Goes (expression_of c.self.inside.automaton) c.mode-mode.result c.args.line.now c.in-GaveUp.place left.first (record { set = set; cache = now; steps = c.search-2.new.meter })) (sym c.give_up.ensures.keeps.scratch) (left.goes now none));
+      first = first;
+      stands = right.first.stands c.args.line.now;
+      cache = inl refl;
+      steps = refl;
+      finishes = record {
+        place = 0;
+        within = omega arith;
+        set = right.first.start;
+        goes = goes_nowhere (expression_of c.self.inside.automaton) c.mode-mode.result c.args.line.now first;
+        decides = inl (c.if-is_matched_at_once.ensures.yes right.first.start right.first.is_start refl);
+      };
+    }))
+
+pub returns-clause-searches : goal.returns-clause-searches
+returns-clause-searches c =
+    let right = c.if-not-is_ready.ensures.right refl in
+    let e = expression_of c.self.inside.automaton in
+    let now = cache_of c.is_ready.new.self in
+    let first : Stage = record { set = right.first.start; cache = now; steps = c.args.meter.now } in
+    let came : ComesTo e c.mode-mode.result c.args.line.now first now c.args.meter.now 0 (1 * c.is_ready.new.self.stride) =
+    record { set = right.first.start; row = record { number = 1; row = refl; is = right.first.is_start }; plain = c.if-is_matched_at_once.ensures.no right.first.start right.first.is_start refl; goes = goes_nowhere e c.mode-mode.result c.args.line.now first } in
+    readied_for c.args.line.now c.args.self.now c.ready_table.new.self now (cache_of c.search_on.new.table) c.mode-mode.result c.args.meter.now c.search_on.new.meter c.search_on.result c.ready_table.ensures.readied c.ready_table.ensures.same
+    (rw (← c.self.view_is, c.in-Some.is) c.is_ready.ensures.readied) c.mode-mode.ensures
+    (rw (← c.self.view_is) (record {
+      first = first;
+      stands = right.first.stands c.args.line.now;
+      cache = inl refl;
+      steps = refl;
+      finishes = c.search_on.ensures.finishes first (subst (λ (s : Spot). ComesTo e c.mode-mode.result c.args.line.now first now c.args.meter.now s.place s.row) (sym c.first_spot-from.ensures) came);
     }))

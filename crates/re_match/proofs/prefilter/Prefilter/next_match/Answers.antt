@@ -5,6 +5,9 @@ use Rattle.re_runs.proofs.lemmas.RunLaws.{run_whole}
 use Rattle.re_match.proofs.lemmas.StepSums.{passes}
 use Rattle.re_match.proofs.prefilter.Prefilter.next_match.Goals as goal
 
+pub returns-in_default : goal.returns-in_default
+returns-in_default c = λ e right edges. c.next.ensures e edges
+
 pub returns-in_default-find : goal.returns-in_default-find
 returns-in_default-find c = λ e right edges. (
   lacks_part e c.in-Some.needle (rw c.in-Some.is at right.needle) c.args.line.now false c.args.from (rw take_rest at c.in_default-find.ensures.found),

@@ -8,10 +8,10 @@ pub returns-then-start-line : goal.returns-then-start-line
 returns-then-start-line c = λ e right.
     let line = c.args.line.now in
     let small : (x : ℕ) → slice_index line x < 256 = search rules in
-    let start = c.run_begin-start.ensures in
-    let later = later_by_run e line c.args.self.now right small c.args.from c.run_begin-start.result start.low start.before in (
+    let start = c.next_in-start.ensures in
+    let later = later_by_run e line c.args.self.now right small c.args.from c.next_in-start.result start.on.0 start.passed in (
       (λ i j f. let low = later.1 i j f in let some = f.not_empty in let on = f.on_line in omega (arith, low, some, on, c.if-start-line.true)),
-      passes (length line - c.args.from) (c.run_begin-start.result - c.args.from) _ _ (omega (arith, start.high)) c.add_passed.ensures,
+      passes (length line - c.args.from) (c.next_in-start.result - c.args.from) _ _ (omega (arith, start.on.1)) c.add_passed.ensures,
     )
 
 pub returns : goal.returns
@@ -19,10 +19,10 @@ returns c = λ e right.
     let line = c.args.line.now in
     let from = c.args.from in
     let small : (x : ℕ) → slice_index line x < 256 = search rules in
-    let start = c.run_begin-start.result in
-    let at = c.run_begin-start.ensures in
+    let start = c.next_in-start.result in
+    let at = c.next_in-start.ensures in
     let end = c.end-end.result in
     let high = c.end-end.ensures.low in (
-      (later_by_run e line c.args.self.now right small from start at.low at.before, (high, c.end-end.ensures.border e right)),
-      adds_on 0 0 (start + 1 - from) (past line end - start - 1) (start - from) (past line end - from) _ _ _ (omega arith) (omega (arith, at.low, high, at.high, c.if-start-line.false)) (only_passed (start + 1 - from) (start + 1 - from) _ _ (omega arith) c.add_passed-2.ensures) c.end-end.ensures.passed,
+      (later_by_run e line c.args.self.now right small from start at.on.0 at.passed, (high, c.end-end.ensures.border e right)),
+      adds_on 0 0 (start + 1 - from) (past line end - start - 1) (start - from) (past line end - from) _ _ _ (omega arith) (omega (arith, at.on.0, high, at.on.1, c.if-start-line.false)) (only_passed (start + 1 - from) (start + 1 - from) _ _ (omega arith) c.add_passed-2.ensures) c.end-end.ensures.passed,
     )
