@@ -1,5 +1,5 @@
 -- Marks: which lines of each file edits left untouched since its changes were last reported.
-use Rattle.std.specs.Prelude.{◌≡◌, ℕ, ◌+◌, ◌-◌, ◌≤◌, ◌⊎◌, min, List, [], ◌∷◌, ◌++◌, map, length}
+use Rattle.std.specs.Prelude.{◌≡◌, ℕ, List, [], ◌∷◌, ◌++◌, map, length}
 use Rattle.std.specs.Prelude.{get_or, slice_set, Result, Ok, Err}
 use Rattle.std.specs.List.{remove, AllZip}
 use Rattle.grep_core.specs.declared.options.Flag.{Flag}
@@ -7,7 +7,6 @@ use Rattle.grep_core.specs.declared.options.Flag.TheVariants.{IgnoreCase, OnlyMa
 use Rattle.grep_core.specs.declared.options.Flag.TheVariants.{InvertMatch, LineRegexp}
 use Rattle.grep_core.specs.Choose.{IfHolds}
 use Rattle.grep_core.specs.Files.{File, Inputs}
-use Rattle.grep_core.specs.Run.{file_at}
 use Rattle.grep_session.specs.declared.fault.EditFault.{EditFault}
 use Rattle.grep_session.specs.Edits.{Edit, AddFile, AddMissing, DropFile, Splice, AddPatterns}
 use Rattle.grep_session.specs.Edits.{DropPattern, ChangePattern, SetFlag, SetSyntax, SetContext}

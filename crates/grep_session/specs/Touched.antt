@@ -1,12 +1,12 @@
 -- How many steps an edit takes, and how many bytes it passes, at most: only what it touches is
 -- searched.
-use Rattle.std.specs.Prelude.{◌≡◌, ◌≢◌, ℕ, ◌+◌, ◌<◌, ◌≤◌, false, List, [], All, ◌∷◌, ◌++◌, ◌⊎◌}
+use Rattle.std.specs.Prelude.{◌≡◌, ◌≢◌, ℕ, ◌+◌, ◌<◌, ◌≤◌, false, List, [], ◌∷◌, ◌++◌, ◌⊎◌}
 use Rattle.std.specs.Prelude.{Result, Ok, Err, get_or, length, if◌then◌else◌, ⊤}
 use Rattle.std.specs.List.{flat_map}
 use Rattle.re_syntax.specs.Bytes.{Text}
 use Rattle.re_syntax.specs.Expression.{Expression}
 use Rattle.re_syntax.specs.Holds.{Matches}
-use Rattle.re_syntax.specs.Lines.{HasNoNewline, list_of}
+use Rattle.re_syntax.specs.Lines.{list_of}
 use Rattle.re_syntax.specs.Spelled.{IsMeant}
 use Rattle.re_syntax.specs.declared.syntax.Syntax.{Syntax}
 use Rattle.re_syntax.specs.declared.syntax.Syntax.TheVariants.{Fixed}
@@ -138,13 +138,13 @@ is_of_output OnlyMatching = ⊥
 is_of_output _ = ⊤
 
 -- the edits that ask for no memory: those that only remove something, change only what is written,
--- or set what is set already; and those refused for a file, a line or the number of patterns
+-- or set what is set already; and those refused for a file, a place or the number of patterns
 abbrev pub NeedsNoMemory : Edit → Inputs → Type 0
-NeedsNoMemory (AddFile name lines) old = All HasNoNewline lines → ⊥
+NeedsNoMemory (AddFile name lines) old = ⊥
 NeedsNoMemory (AddMissing name) old = ⊥
 NeedsNoMemory (DropFile k) old = ⊤
 NeedsNoMemory (Splice k start count lines) old =
-    (lines ≡ []) ⊎ ((HasPlace old.files k start count → ⊥) ⊎ (All HasNoNewline lines → ⊥))
+    (lines ≡ []) ⊎ (HasPlace old.files k start count → ⊥)
 NeedsNoMemory (AddPatterns list) old = most_patterns < length old.patterns + length (list_of list)
 NeedsNoMemory (DropPattern p) old = (old.options.only_matching ≡ false) ⊎ (length old.patterns ≤ p)
 NeedsNoMemory (ChangePattern p text) old =

@@ -5,7 +5,7 @@ ghost use Rattle.std.specs.Prelude.{◌≡◌, ◌≤◌, [], List, length, map,
 ghost use Rattle.std.specs.Prelude.{IfOk, OnErr, vec_capacity};
 ghost use Rattle.re_syntax.specs.Expression.{Expression};
 ghost use Rattle.re_syntax.specs.Profile.{most_patterns};
-ghost use Rattle.re_search.specs.Working.Matchers.{matched_expression, wants_whole, room_of};
+ghost use Rattle.re_search.specs.Working.Matchers.{matched_expression, wants_whole};
 ghost use Rattle.re_search.specs.Searches.{AllAnswer};
 ghost use Rattle.line_chunks.specs.Working.Chunks.{FitsColumn, all_of, line_text};
 ghost use Rattle.grep_session.specs.Working.Changed.{HasChanged, WasKept, WasFileKept, IsWithin};
@@ -13,7 +13,7 @@ ghost use Rattle.grep_session.specs.Working.Changed.{SearchesEach};
 ghost use Rattle.grep_session.specs.Working.Columns.{AddsColumns, StaysSame};
 ghost use Rattle.grep_session.specs.Working.Found.{IsColumn, chunks_of_files, lines_of_files};
 ghost use Rattle.grep_session.specs.Working.Kept.{IsFileKept, kept_file};
-ghost use Rattle.re_search.specs.Searches.{SameMatchers};
+ghost use Rattle.grep_session.specs.Working.Rooms.{AreSame};
 
 use crate::change::Change;
 use crate::found::put_columns;
@@ -24,7 +24,7 @@ use crate::search::SearchContext;
 use crate::vec_push::push;
 use grep_core::Options;
 use line_chunks::{Chunk, Found, Matches};
-use re_search::{LineMatch, LineParts, Matcher, Meter};
+use re_search::{LineParts, Matcher, Meter};
 use std::alloc::{AllocError, Global};
 
 /// Whether what was found in a chunk stays as it is: no pattern that was added matches a line of
@@ -43,28 +43,27 @@ fn is_same(change: Change, old: &Matches, new: &Matches) -> bool
 
 /// What is found in the lines of a chunk after a change of the patterns; `None` where it is what
 /// was found before.
-fn find_in_chunk<M: LineMatch>(
+fn find_in_chunk(
     search: &SearchContext,
-    matchers: &mut [M],
+    matchers: &mut [Matcher],
     change: Change,
     chunk: &Chunk,
     line_parts: &mut LineParts,
     meter: &mut Meter,
 ) -> Result<Option<Found>, AllocError>
-    requires whole { AllAnswer search.now.options.line_regexp (map M.whole matchers.old) }
+    requires whole { AllAnswer search.now.options.line_regexp (map wants_whole matchers.old) }
     requires few { length matchers.old ≤ most_patterns }
     requires within { IsWithin change (length matchers.old) }
-    ensures same_matchers { SameMatchers M.expression M.whole M.room matchers.old matchers.new }
+    ensures same_matchers { AreSame matchers.old matchers.new }
     ensures fits { IfOk result (FitsColumn chunk.now) }
-    ensures ok { IfOk result
-        (λ found. (before changed : List Expression) →
-        HasChanged change (map M.expression matchers.old) before changed search.now.options →
+    ensures ok { IfOk result (λ found. (before changed : List Expression) →
+        HasChanged change (map matched_expression matchers.old) before changed search.now.options →
         All (WasKept change before search.now.options) chunk.now
-        → IsColumn (map M.expression matchers.old) search.now.options chunk.now found) }
+        → IsColumn (map matched_expression matchers.old) search.now.options chunk.now found) }
     ensures steps { (before changed : List Expression) →
-        HasChanged change (map M.expression matchers.old) before changed search.now.options →
+        HasChanged change (map matched_expression matchers.old) before changed search.now.options →
         All (WasKept change before search.now.options) chunk.now
-        → SearchesEach change changed (map M.expression matchers.old) search.now.options
+        → SearchesEach change changed (map matched_expression matchers.old) search.now.options
         (map line_text chunk.now) meter.old meter.new }
 {
     let old = chunk.matches();
@@ -80,27 +79,26 @@ fn find_in_chunk<M: LineMatch>(
 }
 
 /// Adds what is found in the chunks of a file after a change of the patterns.
-pub fn find_in_lines<M: LineMatch>(
+pub fn find_in_lines(
     search: &SearchContext,
-    matchers: &mut [M],
+    matchers: &mut [Matcher],
     change: Change,
     lines: &FileLines,
     found: &mut Vec<Option<Found>>,
     line_parts: &mut LineParts,
     meter: &mut Meter,
 ) -> Result<(), AllocError>
-    requires whole { AllAnswer search.now.options.line_regexp (map M.whole matchers.old) }
+    requires whole { AllAnswer search.now.options.line_regexp (map wants_whole matchers.old) }
     requires few { length matchers.old ≤ most_patterns }
     requires within { IsWithin change (length matchers.old) }
-    ensures same_matchers { SameMatchers M.expression M.whole M.room matchers.old matchers.new }
-    ensures ok { IfOk result
-        (λ _.
-        AddsColumns change (map M.expression matchers.old) search.now.options lines.now
+    ensures same_matchers { AreSame matchers.old matchers.new }
+    ensures ok { IfOk result (λ _.
+        AddsColumns change (map matched_expression matchers.old) search.now.options lines.now
         found.old.items found.new.items) }
     ensures steps { (before changed : List Expression) →
-        HasChanged change (map M.expression matchers.old) before changed search.now.options →
+        HasChanged change (map matched_expression matchers.old) before changed search.now.options →
         All (WasKept change before search.now.options) (all_of lines.now)
-        → SearchesEach change changed (map M.expression matchers.old) search.now.options
+        → SearchesEach change changed (map matched_expression matchers.old) search.now.options
         (map line_text (all_of lines.now)) meter.old meter.new }
 {
     for i in 0..lines.chunk_count() {
@@ -111,25 +109,24 @@ pub fn find_in_lines<M: LineMatch>(
 }
 
 /// What is found in the chunks of all files, in order, after a change of the patterns.
-fn find_all<M: LineMatch>(
+fn find_all(
     search: &SearchContext,
-    matchers: &mut [M],
+    matchers: &mut [Matcher],
     change: Change,
     files: &[KeptFile],
     meter: &mut Meter,
 ) -> Result<Vec<Option<Found>>, AllocError>
-    requires whole { AllAnswer search.now.options.line_regexp (map M.whole matchers.old) }
+    requires whole { AllAnswer search.now.options.line_regexp (map wants_whole matchers.old) }
     requires few { length matchers.old ≤ most_patterns }
     requires within { IsWithin change (length matchers.old) }
-    ensures same_matchers { SameMatchers M.expression M.whole M.room matchers.old matchers.new }
-    ensures ok { IfOk result
-        (λ found.
-        AddsColumns change (map M.expression matchers.old) search.now.options
+    ensures same_matchers { AreSame matchers.old matchers.new }
+    ensures ok { IfOk result (λ found.
+        AddsColumns change (map matched_expression matchers.old) search.now.options
         (chunks_of_files files.now) [] found.items) }
     ensures steps { (before changed : List Expression) →
-        HasChanged change (map M.expression matchers.old) before changed search.now.options →
+        HasChanged change (map matched_expression matchers.old) before changed search.now.options →
         All (WasFileKept change before search.now.options) files.now
-        → SearchesEach change changed (map M.expression matchers.old) search.now.options
+        → SearchesEach change changed (map matched_expression matchers.old) search.now.options
         (lines_of_files (map kept_file files.now)) meter.old meter.new }
 {
     let mut line_parts = LineParts::new(search.alloc);
@@ -164,12 +161,10 @@ pub fn find_columns(
     requires whole { AllAnswer options.now.line_regexp (map wants_whole matchers.old.items) }
     requires few { length matchers.old.items ≤ most_patterns }
     requires within { IsWithin change (length matchers.old.items) }
-    ensures same_matchers { SameMatchers matched_expression wants_whole room_of matchers.old.items
-        matchers.new.items }
+    ensures same_matchers { AreSame matchers.old.items matchers.new.items }
     ensures room { vec_capacity matchers.new ≡ vec_capacity matchers.old }
     ensures same { map kept_file files.new.items ≡ map kept_file files.old.items }
-    ensures ok { IfOk result
-        (λ _. (before changed : List Expression) →
+    ensures ok { IfOk result (λ _. (before changed : List Expression) →
         HasChanged change (map matched_expression matchers.old.items) before changed options.now →
         All (WasFileKept change before options.now) files.old.items
         → All (IsFileKept (map matched_expression matchers.new.items) options.now)

@@ -3,6 +3,7 @@ ghost use Rattle.std.specs.Prelude.{◌≡◌, ◌+◌, ◌-◌, ◌*◌, ◌<�
 ghost use Rattle.std.specs.Prelude.{false, IfOk, IsTrue};
 ghost use Rattle.re_syntax.specs.Lines.{terminated};
 ghost use Rattle.re_syntax.specs.Profile.{most_patterns};
+ghost use Rattle.re_search.specs.Working.Matchers.{matched_expression, wants_whole, room_of};
 ghost use Rattle.re_search.specs.Searches.{AllAnswer, AddsAtMost};
 ghost use Rattle.line_chunks.specs.Working.Chunks.{line_text};
 ghost use Rattle.line_chunks.specs.Working.Finds.{AreBelow};
@@ -10,29 +11,28 @@ ghost use Rattle.grep_session.specs.Working.Changed.{IsWithin, is_narrower};
 ghost use Rattle.grep_session.specs.Working.Columns.{first_sought, past_sought, AreLeft, AddsColumn};
 ghost use Rattle.grep_session.specs.Working.Columns.{AddsLater, AreMatches, AddsPairs};
 ghost use Rattle.grep_session.specs.Working.Columns.{IsAmong, has_pair, marked_cost};
-ghost use Rattle.re_search.specs.Searches.{SameMatchers};
+ghost use Rattle.grep_session.specs.Working.Rooms.{AreSame};
 
 use crate::change::Change;
 use crate::search::SearchContext;
 use line_chunks::{Chunk, Matches};
-use re_search::{LineMatch, Meter};
+use re_search::{LineMatch, Matcher, Meter};
 use std::alloc::AllocError;
 
 /// Adds the lines of a chunk that the matcher matches.
-fn add_column<M: LineMatch>(
-    matcher: &mut M,
+fn add_column(
+    matcher: &mut Matcher,
     number: usize,
     chunk: &Chunk,
     matches: &mut Matches,
     meter: &mut Meter,
 ) -> Result<(), AllocError>
-    ensures ok { IfOk result
-        (λ _.
-        AddsColumn (map line_text chunk.now) (M.whole matcher.old) number
-        (M.expression matcher.old ∷ []) matches.old matches.new) }
-    ensures same_expression { M.expression matcher.new ≡ M.expression matcher.old }
-    ensures same_whole { M.whole matcher.new ≡ M.whole matcher.old }
-    ensures same_room { M.room matcher.new ≡ M.room matcher.old }
+    ensures ok { IfOk result (λ _.
+        AddsColumn (map line_text chunk.now) (wants_whole matcher.old) number
+        (matched_expression matcher.old ∷ []) matches.old matches.new) }
+    ensures same_expression { matched_expression matcher.new ≡ matched_expression matcher.old }
+    ensures same_whole { wants_whole matcher.new ≡ wants_whole matcher.old }
+    ensures same_room { room_of matcher.new ≡ room_of matcher.old }
     ensures steps { AddsAtMost (length (terminated (map line_text chunk.now))) meter.old meter.new }
 {
     let mut from = 0;
@@ -49,9 +49,9 @@ fn add_column<M: LineMatch>(
 
 /// Adds the lines of a chunk that the matcher matches, if each of them was matched by the pattern
 /// of this number before: `old` says by which each line was. No other line is searched.
-fn narrow_column<M: LineMatch>(
+fn narrow_column(
     search: &SearchContext,
-    matcher: &mut M,
+    matcher: &mut Matcher,
     number: usize,
     chunk: &Chunk,
     old: &Matches,
@@ -61,15 +61,14 @@ fn narrow_column<M: LineMatch>(
     requires { AreBelow (length chunk.now) old.now }
     ensures pairs { IfOk result (λ _. AddsPairs (length (map line_text chunk.now)) matches.old
         matches.new) }
-    ensures ok { IfOk result
-        (λ _.
-        IsAmong (M.expression matcher.old) (M.whole matcher.old) (map line_text chunk.now) number
-        old.now →
-        AddsColumn (map line_text chunk.now) (M.whole matcher.old) number
-        (M.expression matcher.old ∷ []) matches.old matches.new) }
-    ensures same_expression { M.expression matcher.new ≡ M.expression matcher.old }
-    ensures same_whole { M.whole matcher.new ≡ M.whole matcher.old }
-    ensures same_room { M.room matcher.new ≡ M.room matcher.old }
+    ensures ok { IfOk result (λ _.
+        IsAmong (matched_expression matcher.old) (wants_whole matcher.old)
+        (map line_text chunk.now) number old.now →
+        AddsColumn (map line_text chunk.now) (wants_whole matcher.old) number
+        (matched_expression matcher.old ∷ []) matches.old matches.new) }
+    ensures same_expression { matched_expression matcher.new ≡ matched_expression matcher.old }
+    ensures same_whole { wants_whole matcher.new ≡ wants_whole matcher.old }
+    ensures same_room { room_of matcher.new ≡ room_of matcher.old }
     ensures steps { AddsAtMost (marked_cost (has_pair number old.now) 1
         (map line_text chunk.now) (length chunk.now)) meter.old meter.new }
 {
@@ -181,22 +180,22 @@ fn add_later(
 }
 
 /// Which patterns match which lines of a chunk after a change; `old` says it before the change.
-pub fn find_matches<M: LineMatch>(
+pub fn find_matches(
     search: &SearchContext,
-    matchers: &mut [M],
+    matchers: &mut [Matcher],
     change: Change,
     chunk: &Chunk,
     old: &Matches,
     meter: &mut Meter,
 ) -> Result<Matches, AllocError>
-    requires whole { AllAnswer search.now.options.line_regexp (map M.whole matchers.old) }
+    requires whole { AllAnswer search.now.options.line_regexp (map wants_whole matchers.old) }
     requires few { length matchers.old ≤ most_patterns }
     requires within { IsWithin change (length matchers.old) }
     requires below { AreBelow (length chunk.now) old.now }
     ensures ok { IfOk result
         (AreMatches change (map line_text chunk.now) search.now.options.line_regexp
-        (map M.expression matchers.old) old.now) }
-    ensures same_matchers { SameMatchers M.expression M.whole M.room matchers.old matchers.new }
+        (map matched_expression matchers.old) old.now) }
+    ensures same_matchers { AreSame matchers.old matchers.new }
     ensures steps { is_narrower change ≡ false →
         AddsAtMost
         ((past_sought change (length matchers.old) - first_sought change (length matchers.old))

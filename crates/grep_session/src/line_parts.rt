@@ -1,6 +1,7 @@
 //! The parts of the lines of a chunk after a change of the patterns.
 ghost use Rattle.std.specs.Prelude.{◌≡◌, ℕ, ◌+◌, ◌<◌, ◌≤◌, true, false, [], length, map, get_or};
 ghost use Rattle.std.specs.Prelude.{IfOk, ◌&&◌, if◌then◌else◌};
+ghost use Rattle.re_search.specs.Working.Matchers.{matched_expression, wants_whole};
 ghost use Rattle.re_search.specs.Searches.{AddsAtMost, AllAnswer};
 ghost use Rattle.grep_core.specs.Cost.{search_cost};
 ghost use Rattle.line_chunks.specs.Working.Chunks.{no_line, line_text};
@@ -8,12 +9,12 @@ ghost use Rattle.line_chunks.specs.Working.Finds.{AreBelow, is_paired, numbers_a
 ghost use Rattle.grep_session.specs.Touched.{parting};
 ghost use Rattle.grep_session.specs.Working.Columns.{Grows, has_new_parts, ArePartsAgain, AreAllParts};
 ghost use Rattle.grep_session.specs.Working.Columns.{is_parted, marked_cost};
-ghost use Rattle.re_search.specs.Searches.{SameMatchers};
+ghost use Rattle.grep_session.specs.Working.Rooms.{AreSame};
 
 use crate::change::Change;
 use crate::search::{SearchContext, parts_of};
 use line_chunks::{Chunk, Matches, SpanLists};
-use re_search::{LineMatch, LineParts, Meter};
+use re_search::{LineParts, Matcher, Meter};
 use std::alloc::AllocError;
 
 /// Of each line of a chunk that some pattern matches, whether its parts are searched anew.
@@ -48,9 +49,9 @@ fn marks_anew(
 
 /// Adds the parts of line `k` of a chunk: none if no pattern matches it, those that are searched
 /// anew, or those that are kept.
-fn put_parts<M: LineMatch>(
+fn put_parts(
     search: &SearchContext,
-    matchers: &mut [M],
+    matchers: &mut [Matcher],
     chunk: &Chunk,
     k: usize,
     matched: bool,
@@ -59,19 +60,18 @@ fn put_parts<M: LineMatch>(
     line_parts: &mut LineParts,
     meter: &mut Meter,
 ) -> Result<(), AllocError>
-    requires whole { AllAnswer search.now.options.line_regexp (map M.whole matchers.old) }
+    requires whole { AllAnswer search.now.options.line_regexp (map wants_whole matchers.old) }
     requires inside { k < length chunk.now }
     requires later { length parts.old ≤ k }
     ensures few { IfOk result (λ _. length parts.new ≤ k + 1) }
     ensures others { IfOk result
         (λ _. (i : ℕ) → i < k → get_or parts.new i [] ≡ get_or parts.old i []) }
-    ensures put { IfOk result
-        (λ _.
-        ArePartsAgain matched anew (map M.expression matchers.old) search.now.options
+    ensures put { IfOk result (λ _.
+        ArePartsAgain matched anew (map matched_expression matchers.old) search.now.options
         (get_or chunk.now k no_line) (get_or parts.new k [])) }
-    ensures same_matchers { SameMatchers M.expression M.whole M.room matchers.old matchers.new }
+    ensures same_matchers { AreSame matchers.old matchers.new }
     ensures steps { AddsAtMost (if matched && anew then search_cost
-        (parting (map M.expression matchers.old) search.now.options)
+        (parting (map matched_expression matchers.old) search.now.options)
         (line_text (get_or chunk.now k no_line)) else 0) meter.old meter.new }
 {
     if !matched {
@@ -86,9 +86,9 @@ fn put_parts<M: LineMatch>(
 
 /// The parts of the lines of a chunk after a change: under `-o` of those that some pattern matches,
 /// and otherwise none. `old` and `new` say which patterns matched which lines, and which do now.
-pub fn find_parts<M: LineMatch>(
+pub fn find_parts(
     search: &SearchContext,
-    matchers: &mut [M],
+    matchers: &mut [Matcher],
     change: Change,
     chunk: &Chunk,
     old: &Matches,
@@ -96,17 +96,17 @@ pub fn find_parts<M: LineMatch>(
     line_parts: &mut LineParts,
     meter: &mut Meter,
 ) -> Result<SpanLists, AllocError>
-    requires whole { AllAnswer search.now.options.line_regexp (map M.whole matchers.old) }
+    requires whole { AllAnswer search.now.options.line_regexp (map wants_whole matchers.old) }
     requires old { AreBelow (length chunk.now) old.now }
     requires new { AreBelow (length chunk.now) new.now }
     requires grows { Grows change old.now new.now }
     ensures few { IfOk result (λ parts. length parts ≤ length chunk.now) }
     ensures ok { IfOk result
-        (AreAllParts change (map M.expression matchers.old) search.now.options chunk.now old.now
-        new.now) }
-    ensures same_matchers { SameMatchers M.expression M.whole M.room matchers.old matchers.new }
+        (AreAllParts change (map matched_expression matchers.old) search.now.options chunk.now
+        old.now new.now) }
+    ensures same_matchers { AreSame matchers.old matchers.new }
     ensures steps { AddsAtMost (marked_cost (is_parted change old.now new.now)
-        (parting (map M.expression matchers.old) search.now.options) (map line_text chunk.now)
+        (parting (map matched_expression matchers.old) search.now.options) (map line_text chunk.now)
         (length chunk.now)) meter.old meter.new }
 {
     let mut parts = SpanLists::new(search.alloc);

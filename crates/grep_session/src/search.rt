@@ -1,6 +1,6 @@
 //! What is found in lines, and kept.
 ghost use Rattle.std.specs.Prelude.{◌≡◌, ◌≤◌, length, map, IfOk, IfErr, [], All};
-ghost use Rattle.re_search.specs.Working.Matchers.{matched_expression, wants_whole, room_of};
+ghost use Rattle.re_search.specs.Working.Matchers.{matched_expression, wants_whole};
 ghost use Rattle.re_search.specs.Searches.{AddsAtMost, AllAnswer};
 ghost use Rattle.re_syntax.specs.Lines.{HasNoNewline};
 ghost use Rattle.re_syntax.specs.Profile.{most_patterns};
@@ -10,14 +10,14 @@ ghost use Rattle.grep_session.specs.Touched.{parting};
 ghost use Rattle.grep_session.specs.Working.Changed.{SearchesEach};
 ghost use Rattle.grep_session.specs.declared.change.Change.TheVariants.{Rebuild};
 ghost use Rattle.grep_session.specs.Working.Kept.{ArePartsKept, IsKept};
-ghost use Rattle.re_search.specs.Searches.{SameMatchers};
+ghost use Rattle.grep_session.specs.Working.Rooms.{AreSame};
 
 use crate::change::Change;
 use crate::columns::find_in_lines;
 use crate::kept::FileLines;
 use crate::new_lines::{NewLines, kept_of};
 use grep_core::Options;
-use re_search::{LineMatch, LineParts, Matcher, Meter, Span, next_part};
+use re_search::{LineParts, Matcher, Meter, Span, next_part};
 use std::alloc::{AllocError, Global};
 
 /// Allocator and options of a search.
@@ -30,19 +30,20 @@ pub struct SearchContext {
 }
 
 /// The parts of the line under `-o`, otherwise none. `line_parts` gets room for the line.
-pub fn parts_of<M: LineMatch>(
+pub fn parts_of(
     search: &SearchContext,
-    matchers: &mut [M],
+    matchers: &mut [Matcher],
     line: &[u8],
     line_parts: &mut LineParts,
     meter: &mut Meter,
 ) -> Result<Vec<Span>, AllocError>
-    requires whole { AllAnswer search.now.options.line_regexp (map M.whole matchers.old) }
+    requires whole { AllAnswer search.now.options.line_regexp (map wants_whole matchers.old) }
     ensures ok { IfOk result
-        (λ spans. ArePartsKept (map M.expression matchers.old) search.now.options line.now spans.items) }
-    ensures same_matchers { SameMatchers M.expression M.whole M.room matchers.old matchers.new }
+        (λ spans. ArePartsKept (map matched_expression matchers.old) search.now.options line.now
+        spans.items) }
+    ensures same_matchers { AreSame matchers.old matchers.new }
     ensures steps { AddsAtMost
-        (search_cost (parting (map M.expression matchers.old) search.now.options) line.now)
+        (search_cost (parting (map matched_expression matchers.old) search.now.options) line.now)
         meter.old meter.new }
 {
     let mut spans = Vec::new(search.alloc);
@@ -76,13 +77,11 @@ pub fn search_new(
 ) -> Result<FileLines, AllocError>
     requires whole { AllAnswer options.now.line_regexp (map wants_whole matchers.old.items) }
     requires few { length matchers.old.items ≤ most_patterns }
-    ensures ok { IfOk result
-        (λ lines.
+    ensures ok { IfOk result (λ lines.
         All (IsKept (map matched_expression matchers.old.items) options.now) (all_of lines)) }
     ensures texts { IfOk result (λ lines. map line_text (all_of lines) ≡ given) }
     ensures free { All HasNoNewline given }
-    ensures same_matchers { SameMatchers matched_expression wants_whole room_of matchers.old.items
-        matchers.new.items }
+    ensures same_matchers { AreSame matchers.old.items matchers.new.items }
     ensures memory { given ≡ [] → IfErr result (λ _. ⊥) }
     ensures steps { SearchesEach Rebuild (map matched_expression matchers.old.items)
         (map matched_expression matchers.old.items) options.now given meter.old meter.new }

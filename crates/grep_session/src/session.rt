@@ -116,8 +116,6 @@ impl Session {
         ensures gives { EditGives (AddMissing name.items) self.old.inputs self.new.inputs result }
         ensures same_states { self.new.states ≡ self.old.states }
         ensures marks { MarksGiven (AddMissing name.items) self.old self.new.marks result }
-        ensures memory { NeedsNoMemory (AddMissing name.items) self.old.inputs →
-            IfErr result (λ fault. fault ≢ Memory) }
     {
         let file = KeptFile { name, lines: None };
         match push_file(&mut self.files, &mut self.marks, file) {
@@ -142,8 +140,6 @@ impl Session {
         ensures same_states { self.new.states ≡ self.old.states }
         ensures marks { MarksGiven (AddFile name.items lines) self.old self.new.marks result }
         ensures steps { TakesSteps (AddFile name.items lines) self.old.inputs meter.old meter.new }
-        ensures memory { NeedsNoMemory (AddFile name.items lines) self.old.inputs →
-            IfErr result (λ fault. fault ≢ Memory) }
     {
         let kept = match search_new(self.alloc, &mut self.matchers, &self.options, lines, meter) {
             Ok(kept) => kept,

@@ -1,5 +1,5 @@
 -- How an edit changes a session's inputs, and what is kept.
-use Rattle.grep_session.proofs.Prelude.{◌≡◌, ◌≢◌, ℕ, suc, ◌+◌, ◌<◌, ◌≤◌, List, [], ◌∷◌, ◌++◌, length, map, take, drop, Option, Some, None, Ok, IfSome, inl, inr, refl, sym, ap, subst, ◌∙◌, All, get_or, slice_set, arith, set, map-set_same, map-set, length-map, All-append, All-take, All-drop, All-set, splice, option_map, Syntax, Text, Expression, HasNoNewline, Matcher, matched_expression, wants_whole, room_of, AllAnswer, Steps, Options, File, Inputs, AreMeant, whole, missing, file_at, most_patterns, KeptFile, Inside, SameMatchers, Rebuild, SearchesEach, IsSession, inputs_of, AreFit, KeptLine, line_text, AddFile, Splice, Applies, spliced, whole_file, with_files, IsKept, IsFileKept, kept_file, kept_lines, file_with, AreMatchers, HasPlace, TakesSteps, NeedsNoMemory}
+use Rattle.grep_session.proofs.Prelude.{◌≡◌, ◌≢◌, ℕ, suc, ◌+◌, ◌<◌, ◌≤◌, List, [], ◌∷◌, ◌++◌, length, map, take, drop, Option, Some, None, Ok, IfSome, inl, inr, refl, sym, ap, subst, ◌∙◌, All, get_or, slice_set, arith, set, map-set_same, map-set, length-map, All-append, All-take, All-drop, All-set, splice, option_map, Syntax, Text, Expression, HasNoNewline, Matcher, matched_expression, wants_whole, AllAnswer, Steps, Options, File, Inputs, AreMeant, whole, missing, file_at, most_patterns, KeptFile, Inside, AreSame, Rebuild, SearchesEach, IsSession, inputs_of, AreFit, KeptLine, line_text, AddFile, Splice, Applies, spliced, whole_file, with_files, IsKept, IsFileKept, kept_file, kept_lines, file_with, AreMatchers, HasPlace, TakesSteps, NeedsNoMemory}
 use Rattle.std.proofs.lemmas.List.{get_or-map}
 use Rattle.grep_core.proofs.lemmas.CostLaws.{same_length}
 use Rattle.grep_session.proofs.lemmas.RoomLemmas.{keep_same}
@@ -19,7 +19,7 @@ AreMatchers-same syntax options texts old new s e w = record {
 }
 
 -- a session whose matchers were asked, and whose files are as right as before, with marks that fit
-pub asked_session : (s t : Inside) → t ≡ record s { texts = t.texts; matchers = t.matchers; files = t.files; marks = t.marks } → t.texts.items ≡ s.texts.items → IsSession s → SameMatchers matched_expression wants_whole room_of s.matchers.items t.matchers.items
+pub asked_session : (s t : Inside) → t ≡ record s { texts = t.texts; matchers = t.matchers; files = t.files; marks = t.marks } → t.texts.items ≡ s.texts.items → IsSession s → AreSame s.matchers.items t.matchers.items
     → All (IsFileKept (map matched_expression s.matchers.items) s.options) t.files.items → AreFit (map kept_file t.files.items) t.marks.items → IsSession t
 asked_session s t is texts old same kept fit = subst IsSession (sym is) (record {
   matchers = subst (λ ts. AreMatchers s.syntax s.options (map (λ text. text.items) ts) t.matchers.items) (sym texts) (AreMatchers-same s.syntax s.options _ s.matchers.items t.matchers.items old.matchers same.same_expressions same.same_wholes);
@@ -47,10 +47,9 @@ module _ (s : Inside) (old : IsSession s) (lines : List Text) (none : All HasNoN
   file_steps name = takes_lines (AddFile name lines) (inputs_of s) (with_files ((inputs_of s).files ++ whole_file name lines ∷ []) (inputs_of s)) s.matchers.items lines begun ended (inl (none, refl)) refl old.matchers refl steps
 
 -- memory is needed
-pub needs_for_lines : (old : Inputs) (k start count : ℕ) (lines : List Text) → HasPlace old.files k start count → All HasNoNewline lines → (lines ≡ [] → ⊥) → NeedsNoMemory (Splice k start count lines) old → ⊥
-needs_for_lines old k start count lines place none some (inl empty) = some empty
-needs_for_lines old k start count lines place none some (inr (inl nowhere)) = nowhere place
-needs_for_lines old k start count lines place none some (inr (inr newline)) = newline none
+pub needs_for_lines : (old : Inputs) (k start count : ℕ) (lines : List Text) → HasPlace old.files k start count → (lines ≡ [] → ⊥) → NeedsNoMemory (Splice k start count lines) old → ⊥
+needs_for_lines old k start count lines place some (inl empty) = some empty
+needs_for_lines old k start count lines place some (inr nowhere) = nowhere place
 
 -- if `map f` of a list is empty, so is the list
 pub empty_map : {X Y : Type 0} (f : X → Y) (xs : List X) → map f xs ≡ [] → xs ≡ []

@@ -1,5 +1,5 @@
 -- Marks that fit their files, and the marks that edits leave.
-use Rattle.grep_session.proofs.Prelude.{◌≡◌, ℕ, zero, suc, ◌+◌, ◌-◌, ◌<◌, ◌≤◌, List, [], ◌∷◌, ◌++◌, length, map, take, drop, get_or, Bool, Result, Ok, Err, refl, sym, ap, subst, ◌∙◌, inl, inr, arith, set, length-take-le, length-append, length-drop, length-map, map-append, AllZip, remove, splice, slice_set, Text, File, file_at, KeptFile, kept_file, spliced, Marked, Splices, whole_mark, new_mark, mark_at, lost, known_marks, IsFit, AreFit, SplicesMark, Watched, MarksAfter, MarksGiven, Splice, LosesMarks, LosesAll, EditFault, Syntax, Flag, SetSyntax, SetFlag, option_of}
+use Rattle.grep_session.proofs.Prelude.{◌≡◌, ℕ, zero, suc, ◌+◌, ◌-◌, ◌<◌, ◌≤◌, List, [], ◌∷◌, ◌++◌, length, map, take, drop, get_or, Bool, Result, Ok, Err, refl, sym, ap, subst, ◌∙◌, inr, arith, set, length-take-le, length-append, length-drop, length-map, map-append, AllZip, remove, splice, slice_set, Text, File, file_at, KeptFile, kept_file, spliced, Marked, Splices, whole_mark, new_mark, mark_at, lost, known_marks, IsFit, AreFit, SplicesMark, Watched, MarksAfter, MarksGiven, Splice, LosesMarks, LosesAll, EditFault, Syntax, Flag, SetSyntax, SetFlag, option_of}
 use Rattle.std.proofs.lemmas.List.{get_or-map, get_or-set_same, length-set}
 use Rattle.grep_session.proofs.lemmas.DroppingLemmas.{AllZip-remove}
 

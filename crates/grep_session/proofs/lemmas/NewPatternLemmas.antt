@@ -1,5 +1,5 @@
 -- Patterns are added: the matchers after that, and the steps that it takes.
-use Rattle.grep_session.proofs.Prelude.{◌≡◌, ℕ, ◌+◌, ◌<◌, ◌≤◌, List, [], ◌∷◌, ◌++◌, Err, All, inl, inr, length, map, take, drop, refl, sym, ap, subst, ◌∙◌, arith, map-append, length-append, length-map, All-append, take-map, drop-map, Syntax, Text, Expression, list_of, IsMeant, Matcher, IsReadable, matched_expression, room_of, wants_whole, Steps, Options, Inputs, AreMeant, Added, EditFault, IsSought, HasChanged, SearchesEach, SameMatchers, IsSession, inputs_of, Inside, AddPatterns, EditGives, with_patterns, most_patterns, AreMatchers, RefusesFirst, TakesSteps, all_lines, pairs_cost}
+use Rattle.grep_session.proofs.Prelude.{◌≡◌, ℕ, ◌+◌, ◌<◌, ◌≤◌, List, [], ◌∷◌, ◌++◌, Err, All, inl, inr, length, map, take, drop, refl, sym, ap, subst, ◌∙◌, arith, map-append, length-append, length-map, All-append, take-map, drop-map, Syntax, Text, Expression, list_of, IsMeant, Matcher, IsReadable, matched_expression, room_of, wants_whole, Steps, Options, Inputs, AreMeant, Added, EditFault, IsSought, HasChanged, SearchesEach, AreSame, IsSession, inputs_of, Inside, AddPatterns, EditGives, with_patterns, most_patterns, AreMatchers, RefusesFirst, TakesSteps, all_lines, pairs_cost}
 use Rattle.grep_session.proofs.lemmas.StepLemmas.{chosen_all, takes_touched}
 use Rattle.grep_core.proofs.lemmas.MatcherLemmas.{AllZip-append}
 
@@ -68,7 +68,7 @@ module _ (s : Inside) (list : Text) (old : IsSession s) (first : ℕ) (at : firs
       }
 
   -- the added matchers are removed again
-  pub bounded_off : (more all now new : List Matcher) → all ≡ s.matchers.items ++ more → SameMatchers matched_expression wants_whole room_of all now → new ≡ take first now → SameMatchers matched_expression wants_whole room_of s.matchers.items new
+  pub bounded_off : (more all now new : List Matcher) → all ≡ s.matchers.items ++ more → AreSame all now → new ≡ take first now → AreSame s.matchers.items new
   bounded_off more all now new both same put = record {
     same_expressions = taken_off matched_expression s.matchers.items more all first both at now new same.same_expressions put;
     same_wholes = taken_off wants_whole s.matchers.items more all first both at now new same.same_wholes put;

@@ -1,5 +1,5 @@
 -- A pattern is removed where parts are kept: the steps that this takes, and how it is put back.
-use Rattle.grep_session.proofs.Prelude.{◌≡◌, ℕ, zero, suc, ◌+◌, ◌<◌, List, [], ◌∷◌, ◌++◌, inl, inr, length, map, take, drop, get_or, refl, sym, ap, subst, ◌∙◌, arith, map-append, length-map, AllZip, remove, insert, take-map, drop-map, Expression, Matches, IsMeant, Steps, IfHolds, Chosen, Inputs, AreMeant, Matched, Matcher, matched_expression, room_of, wants_whole, Dropped, HasChanged, SearchesEach, SameMatchers, DropPattern, with_patterns, TakesSteps, parts_alone, all_lines, Inside, IsSession, inputs_of}
+use Rattle.grep_session.proofs.Prelude.{◌≡◌, ℕ, zero, suc, ◌<◌, List, [], ◌∷◌, ◌++◌, inl, inr, length, map, take, drop, get_or, refl, sym, ap, subst, ◌∙◌, arith, map-append, length-map, AllZip, remove, insert, take-map, drop-map, Expression, Matches, IsMeant, Steps, IfHolds, Chosen, Inputs, AreMeant, Matched, Matcher, matched_expression, room_of, wants_whole, Dropped, HasChanged, SearchesEach, AreSame, DropPattern, with_patterns, TakesSteps, parts_alone, all_lines, Inside, IsSession, inputs_of}
 use Rattle.std.proofs.lemmas.List.{get_or-map}
 use Rattle.re_syntax.proofs.lemmas.Decisions.{Any-first}
 use Rattle.re_syntax.proofs.lemmas.SomeOfJoined.{Any-single}
@@ -63,7 +63,7 @@ put_back_same f xs now new p gone h is left put =
     ap (map f) put ∙ map-insert f now p gone ∙ ap (λ l. insert l p (f gone)) left ∙ insert_remove (map f xs) p (f gone) (omega (arith, h, length-map xs f)) at
 
 -- matchers that are the same but for one that was removed, after it is put back
-pub bounded_back : (xs left now new : List Matcher) (p : ℕ) (gone : Matcher) → p < length xs → gone ≡ get_or xs p gone → left ≡ remove xs p → SameMatchers matched_expression wants_whole room_of left now → new ≡ insert now p gone → SameMatchers matched_expression wants_whole room_of xs new
+pub bounded_back : (xs left now new : List Matcher) (p : ℕ) (gone : Matcher) → p < length xs → gone ≡ get_or xs p gone → left ≡ remove xs p → AreSame left now → new ≡ insert now p gone → AreSame xs new
 bounded_back xs left now new p gone h is rest same put = record {
   same_expressions = put_back_same matched_expression xs now new p gone h is (same.same_expressions ∙ map-remove matched_expression xs left p rest) put;
   same_wholes = put_back_same wants_whole xs now new p gone h is (same.same_wholes ∙ map-remove wants_whole xs left p rest) put;

@@ -1,5 +1,5 @@
 -- Another pattern is put in the place of one: the matchers after that, and the steps that it takes.
-use Rattle.grep_session.proofs.Prelude.{Bool, true, false, false≢true, MatchBool, Matches, Matched, Chosen, IfHolds, IsSought, IsNarrower, Narrows, ◌≡◌, ℕ, zero, suc, ◌<◌, ◌≤◌, List, [], ◌∷◌, Ok, Err, All, All-cons, All-head, All-nil, All-set, inl, inr, length, map, get_or, refl, sym, ap, subst, ◌∙◌, arith, set, map-set, length-map, slice_set, Text, Expression, IsMeant, Matcher, IsReadable, AllAnswer, matched_expression, room_of, wants_whole, Steps, Inputs, AreMeant, Replaced, EditFault, HasChanged, SearchesEach, SameMatchers, IsSession, inputs_of, Inside, Applies, ChangePattern, EditGives, with_patterns, AreMatchers, RefusesFirst, TakesSteps, KeepAtMost, all_lines}
+use Rattle.grep_session.proofs.Prelude.{Bool, true, false, false≢true, MatchBool, Matches, Matched, Chosen, IfHolds, IsSought, IsNarrower, Narrows, ◌≡◌, ℕ, zero, suc, ◌<◌, ◌≤◌, List, [], ◌∷◌, Ok, Err, All, All-cons, All-head, All-nil, All-set, inl, inr, length, map, get_or, refl, sym, ap, subst, ◌∙◌, arith, set, map-set, length-map, slice_set, Text, Expression, IsMeant, Matcher, IsReadable, AllAnswer, matched_expression, room_of, wants_whole, Steps, Inputs, AreMeant, Replaced, EditFault, HasChanged, SearchesEach, AreSame, IsSession, inputs_of, Inside, Applies, ChangePattern, EditGives, with_patterns, AreMatchers, RefusesFirst, TakesSteps, KeepAtMost, all_lines}
 use Rattle.std.proofs.lemmas.List.{get_or-map, length-set, set-get_or}
 use Rattle.re_syntax.proofs.lemmas.Decisions.{Any-first}
 use Rattle.re_syntax.proofs.lemmas.SomeOfJoined.{Any-single}
@@ -86,7 +86,7 @@ back_same f xs all now new p one gone h is put same back =
     ∙ ap (set (map f xs) p) at ∙ set-get_or (map f xs) p (f gone)
 
 -- the matchers are the same as before
-pub bounded_again : (xs all now new : List Matcher) (p : ℕ) (one gone : Matcher) → p < length xs → gone ≡ get_or xs p gone → all ≡ slice_set xs p one → SameMatchers matched_expression wants_whole room_of all now → new ≡ slice_set now p gone → SameMatchers matched_expression wants_whole room_of xs new
+pub bounded_again : (xs all now new : List Matcher) (p : ℕ) (one gone : Matcher) → p < length xs → gone ≡ get_or xs p gone → all ≡ slice_set xs p one → AreSame all now → new ≡ slice_set now p gone → AreSame xs new
 bounded_again xs all now new p one gone h is put same back = record {
   same_expressions = back_same matched_expression xs all now new p one gone h is put same.same_expressions back;
   same_wholes = back_same wants_whole xs all now new p one gone h is put same.same_wholes back;

@@ -1,5 +1,5 @@
 -- A pattern is replaced, and the numbers of those that match a line stay right.
-use Rattle.grep_session.proofs.Prelude.{◌≡◌, ℕ, zero, suc, ◌+◌, ◌<◌, ◌≤◌, Bool, List, [], ◌∷◌, ◌++◌, inl, inr, length, take, drop, filter, get_or, nat_lt, cond, Any, refl, sym, ap, subst, ◌∙◌, arith, set, Text, Expression, Holds, Matches, IsFound, ArePartsFrom, IfHolds, AreMatching, length-take}
+use Rattle.grep_session.proofs.Prelude.{◌≡◌, ℕ, zero, suc, ◌+◌, ◌<◌, ◌≤◌, Bool, List, [], ◌∷◌, ◌++◌, inl, inr, length, take, drop, filter, get_or, nat_lt, cond, Any, sym, ap, subst, ◌∙◌, arith, set, Text, Expression, Holds, Matches, IsFound, ArePartsFrom, IfHolds, AreMatching, length-take}
 use Rattle.std.proofs.lemmas.List.{take_more_set}
 use Rattle.std.proofs.Math.Seq.{drop-append_seam}
 use Rattle.re_syntax.proofs.lemmas.Decisions.{Any-first, Any-later, Any-cases, Any-none}

@@ -1,4 +1,4 @@
-use Rattle.grep_session.proofs.Prelude.{◌≡◌, ◌≤◌, map, take, take_all, sym, refl, subst, arith, [], AllAnswer, most_patterns, IsWithin, SearchesEach, WasFileKept, chunks_of, chunks_of_files, lines_of_files, AddsColumns, kept_file}
+use Rattle.grep_session.proofs.Prelude.{◌≡◌, ◌≤◌, map, take, take_all, sym, refl, subst, arith, [], AllAnswer, most_patterns, IsWithin, SearchesEach, WasFileKept, chunks_of, chunks_of_files, lines_of_files, AddsColumns, kept_file, matched_expression}
 use Rattle.re_search.proofs.lemmas.KeptMatchers.{none_asked, same_over}
 use Rattle.grep_core.proofs.lemmas.CostLaws.{same_length}
 use Rattle.grep_session.proofs.lemmas.FoundLemmas.{adds_columns, adds_no_column, chunks_on, no_chunks, its_chunks, its_lines, was_kept}
@@ -7,32 +7,32 @@ use Rattle.grep_session.proofs.lemmas.StepLemmas.{not_searched, each_both, each_
 use Rattle.grep_session.proofs.columns.find_all.Goals as goal
 
 pub loop-file-init : goal.loop-file-init
-loop-file-init g c = record {
-  found = subst (AddsColumns c.args.change (map g.M.LineMatch.expression c.args.matchers.now) c.args.search.now.options [] []) (sym c.new-found.ensures.items) (adds_no_column _ _ _ []);
+loop-file-init c = record {
+  found = subst (AddsColumns c.args.change (map matched_expression c.args.matchers.now) c.args.search.now.options [] []) (sym c.new-found.ensures.items) (adds_no_column _ _ _ []);
   same_matchers = none_asked;
   steps = λ before changed h k. not_searched _ _ _ _ _ _;
 }
 
 pub find_in_lines-requires-clause-within : goal.find_in_lines-requires-clause-within
-find_in_lines-requires-clause-within g c = subst (IsWithin c.args.change) (sym (same_length g.M.LineMatch.expression _ _ c.loop-file.invariant.same_matchers.same_expressions)) c.requires.within
+find_in_lines-requires-clause-within c = subst (IsWithin c.args.change) (sym (same_length matched_expression _ _ c.loop-file.invariant.same_matchers.same_expressions)) c.requires.within
 
 pub returns-in_err-find_in_lines-clause-steps : goal.returns-in_err-find_in_lines-clause-steps
-returns-in_err-find_in_lines-clause-steps g c = λ before changed h k.
+returns-in_err-find_in_lines-clause-steps c = λ before changed h k.
     let s = c.loop-file.invariant in
     let x = c.file-item.result in
     let spent = rw s.same_matchers.same_expressions at c.find_in_lines.ensures.steps in
     each_front _ _ _ _ _ _ _ _ _
     (files_with_parts kept_file c.args.files.now c.loop-file.file-index x c.loop-file-test.true c.file-item.is)
     (each_both _ _ _ _ _ _ _ _ _ _ refl (s.steps before changed h k)
-    (subst (λ ls. SearchesEach c.args.change changed (map g.M.LineMatch.expression c.args.matchers.now) c.args.search.now.options ls c.loop-file.meter c.find_in_lines.new.meter) (sym (its_lines x c.in-Some.lines c.in-Some.is)) (spent before changed h (was_kept x c.in-Some.lines c.in-Some.is c.args.change before c.args.search.now.options (kept_at (WasFileKept c.args.change before c.args.search.now.options) c.args.files.now c.loop-file.file-index x c.loop-file-test.true c.file-item.is k)))))
+    (subst (λ ls. SearchesEach c.args.change changed (map matched_expression c.args.matchers.now) c.args.search.now.options ls c.loop-file.meter c.find_in_lines.new.meter) (sym (its_lines x c.in-Some.lines c.in-Some.is)) (spent before changed h (was_kept x c.in-Some.lines c.in-Some.is c.args.change before c.args.search.now.options (kept_at (WasFileKept c.args.change before c.args.search.now.options) c.args.files.now c.loop-file.file-index x c.loop-file-test.true c.file-item.is k)))))
 
 pub loop-file-preserved : goal.loop-file-preserved
-loop-file-preserved g c =
+loop-file-preserved c =
     let s = c.loop-file.invariant in
     let x = c.file-item.result in
     let files = c.args.files.now in
     let i = c.loop-file.file-index in
-    let es = map g.M.LineMatch.expression c.args.matchers.now in
+    let es = map matched_expression c.args.matchers.now in
     let options = c.args.search.now.options in
     let next = files_next kept_file files i x c.loop-file-test.true c.file-item.is in
     let spent = rw s.same_matchers.same_expressions at c.find_in_lines.ensures.steps in
@@ -47,12 +47,12 @@ loop-file-preserved g c =
     }
 
 pub loop-file-preserved-in_default : goal.loop-file-preserved-in_default
-loop-file-preserved-in_default g c =
+loop-file-preserved-in_default c =
     let s = c.loop-file.invariant in
     let x = c.file-item.result in
     let files = c.args.files.now in
     let i = c.loop-file.file-index in
-    let es = map g.M.LineMatch.expression c.args.matchers.now in
+    let es = map matched_expression c.args.matchers.now in
     let options = c.args.search.now.options in
     let found = c.loop-file.found.items in
     let none = subst (λ cs. AddsColumns c.args.change es options cs found found) (sym (no_chunks x c.in_default.is)) (adds_no_column c.args.change es options found) in
@@ -64,20 +64,20 @@ loop-file-preserved-in_default g c =
     }
 
 pub returns-clause-ok : goal.returns-clause-ok
-returns-clause-ok g c =
+returns-clause-ok c =
     let all : take c.loop-file.file-index c.args.files.now ≡ c.args.files.now = take_all _ _ (omega arith) in
-    subst (λ files. AddsColumns c.args.change (map g.M.LineMatch.expression c.args.matchers.now) c.args.search.now.options (chunks_of_files files) [] c.loop-file.found.items) all c.loop-file.invariant.found
+    subst (λ files. AddsColumns c.args.change (map matched_expression c.args.matchers.now) c.args.search.now.options (chunks_of_files files) [] c.loop-file.found.items) all c.loop-file.invariant.found
 
 pub returns-clause-steps : goal.returns-clause-steps
-returns-clause-steps g c = λ before changed h k.
+returns-clause-steps c = λ before changed h k.
     let all : take c.loop-file.file-index c.args.files.now ≡ c.args.files.now = take_all _ _ (omega arith) in
-    subst (λ files. SearchesEach c.args.change changed (map g.M.LineMatch.expression c.args.matchers.now) c.args.search.now.options (lines_of_files (map kept_file files)) c.args.meter.now c.loop-file.meter) all (c.loop-file.invariant.steps before changed h k)
+    subst (λ files. SearchesEach c.args.change changed (map matched_expression c.args.matchers.now) c.args.search.now.options (lines_of_files (map kept_file files)) c.args.meter.now c.loop-file.meter) all (c.loop-file.invariant.steps before changed h k)
 
 pub find_in_lines-requires-clause-whole : goal.find_in_lines-requires-clause-whole
-find_in_lines-requires-clause-whole g c = subst (AllAnswer c.args.search.now.options.line_regexp) (sym c.loop-file.invariant.same_matchers.same_wholes) c.requires.whole
+find_in_lines-requires-clause-whole c = subst (AllAnswer c.args.search.now.options.line_regexp) (sym c.loop-file.invariant.same_matchers.same_wholes) c.requires.whole
 
 pub find_in_lines-requires-clause-few : goal.find_in_lines-requires-clause-few
-find_in_lines-requires-clause-few g c = subst (λ n. n ≤ most_patterns) (sym (same_length g.M.LineMatch.expression _ _ c.loop-file.invariant.same_matchers.same_expressions)) c.requires.few
+find_in_lines-requires-clause-few c = subst (λ n. n ≤ most_patterns) (sym (same_length matched_expression _ _ c.loop-file.invariant.same_matchers.same_expressions)) c.requires.few
 
 pub returns-in_err-find_in_lines-clause-same_matchers : goal.returns-in_err-find_in_lines-clause-same_matchers
-returns-in_err-find_in_lines-clause-same_matchers g c = same_over c.find_in_lines.ensures.same_matchers c.loop-file.invariant.same_matchers
+returns-in_err-find_in_lines-clause-same_matchers c = same_over c.find_in_lines.ensures.same_matchers c.loop-file.invariant.same_matchers

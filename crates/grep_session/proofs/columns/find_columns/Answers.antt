@@ -1,4 +1,4 @@
-use Rattle.grep_session.proofs.Prelude.{All, map, sym, subst, AllZip, SameMatchers, matched_expression, wants_whole, room_of, IsFileKept, IsColumn, chunks_of_files, FitsColumn}
+use Rattle.grep_session.proofs.Prelude.{All, map, sym, subst, AllZip, AreSame, matched_expression, IsFileKept, IsColumn, chunks_of_files, FitsColumn}
 use Rattle.grep_core.proofs.lemmas.CostLaws.{same_length}
 use Rattle.grep_session.proofs.lemmas.FoundLemmas.{files_by_chunk}
 use Rattle.grep_session.proofs.lemmas.AddingLemmas.{all_back}
@@ -7,12 +7,12 @@ use Rattle.grep_session.proofs.columns.find_columns.Goals as goal
 pub returns-in_err-found-clause-same_matchers : goal.returns-in_err-found-clause-same_matchers
 returns-in_err-found-clause-same_matchers c =
     let same = rw c.deref_mut.ensures.value at c.find_all.ensures.same_matchers in
-    subst (SameMatchers matched_expression wants_whole room_of c.args.matchers.now.items) (sym (all_back c.args.matchers.now.len c.args.matchers.now.items c.find_all.new.matchers c.args.matchers.now.ok.0 (same_length matched_expression _ _ same.same_expressions))) same
+    subst (AreSame c.args.matchers.now.items) (sym (all_back c.args.matchers.now.len c.args.matchers.now.items c.find_all.new.matchers c.args.matchers.now.ok.0 (same_length matched_expression _ _ same.same_expressions))) same
 
 pub returns-clause-same_matchers : goal.returns-clause-same_matchers
 returns-clause-same_matchers c =
     let same = rw c.deref_mut.ensures.value at c.find_all.ensures.same_matchers in
-    subst (SameMatchers matched_expression wants_whole room_of c.args.matchers.now.items) (sym (all_back c.args.matchers.now.len c.args.matchers.now.items c.find_all.new.matchers c.args.matchers.now.ok.0 (same_length matched_expression _ _ same.same_expressions))) same
+    subst (AreSame c.args.matchers.now.items) (sym (all_back c.args.matchers.now.len c.args.matchers.now.items c.find_all.new.matchers c.args.matchers.now.ok.0 (same_length matched_expression _ _ same.same_expressions))) same
 
 pub put_columns-requires : goal.put_columns-requires
 put_columns-requires c =

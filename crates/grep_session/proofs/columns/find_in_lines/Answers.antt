@@ -1,4 +1,4 @@
-use Rattle.grep_session.proofs.Prelude.{◌≡◌, ◌<◌, ◌≤◌, [], ◌∷◌, ◌++◌, All, length, map, take, get_or, sym, ap, subst, ◌∙◌, arith, take_all, AllAnswer, most_patterns, all_of, line_text, IsWithin, SearchesEach, WasKept, AddsColumns}
+use Rattle.grep_session.proofs.Prelude.{◌≡◌, ◌<◌, ◌≤◌, [], ◌∷◌, ◌++◌, All, length, map, take, get_or, sym, ap, subst, ◌∙◌, arith, take_all, AllAnswer, most_patterns, all_of, line_text, IsWithin, SearchesEach, WasKept, AddsColumns, matched_expression}
 use Rattle.grep_core.proofs.lemmas.CostLaws.{same_length}
 use Rattle.grep_session.proofs.lemmas.FoundLemmas.{adds_no_column, adds_columns, adds_column, all_by_chunk, chunks_next, texts_next, texts_rest}
 use Rattle.re_search.proofs.lemmas.KeptMatchers.{none_asked, same_over}
@@ -6,23 +6,23 @@ use Rattle.grep_session.proofs.lemmas.StepLemmas.{not_searched, each_both, each_
 use Rattle.grep_session.proofs.columns.find_in_lines.Goals as goal
 
 pub loop-i-init : goal.loop-i-init
-loop-i-init g c = record {
+loop-i-init c = record {
   found = adds_no_column _ _ _ _;
   same_matchers = none_asked;
   steps = λ before changed h k. not_searched _ _ _ _ _ _;
 }
 
 pub find_in_chunk-requires-clause-whole : goal.find_in_chunk-requires-clause-whole
-find_in_chunk-requires-clause-whole g c = subst (AllAnswer c.args.search.now.options.line_regexp) (sym c.loop-i.invariant.same_matchers.same_wholes) c.requires.whole
+find_in_chunk-requires-clause-whole c = subst (AllAnswer c.args.search.now.options.line_regexp) (sym c.loop-i.invariant.same_matchers.same_wholes) c.requires.whole
 
 pub find_in_chunk-requires-clause-few : goal.find_in_chunk-requires-clause-few
-find_in_chunk-requires-clause-few g c = subst (λ n. n ≤ most_patterns) (sym (same_length g.M.LineMatch.expression _ _ c.loop-i.invariant.same_matchers.same_expressions)) c.requires.few
+find_in_chunk-requires-clause-few c = subst (λ n. n ≤ most_patterns) (sym (same_length matched_expression _ _ c.loop-i.invariant.same_matchers.same_expressions)) c.requires.few
 
 pub find_in_chunk-requires-clause-within : goal.find_in_chunk-requires-clause-within
-find_in_chunk-requires-clause-within g c = subst (IsWithin c.args.change) (sym (same_length g.M.LineMatch.expression _ _ c.loop-i.invariant.same_matchers.same_expressions)) c.requires.within
+find_in_chunk-requires-clause-within c = subst (IsWithin c.args.change) (sym (same_length matched_expression _ _ c.loop-i.invariant.same_matchers.same_expressions)) c.requires.within
 
 pub returns-in_err-one-clause-steps : goal.returns-in_err-one-clause-steps
-returns-in_err-one-clause-steps g c = λ before changed h k.
+returns-in_err-one-clause-steps c = λ before changed h k.
     let s = c.loop-i.invariant in
     let i = c.loop-i.i in
     let chunks = c.args.lines.now in
@@ -34,7 +34,7 @@ returns-in_err-one-clause-steps g c = λ before changed h k.
     each_front _ _ _ _ _ _ _ _ _ (texts_rest chunks i inside) (each_both _ _ _ _ _ _ _ _ _ _ both (s.steps before changed h k) (spent before changed h kept))
 
 pub returns-in_err-push-clause-steps : goal.returns-in_err-push-clause-steps
-returns-in_err-push-clause-steps g c = λ before changed h k.
+returns-in_err-push-clause-steps c = λ before changed h k.
     let s = c.loop-i.invariant in
     let i = c.loop-i.i in
     let chunks = c.args.lines.now in
@@ -46,11 +46,11 @@ returns-in_err-push-clause-steps g c = λ before changed h k.
     each_front _ _ _ _ _ _ _ _ _ (texts_rest chunks i inside) (each_both _ _ _ _ _ _ _ _ _ _ both (s.steps before changed h k) (spent before changed h kept))
 
 pub loop-i-preserved : goal.loop-i-preserved
-loop-i-preserved g c =
+loop-i-preserved c =
     let s = c.loop-i.invariant in
     let i = c.loop-i.i in
     let chunks = c.args.lines.now in
-    let es = map g.M.LineMatch.expression c.args.matchers.now in
+    let es = map matched_expression c.args.matchers.now in
     let options = c.args.search.now.options in
     let inside : i < length chunks = omega (arith, c.loop-i-test.true, c.chunk_count-i-end.ensures) in
     let chunk : c.chunk.result.now ≡ get_or chunks i [] = c.chunk.ensures in
@@ -68,11 +68,11 @@ loop-i-preserved g c =
     }
 
 pub returns-clause-ok : goal.returns-clause-ok
-returns-clause-ok g c =
+returns-clause-ok c =
     let all : take c.loop-i.i c.args.lines.now ≡ c.args.lines.now = take_all _ _ (omega (arith, c.loop-i-test.false, c.chunk_count-i-end.ensures)) in
-    subst (λ cs. AddsColumns c.args.change (map g.M.LineMatch.expression c.args.matchers.now) c.args.search.now.options cs c.args.found.now.items c.loop-i.found.items) all c.loop-i.invariant.found
+    subst (λ cs. AddsColumns c.args.change (map matched_expression c.args.matchers.now) c.args.search.now.options cs c.args.found.now.items c.loop-i.found.items) all c.loop-i.invariant.found
 
 pub returns-clause-steps : goal.returns-clause-steps
-returns-clause-steps g c = λ before changed h k.
+returns-clause-steps c = λ before changed h k.
     let all : take c.loop-i.i c.args.lines.now ≡ c.args.lines.now = take_all _ _ (omega (arith, c.loop-i-test.false, c.chunk_count-i-end.ensures)) in
-    subst (λ cs. SearchesEach c.args.change changed (map g.M.LineMatch.expression c.args.matchers.now) c.args.search.now.options (map line_text (all_of cs)) c.args.meter.now c.loop-i.meter) all (c.loop-i.invariant.steps before changed h k)
+    subst (λ cs. SearchesEach c.args.change changed (map matched_expression c.args.matchers.now) c.args.search.now.options (map line_text (all_of cs)) c.args.meter.now c.loop-i.meter) all (c.loop-i.invariant.steps before changed h k)

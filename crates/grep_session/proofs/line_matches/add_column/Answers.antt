@@ -1,4 +1,4 @@
-use Rattle.grep_session.proofs.Prelude.{◌+◌, ◌≤◌, length, map, Some, sym, ap, subst, ◌∙◌, arith, refl, length-map, Matches, Text, terminated, AddsAtMost, line_text, IsNextLine}
+use Rattle.grep_session.proofs.Prelude.{◌+◌, ◌≤◌, length, map, Some, sym, ap, subst, ◌∙◌, arith, refl, length-map, Matches, Text, terminated, AddsAtMost, line_text, IsNextLine, matched_expression, wants_whole}
 use Rattle.re_runs.proofs.lemmas.NextLines.{block_lines}
 use Rattle.re_meter.proofs.lemmas.Adding.{adds_both, adds_within, adds_none}
 use Rattle.grep_session.proofs.lemmas.ColumnLoops.{column_none, column_next, column_done}
@@ -6,9 +6,9 @@ use Rattle.grep_session.proofs.lemmas.NextLineLemmas.{none_from, next_there, pla
 use Rattle.grep_session.proofs.line_matches.add_column.Goals as goal
 
 pub loop-from-init : goal.loop-from-init
-loop-from-init g c = record {
+loop-from-init c = record {
   within = omega arith;
-  column = column_none (g.M.LineMatch.expression c.args.matcher.now) (g.M.LineMatch.whole c.args.matcher.now) c.args.number (map line_text c.args.chunk.now) c.args.matches.now;
+  column = column_none (matched_expression c.args.matcher.now) (wants_whole c.args.matcher.now) c.args.number (map line_text c.args.chunk.now) c.args.matches.now;
   same_expression = refl;
   same_whole = refl;
   same_room = refl;
@@ -16,21 +16,21 @@ loop-from-init g c = record {
 }
 
 pub overflow_add-start : goal.overflow_add-start
-overflow_add-start g c =
+overflow_add-start c =
     let texts = map line_text c.args.chunk.now in
     let within : c.loop-from.from ≤ length texts = omega (arith, c.loop-from.invariant.within, length-map c.args.chunk.now line_text) in
-    let small = place_fits (λ (line : Text). Matches (g.M.LineMatch.expression c.loop-from.matcher) line (g.M.LineMatch.whole c.loop-from.matcher)) texts c.loop-from.from _ c.in-Some.at c.text_from.ensures.lines c.in-Some.ensures.reported within _ c.start.ensures.start c.start.ensures.fits in
+    let small = place_fits (λ (line : Text). Matches (matched_expression c.loop-from.matcher) line (wants_whole c.loop-from.matcher)) texts c.loop-from.from _ c.in-Some.at c.text_from.ensures.lines c.in-Some.ensures.reported within _ c.start.ensures.start c.start.ensures.fits in
     omega (arith, small)
 
 pub returns-in_default-clause-ok : goal.returns-in_default-clause-ok
-returns-in_default-clause-ok g c =
+returns-in_default-clause-ok c =
     let i = c.loop-from.invariant in
-    let P = λ (line : Text). Matches (g.M.LineMatch.expression c.loop-from.matcher) line (g.M.LineMatch.whole c.loop-from.matcher) in
-    column_done (g.M.LineMatch.expression c.args.matcher.now) (g.M.LineMatch.whole c.args.matcher.now) c.args.number (map line_text c.args.chunk.now) c.loop-from.from _ _
+    let P = λ (line : Text). Matches (matched_expression c.loop-from.matcher) line (wants_whole c.loop-from.matcher) in
+    column_done (matched_expression c.args.matcher.now) (wants_whole c.args.matcher.now) c.args.number (map line_text c.args.chunk.now) c.loop-from.from _ _
     (rw (← i.same_expression, ← i.same_whole) (none_from P (map line_text c.args.chunk.now) c.loop-from.from _ c.text_from.ensures.lines c.in_default.ensures.reported)) i.column
 
 pub returns-in_default-clause-steps : goal.returns-in_default-clause-steps
-returns-in_default-clause-steps g c =
+returns-in_default-clause-steps c =
     let i = c.loop-from.invariant in
     let texts = map line_text c.args.chunk.now in
     let bytes = ap length (block_lines _ c.text_from.ensures.block) ∙ ap (λ ls. length (terminated ls)) c.text_from.ensures.lines in
@@ -38,43 +38,43 @@ returns-in_default-clause-steps g c =
     subst (λ n. AddsAtMost n c.args.meter.now c.next_matched.new.meter) (bytes_rest texts c.loop-from.from) (adds_both _ _ _ _ _ _ _ i.steps spent)
 
 pub returns-in_err-note-clause-steps : goal.returns-in_err-note-clause-steps
-returns-in_err-note-clause-steps g c =
+returns-in_err-note-clause-steps c =
     let i = c.loop-from.invariant in
     let texts = map line_text c.args.chunk.now in
     let from = c.loop-from.from in
     let k = c.number_at-k.result in
     let within : from ≤ length texts = omega (arith, i.within, length-map c.args.chunk.now line_text) in
-    let found = next_there (g.M.LineMatch.expression c.loop-from.matcher) (g.M.LineMatch.whole c.loop-from.matcher) texts _ from c.start.result (length c.args.chunk.now) k c.in-Some.at c.text_from.ensures.lines c.in-Some.ensures.reported within c.start.ensures.start (sym (length-map c.args.chunk.now line_text)) c.number_at-k.ensures.at in
+    let found = next_there (matched_expression c.loop-from.matcher) (wants_whole c.loop-from.matcher) texts _ from c.start.result (length c.args.chunk.now) k c.in-Some.at c.text_from.ensures.lines c.in-Some.ensures.reported within c.start.ensures.start (sym (length-map c.args.chunk.now line_text)) c.number_at-k.ensures.at in
     let spent = subst (λ n. AddsAtMost n c.loop-from.meter c.next_matched.new.meter) found.1 c.in-Some.ensures.steps in
     adds_within _ _ _ _ _ _ (bytes_within texts (k + 1)) (bytes_within texts (k + 1)) (subst (λ n. AddsAtMost n c.args.meter.now c.next_matched.new.meter) (bytes_up_to texts from (k + 1) (omega (arith, found.0.0))) (adds_both _ _ _ _ _ _ _ i.steps spent))
 
 pub overflow_add-from : goal.overflow_add-from
-overflow_add-from g c =
+overflow_add-from c =
     let texts = map line_text c.args.chunk.now in
     let within : c.loop-from.from ≤ length texts = omega (arith, c.loop-from.invariant.within, length-map c.args.chunk.now line_text) in
-    let found = next_there (g.M.LineMatch.expression c.loop-from.matcher) (g.M.LineMatch.whole c.loop-from.matcher) texts _ c.loop-from.from c.start.result (length c.args.chunk.now) c.number_at-k.result c.in-Some.at c.text_from.ensures.lines c.in-Some.ensures.reported within c.start.ensures.start (sym (length-map c.args.chunk.now line_text)) c.number_at-k.ensures.at in
+    let found = next_there (matched_expression c.loop-from.matcher) (wants_whole c.loop-from.matcher) texts _ c.loop-from.from c.start.result (length c.args.chunk.now) c.number_at-k.result c.in-Some.at c.text_from.ensures.lines c.in-Some.ensures.reported within c.start.ensures.start (sym (length-map c.args.chunk.now line_text)) c.number_at-k.ensures.at in
     omega (arith, found.0.1, length-map c.args.chunk.now line_text, c.len.ensures, c.len.type_inv)
 
 pub loop-from-smaller : goal.loop-from-smaller
-loop-from-smaller g c =
+loop-from-smaller c =
     let texts = map line_text c.args.chunk.now in
     let within : c.loop-from.from ≤ length texts = omega (arith, c.loop-from.invariant.within, length-map c.args.chunk.now line_text) in
-    let found = next_there (g.M.LineMatch.expression c.loop-from.matcher) (g.M.LineMatch.whole c.loop-from.matcher) texts _ c.loop-from.from c.start.result (length c.args.chunk.now) c.number_at-k.result c.in-Some.at c.text_from.ensures.lines c.in-Some.ensures.reported within c.start.ensures.start (sym (length-map c.args.chunk.now line_text)) c.number_at-k.ensures.at in
+    let found = next_there (matched_expression c.loop-from.matcher) (wants_whole c.loop-from.matcher) texts _ c.loop-from.from c.start.result (length c.args.chunk.now) c.number_at-k.result c.in-Some.at c.text_from.ensures.lines c.in-Some.ensures.reported within c.start.ensures.start (sym (length-map c.args.chunk.now line_text)) c.number_at-k.ensures.at in
     omega (arith, found.0.0, found.0.1, length-map c.args.chunk.now line_text)
 
 pub loop-from-preserved : goal.loop-from-preserved
-loop-from-preserved g c =
+loop-from-preserved c =
     let i = c.loop-from.invariant in
     let texts = map line_text c.args.chunk.now in
     let from = c.loop-from.from in
     let k = c.number_at-k.result in
     let within : from ≤ length texts = omega (arith, i.within, length-map c.args.chunk.now line_text) in
-    let found = next_there (g.M.LineMatch.expression c.loop-from.matcher) (g.M.LineMatch.whole c.loop-from.matcher) texts _ from c.start.result (length c.args.chunk.now) k c.in-Some.at c.text_from.ensures.lines c.in-Some.ensures.reported within c.start.ensures.start (sym (length-map c.args.chunk.now line_text)) c.number_at-k.ensures.at in
-    let next : IsNextLine (g.M.LineMatch.expression c.args.matcher.now) (g.M.LineMatch.whole c.args.matcher.now) texts from (Some k) = rw (← i.same_expression, ← i.same_whole) found.0 in
+    let found = next_there (matched_expression c.loop-from.matcher) (wants_whole c.loop-from.matcher) texts _ from c.start.result (length c.args.chunk.now) k c.in-Some.at c.text_from.ensures.lines c.in-Some.ensures.reported within c.start.ensures.start (sym (length-map c.args.chunk.now line_text)) c.number_at-k.ensures.at in
+    let next : IsNextLine (matched_expression c.args.matcher.now) (wants_whole c.args.matcher.now) texts from (Some k) = rw (← i.same_expression, ← i.same_whole) found.0 in
     let spent = subst (λ n. AddsAtMost n c.loop-from.meter c.next_matched.new.meter) found.1 c.in-Some.ensures.steps in
     record {
       within = omega (arith, next.1, length-map c.args.chunk.now line_text);
-      column = column_next (g.M.LineMatch.expression c.args.matcher.now) (g.M.LineMatch.whole c.args.matcher.now) c.args.number texts from k _ _ _ next c.in_ok-note.ensures.ok i.column;
+      column = column_next (matched_expression c.args.matcher.now) (wants_whole c.args.matcher.now) c.args.number texts from k _ _ _ next c.in_ok-note.ensures.ok i.column;
       same_expression = c.next_matched.ensures.same.same_expression ∙ i.same_expression;
       same_whole = c.next_matched.ensures.same.same_whole ∙ i.same_whole;
       same_room = c.next_matched.ensures.same.same_room ∙ i.same_room;
@@ -82,12 +82,12 @@ loop-from-preserved g c =
     }
 
 pub returns-clause-ok : goal.returns-clause-ok
-returns-clause-ok g c =
+returns-clause-ok c =
     let i = c.loop-from.invariant in
-    column_done (g.M.LineMatch.expression c.args.matcher.now) (g.M.LineMatch.whole c.args.matcher.now) c.args.number (map line_text c.args.chunk.now) c.loop-from.from _ _
+    column_done (matched_expression c.args.matcher.now) (wants_whole c.args.matcher.now) c.args.number (map line_text c.args.chunk.now) c.loop-from.from _ _
     (λ k low high. absurd (let no : ⊥ = omega (arith, low, high, length-map c.args.chunk.now line_text, c.loop-from-test.false) in no)) i.column
 
 pub returns-clause-steps : goal.returns-clause-steps
-returns-clause-steps g c =
+returns-clause-steps c =
     let within = bytes_within (map line_text c.args.chunk.now) c.loop-from.from in
     adds_within _ _ _ _ _ _ within within c.loop-from.invariant.steps

@@ -1,4 +1,4 @@
-use Rattle.grep_session.proofs.Prelude.{true, refl, IsAmong, IsWithin, is_narrower, ◌≡◌, ◌+◌, ◌-◌, ◌*◌, ◌<◌, ◌≤◌, length, map, take, drop, get_or, sym, ap, subst, ◌∙◌, length-take, arith, ◌∷◌, [], length-map, drop_all, terminated, AddsAtMost, line_text, AddsColumn, AddsLater, AreLeft, first_sought, past_sought}
+use Rattle.grep_session.proofs.Prelude.{true, refl, IsAmong, IsWithin, is_narrower, ◌≡◌, ◌+◌, ◌-◌, ◌*◌, ◌<◌, ◌≤◌, length, map, take, drop, get_or, sym, ap, subst, ◌∙◌, length-take, arith, ◌∷◌, [], length-map, drop_all, terminated, AddsAtMost, line_text, AddsColumn, AddsLater, AreLeft, first_sought, past_sought, matched_expression, wants_whole}
 use Rattle.re_search.proofs.lemmas.KeptMatchers.{none_asked, one_asked}
 use Rattle.re_search.proofs.lemmas.OneMatcherMore.{one_more, value_at, within}
 use Rattle.re_meter.proofs.lemmas.Adding.{adds_none}
@@ -8,12 +8,10 @@ use Rattle.grep_session.proofs.lemmas.NarrowLoops.{narrow_sought}
 use Rattle.grep_session.proofs.line_matches.find_matches.Goals as goal
 
 pub returns-in_err-matches-clause-narrow : goal.returns-in_err-matches-clause-narrow
-returns-in_err-matches-clause-narrow g c = λ on. adds_none _ _ _
+returns-in_err-matches-clause-narrow c = λ on. adds_none _ _ _
 
 pub returns-then-is_narrower-clause-ok : goal.returns-then-is_narrower-clause-ok
-returns-then-is_narrower-clause-ok g c =
-    let expression = g.M.LineMatch.expression in
-    let whole = g.M.LineMatch.whole in
+returns-then-is_narrower-clause-ok c =
     let old = c.args.matchers.now in
     let change = c.args.change in
     let texts = map line_text c.args.chunk.now in
@@ -23,30 +21,30 @@ returns-then-is_narrower-clause-ok g c =
     let size : c.len-size.result ≡ length texts = c.len-size.ensures ∙ sym (length-map c.args.chunk.now line_text) in
     let first = c.first_sought-first.result in
     let d = c.index-matchers-first.result in
-    let e = expression (get_or old first d) in
+    let e = matched_expression (get_or old first d) in
     let is : is_narrower change ≡ true = sym c.is_narrower.ensures ∙ c.if-is_narrower.true in
     let h : first < length old = omega (arith, narrower_within change is (length old) c.requires.within, c.first_sought-first.ensures) in
-    let many : length old ≡ length (map expression old) = sym (length-map old expression) in
-    let asks : whole (get_or old first d) ≡ entire = sym (value_at whole old old refl first d h entire) ∙ c.requires.whole first entire (within whole old old refl first d h).1 in
+    let many : length old ≡ length (map matched_expression old) = sym (length-map old matched_expression) in
+    let asks : wants_whole (get_or old first d) ≡ entire = sym (value_at wants_whole old old refl first d h entire) ∙ c.requires.whole first entire (within wants_whole old old refl first d h).1 in
     let column = subst (λ w. IsAmong e w texts first c.args.old.now → AddsColumn texts w first (e ∷ []) left mid) asks c.in_ok-narrow_column.ensures.ok in
     record {
       left = left;
       mid = mid;
       are_left = subst (λ n. AreLeft change n c.args.old.now left) size c.in_ok-matches.ensures;
-      sought = narrow_sought change texts entire (map expression old) c.args.old.now left mid first e is (subst (IsWithin change) many c.requires.within) (c.first_sought-first.ensures ∙ ap (first_sought change) many)
-          (sym (value_at expression old old refl first d h e)) c.in_ok-narrow_column.ensures.pairs column;
+      sought = narrow_sought change texts entire (map matched_expression old) c.args.old.now left mid first e is (subst (IsWithin change) many c.requires.within) (c.first_sought-first.ensures ∙ ap (first_sought change) many)
+          (sym (value_at matched_expression old old refl first d h e)) c.in_ok-narrow_column.ensures.pairs column;
       later = subst (λ n. AddsLater change n c.args.old.now mid c.add_later.new.matches) size c.in_ok-add_later.ensures;
     }
 
 pub returns-then-is_narrower-clause-same_matchers : goal.returns-then-is_narrower-clause-same_matchers
-returns-then-is_narrower-clause-same_matchers g c = one_asked none_asked c.first_sought-first.result c.index-matchers-first.result c.narrow_column.new.matcher c.narrow_column.ensures.same_expression c.narrow_column.ensures.same_whole c.narrow_column.ensures.same_room
+returns-then-is_narrower-clause-same_matchers c = one_asked none_asked c.first_sought-first.result c.index-matchers-first.result c.narrow_column.new.matcher c.narrow_column.ensures.same_expression c.narrow_column.ensures.same_whole c.narrow_column.ensures.same_room
 
 pub returns-then-is_narrower-clause-narrow : goal.returns-then-is_narrower-clause-narrow
-returns-then-is_narrower-clause-narrow g c = λ on. rw c.first_sought-first.ensures at c.narrow_column.ensures.steps
+returns-then-is_narrower-clause-narrow c = λ on. rw c.first_sought-first.ensures at c.narrow_column.ensures.steps
 
 pub loop-number-init : goal.loop-number-init
-loop-number-init g c =
-    let es = map g.M.LineMatch.expression c.args.matchers.now in
+loop-number-init c =
+    let es = map matched_expression c.args.matchers.now in
     let texts = map line_text c.args.chunk.now in
     let entire = c.args.search.now.options.line_regexp in
     let first = c.first_sought-first.result in
@@ -63,9 +61,7 @@ loop-number-init g c =
     }
 
 pub loop-number-preserved : goal.loop-number-preserved
-loop-number-preserved g c =
-    let expression = g.M.LineMatch.expression in
-    let whole = g.M.LineMatch.whole in
+loop-number-preserved c =
     let s = c.loop-number.invariant in
     let same = s.same_matchers in
     let old = c.args.matchers.now in
@@ -77,8 +73,8 @@ loop-number-preserved g c =
     let entire = c.args.search.now.options.line_regexp in
     let texts = map line_text c.args.chunk.now in
     let first = c.first_sought-first.result in
-    let asks : whole (get_or now k d) ≡ entire = sym (value_at whole old now same.same_wholes k d h entire) ∙ c.requires.whole k entire (within whole old now same.same_wholes k d h).1 in
-    let there : k < length (map expression old) = (within expression old now same.same_expressions k d h).1 in
+    let asks : wants_whole (get_or now k d) ≡ entire = sym (value_at wants_whole old now same.same_wholes k d h entire) ∙ c.requires.whole k entire (within wants_whole old now same.same_wholes k d h).1 in
+    let there : k < length (map matched_expression old) = (within matched_expression old now same.same_expressions k d h).1 in
     let next : k - first + 1 ≡ k + 1 - first = omega (arith, s.low) in
     let bytes = length (terminated texts) in
     record {
@@ -87,18 +83,18 @@ loop-number-preserved g c =
       found = (
         s.found.0,
         s.found.1,
-        columns_next texts entire first k (map expression old) (expression (get_or now k d)) s.found.0 c.loop-number.matches c.add_column.new.matches s.low there (one_more expression old now same.same_expressions k d h) s.found.2
-            (subst (λ w. AddsColumn texts w k (expression (get_or now k d) ∷ []) c.loop-number.matches c.add_column.new.matches) asks c.in_ok-add_column.ensures.ok),
+        columns_next texts entire first k (map matched_expression old) (matched_expression (get_or now k d)) s.found.0 c.loop-number.matches c.add_column.new.matches s.low there (one_more matched_expression old now same.same_expressions k d h) s.found.2
+            (subst (λ w. AddsColumn texts w k (matched_expression (get_or now k d) ∷ []) c.loop-number.matches c.add_column.new.matches) asks c.in_ok-add_column.ensures.ok),
       );
       same_matchers = one_asked same k d _ c.add_column.ensures.same_expression c.add_column.ensures.same_whole c.add_column.ensures.same_room;
       steps = subst (λ n. AddsAtMost (n * bytes) c.args.meter.now c.add_column.new.meter) next (adds_once_more (k - first) bytes _ _ _ s.steps c.add_column.ensures.steps);
     }
 
 pub returns-in_err-add_column-clause-same_matchers : goal.returns-in_err-add_column-clause-same_matchers
-returns-in_err-add_column-clause-same_matchers g c = one_asked c.loop-number.invariant.same_matchers c.loop-number.number c.index-matchers-number.result _ c.add_column.ensures.same_expression c.add_column.ensures.same_whole c.add_column.ensures.same_room
+returns-in_err-add_column-clause-same_matchers c = one_asked c.loop-number.invariant.same_matchers c.loop-number.number c.index-matchers-number.result _ c.add_column.ensures.same_expression c.add_column.ensures.same_whole c.add_column.ensures.same_room
 
 pub returns-in_err-add_column-clause-steps : goal.returns-in_err-add_column-clause-steps
-returns-in_err-add_column-clause-steps g c = λ plain.
+returns-in_err-add_column-clause-steps c = λ plain.
     let s = c.loop-number.invariant in
     let k = c.loop-number.number in
     let first = c.first_sought-first.result in
@@ -108,15 +104,15 @@ returns-in_err-add_column-clause-steps g c = λ plain.
     adds_for_more (k - first + 1) (past_sought c.args.change many - first_sought c.args.change many) bytes _ _ more (adds_once_more (k - first) bytes _ _ _ s.steps c.add_column.ensures.steps)
 
 pub returns-clause-ok : goal.returns-clause-ok
-returns-clause-ok g c =
+returns-clause-ok c =
     let s = c.loop-number.invariant in
-    let es = map g.M.LineMatch.expression c.args.matchers.now in
+    let es = map matched_expression c.args.matchers.now in
     let texts = map line_text c.args.chunk.now in
     let entire = c.args.search.now.options.line_regexp in
     let first = c.first_sought-first.result in
     let left = s.found.0 in
     let mid = c.loop-number.matches in
-    let many : length c.args.matchers.now ≡ length es = sym (length-map c.args.matchers.now g.M.LineMatch.expression) in
+    let many : length c.args.matchers.now ≡ length es = sym (length-map c.args.matchers.now matched_expression) in
     let size : c.len-size.result ≡ length texts = c.len-size.ensures ∙ sym (length-map c.args.chunk.now line_text) in
     let begins : first ≡ first_sought c.args.change (length es) = c.first_sought-first.ensures ∙ ap (first_sought c.args.change) many in
     let reached : c.loop-number.number ≡ c.past_sought-past.result = omega (arith, s.high, c.loop-number-test.false) in
@@ -131,27 +127,27 @@ returns-clause-ok g c =
     }
 
 pub returns-clause-steps : goal.returns-clause-steps
-returns-clause-steps g c = λ plain.
+returns-clause-steps c = λ plain.
     let s = c.loop-number.invariant in
     let many = length c.args.matchers.now in
     let last : c.loop-number.number - c.first_sought-first.result ≡ past_sought c.args.change many - first_sought c.args.change many = omega (arith, s.high, c.loop-number-test.false, c.first_sought-first.ensures, c.past_sought-past.ensures) in
     subst (λ n. AddsAtMost (n * length (terminated (map line_text c.args.chunk.now))) c.args.meter.now c.loop-number.meter) last s.steps
 
 pub returns-in_err-add_later-2-clause-steps : goal.returns-in_err-add_later-2-clause-steps
-returns-in_err-add_later-2-clause-steps g c = λ plain.
+returns-in_err-add_later-2-clause-steps c = λ plain.
     let s = c.loop-number.invariant in
     let many = length c.args.matchers.now in
     let last : c.loop-number.number - c.first_sought-first.result ≡ past_sought c.args.change many - first_sought c.args.change many = omega (arith, s.high, c.loop-number-test.false, c.first_sought-first.ensures, c.past_sought-past.ensures) in
     subst (λ n. AddsAtMost (n * length (terminated (map line_text c.args.chunk.now))) c.args.meter.now c.loop-number.meter) last s.steps
 
 pub returns-in_err-narrow_column-clause-same_matchers : goal.returns-in_err-narrow_column-clause-same_matchers
-returns-in_err-narrow_column-clause-same_matchers g c = one_asked none_asked c.first_sought-first.result c.index-matchers-first.result c.narrow_column.new.matcher c.narrow_column.ensures.same_expression c.narrow_column.ensures.same_whole c.narrow_column.ensures.same_room
+returns-in_err-narrow_column-clause-same_matchers c = one_asked none_asked c.first_sought-first.result c.index-matchers-first.result c.narrow_column.new.matcher c.narrow_column.ensures.same_expression c.narrow_column.ensures.same_whole c.narrow_column.ensures.same_room
 
 pub returns-in_err-narrow_column-clause-narrow : goal.returns-in_err-narrow_column-clause-narrow
-returns-in_err-narrow_column-clause-narrow g c = λ on. rw c.first_sought-first.ensures at c.narrow_column.ensures.steps
+returns-in_err-narrow_column-clause-narrow c = λ on. rw c.first_sought-first.ensures at c.narrow_column.ensures.steps
 
 pub returns-in_err-add_later-clause-same_matchers : goal.returns-in_err-add_later-clause-same_matchers
-returns-in_err-add_later-clause-same_matchers g c = one_asked none_asked c.first_sought-first.result c.index-matchers-first.result c.narrow_column.new.matcher c.narrow_column.ensures.same_expression c.narrow_column.ensures.same_whole c.narrow_column.ensures.same_room
+returns-in_err-add_later-clause-same_matchers c = one_asked none_asked c.first_sought-first.result c.index-matchers-first.result c.narrow_column.new.matcher c.narrow_column.ensures.same_expression c.narrow_column.ensures.same_whole c.narrow_column.ensures.same_room
 
 pub returns-in_err-add_later-clause-narrow : goal.returns-in_err-add_later-clause-narrow
-returns-in_err-add_later-clause-narrow g c = λ on. rw c.first_sought-first.ensures at c.narrow_column.ensures.steps
+returns-in_err-add_later-clause-narrow c = λ on. rw c.first_sought-first.ensures at c.narrow_column.ensures.steps

@@ -1,16 +1,16 @@
-use Rattle.grep_session.proofs.Prelude.{◌≡◌, ◌≤◌, length, map, line_text, AddsAtMost, AddsPairs, IsAmong, has_pair, marked_cost}
+use Rattle.grep_session.proofs.Prelude.{◌≡◌, ◌≤◌, length, map, line_text, AddsAtMost, AddsPairs, IsAmong, has_pair, marked_cost, matched_expression, wants_whole, room_of}
 use Rattle.grep_session.proofs.lemmas.ColumnLoops.{ColumnSoFar}
 use Rattle.grep_session.proofs.line_matches.narrow_column.Given as goal
 
 -- the lines before `k` were searched
 abbrev pub invariant-loop-k : goal.invariant-loop-k
-invariant-loop-k g l = record {
+invariant-loop-k l = record {
   high : l.k ≤ length l.chunk;
   pairs : AddsPairs (length (map line_text l.chunk)) l.fn.matches l.matches;
-  column : IsAmong (g.M.LineMatch.expression l.fn.matcher) (g.M.LineMatch.whole l.fn.matcher) (map line_text l.chunk) l.number l.old
-      → ColumnSoFar (g.M.LineMatch.expression l.fn.matcher) (g.M.LineMatch.whole l.fn.matcher) l.number (map line_text l.chunk) l.k l.fn.matches l.matches;
-  same_expression : g.M.LineMatch.expression l.matcher ≡ g.M.LineMatch.expression l.fn.matcher;
-  same_whole : g.M.LineMatch.whole l.matcher ≡ g.M.LineMatch.whole l.fn.matcher;
-  same_room : g.M.LineMatch.room l.matcher ≡ g.M.LineMatch.room l.fn.matcher;
+  column : IsAmong (matched_expression l.fn.matcher) (wants_whole l.fn.matcher) (map line_text l.chunk) l.number l.old
+      → ColumnSoFar (matched_expression l.fn.matcher) (wants_whole l.fn.matcher) l.number (map line_text l.chunk) l.k l.fn.matches l.matches;
+  same_expression : matched_expression l.matcher ≡ matched_expression l.fn.matcher;
+  same_whole : wants_whole l.matcher ≡ wants_whole l.fn.matcher;
+  same_room : room_of l.matcher ≡ room_of l.fn.matcher;
   steps : AddsAtMost (marked_cost (has_pair l.number l.old) 1 (map line_text l.chunk) l.k) l.fn.meter l.meter;
 }

@@ -1,4 +1,4 @@
-use Rattle.grep_session.proofs.Prelude.{◌≡◌, ◌+◌, ◌<◌, ◌≤◌, true, false, length, map, get_or, ap, ◌∙◌, arith, get_or_default, line_text, no_line, is_paired, is_parted, numbers_at, parting, has_new_parts}
+use Rattle.grep_session.proofs.Prelude.{◌≡◌, ◌+◌, ◌<◌, ◌≤◌, true, false, length, map, get_or, ap, ◌∙◌, arith, get_or_default, line_text, no_line, is_paired, is_parted, numbers_at, parting, has_new_parts, matched_expression}
 use Rattle.re_meter.proofs.lemmas.Adding.{adds_none}
 use Rattle.re_search.proofs.lemmas.KeptMatchers.{none_asked, same_over}
 use Rattle.grep_session.proofs.lemmas.MarkedLemmas.{marked_front, marked_next}
@@ -6,13 +6,13 @@ use Rattle.grep_session.proofs.lemmas.PartingLemmas.{line_cost, parts_by, parts_
 use Rattle.grep_session.proofs.line_parts.find_parts.Goals as goal
 
 pub returns-in_err-matched-clause-steps : goal.returns-in_err-matched-clause-steps
-returns-in_err-matched-clause-steps g c = adds_none _ _ _
+returns-in_err-matched-clause-steps c = adds_none _ _ _
 
 pub returns-in_err-anew-clause-steps : goal.returns-in_err-anew-clause-steps
-returns-in_err-anew-clause-steps g c = adds_none _ _ _
+returns-in_err-anew-clause-steps c = adds_none _ _ _
 
 pub loop-k-init : goal.loop-k-init
-loop-k-init g c = record {
+loop-k-init c = record {
   high = omega arith;
   few = omega (arith, ap length c.new-parts.ensures);
   found = λ i low. absurd (let no : ⊥ = omega (arith, low) in no);
@@ -21,12 +21,12 @@ loop-k-init g c = record {
 }
 
 pub loop-k-preserved : goal.loop-k-preserved
-loop-k-preserved g c =
+loop-k-preserved c =
     let s = c.loop-k.invariant in
     let k = c.loop-k.k in
     let lines = c.args.chunk.now in
     let options = c.args.search.now.options in
-    let es = map g.M.LineMatch.expression c.args.matchers.now in
+    let es = map matched_expression c.args.matchers.now in
     let matched = c.index.result.now in
     let anew = c.index-in-loop-k.result.now in
     let here : k < c.len-size.result = omega (arith, c.loop-k-test.true) in
@@ -44,12 +44,12 @@ loop-k-preserved g c =
     }
 
 pub returns-in_err-put_parts-clause-steps : goal.returns-in_err-put_parts-clause-steps
-returns-in_err-put_parts-clause-steps g c =
+returns-in_err-put_parts-clause-steps c =
     let s = c.loop-k.invariant in
     let k = c.loop-k.k in
     let lines = c.args.chunk.now in
     let options = c.args.search.now.options in
-    let es = map g.M.LineMatch.expression c.args.matchers.now in
+    let es = map matched_expression c.args.matchers.now in
     let matched = c.index.result.now in
     let anew = c.index-in-loop-k.result.now in
     let inside : k + 1 ≤ length lines = omega (arith, c.loop-k-test.true, c.len-size.ensures) in
@@ -62,10 +62,10 @@ returns-in_err-put_parts-clause-steps g c =
     marked_front mark (parting es options) (map line_text lines) (k + 1) _ _ _ inside (marked_next mark (parting es options) (map line_text lines) k _ _ _ _ (line_cost matched _ anew fresh (parting es options) lines k is_matched is_anew) s.steps spent)
 
 pub returns-clause-ok : goal.returns-clause-ok
-returns-clause-ok g c = λ k high asked. c.loop-k.invariant.found k (omega (arith, c.loop-k-test.false, c.len-size.ensures, high))
+returns-clause-ok c = λ k high asked. c.loop-k.invariant.found k (omega (arith, c.loop-k-test.false, c.len-size.ensures, high))
 
 pub returns-clause-steps : goal.returns-clause-steps
-returns-clause-steps g c = marked_front _ _ _ c.loop-k.k _ _ _ c.loop-k.invariant.high c.loop-k.invariant.steps
+returns-clause-steps c = marked_front _ _ _ c.loop-k.k _ _ _ c.loop-k.invariant.high c.loop-k.invariant.steps
 
 pub returns-then-not-search-clause-steps : goal.returns-then-not-search-clause-steps
-returns-then-not-search-clause-steps g c = adds_none _ _ _
+returns-then-not-search-clause-steps c = adds_none _ _ _

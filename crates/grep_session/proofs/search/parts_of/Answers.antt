@@ -1,4 +1,4 @@
-use Rattle.grep_session.proofs.Prelude.{MatchBool, AreParts, span_places, length, map, arith, sym, subst, length-map}
+use Rattle.grep_session.proofs.Prelude.{MatchBool, AreParts, span_places, length, map, arith, sym, subst, length-map, matched_expression, wants_whole}
 use Rattle.std.specs.Prelude.{⊤}
 use Rattle.re_meter.proofs.lemmas.Adding.{adds_none}
 use Rattle.re_search.proofs.lemmas.KeptMatchers.{none_asked, same_over}
@@ -8,7 +8,7 @@ use Rattle.grep_session.proofs.lemmas.FindingLemmas.{asked_cost, SpansSoFar, spa
 use Rattle.grep_session.proofs.search.parts_of.Goals as goal
 
 pub loop-part-init : goal.loop-part-init
-loop-part-init g c = record {
+loop-part-init c = record {
   parts = spans_none _ _ _ _ (c.new-spans.ensures.items) (omega arith);
   room = omega (arith, c.in_ok-make_room.ensures.ok, c.begin.ensures.room);
   right = c.begin.ensures.right _ _ _;
@@ -17,25 +17,25 @@ loop-part-init g c = record {
 }
 
 pub next_part-requires-clause-within : goal.next_part-requires-clause-within
-next_part-requires-clause-within g c = c.loop-part.invariant.parts.on_line
+next_part-requires-clause-within c = c.loop-part.invariant.parts.on_line
 
 pub next_part-requires-clause-alike : goal.next_part-requires-clause-alike
-next_part-requires-clause-alike g c = rw c.loop-part.invariant.same_matchers.same_wholes c.requires.whole
+next_part-requires-clause-alike c = rw c.loop-part.invariant.same_matchers.same_wholes c.requires.whole
 
 pub next_part-requires-clause-right : goal.next_part-requires-clause-right
-next_part-requires-clause-right g c = rw c.loop-part.invariant.same_matchers.same_expressions c.loop-part.invariant.right
+next_part-requires-clause-right c = rw c.loop-part.invariant.same_matchers.same_expressions c.loop-part.invariant.right
 
 pub loop-part-smaller : goal.loop-part-smaller
-loop-part-smaller g c =
+loop-part-smaller c =
     let found = c.in-Some.ensures.reported.found in
     omega (arith, found.not_empty, found.on_line, found.begins)
 
 pub loop-part-preserved : goal.loop-part-preserved
-loop-part-preserved g c =
+loop-part-preserved c =
     let i = c.loop-part.invariant in
-    let es = map g.M.LineMatch.expression c.args.matchers.now in
+    let es = map matched_expression c.args.matchers.now in
     let reported = rw i.same_matchers.same_expressions at c.in-Some.ensures.reported in
-    let many = same_length g.M.LineMatch.whole c.loop-part.matchers c.args.matchers.now i.same_matchers.same_wholes in
+    let many = same_length wants_whole c.loop-part.matchers c.args.matchers.now i.same_matchers.same_wholes in
     record {
       parts = subst (SpansSoFar es c.args.search.now.options c.args.line.now c.in-Some.part.end) (sym c.in_ok-push.ensures.items) (spans_next es c.args.search.now.options c.args.line.now c.loop-part.from c.loop-part.spans.items c.in-Some.part i.parts reported);
       room = omega (arith, i.room, c.next_part.ensures.room);
@@ -45,28 +45,28 @@ loop-part-preserved g c =
     }
 
 pub returns-clause-ok : goal.returns-clause-ok
-returns-clause-ok g c =
+returns-clause-ok c =
     let reported = rw c.loop-part.invariant.same_matchers.same_expressions at c.in_default.ensures.reported in
-    let es = map g.M.LineMatch.expression c.args.matchers.now in
+    let es = map matched_expression c.args.matchers.now in
     let options = c.args.search.now.options in
     subst (λ asked. MatchBool asked (AreParts es c.args.line.now options.line_regexp (map span_places c.loop-part.spans.items)) ⊤) (sym c.if-not-search.false) (spans_done _ options _ c.loop-part.from _ c.loop-part.invariant.parts reported)
 
 pub returns-clause-steps : goal.returns-clause-steps
-returns-clause-steps g c =
+returns-clause-steps c =
     let i = c.loop-part.invariant in
-    let many = same_length g.M.LineMatch.whole c.loop-part.matchers c.args.matchers.now i.same_matchers.same_wholes in
+    let many = same_length wants_whole c.loop-part.matchers c.args.matchers.now i.same_matchers.same_wholes in
     let taken = (rw many at c.next_part.ensures.steps) c.args.meter.now i.steps in
-    asked_cost (map g.M.LineMatch.expression c.args.matchers.now) c.args.search.now.options c.args.line.now c.if-not-search.false (length c.args.matchers.now) _ _ (sym (length-map c.args.matchers.now g.M.LineMatch.expression)) (all_parts _ _ _ _ _ c.next_part.ensures.seen taken)
+    asked_cost (map matched_expression c.args.matchers.now) c.args.search.now.options c.args.line.now c.if-not-search.false (length c.args.matchers.now) _ _ (sym (length-map c.args.matchers.now matched_expression)) (all_parts _ _ _ _ _ c.next_part.ensures.seen taken)
 
 pub returns-in_err-push-clause-steps : goal.returns-in_err-push-clause-steps
-returns-in_err-push-clause-steps g c =
+returns-in_err-push-clause-steps c =
     let i = c.loop-part.invariant in
-    let many = same_length g.M.LineMatch.whole c.loop-part.matchers c.args.matchers.now i.same_matchers.same_wholes in
+    let many = same_length wants_whole c.loop-part.matchers c.args.matchers.now i.same_matchers.same_wholes in
     let taken = (rw many at c.next_part.ensures.steps) c.args.meter.now i.steps in
-    asked_cost (map g.M.LineMatch.expression c.args.matchers.now) c.args.search.now.options c.args.line.now c.if-not-search.false (length c.args.matchers.now) _ _ (sym (length-map c.args.matchers.now g.M.LineMatch.expression)) (all_parts _ _ _ _ _ c.next_part.ensures.seen taken)
+    asked_cost (map matched_expression c.args.matchers.now) c.args.search.now.options c.args.line.now c.if-not-search.false (length c.args.matchers.now) _ _ (sym (length-map c.args.matchers.now matched_expression)) (all_parts _ _ _ _ _ c.next_part.ensures.seen taken)
 
 pub returns-then-not-search-clause-steps : goal.returns-then-not-search-clause-steps
-returns-then-not-search-clause-steps g c = adds_none _ _ _
+returns-then-not-search-clause-steps c = adds_none _ _ _
 
 pub returns-in_err-make_room-clause-steps : goal.returns-in_err-make_room-clause-steps
-returns-in_err-make_room-clause-steps g c = adds_none _ _ _
+returns-in_err-make_room-clause-steps c = adds_none _ _ _

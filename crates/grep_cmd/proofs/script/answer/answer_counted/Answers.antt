@@ -35,7 +35,7 @@ returns-in-Add-clause-answers g c =
       step = does edit;
       has_handed = t.1;
       is_step = rw is (t.0, ap does (sym meant));
-      replies_to = (answer, record { gives = c.add_file.ensures.gives; same_states = c.add_file.ensures.same_states; marks = c.add_file.ensures.marks; named = λ none. not_for_memory answer (c.add_file.ensures.memory none) }, refl, refl);
+      replies_to = (answer, record { gives = c.add_file.ensures.gives; same_states = c.add_file.ensures.same_states; marks = c.add_file.ensures.marks; named = λ none. absurd none }, refl, refl);
       most = steps.most;
       is_most = steps.is_most;
       few = steps.few;

@@ -28,12 +28,6 @@ invariant_of-self-2 c =
     asked_session s _ refl refl c.self.invariant c.search_new.ensures.same_matchers (subst (All Kept) (sym c.in-Ok-push_file.ensures.ok.0) (All-push Kept s.files.items _ c.self.invariant.kept c.in-Ok.ensures.ok))
     (fit_pushed s.files.items s.marks.items _ _ _ c.in-Ok-push_file.ensures.ok.0 c.in-Ok-push_file.ensures.ok.1 c.self.invariant.fit)
 
-pub returns-in-Err-clause-memory : goal.returns-in-Err-clause-memory
-returns-in-Err-clause-memory c = λ newline. absurd (newline c.search_new.ensures.free)
-
-pub returns-in-Err-push_file-clause-memory : goal.returns-in-Err-push_file-clause-memory
-returns-in-Err-push_file-clause-memory c = λ newline. absurd (newline c.search_new.ensures.free)
-
 pub returns-clause-gives : goal.returns-clause-gives
 returns-clause-gives c =
     let s = c.self.inside in

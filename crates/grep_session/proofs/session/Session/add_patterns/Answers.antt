@@ -1,4 +1,4 @@
-use Rattle.grep_session.proofs.Prelude.{◌≡◌, ◌+◌, ◌≤◌, ◌<◌, ◌++◌, Ok, Err, length, map, inl, inr, refl, sym, ap, subst, ◌∙◌, arith, All, length-map, map-append, list_of, IsReadable, matched_expression, wants_whole, room_of, AddPatterns, EditGives, with_patterns, most_patterns, IsFileKept, AreMatchers, RefusesFirst, SameMatchers, inputs_of, kept_file}
+use Rattle.grep_session.proofs.Prelude.{◌≡◌, ◌+◌, ◌≤◌, ◌<◌, ◌++◌, Ok, Err, length, map, inl, inr, refl, sym, ap, subst, ◌∙◌, arith, All, length-map, map-append, list_of, IsReadable, matched_expression, AddPatterns, EditGives, with_patterns, most_patterns, IsFileKept, AreMatchers, RefusesFirst, AreSame, inputs_of, kept_file}
 use Rattle.grep_core.proofs.lemmas.CostLaws.{same_length}
 use Rattle.grep_session.proofs.lemmas.EditLemmas.{AreMatchers-same, asked_session}
 use Rattle.grep_session.proofs.lemmas.NewPatternLemmas.{AreAdded, are_added, bounded_off, not_too_many, refuses_new, takes_new}
@@ -120,7 +120,7 @@ invariant_of-self c = asked_session c.self.inside _ refl c.reserve_texts.ensures
 pub invariant_of-self-in-Err-add_matchers : goal.invariant_of-self-in-Err-add_matchers
 invariant_of-self-in-Err-add_matchers c =
     let s = c.self.inside in
-    asked_session s _ refl c.reserve_texts.ensures.items c.self.invariant (subst (SameMatchers matched_expression wants_whole room_of s.matchers.items) (sym c.in-Err-add_matchers.ensures.err) none_asked) c.self.invariant.kept c.self.invariant.fit
+    asked_session s _ refl c.reserve_texts.ensures.items c.self.invariant (subst (AreSame s.matchers.items) (sym c.in-Err-add_matchers.ensures.err) none_asked) c.self.invariant.kept c.self.invariant.fit
 
 pub returns-then-too_many-clause-gives : goal.returns-then-too_many-clause-gives
 returns-then-too_many-clause-gives c =

@@ -1,4 +1,4 @@
-use Rattle.grep_session.proofs.Prelude.{◌≡◌, ◌<◌, Err, length, map, sym, subst, ◌∙◌, arith, [], ◌∷◌, get_or, length-map, RefusesFirst, EditGives, ChangePattern, inputs_of}
+use Rattle.grep_session.proofs.Prelude.{◌≡◌, ◌<◌, Err, length, sym, subst, ◌∙◌, arith, [], ◌∷◌, get_or, length-map, RefusesFirst, EditGives, ChangePattern, inputs_of}
 use Rattle.grep_session.proofs.lemmas.StepLemmas.{takes_none}
 use Rattle.grep_session.proofs.lemmas.SessionLemmas.{inputs_are}
 use Rattle.grep_session.proofs.lemmas.PuttingLemmas.{text_at, puts_same, refuses_put}

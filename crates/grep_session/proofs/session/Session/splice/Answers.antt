@@ -105,18 +105,16 @@ returns-in-Err-search_new-clause-memory c =
     let s = c.self.inside in
     let old = inputs_of s in
     let lines = c.args.lines in
-    let none = c.search_new.ensures.free in
     let place = rw c.deref.ensures.value at c.in-Ok.ensures.place in
-    rw (← c.self.view_is) (λ need. absurd (needs_for_lines old c.args.k c.args.start c.args.count lines place none (λ empty. c.in-Err-search_new.ensures.memory empty) need))
+    rw (← c.self.view_is) (λ need. absurd (needs_for_lines old c.args.k c.args.start c.args.count lines place (λ empty. c.in-Err-search_new.ensures.memory empty) need))
 
 pub returns-in-Err-put_in-clause-memory : goal.returns-in-Err-put_in-clause-memory
 returns-in-Err-put_in-clause-memory c =
     let s = c.self.inside in
     let old = inputs_of s in
     let lines = c.args.lines in
-    let none = c.search_new.ensures.free in
     let place = rw c.deref.ensures.value at c.in-Ok.ensures.place in
-    rw (← c.self.view_is) (λ need. absurd (needs_for_lines old c.args.k c.args.start c.args.count lines place none (λ empty. c.in-Err-put_in.ensures.memory (empty_map line_text (all_of c.in-Ok-search_new.kept) (c.in-Ok-search_new.ensures.texts ∙ empty))) need))
+    rw (← c.self.view_is) (λ need. absurd (needs_for_lines old c.args.k c.args.start c.args.count lines place (λ empty. c.in-Err-put_in.ensures.memory (empty_map line_text (all_of c.in-Ok-search_new.kept) (c.in-Ok-search_new.ensures.texts ∙ empty))) need))
 
 pub index_mut-requires : goal.index_mut-requires
 index_mut-requires c =
