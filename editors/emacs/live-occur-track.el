@@ -136,7 +136,7 @@ If it was taken out it is at one near that, or with ALONE, nowhere."
 ;; Lines are counted as the gaps between newlines, from 0: a text that ends in a newline has an
 ;; empty line after it, which is never sent.
 
-(cl-defstruct (live-occur--text (:conc-name live-occur--) (:copier nil))
+(cl-defstruct (live-occur--text (:type vector) (:conc-name live-occur--) (:copier nil))
   "What is known of a text, which a program has."
   buffer                                ; nil for a file that isn't open
   tell                  ; called after a change, with whether lines have moved
@@ -169,7 +169,7 @@ on where a field ends."
          (let ((cache-long-scans nil) (inhibit-field-text-motion t))
            ,@body)))))
 
-(defun live-occur--base (buffer)
+(defsubst live-occur--base (buffer)
   "The buffer that has the text of BUFFER, which may be an indirect one."
   (or (buffer-base-buffer buffer) buffer))
 
@@ -297,7 +297,8 @@ A copy of a buffer has its local variables, and another text."
     (setf (live-occur--start text) start
           (live-occur--tail text) tail
           (live-occur--span text) (live-occur--count-newlines start end)
-          (live-occur--whole text) (and (memq (char-before start) '(nil ?\n))
+          (live-occur--whole text) (and (not (live-occur--rest text))
+                                        (memq (char-before start) '(nil ?\n))
                                         (memq (char-before end) '(nil ?\n))))))
 
 (defun live-occur--line-at (text position)

@@ -397,7 +397,7 @@ Answer whether they were there; point is where to look for lines later."
 
 ;;;; Buffers and files that are searched
 
-(cl-defstruct (live-occur--source (:include live-occur--text)
+(cl-defstruct (live-occur--source (:type vector) (:include live-occur--text)
                                   (:conc-name live-occur--) (:copier nil))
   "A buffer or a file that is searched, and which of its lines the program has."
   list                                  ; the buffer with the rows
@@ -590,10 +590,17 @@ is short, so that some hits come early."
 The program knows it by the number FILE.  Answer how many they are."
   (pcase-let* ((`(,at ,was ,is) (live-occur--first-edit source))
                (moves (live-occur--moves source))
+               ;; After a newline at the buffer's end there is no line, and none is added.
                (`(,count ,added . ,text)
                 (live-occur--in-text source
                   (live-occur--go-to-line source at)
-                  (live-occur--block-here (min most is))))
+                  (let* ((start (point))
+                         (block (+ (position-bytes start) live-occur--block))
+                         (end (or (byte-to-position block) (point-max)))
+                         (lines (live-occur--count-newlines start end))
+                         (count (min most is (if (= end (point-max)) (1+ lines) (max lines 1))))
+                         (short (forward-line count)))
+                    `(,count ,(- count short) . ,(buffer-substring-no-properties start (point))))))
                (more (< count is))
                (old (if more (- (live-occur--unmoved (+ at count) moves) at) was))
                (removed (min old (- (live-occur--lines source) at))))
@@ -606,18 +613,6 @@ The program knows it by the number FILE.  Answer how many they are."
       (apply #'live-occur--note (live-occur--sent source) hunk))
     (when more (live-occur--tell-more))
     count))
-
-(defun live-occur--block-here (most)
-  "How many lines are after point in a block, at most MOST, and what they are.
-The answer has how many of them exist, too, and the text: after a newline at the
-buffer's end there is none."
-  (let* ((start (point))
-         (block (+ (position-bytes start) live-occur--block))
-         (end (or (byte-to-position block) (point-max)))
-         (lines (live-occur--count-newlines start end))
-         (count (min most (if (= end (point-max)) (1+ lines) (max lines 1))))
-         (short (forward-line count)))
-    `(,count ,(- count short) . ,(buffer-substring-no-properties start (point)))))
 
 (defun live-occur--tell-more ()
   "Tell in the header whether more lines are to be searched."
@@ -1195,7 +1190,8 @@ ABOVE is nil before the first hit of the list, and BELOW after the last one."
   "The lines FROM to TO of SOURCE as they are shown around rows."
   (when (< from to)
     (pcase-let ((name (live-occur--shown-name source))
-                ((cl-struct live-occur--source (from first) (to end)) source))
+                (first (live-occur--from source))
+                (end (live-occur--to source)))
       (live-occur--in-text source
         (live-occur--go-to-line source from)
         (cl-loop for number from (1+ from) to to until (eobp)
@@ -1914,16 +1910,14 @@ It is known that hits before number LOW come before it, and none from HIGH on."
       (live-occur--ask-about-hits
        middle 1
        (lambda (block)
-         (if (live-occur--page-before-p block file line) (setq low (1+ middle)) (setq high middle))
+         (pcase block
+           ((and `(,_ ,(cl-struct live-occur--piece rows))
+                 (let `(,_ ,there ,at . ,_) (mapcar #'string-to-number (split-string rows " ")))
+                 (guard (or (< there file) (and (= there file) (< at line)))))
+            (setq low (1+ middle)))
+           (_ (setq high middle)))
          (live-occur--find-number file line low high function))
        t))))
-
-(defun live-occur--page-before-p (block file line)
-  "Whether the page BLOCK has a hit, and that comes before LINE of FILE."
-  (pcase (cdr block)
-    (`(,(cl-struct live-occur--piece rows))
-     (pcase-let ((`(,_ ,there ,at . ,_) (mapcar #'string-to-number (split-string rows " "))))
-       (or (< there file) (and (= there file) (< at line)))))))
 
 (defun live-occur--show-number (number low high)
   "Show the page of the hit of NUMBER, of those from LOW on and below HIGH.
@@ -2108,11 +2102,10 @@ With ALWAYS wait for it while more is to come."
 
 (defun live-occur--bounds (source)
   "The first line of the region of SOURCE, and the first one after it."
-  (pcase-let (((cl-struct live-occur--source from to) source))
-    (live-occur--in-text source
-      (goto-char from)
-      (let ((first (- (line-number-at-pos) (if (bolp) 1 0))))
-        (cons first (if to (max first (1- (line-number-at-pos to))) most-positive-fixnum))))))
+  (live-occur--in-text source
+    (goto-char (live-occur--from source))
+    (let ((first (- (line-number-at-pos) (if (bolp) 1 0))) (to (live-occur--to source)))
+      (cons first (if to (max first (1- (line-number-at-pos to))) most-positive-fixnum)))))
 
 (defun live-occur--clip (bounds)
   "Leave out the hits of this list outside of BOUNDS, unless they are nil."
@@ -2769,7 +2762,15 @@ One whose rows are edited is left alone."
 Without a LIST a new one is made for THINGS, or for the REGION of the first one.
 If that is broken off, LIST is again as it was, and a new one is killed."
   (let* ((new (not list))
-         (list (or list (live-occur--new-list things)))
+         ;; A new one is named by its buffers.
+         (list (or list
+                   (generate-new-buffer
+                    (format "*Live Occur: %s*"
+                            (cond ((cl-some #'stringp things)
+                                   (file-name-nondirectory
+                                    (directory-file-name default-directory)))
+                                  ((cdr things) (format "%d buffers" (length things)))
+                                  (t (buffer-name (car things))))))))
          (old (with-current-buffer list (live-occur--settings)))
          (window (get-buffer-window list t)) done)
     (unwind-protect
@@ -2839,15 +2840,6 @@ whatever it is narrowed to, unless `live-occur-narrowed' says otherwise."
                                      #'live-occur-change-pattern
                                    #'live-occur-add-pattern))
              here))))
-
-(defun live-occur--new-list (buffers)
-  "A new buffer for the list of BUFFERS, named by them."
-  (generate-new-buffer
-   (format "*Live Occur: %s*"
-           (cond ((cl-some #'stringp buffers)
-                  (file-name-nondirectory (directory-file-name default-directory)))
-                 ((cdr buffers) (format "%d buffers" (length buffers)))
-                 (t (buffer-name (car buffers)))))))
 
 ;;;###autoload
 (defun live-occur-in-buffers (names)

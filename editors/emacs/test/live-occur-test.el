@@ -4964,36 +4964,35 @@ TEXT is what is in each line."
 
 ;;;; Many changes
 
-(defun live-occur-test--replace-time (list)
-  "The seconds of work to replace 70,000 words of this buffer, with a LIST or without."
-  (let ((list (and list (live-occur "needle"))))
-    (when list
-      (with-current-buffer list
-        (live-occur-test--wait)))
+(defun live-occur-test--replace-time ()
+  "The seconds of work to replace the words of this buffer, with a list."
+  (let ((list (live-occur "needle")))
+    (with-current-buffer list
+      (live-occur-test--wait))
     (goto-char (point-min))
     (garbage-collect)
     (let ((start (float-time (get-internal-run-time)))
           (gc-cons-threshold most-positive-fixnum))
       (perform-replace "fox" "wolf" nil nil nil)
       (prog1 (- (float-time (get-internal-run-time)) start)
-        (when list
-          (should (equal (live-occur-test--rows list) ""))
-          (kill-buffer list))
+        (should (equal (live-occur-test--rows list) ""))
+        (kill-buffer list)
         (goto-char (point-min))
         (perform-replace "wolf" "fox" nil nil nil)))))
 
 (ert-deftest live-occur-lets-many-words-be-replaced ()
-  "With a list it takes less than three times as long."
+  "Four times as many take less than eight times as long.
+Linear work takes four times as long, and quadratic work sixteen times."
   :tags '(unwatched)
   (live-occur-test--with '("")
-    (live-occur-test--insert-lines 70000 1000 "the quick brown fox ")
-    (goto-char (point-min))
-    (perform-replace "needle" "dog" nil nil nil)
-    (let ((best (lambda (list)
-                  (apply #'min (cl-loop repeat 3 collect (live-occur-test--replace-time list))))))
-      (let ((without (funcall best nil)) (with (funcall best t)))
-        (live-occur-test--tell "70,000 words replaced: %.2f s, with a list %.2f s" without with)
-        (should (< with (* 3 without)))))))
+    (let ((times (cl-loop for more in '(20000 60000)
+                          do (live-occur-test--insert-lines more (1+ more) "the quick brown fox ")
+                          (goto-char (point-min))
+                          (perform-replace "needle" "dog" nil nil nil)
+                          collect (cl-loop repeat 3 minimize (live-occur-test--replace-time)))))
+      (apply #'live-occur-test--tell
+             "20,000 words replaced with a list: %.2f s, 80,000 %.2f s" times)
+      (should (< (nth 1 times) (* 8 (nth 0 times)))))))
 
 (ert-deftest live-occur-lets-words-of-many-rows-be-replaced ()
   "The collector, which has all rows to look at, comes a few times."

@@ -125,51 +125,59 @@ test("rows of files that aren't open are written, and nothing else is", function
   fn.delete(root, "rf")
 end)
 
-test("a long write says how far it is, and CTRL-C ends it between files", function()
-  local files = {}
-  for number = 1, 40 do
-    files[("%02d"):format(number)] = "one\n"
-  end
-  local root = folder(files, true)
-  bench.with_screen(function(run, screen, type)
-    run([[
-      vim.o.cmdheight = 8
-      list = require("live_occur").open("one", {}, { root = ... })
-      list:wait(20000)
-      vim.api.nvim_create_autocmd("BufWritePre", { callback = function()
-        local start = vim.loop.hrtime()
-        repeat until vim.loop.hrtime() - start > 5e7
-      end })
-    ]], root)
-    type("e")
-    assert(vim.wait(10000, function()
-      return run("return list.edit and list.edit.ready")
-    end, 20))
-    type(":%s/one/1/<CR>:w<CR>")
-    assert(vim.wait(10000, function()
-      return table.concat(screen(), "\n"):find("of 40 files are written; CTRL-C ends that", 1, true)
-    end, 20), table.concat(screen(), "\n"))
-    type("<C-c>")
-    assert(vim.wait(10000, function()
-      return run([[return vim.fn.execute("messages")]]):find("the edit goes on")
-    end, 20))
-    local written = #vim.tbl_filter(function(name)
-      return fn.readfile(root .. "/" .. name)[1] == "1"
-    end, vim.tbl_keys(files))
-    assert(written > 0 and written < 40, written)
-    local said = run([[return vim.fn.execute("messages")]])
-    assert(said:find(("%d left alone: "):format(40 - written), 1, true) and said:find("isn't written yet: 1"), said)
-    run([[vim.api.nvim_clear_autocmds({ event = "BufWritePre" })]])
-    type("<C-\\><C-n>:silent write<CR>")
-    assert(vim.wait(10000, function()
-      return run("return list.edit == nil")
-    end, 20), run([[return vim.fn.execute("messages")]]))
-    for name in pairs(files) do
-      equal(fn.readfile(root .. "/" .. name), { "1" })
+for _, own in ipairs({ "nmapclear", "nnoremap <C-c> <Esc>" }) do
+  test("a long write says how far it is, and CTRL-C ends it between files, " .. own, function()
+    local files = {}
+    for number = 1, 40 do
+      files[("%02d"):format(number)] = "one\n"
     end
+    local root = folder(files, true)
+    bench.with_screen(function(run, screen, type)
+      run([[
+        vim.cmd(select(2, ...))
+        vim.o.cmdheight = 8
+        list = require("live_occur").open("one", {}, { root = (...) })
+        list:wait(20000)
+        vim.api.nvim_create_autocmd("BufWritePre", { callback = function()
+          local start = vim.loop.hrtime()
+          repeat until vim.loop.hrtime() - start > 5e7
+        end })
+      ]], root, own)
+      type("e")
+      assert(vim.wait(10000, function()
+        return run("return list.edit and list.edit.ready")
+      end, 20))
+      type(":%s/one/1/<CR>:w<CR>")
+      assert(vim.wait(10000, function()
+        return table.concat(screen(), "\n"):find("of 40 files are written; CTRL-C ends that", 1, true)
+      end, 20), table.concat(screen(), "\n"))
+      type("<C-c>")
+      assert(vim.wait(10000, function()
+        return run([[return vim.fn.execute("messages")]]):find("the edit goes on")
+      end, 20))
+      local written = #vim.tbl_filter(function(name)
+        return fn.readfile(root .. "/" .. name)[1] == "1"
+      end, vim.tbl_keys(files))
+      assert(written > 0 and written < 40, written)
+      local said = run([[return vim.fn.execute("messages")]])
+      assert(said:find(("%d left alone: "):format(40 - written), 1, true) and said:find("isn't written yet: 1"), said)
+      run([[vim.api.nvim_clear_autocmds({ event = "BufWritePre" })]])
+      type(":silent write<CR>")
+      assert(vim.wait(10000, function()
+        return run("return list.edit == nil")
+      end, 20), run([[return vim.fn.execute("messages")]]))
+      local mapped = run([[
+        local maps = vim.tbl_filter(function(map) return map.lhs == "<C-C>" end, vim.api.nvim_get_keymap("n"))
+        return maps[1] and maps[1].rhs or ""
+      ]])
+      equal(mapped, own:match("<Esc>") or "")
+      for name in pairs(files) do
+        equal(fn.readfile(root .. "/" .. name), { "1" })
+      end
+    end)
+    fn.delete(root, "rf")
   end)
-  fn.delete(root, "rf")
-end)
+end
 
 test("R reads files again that have changed", function()
   local root = folder({ ["a"] = "one\n", ["b"] = "x\none\n", ["c"] = "one\n" }, true)

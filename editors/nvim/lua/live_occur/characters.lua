@@ -243,11 +243,6 @@ function M.translate(pattern, syntax, fold, fixed)
   return scan.pieces
 end
 
--- The text that is sent for pieces.
-function M.text(pieces)
-  return table.concat(vim.tbl_map(function(piece) return piece[2] end, pieces))
-end
-
 -- The place in a pattern, in bytes, of a byte of what was sent for it.
 function M.place(pieces, pattern, at)
   for _, piece in ipairs(pieces) do

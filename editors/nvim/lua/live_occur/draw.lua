@@ -88,20 +88,16 @@ end
 local function show_near(list, ranges)
   api.nvim_buf_clear_namespace(list.buffer, near, 0, -1)
   local tab = (" "):rep(vim.bo[list.buffer].tabstop)
-  local function show(row)
-    local shown = vim.tbl_map(function(line)
-      local number = line and row_texts.number(line[1] + 1) or (" "):rep(row_texts.margin)
-      local text = line and line[2]:gsub("\t", tab):gsub("[\n%z]", " ") or "--"
-      return { { number, "LiveOccurNumber" }, { text, "LiveOccurNear" } }
-    end, list:between(row))
-    if #shown > 0 then
-      local options = { virt_lines = shown, virt_lines_leftcol = true }
-      api.nvim_buf_set_extmark(list.buffer, near, row, 0, options)
-    end
-  end
   for _, range in ipairs(list:around() and not list.edit and ranges or {}) do
     for row = range[1], range[2] do
-      show(row)
+      local shown = vim.tbl_map(function(line)
+        local number = line and row_texts.number(line[1] + 1) or (" "):rep(row_texts.margin)
+        local text = line and line[2]:gsub("\t", tab):gsub("[\n%z]", " ") or "--"
+        return { { number, "LiveOccurNumber" }, { text, "LiveOccurNear" } }
+      end, list:between(row))
+      if #shown > 0 then
+        api.nvim_buf_set_extmark(list.buffer, near, row, 0, { virt_lines = shown, virt_lines_leftcol = true })
+      end
     end
   end
 end

@@ -167,12 +167,6 @@ function M.finish(list)
   list:redraw()
 end
 
--- Ends an edit without a write.
-function M.give_up(list)
-  M.finish(list)
-  say("the rows are as they were")
-end
-
 -- Writing
 
 -- Why rows of a file can't be written, or nil.
@@ -245,23 +239,19 @@ local function write_row(edit, file, change)
   edit.shown[change.number], edit.texts[change.number] = change.text, row_texts.text(change.text)
 end
 
--- Whether another program changed the file of a buffer, which Vim would ask about. Where 'autoread' is
--- on the buffer is loaded anew by this.
-local function changed_outside(buffer)
-  local changed = false
-  local function note()
-    changed, vim.v.fcs_choice = true, ""
-  end
-  local watch = api.nvim_create_autocmd("FileChangedShell", { buffer = buffer, callback = note })
-  pcall(vim.cmd, "silent checktime " .. buffer)
-  api.nvim_del_autocmd(watch)
-  return changed
-end
-
--- Whether the file of a buffer can be saved: it has one, and no other changes.
+-- Whether the file of a buffer can be saved: it has one, and no other changes, also by no other program, about
+-- which Vim would ask. Where 'autoread' is on the buffer is loaded anew by this.
 local function is_clean(buffer)
-  return vim.bo[buffer].buftype == "" and api.nvim_buf_get_name(buffer) ~= "" and not vim.bo[buffer].modified
-    and not changed_outside(buffer)
+  local clean = vim.bo[buffer].buftype == "" and api.nvim_buf_get_name(buffer) ~= "" and not vim.bo[buffer].modified
+  if clean then
+    local function note()
+      clean, vim.v.fcs_choice = false, ""
+    end
+    local watch = api.nvim_create_autocmd("FileChangedShell", { buffer = buffer, callback = note })
+    pcall(vim.cmd, "silent checktime " .. buffer)
+    api.nvim_del_autocmd(watch)
+  end
+  return clean
 end
 
 -- Why a text can't be written in an encoding, or nil.
@@ -272,22 +262,14 @@ local function conversion_fault(encoding, text)
   end
 end
 
--- Opens a file while rows are edited. CTRL-C, which would let lines of it be missing, waits as a key.
-local function open_file(list, file)
-  local buffer = list:open_buffer(file)
-  vim.keymap.set("n", "<C-c>", "<C-c>", { buffer = buffer })
-  fn.bufload(buffer)
-  pcall(vim.keymap.del, "n", "<C-c>", { buffer = buffer })
-  if file.path then
-    M.opened(list, file)
-  end
-end
-
 -- Writes the rows of one file, which is opened, as one step of undo, and saves it, if it had no other changes.
 local function write_file(list, edit, file, changes, result)
   local refused = result.stopped or M.refusal(file)
   if file.path and not refused then
-    open_file(list, file)
+    fn.bufload(list:open_buffer(file))
+    if file.path then
+      M.opened(list, file)
+    end
   end
   local buffer, clean, written = file.buffer, not refused and is_clean(file.buffer), result.written
   refused = refused or edit.lost[file] or M.refusal(file)
@@ -321,7 +303,30 @@ local function write_file(list, edit, file, changes, result)
   end
   table.insert(saved and result.saved or result.modified, list:name_of(file))
   table.insert(result.faults, fault)
-  result.stopped = shared.is_interrupt(fault) and NOT_YET or nil
+end
+
+-- Lets CTRL-C wait as a key, or break off again what runs. Where a user has mapped it, it is always a key.
+local held = false
+local function hold(on)
+  if on and fn.maparg("<C-c>", "n") == "" then
+    vim.keymap.set("n", "<C-c>", "<C-c>")
+    held = true
+  elseif not on and held then
+    vim.keymap.del("n", "<C-c>")
+    held = false
+  end
+end
+
+-- Whether CTRL-C was typed, which is taken.
+local function is_stopped()
+  local stopped = false
+  hold(false)
+  for _ = 1, 2 do -- What came is done, and then what is typed is looked for.
+    api.nvim_input("") -- By this Neovim sees that CTRL-C has waited.
+    stopped = select(2, vim.wait(0)) == -2 or stopped
+  end
+  hold(true)
+  return stopped or #api.nvim_list_uis() > 0 and fn.getchar(1) == 3 and fn.getchar(0) == 3
 end
 
 -- Writes the rows of several files. Between them CTRL-C ends it, and it says now and then how far it is.
@@ -335,13 +340,8 @@ local function write_files(list, edit, changes, result)
       vim.cmd("redraw")
       told = uv.hrtime()
     end
-    for _ = 1, 2 do -- What came is done, and then what is typed is looked for.
-      result.stopped = select(2, vim.wait(0)) == -2 and NOT_YET or result.stopped
-    end
-    if shared.interrupted(write_file, list, edit, file, changes[file], result) then
-      result.stopped = NOT_YET
-      write_file(list, edit, file, changes[file], result)
-    end
+    result.stopped = is_stopped() and NOT_YET or result.stopped
+    write_file(list, edit, file, changes[file], result)
   end
 end
 
@@ -385,7 +385,11 @@ function M.write(list, name)
   vim.bo[list.buffer].bufhidden = "hide" -- For :wq, after which there may be such rows.
   local compared = compare(list, edit)
   local result = { written = 0, saved = {}, modified = {}, faults = {}, left = {} }
-  write_files(list, edit, compared.changes, result)
+  local ran, problem = pcall(write_files, list, edit, compared.changes, result)
+  hold(false)
+  if not ran then
+    error(problem, 0)
+  end
   if list.edit ~= edit then
     return -- It was given up, by what ran meanwhile.
   end

@@ -28,7 +28,12 @@ function Identity.new(buffer, texts, goes_on)
       if not goes_on() then
         return true
       end
-      self:note_lines(first, last - first, api.nvim_buf_get_lines(buffer, first, new_last, false))
+      local texts = self.texts:splice(first, last - first, api.nvim_buf_get_lines(buffer, first, new_last, false))
+      self.gone, self.moved = { row = first, texts = texts }, nil
+      if self.texts:size() ~= api.nvim_buf_line_count(buffer) then -- after all rows were taken out
+        self.texts = Array.new(api.nvim_buf_get_lines(buffer, 0, -1, false))
+      end
+      self:settle()
     end,
     on_bytes = function(_, _, _, row, column, _, old, old_column, _, new, new_column)
       local part = (column > 0 or old_column > 0 or new_column > 0) and 1 or 0
@@ -99,30 +104,6 @@ end
 
 -- Changes
 
--- The texts that `count` rows had before a change, or nil, where they aren't known.
-function Identity:texts_before(row, count)
-  if self.texts:size() ~= self.numbers:size() then -- `on_lines` has been called for it.
-    local gone = self.gone
-    return gone and gone.row == row and #gone.texts == count and gone.texts or nil
-  end
-  local texts = {}
-  for index = 1, count do
-    texts[index] = self.texts:get(row + index - 1)
-  end
-  return texts
-end
-
--- Notes with which texts rows leave, the first of them at last.
-function Identity:note_left(numbers, texts)
-  for index = #numbers, 1, -1 do
-    local number, text = numbers[index], texts[index]
-    if text and type(number) == "number" and number > 0 then
-      self.left[text] = self.left[text] or {}
-      table.insert(self.left[text], number)
-    end
-  end
-end
-
 -- The number of the row that left last with this text, or nil. A blank text says too little, unless
 -- the row is one of those that were replaced.
 function Identity:returned(text, replaced)
@@ -180,9 +161,21 @@ end
 -- Notes a new change, by which `old` rows are `new` ones.
 function Identity:change(change, row, old, new)
   local late = self.texts:size() ~= self.numbers:size()
-  local texts, moved, added = self:texts_before(row, old), self.moved, self.added
+  local texts, moved, added, gone = {}, self.moved, self.added, self.gone -- `texts` are those before it
+  if late then -- `on_lines` has been called for it.
+    texts = gone and gone.row == row and #gone.texts == old and gone.texts or texts
+  end
+  for index = 1, late and 0 or old do
+    texts[index] = self.texts:get(row + index - 1)
+  end
   local left = self:put(row, old, {})
-  self:note_left(left, texts or {})
+  for index = #left, 1, -1 do -- with which texts rows leave, the first of them at last
+    local number, text = left[index], texts[index]
+    if text and type(number) == "number" and number > 0 then
+      self.left[text] = self.left[text] or {}
+      table.insert(self.left[text], number)
+    end
+  end
   table.insert(self.history[change], { row = row, old = old, new = new, count = new, numbers = left })
   self.moved, self.added, self.came = nil, nil, nil
   if old == 0 and moved and #moved == new then -- `:move` takes rows out, and puts them in at once.
@@ -220,16 +213,6 @@ function Identity:note_rows(row, old, new, part)
     self.history[change] = self.history[change] or {}
     self:change(change, row, old, new)
   end
-end
-
--- Takes a report of `on_lines`: these are the texts in the place of `count` rows.
-function Identity:note_lines(row, count, texts)
-  self.gone = { row = row, texts = self.texts:splice(row, count, texts) }
-  if self.texts:size() ~= api.nvim_buf_line_count(self.buffer) then -- after all rows were taken out
-    self.texts = Array.new(api.nvim_buf_get_lines(self.buffer, 0, -1, false))
-  end
-  self.moved = nil
-  self:settle()
 end
 
 return Identity

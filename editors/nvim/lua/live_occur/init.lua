@@ -90,7 +90,14 @@ local function watch(list)
       end)
     end
   end)
-  on("BufReadCmd", function() (list.edit and edit.give_up or list.renew_rows)(list) end)
+  on("BufReadCmd", function() -- `:e` gives an edit up, or writes the rows anew.
+    if list.edit then
+      edit.finish(list)
+      return shared.say("the rows are as they were")
+    end
+    list:put(0, -1, { "" })
+    list:restart()
+  end)
   on("BufWriteCmd", function(event) edit.write(list, event.file) end)
   on("BufWinEnter", list.set_window)
   on("CursorMoved", function() keys.moved(list) end)
@@ -150,13 +157,17 @@ function M.open(pattern, buffers, options)
   return list
 end
 
--- Opens a list, or says why there is none.
+-- Opens a list, or says why there is none; the byte of the pattern where a fault is has the group ErrorMsg.
 local function open_or_tell(wanted, mods)
   wanted.mods = mods
   local list, fault, place = M.open(wanted.pattern, wanted.buffers, wanted)
-  if not list then
-    require("live_occur.keys").show_fault(fault, place and wanted.pattern, place)
+  if list or not place then
+    return blame(fault)
   end
+  local pattern, at = wanted.pattern, wanted.pattern:sub(place + 1, place + 1)
+  local parts = { { "LiveOccur: " .. fault:sub(1, #fault - #pattern) }, { pattern:sub(1, place) } }
+  vim.list_extend(parts, { { at == "" and " " or at, "ErrorMsg" }, { pattern:sub(place + 2) } })
+  api.nvim_echo(parts, true, {})
 end
 
 -- :LiveOccur
@@ -214,10 +225,7 @@ end
 -- :LiveOccurQuickfix
 function M.quickfix()
   local list = M.list_of()
-  if not list then
-    return blame("there is no list in view")
-  end
-  require("live_occur.keys").quickfix(list)
+  return list and require("live_occur.keys").quickfix(list) or not list and blame("there is no list in view")
 end
 
 -- :LiveOccurResume

@@ -128,23 +128,9 @@ local function ask_pattern(list, question, text, number, fault)
   end)
 end
 
--- Shows a fault; the byte of the pattern where it is has the group ErrorMsg.
-function M.show_fault(fault, pattern, place)
-  if not pattern then
-    return blame(fault)
-  end
-  local at = pattern:sub(place + 1, place + 1)
-  api.nvim_echo({
-    { MINE .. fault:sub(1, #fault - #pattern) },
-    { pattern:sub(1, place) },
-    { at == "" and " " or at, "ErrorMsg" },
-    { pattern:sub(place + 2) },
-  }, true, {})
-end
-
 -- Lets one of some items be chosen, and takes its number and itself.
 local function choose(items, options, take)
-  shared.interrupted(vim.ui.select, items, options, function(item, number)
+  shared.interruptible(vim.ui.select, items, options, function(item, number)
     if item then
       take(number, item)
     end
@@ -160,51 +146,6 @@ local function choose_pattern(list, question, take)
   else
     choose(patterns, { prompt = question }, take)
   end
-end
-
-local function drop_pattern(list)
-  choose_pattern(list, "Drop pattern", function(number)
-    list:change(function(wish) table.remove(wish.patterns, number) end)
-  end)
-end
-
-local function change_pattern(list)
-  choose_pattern(list, "Change pattern", function(number)
-    ask_pattern(list, "Change pattern: ", list.wish.patterns[number], number)
-  end)
-end
-
--- Options and buffers
-
-local function ask_context(list)
-  local shown = table.concat(list.context, " ")
-  prompt.ask({ prompt = "Lines before and after: ", default = shown }, nil, function(text)
-    local before, after = text:match("^%s*(%d+)%s+(%d+)%s*$")
-    if not before then
-      return blame("two numbers are needed")
-    end
-    list:set_context(tonumber(before), tonumber(after))
-  end)
-end
-
-local function toggle_follow(list)
-  list.follow = not list.follow
-  say("following is " .. (list.follow and "on" or "off"))
-end
-
-local function add_buffer(list)
-  prompt.ask({ prompt = "Add buffer: ", completion = "buffer" }, nil, function(text)
-    local buffer = fn.bufnr(text)
-    if buffer < 1 or List.all[buffer] then
-      return blame(buffer < 1 and "there is no one buffer " .. text or "a list isn't searched")
-    end
-    list:add_buffer(buffer)
-  end)
-end
-
-local function remove_buffer(list)
-  local options = { prompt = "Leave out buffer", format_item = function(file) return list:name_of(file) end }
-  choose(list.files, options, function(_, file) list:remove_file(file) end)
 end
 
 -- Quickfix
@@ -246,24 +187,6 @@ function M.quickfix(list)
   vim.cmd("botright copen")
 end
 
--- Ends
-
--- Ends a list: its windows, its buffer, its process.
-local function quit(list)
-  for _, window in ipairs(list:windows()) do
-    pcall(api.nvim_win_close, window, true) -- The last one can't be closed, and shows another buffer.
-  end
-  vim.cmd("silent! bwipeout! " .. list.buffer)
-end
-
--- Reads no more files.
-local function stop(list)
-  local count = list:stop_reading()
-  list:step()
-  list:show_header()
-  say(count > 0 and count .. " files are not read" or "all files were read")
-end
-
 -- The keys
 
 -- For each what it does, as a text and as a function. One without switches an option of what matches.
@@ -272,11 +195,22 @@ M.keys = {
   { "<2-LeftMouse>", "goes to the line, by the mouse", function(list) M.visit(list) end },
   { "<C-w><CR>", "goes to the line in a new window", function(list) M.visit(list, true) end },
   { "<Space>", "shows the line", function(list) M.visit(list, false, true) end },
-  { "f", "following on or off", toggle_follow },
+  { "f", "following on or off", function(list)
+    list.follow = not list.follow
+    say("following is " .. (list.follow and "on" or "off"))
+  end },
   { "e", "edits the rows", function(list) require("live_occur.edit").begin(list) end },
   { "a", "adds a pattern", function(list) ask_pattern(list, "Add pattern: ", "") end },
-  { "c", "changes a pattern", change_pattern },
-  { "d", "drops a pattern", drop_pattern },
+  { "c", "changes a pattern", function(list)
+    choose_pattern(list, "Change pattern", function(number)
+      ask_pattern(list, "Change pattern: ", list.wish.patterns[number], number)
+    end)
+  end },
+  { "d", "drops a pattern", function(list)
+    choose_pattern(list, "Drop pattern", function(number)
+      list:change(function(wish) table.remove(wish.patterns, number) end)
+    end)
+  end },
   { "B", "basic expressions" },
   { "E", "extended expressions" },
   { "F", "fixed strings" },
@@ -284,14 +218,44 @@ M.keys = {
   { "v", "lines that don't match" },
   { "x", "whole lines" },
   { "I", "smart case" },
-  { "C", "lines around", ask_context },
-  { "+", "one more buffer", add_buffer },
-  { "-", "one buffer less", remove_buffer },
+  { "C", "lines around", function(list)
+    local shown = table.concat(list.context, " ")
+    prompt.ask({ prompt = "Lines before and after: ", default = shown }, nil, function(text)
+      local before, after = text:match("^%s*(%d+)%s+(%d+)%s*$")
+      if not before then
+        return blame("two numbers are needed")
+      end
+      list:set_context(tonumber(before), tonumber(after))
+    end)
+  end },
+  { "+", "one more buffer", function(list)
+    prompt.ask({ prompt = "Add buffer: ", completion = "buffer" }, nil, function(text)
+      local buffer = fn.bufnr(text)
+      if buffer < 1 or List.all[buffer] then
+        return blame(buffer < 1 and "there is no one buffer " .. text or "a list isn't searched")
+      end
+      list:add_buffer(buffer)
+    end)
+  end },
+  { "-", "one buffer less", function(list)
+    local options = { prompt = "Leave out buffer", format_item = function(file) return list:name_of(file) end }
+    choose(list.files, options, function(_, file) list:remove_file(file) end)
+  end },
   { "R", "brings the list up to date at once", function(list) list:read_again() list:step() end },
   { "r", "starts the program again", function(list) list:restart() end },
   { "Q", "makes a quickfix list", M.quickfix },
-  { "<C-c>", "reads no more files", stop },
-  { "q", "ends the list", quit },
+  { "<C-c>", "reads no more files", function(list)
+    local count = list:stop_reading()
+    list:step()
+    list:show_header()
+    say(count > 0 and count .. " files are not read" or "all files were read")
+  end },
+  { "q", "ends the list", function(list)
+    for _, window in ipairs(list:windows()) do
+      pcall(api.nvim_win_close, window, true) -- The last one can't be closed, and shows another buffer.
+    end
+    vim.cmd("silent! bwipeout! " .. list.buffer)
+  end },
 }
 
 -- Puts the keys aside, but for those that a user has set.

@@ -1,14 +1,14 @@
 -- The files of a project: those that git knows or would add, else all of the folder.
 
-local uv = vim.uv or vim.loop
+local fn, uv = vim.fn, vim.uv or vim.loop
 local M = {}
 local MOST = 500 -- how many names of a folder are given at once
 
 -- The folder of the project that a folder is in: one with `.git`, else this.
 function M.root(folder)
-  local up = vim.fn.finddir(".git", folder .. ";")
-  up = up ~= "" and up or vim.fn.findfile(".git", folder .. ";")
-  return up ~= "" and vim.fn.fnamemodify(up, ":p:s?/$??:h") or folder
+  local up = fn.finddir(".git", folder .. ";")
+  up = up ~= "" and up or fn.findfile(".git", folder .. ";")
+  return up ~= "" and fn.fnamemodify(up, ":p:s?/$??:h") or folder
 end
 
 -- Walks through a folder, and gives the names of files without those that begin with a period.
@@ -37,41 +37,30 @@ end
 -- Gives names of files below a folder to `take` as they come, some at once, and calls `done` at the end.
 -- Returns a job, which has `stop`.
 function M.list(root, take, done)
-  local job, rest, output = {}, "", uv.new_pipe(false)
-  local waiting, process, met = {}, nil, false
+  local job, waiting, rest, met, ended = {}, {}, "", false, fn.executable("git") == 0
   local function go_on()
     if job.stopped then
       return
     elseif #waiting > 0 then
       take(vim.list_slice(waiting, 1, MOST))
       waiting = vim.list_slice(waiting, MOST + 1)
-      return vim.defer_fn(go_on, 1)
-    elseif not output:is_closing() then
-      return vim.defer_fn(go_on, 5)
-    elseif met then
-      return done()
+    elseif ended then
+      return met and done() or not met and walk(root, job, take, done)
     end
-    walk(root, job, take, done)
+    vim.defer_fn(go_on, #waiting > 0 and 1 or 5)
   end
-  local words = { "-C", root, "ls-files", "-z", "--cached", "--others", "--exclude-standard" }
-  process = uv.spawn("git", { args = words, stdio = { nil, output, nil } }, function() process:close() end)
-  if process then
-    output:read_start(function(_, text)
-      if not text then
-        return output:close()
-      end
-      local names = vim.split(rest .. text, "\0", { plain = true })
-      rest, met = table.remove(names), true
-      vim.list_extend(waiting, names)
-    end)
-  else
-    output:close()
-  end
+  local words = { "git", "-C", root, "ls-files", "-z", "--cached", "--others", "--exclude-standard" }
+  local id = not ended and fn.jobstart(words, {
+    on_stdout = function(_, data) -- Vim has a newline for each NUL, and an item for each line.
+      local names = vim.split(rest .. table.concat(data, "\0"), "\n", { plain = true })
+      rest, met = table.remove(names), met or #names > 0
+      vim.list_extend(waiting, vim.tbl_map(function(name) return (name:gsub("%z", "\n")) end, names))
+    end,
+    on_exit = function() ended = true end,
+  })
   function job.stop()
     job.stopped = true
-    if process and not process:is_closing() then
-      process:kill("sigterm")
-    end
+    fn.jobstop(id or 0)
   end
   vim.defer_fn(go_on, 1)
   return job

@@ -97,7 +97,8 @@ local function start(wanted)
   if not list or list.ended then
     return nil
   end
-  list.trial = setmetatable({ key = key_of(wanted), first = 0, own = not wanted.list, list = list }, Preview)
+  list.trial = setmetatable({ key = key_of(wanted), first = 0, own = not wanted.list, list = list,
+    window = -1, marked = {} }, Preview)
   list.session:read_all(true)
   return list.trial
 end
@@ -132,16 +133,11 @@ function Preview:step()
   end
   local before = list.session.sent
   list:send()
-  if list.session.sent > before or self.partial and not self:is_partial() then
+  if list.session.sent > before or self.partial and not (list.due or list:has_edits()) then
     self:ask_page()
   elseif list.due then
     list:later()
   end
-end
-
--- Whether files or edits are still to come.
-function Preview:is_partial()
-  return self.list.due or self.list:has_edits()
 end
 
 function Preview:ask_page()
@@ -175,7 +171,7 @@ end
 -- The rows that are shown for the hits of a page, and marks on them.
 function Preview:rows(total, hits, first)
   local list, file = self.list, nil
-  self.partial = self:is_partial()
+  self.partial = list.due or list:has_edits() -- Files or edits are still to come.
   local so_far = self.partial and " so far" or ""
   local rows = { (self.fault or shared.counted(total, "hit") .. so_far) .. "  " .. list:options() }
   local found = { {} }
@@ -212,16 +208,12 @@ function Preview:highlight(hits)
 end
 
 function Preview:clear()
-  for buffer in pairs(self.marked or {}) do
+  for buffer in pairs(self.marked) do
     if api.nvim_buf_is_valid(buffer) then
       api.nvim_buf_clear_namespace(buffer, M.space, 0, -1)
     end
   end
   self.marked = {}
-end
-
-function Preview:has_window()
-  return self.window and api.nvim_win_is_valid(self.window)
 end
 
 -- Opens the window, or gives it another height.
@@ -230,7 +222,7 @@ function Preview:open(height)
   height = math.max(1, math.min(height, above - 3))
   local place = { relative = "editor", width = vim.o.columns, height = height, col = 0, focusable = false,
     style = "minimal", row = math.max(0, above - height - (vim.o.laststatus > 0 and 1 or 0)) }
-  if self:has_window() then
+  if api.nvim_win_is_valid(self.window) then
     return api.nvim_win_set_config(self.window, place)
   end
   place.noautocmd = true
@@ -261,7 +253,7 @@ end
 
 -- Ends the preview, and its list, unless that is taken over.
 function Preview:close()
-  if self:has_window() then
+  if api.nvim_win_is_valid(self.window) then
     api.nvim_win_close(self.window, true)
   end
   self:clear()
@@ -374,7 +366,7 @@ end
 -- The window of the command line is opened, in which no other can be closed: the preview's gets as
 -- small as it can be.
 function M.shrink()
-  if M.now and M.now:has_window() then
+  if M.now and api.nvim_win_is_valid(M.now.window) then
     timer:stop()
     api.nvim_buf_set_lines(M.now.buffer, 0, -1, false, {})
     local place = { relative = "editor", width = 1, height = 1, col = vim.o.columns - 1, row = vim.o.lines - 1 }
@@ -420,7 +412,7 @@ end
 -- Asks for a text by `vim.ui.input`, and takes one that isn't empty; `listed` says what a text would list.
 function M.ask(options, listed, take)
   M.prompt = listed
-  shared.interrupted(vim.ui.input, options, function(text)
+  shared.interruptible(vim.ui.input, options, function(text)
     M.prompt = nil
     if text and text ~= "" then
       take(text)

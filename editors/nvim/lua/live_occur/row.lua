@@ -18,22 +18,15 @@ function M.whole(line, place)
   return place
 end
 
--- How many bytes of a long line are cut off before its first match.
-local function start_of(line, parts, most)
-  local first, last = parts:match("(%d+)%-(%d+)")
-  if not first or tonumber(last) <= most then
-    return 0
-  end
-  return M.whole(line, math.max(0, tonumber(first) - math.min(LEAD, math.floor(most / 4))))
-end
-
 -- The text of a row for a line with these parts, and how many bytes are cut off before it.
 function M.text(line, parts)
   local most = settings.max_columns
   if #line <= most then
     return line, 0
   end
-  local start = start_of(line, parts or "", most)
+  local first, last = (parts or ""):match("(%d+)%-(%d+)")
+  local start = tonumber(last or 0) > most and math.max(0, first - math.min(LEAD, math.floor(most / 4))) or 0
+  start = M.whole(line, start)
   local finish = start + most < #line and M.whole(line, start + most) or #line
   local text = line:sub(start + 1, finish)
   return (start > 0 and CUT or "") .. text .. (finish < #line and CUT or ""), start

@@ -225,12 +225,6 @@ function M:put_headings()
   end
 end
 
--- Writes the rows of a list whose buffer was loaded anew, as by `:e`.
-function M:renew_rows()
-  self:put(0, -1, { "" })
-  self:restart()
-end
-
 -- The number of hits of all files.
 function M:total()
   local total = 0
@@ -269,23 +263,20 @@ function M:set_context(before, after)
   self:redraw()
 end
 
--- Some lines of a file, from `first` up to before `last`, from 0.
-local function lines_of(self, file, first, last)
-  if not file.path then
-    return shared.lines(file.buffer, first, last)
-  elseif self.read ~= file.path then -- The last file that was read is kept.
-    self.read, self.read_lines = file.path, vim.split(self.read_file(file.path) or "\n", "\n", { plain = true })
-  end
-  return vim.list_slice(self.read_lines, first + 1, math.min(last, file.to))
-end
-
 -- The lines around hits that are between a row and the next one: for each its number and its text, or
 -- false where some are left out.
 function M:between(row)
   local at, below = self:at(row), self:at(row + 1)
   local found, before, after = {}, self.context[1], self.context[2]
   local function add(file, first, last)
-    for index, text in ipairs(first < last and lines_of(self, file, first, last) or {}) do
+    local lines = first < last and not file.path and shared.lines(file.buffer, first, last) or {}
+    if first < last and file.path then
+      if self.read ~= file.path then -- The last file that was read is kept.
+        self.read, self.read_lines = file.path, vim.split(self.read_file(file.path) or "\n", "\n", { plain = true })
+      end
+      lines = vim.list_slice(self.read_lines, first + 1, math.min(last, file.to))
+    end
+    for index, text in ipairs(lines) do
       found[#found + 1] = { first + index - 1, (row_texts.text(text)) }
     end
   end

@@ -59,17 +59,13 @@ local function read_hit(piece, text, start, finish)
   piece.parts[count] = text:sub(place_end + 1, parts_end - 1)
 end
 
--- The piece of a reply for the next hit.
-local function piece_of(reply)
-  local last = reply.pieces[#reply.pieces]
-  return last.count < math.min(PIECE, settings.slice) and last or add_piece(reply, last.file)
-end
-
 -- Reads one line of a reply, and returns whether the reply ends with it.
 local function read_line(reply, text, start, finish)
   local first, second = text:byte(start, start + 1)
   if second == 32 and first == 114 then -- r
-    return read_hit(piece_of(reply), text, start + 2, finish)
+    local last = reply.pieces[#reply.pieces]
+    last = last.count < math.min(PIECE, settings.slice) and last or add_piece(reply, last.file)
+    return read_hit(last, text, start + 2, finish)
   elseif second == 32 and first == 112 then -- p
     local page = reply.page
     local file, file_end = read_number(text, start + 2)

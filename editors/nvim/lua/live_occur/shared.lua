@@ -23,18 +23,12 @@ function M.short(fault)
   return (tostring(fault):gsub("^.-(E%d+:)", "%1"))
 end
 
--- Whether a fault of Vim is that CTRL-C was typed.
-function M.is_interrupt(fault)
-  return tostring(fault):find("Keyboard interrupt", 1, true) ~= nil
-end
-
--- Calls a function, and returns whether CTRL-C ended it.
-function M.interrupted(call, ...)
+-- Calls a function, which CTRL-C may end.
+function M.interruptible(call, ...)
   local ran, problem = pcall(call, ...)
-  if not ran and not M.is_interrupt(problem) then
+  if not ran and not tostring(problem):find("Keyboard interrupt", 1, true) then
     error(problem, 0)
   end
-  return not ran
 end
 
 -- Whether there is such a buffer.

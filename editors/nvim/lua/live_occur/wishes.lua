@@ -37,18 +37,13 @@ function M:options()
   return known.wanted .. (known.smart and ", smart case" or "") .. (flags ~= "" and " -" .. flags or "")
 end
 
--- Whether a text has an upper-case letter, but for those after a backslash.
-local function has_upper(text, syntax)
-  text = syntax ~= "fixed" and text:gsub("\\.", "") or text
-  return vim.fn.tolower(text) ~= text
-end
-
 -- What the program would have for a wish: a syntax, texts, which are patterns in pieces, and flags.
 function M:for_program(wish)
   local flags, in_characters = vim.deepcopy(wish.flags), self:in_characters()
   flags.i = flags.i or wish.smart or nil
-  for _, pattern in ipairs(wish.smart and wish.patterns or {}) do
-    flags.i = not has_upper(pattern, wish.syntax) and flags.i or nil
+  for _, text in ipairs(wish.smart and wish.patterns or {}) do -- A letter after a backslash isn't counted.
+    text = wish.syntax ~= "fixed" and text:gsub("\\.", "") or text
+    flags.i = vim.fn.tolower(text) == text and flags.i or nil
   end
   local is_ascii = not table.concat(wish.patterns):find("[\128-\255]")
   local quoted = in_characters and flags.i and wish.syntax == "fixed" and not is_ascii
@@ -58,7 +53,7 @@ function M:for_program(wish)
     local pieces = in_characters and sent.syntax ~= "fixed"
       and characters.translate(pattern, sent.syntax, flags.i, quoted)
     sent.pieces[number] = pieces or { { 0, pattern } }
-    sent.texts[number] = characters.text(sent.pieces[number])
+    sent.texts[number] = table.concat(vim.tbl_map(function(piece) return piece[2] end, sent.pieces[number]))
   end
   return sent
 end
