@@ -28,7 +28,8 @@
 # make install-occur  does so without grep
 # make uninstall  removes what `make install` copied, with the same words; where another grep is there, nothing
 # make uninstall-occur  removes what `make install-occur` copied, beside any grep
-# make install-lib    copies libgaxtrel.a and .so, gaxtrel.h and gaxtrel.pc below $(DESTDIR)$(PREFIX)
+# make install-lib    copies what `make lib` built, libgaxtrel.a and .so, to $(DESTDIR)$(LIBDIR), which is lib below
+#                 PREFIX unless it is given, with gaxtrel.pc, and gaxtrel.h below $(DESTDIR)$(PREFIX)
 # make uninstall-lib  removes them, with the same words
 # make dist       packs archives into build/: the programs, their pages and the clients; their symbols; the sources
 # make deb        packs the programs for Debian into build/, grep as gaxgrep (needs dpkg-dev)
@@ -44,7 +45,7 @@ EMACS = emacs
 NVIM = nvim
 
 .PHONY: all programs gate audit test test-program test-random test-growth test-changes test-memory test-editor test-nvim \
-    lib test-lib figures size evidence install install-occur uninstall uninstall-occur install-lib \
+    lib test-lib figures size evidence grep-name install install-occur uninstall uninstall-occur install-lib \
     uninstall-lib dist deb clean
 
 all: programs
@@ -128,14 +129,17 @@ size:
 evidence:
 	tools/evidence_page.sh
 
+grep-name:
+	@tools/grep_name.sh "$(GREP_NAME)"
+
 KEEP_OTHER_GREP = tools/keep_other_grep.sh $@ "$(DESTDIR)$(PREFIX)/bin/$(GREP_NAME)"
 
-install: build/grep build/occur
+install: grep-name build/grep build/occur
 	@test "$(FORCE)" = 1 || $(KEEP_OTHER_GREP)
 	tools/install.sh install "$(DESTDIR)$(PREFIX)" "$(GREP_NAME)" grep
 	$(MAKE) install-occur
 
-install-occur:
+install-occur: grep-name
 	test -e build/occur || tools/build.sh occur
 	tools/install.sh install "$(DESTDIR)$(PREFIX)" "$(GREP_NAME)" occur
 	if test -n "$(SITE_LISP)"; then editors/emacs/install.sh "$(EMACS)" "$(DESTDIR)$(SITE_LISP)"; fi
@@ -147,17 +151,20 @@ install-occur:
 EMACS_CLIENT = live-occur.el live-occur.elc live-occur-track.el live-occur-track.elc live-occur-autoloads.el
 NVIM_CLIENT = plugin/live_occur.lua doc/live-occur.txt lua/live_occur
 
-uninstall:
+uninstall: grep-name
 	@$(KEEP_OTHER_GREP)
 	tools/install.sh remove "$(DESTDIR)$(PREFIX)" "$(GREP_NAME)" grep
 	$(MAKE) uninstall-occur
 
-uninstall-occur:
+uninstall-occur: grep-name
 	tools/install.sh remove "$(DESTDIR)$(PREFIX)" "$(GREP_NAME)" occur
 	test -z "$(SITE_LISP)" || rm -f $(foreach file,$(EMACS_CLIENT),"$(DESTDIR)$(SITE_LISP)/$(file)")
 	test -z "$(NVIM_SITE)" || rm -rf $(foreach file,$(NVIM_CLIENT),"$(DESTDIR)$(NVIM_SITE)/$(file)")
+	@test -z "$(NVIM_SITE)" || for folder in plugin doc lua; do \
+	    rmdir --ignore-fail-on-non-empty "$(DESTDIR)$(NVIM_SITE)/$$folder" 2> /dev/null || true; done
 
-install-lib: build/lib/libgaxtrel.a
+install-lib:
+	@test -e build/lib/libgaxtrel.a || { echo 'The library is not built: run `make lib` first.' >&2; exit 1; }
 	$(MAKE) --no-print-directory -C capi install
 
 uninstall-lib:

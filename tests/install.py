@@ -1,5 +1,5 @@
-"""Cases of `make install`, `make install-occur` and `make uninstall`: where they write, what they call
-grep, and what becomes of a grep that is there. They need GNU make.
+"""Cases of `make install`, `make install-occur`, `make install-lib` and `make uninstall`: where they write, what they
+call grep, and what becomes of a grep that is there. They need GNU make.
 
 They run in a checkout that has the given program in build/, so that nothing is built or proved. All is
 in the folder of the case.
@@ -8,6 +8,7 @@ in the folder of the case.
 from __future__ import annotations
 
 import os
+import re
 import shutil
 import subprocess
 from pathlib import Path
@@ -247,13 +248,63 @@ def renamed(bench: Bench) -> Verdict:
     return Verdict(Answer(), Answer("\n".join(faults).encode(), b"", status))
 
 
+ODD_NAMES = ["", "a/b", "a&b", "a b", "-a", ".", "occur"]
+"""What grep can't be called."""
+
+
+@grep_case("`make install` refuses an odd GREP_NAME, and installs nothing.")
+def odd_names(bench: Bench) -> Verdict:
+    said = []
+    for target in ("install", "install-occur", "uninstall", "uninstall-occur"):
+        for name in ODD_NAMES:
+            ran = ran_in(checkout(bench), target, f"PREFIX={bench.folder / 'there'}", f"GREP_NAME={name}", "FORCE=1")
+            said.append(f"{ran.returncode} {ran.stderr.startswith(b'GREP_NAME ')}")
+    wanted = "\n".join([f"{FAILED} True"] * len(said))
+    return Verdict(Answer(wanted.encode()), Answer("\n".join(said).encode() + files_in(bench.folder / "there")))
+
+
+@grep_case("The links of the installed README and changelog are absolute, and name files of the repository.")
+def absolute_links(bench: Bench) -> Verdict:
+    status = install(bench)
+    texts = [(bench.folder / "there/share/doc/gaxtrel" / name).read_text(encoding="utf-8")
+             for name in ("README.md", "CHANGELOG.md")]
+    links = [link for text in texts for link in re.findall(r"\]\(([^)\s]+)\)", text) if not link.startswith("#")]
+    control = (REPOSITORY / "dist/debian/control").read_text(encoding="utf-8")
+    home = re.search(r"^Homepage: (.*)$", control, re.MULTILINE)[1] + "/"
+    faults = [link for link in links if not link.startswith(("https://", "http://")) or
+              link.startswith(home) and not (REPOSITORY / link.removeprefix(home).partition("#")[0]).exists()]
+    if not any(link.startswith(home) for link in links):
+        faults.append("there is no link")
+    return Verdict(Answer(), Answer("\n".join(faults).encode(), b"", status))
+
+
+OWN_FOLDERS = ["share/doc/gaxtrel", "nvim/plugin", "nvim/doc", "nvim/lua"]
+"""The folders that are made for what is installed here, and stay if another file is in them."""
+
+
+def left_folders(there: Path) -> list[str]:
+    return [name for name in OWN_FOLDERS if (there / name).exists()]
+
+
+@grep_case("`make uninstall` leaves a folder in which another file is.")
+def shared_folder(bench: Bench) -> Verdict:
+    there = bench.folder / "there"
+    words = [f"PREFIX={there}", f"NVIM_SITE={there / 'nvim'}"]
+    statuses = [make(bench, "install", *words)]
+    bench.write("there/nvim/plugin/another.lua", b"")
+    statuses.append(make(bench, "uninstall", *words))
+    return Verdict(Answer(b"nvim/plugin/another.lua ['nvim/plugin'] [0, 0]"),
+                   Answer(files_in(there) + f" {left_folders(there)} {statuses}".encode()))
+
+
 @grep_case("`make uninstall` removes all that `make install` has installed, and nothing else.")
 def uninstalled(bench: Bench) -> Verdict:
     words = ["GREP_NAME=gaxgrep", f"PREFIX={bench.folder / 'there'}", f"SITE_LISP={bench.folder / 'there/lisp'}",
              f"NVIM_SITE={bench.folder / 'there/nvim'}"]
     put_grep(bench, OTHER_GREP)
     statuses = make(bench, "install", *words), make(bench, "uninstall", *words)
-    return Verdict(Answer(b"bin/grep (0, 0)"), Answer(files_in(bench.folder / "there") + f" {statuses}".encode()))
+    left = f" {statuses} {left_folders(bench.folder / 'there')}"
+    return Verdict(Answer(b"bin/grep (0, 0) []"), Answer(files_in(bench.folder / "there") + left.encode()))
 
 
 @grep_case("`make uninstall` leaves another grep that is there as it is, removes nothing, and names what does.")
@@ -303,7 +354,8 @@ def occur_uninstalled(bench: Bench) -> Verdict:
     words = [f"PREFIX={there}", f"SITE_LISP={there / 'lisp'}", f"NVIM_SITE={there / 'nvim'}"]
     put_grep(bench, OTHER_GREP)
     statuses = make(bench, "install-occur", *words), make(bench, "uninstall-occur", *words)
-    return Verdict(Answer(b"bin/grep (0, 0)"), Answer(files_in(there) + f" {statuses}".encode()))
+    left = f" {statuses} {left_folders(there)}"
+    return Verdict(Answer(b"bin/grep (0, 0) []"), Answer(files_in(there) + left.encode()))
 
 
 @occur_case("`make install-occur` installs occur alone, which needs no grep.")
@@ -313,6 +365,33 @@ def occur_alone(bench: Bench) -> Verdict:
     status = make(bench, "install-occur", f"PREFIX={there}")
     wanted = listed(["bin/grep", *installed_of("occur"), *TEXTS])
     return Verdict(Answer(REPLIES, wanted), Answer(found_by(there / "bin/occur"), files_in(there), status))
+
+
+# The library for C
+
+LIBRARIES = ["libgaxtrel.a", "libgaxtrel.so", "libgaxtrel.so.0", "pkgconfig/gaxtrel.pc"]
+
+
+@grep_case("`make install-lib` proves nothing: without a library it says what builds one.")
+def no_library(bench: Bench) -> Verdict:
+    ran = ran_in(checkout(bench), "install-lib", f"PREFIX={bench.folder / 'there'}")
+    said = b"make lib" if b"run `make lib` first" in ran.stderr else ran.stderr
+    return Verdict(Answer(b"", b"make lib", FAILED), Answer(files_in(bench.folder / "there"), said, ran.returncode))
+
+
+@grep_case("`make install-lib` copies the library to LIBDIR, `make uninstall-lib` removes it.")
+def library_folder(bench: Bench) -> Verdict:
+    folder, stage = checkout(bench), bench.folder / "stage"
+    for name in ("libgaxtrel.a", "libgaxtrel.so.0"):
+        bench.write(f"checkout/build/lib/{name}", b"")
+    words = [f"DESTDIR={stage}", "PREFIX=/usr", "LIBDIR=/usr/lib/x86_64-linux-gnu"]
+    statuses = [make_in(folder, "install-lib", *words)]
+    there = files_in(stage / "usr")
+    described = (stage / "usr/lib/x86_64-linux-gnu/pkgconfig/gaxtrel.pc").read_text(encoding="ascii")
+    statuses.append(make_in(folder, "uninstall-lib", *words))
+    wanted = listed(["include/gaxtrel.h", *(f"lib/x86_64-linux-gnu/{name}" for name in LIBRARIES)])
+    named = "prefix=/usr\n" in described and "libdir=${prefix}/lib/x86_64-linux-gnu\n" in described
+    return Verdict(Answer(wanted + b" True [0, 0]"), Answer(there + f" {named} {statuses}".encode() + files_in(stage)))
 
 
 # Symbols

@@ -7,6 +7,7 @@ They run in a checkout as those of tests/install.py.
 from __future__ import annotations
 
 import hashlib
+import io
 import os
 import shutil
 import subprocess
@@ -15,6 +16,7 @@ from pathlib import Path
 
 from install import (
     EMACS_CLIENT,
+    FAILED,
     INSTALLED,
     NVIM_CLIENT,
     OTHER_GREP,
@@ -26,6 +28,7 @@ from install import (
     listed,
     make,
     make_in,
+    ran_in,
 )
 from program import SECONDS, Answer, Bench, Cases, Skipped, Verdict, all_of
 from samples import TWO_LINES
@@ -35,8 +38,11 @@ PROGRAMS = f"gaxtrel-{VERSION}-x86_64-linux"
 """The folder in the archive of the programs, and in that of their symbols."""
 
 SOURCES = f"gaxtrel-{VERSION}"
+PACK = "share/nvim/site/pack/dist/start/live-occur"
+"""The folder of the Neovim client, from which Neovim loads it by itself."""
+
 CLIENTS = [*(f"share/emacs/site-lisp/{name}" for name in EMACS_CLIENT),
-           *(f"share/nvim/site/{name}" for name in NVIM_CLIENT)]
+           *(f"{PACK}/{name}" for name in ("doc/tags", *NVIM_CLIENT))]
 DATE = "1700000000"
 """A time for the files in packages."""
 
@@ -44,7 +50,8 @@ MADE = ["build/log/gate", "crates/re_syntax/out/rlib", "tests/__pycache__/run.py
 """Files that no archive of the sources has."""
 
 grep_case = Cases("grep", "packages.py")
-cases = all_of(grep_case)
+occur_case = Cases("occur", "packages.py")
+cases = all_of(grep_case, occur_case)
 """All cases of this file."""
 
 
@@ -147,6 +154,39 @@ def same_bytes(bench: Bench) -> Verdict:
                    Answer(sums[1], " ".join(map(str, [*times, statuses])).encode()))
 
 
+HELPED = "call writefile([expand('%:t'), exists(':LiveOccur')], $SAID)"
+"""What Neovim writes of the help that it shows, and of a command of the client."""
+
+
+@grep_case("Neovim finds the packed client and its help, by the tags that it would make itself.")
+def nvim_help(bench: Bench) -> Verdict:
+    needs("nvim")
+    status = make(bench, "dist")
+    folder = unpacked(bench, PROGRAMS) / PROGRAMS
+    tags = folder / PACK / "doc/tags"
+    packed = tags.read_bytes()
+    environment = {"PATH": os.environ["PATH"], "HOME": str(bench.folder), "XDG_DATA_DIRS": f"{folder / 'share'}",
+                   "SAID": str(bench.folder / "said")}
+    for commands in (["-c", "help live-occur", "-c", HELPED], ["-c", f"helptags {tags.parent}"]):
+        subprocess.run(["nvim", "--headless", "-u", "NORC", "-i", "NONE", "-n", *commands, "-c", "quitall!"],
+                       env=environment, timeout=SECONDS, stdin=subprocess.DEVNULL, capture_output=True, check=False)
+    said = (bench.folder / "said").read_bytes()
+    return Verdict(Answer(b"live-occur.txt\n2\nTrue"),
+                   Answer(said + f"{tags.read_bytes() == packed}".encode(), b"", status))
+
+
+@occur_case("`make dist` and `make deb` pack nothing where the built occur is of another version.")
+def other_version(bench: Bench) -> Verdict:
+    folder = checkout(bench)
+    shutil.copy(bench.program, folder / "build/grep")
+    (folder / "VERSION").write_text("99.0.0\n", encoding="ascii")
+    ran = [ran_in(folder, target) for target in ("dist", "deb")]
+    named = [b"VERSION is 99.0.0" in each.stderr for each in ran]
+    made = [file.name for file in (folder / "build").glob("gaxtrel*")]
+    return Verdict(Answer(f"{[FAILED] * 2} {[True] * 2} []".encode()),
+                   Answer(f"{[each.returncode for each in ran]} {named} {made}".encode()))
+
+
 # For Debian
 
 
@@ -183,6 +223,20 @@ def installed_deb(bench: Bench) -> Verdict:
     left = [str(file.relative_to(root)) for file in root.glob("usr/**/*") if file.is_file()]
     wanted = [["gaxgrep", "grep", "occur"], ["usr/bin/grep"]]
     return Verdict(Answer(TWO_LINES, str(wanted).encode()), Answer(found, str([with_it, left]).encode()))
+
+
+IN_PLACES_OF_DEBIAN = [*(f"./usr/share/zsh/vendor-completions/_gaxtrel_{name}" for name in ("gaxgrep", "occur")),
+                       f"./usr/{PACK}/doc/tags"]
+
+
+@grep_case("The package for Debian has completions where its zsh looks, and the tags of the help.")
+def places_of_debian(bench: Bench) -> Verdict:
+    package = packed_deb(bench)
+    ran = subprocess.run(["dpkg-deb", "--fsys-tarfile", package], timeout=PATIENCE, capture_output=True, check=True)
+    with tarfile.open(fileobj=io.BytesIO(ran.stdout)) as archive:
+        names = archive.getnames()
+    found = [name for name in names if "/zsh/" in name and "_gaxtrel_" in name or name.endswith("/tags")]
+    return Verdict(Answer(listed(IN_PLACES_OF_DEBIAN)), Answer(listed(found)))
 
 
 @grep_case("lintian finds no fault in the package for Debian.")

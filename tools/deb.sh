@@ -5,13 +5,17 @@
 set -euo pipefail
 cd "$(dirname "${BASH_SOURCE[0]}")/.."
 version=$(< VERSION)
+tools/built_version.sh
 package=build/gaxtrel_${version}_amd64.deb
 folder=$(mktemp -d)
 trap 'rm -rf "$folder"' EXIT
-root=$folder/root doc=$folder/root/usr/share/doc/gaxtrel
+root=$folder/root doc=$folder/root/usr/share/doc/gaxtrel nvim=/usr/share/nvim/site/pack/dist/start/live-occur
 
 make -s install DESTDIR="$root" PREFIX=/usr GREP_NAME=gaxgrep SITE_LISP=/usr/share/emacs/site-lisp \
-    NVIM_SITE=/usr/share/nvim/site EMACS=
+    NVIM_SITE="$nvim" EMACS=
+tools/help_tags.sh "$root$nvim/doc/live-occur.txt" > "$root$nvim/doc/tags"
+# zsh of Debian looks there.
+mv "$root/usr/share/zsh/site-functions" "$root/usr/share/zsh/vendor-completions"
 rm "$doc"/LICENSE-*
 cp dist/debian/copyright "$doc"
 date=$(date --utc --rfc-email --date="@$SOURCE_DATE_EPOCH")

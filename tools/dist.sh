@@ -10,7 +10,8 @@
 set -euo pipefail
 cd "$(dirname "${BASH_SOURCE[0]}")/.."
 version=$(< VERSION)
-name=gaxtrel-$version-x86_64-linux
+tools/built_version.sh
+name=gaxtrel-$version-x86_64-linux nvim=share/nvim/site/pack/dist/start/live-occur
 folder=$(mktemp -d)
 trap 'rm -rf "$folder"' EXIT
 
@@ -31,7 +32,8 @@ sources() {
 }
 
 make -s install DESTDIR= PREFIX="$folder/$name" GREP_NAME=grep SITE_LISP="$folder/$name/share/emacs/site-lisp" \
-    NVIM_SITE="$folder/$name/share/nvim/site" EMACS=
+    NVIM_SITE="$folder/$name/$nvim" EMACS=
+tools/help_tags.sh "$folder/$name/$nvim/doc/live-occur.txt" > "$folder/$name/$nvim/doc/tags"
 sed "s/VERSION/$version/" dist/README > "$folder/$name/README"
 pack "$name" -C "$folder" "$name"
 pack "$name-debug" --transform="s|^\.|$name/bin/.debug|" -C build/debug .

@@ -5,6 +5,7 @@
 #     tools/install.sh install|remove FOLDER GREP_NAME PROGRAM..
 #
 # GREP_NAME is what grep is called there. The pages speak of it by that name; its messages still begin with `grep:`.
+# README and changelog link to the pages of the repository where they are published.
 set -euo pipefail
 cd "$(dirname "${BASH_SOURCE[0]}")/.."
 verb=$1 folder=$2 grep_name=$3
@@ -22,6 +23,13 @@ page_of() {
     sed -E "s/$named/.\1 $grep_name\2/; s/^\.Dt GREP/.Dt ${grep_name^^}/; /GNU$/ { n; s/^\.Nm/.Nm grep/ }" "man/$1.1"
 }
 
+# A page whose links to other files are absolute.
+linked() {
+    local homepage
+    homepage=$(sed -n 's/^Homepage: //p' dist/debian/control)
+    sed -E "s|\]\(([^):#]+(#[^)]*)?)\)|]($homepage/\1)|g" "$1"
+}
+
 completions_of() { sed -E "/^(complete|#compdef) /s/\bgrep\b/$grep_name/" "completions/$1.$2"; }
 
 for program in "${programs[@]}"; do
@@ -35,4 +43,8 @@ for program in "${programs[@]}"; do
     put "share/zsh/site-functions/_gaxtrel_$name" 644 <(completions_of "$program" zsh)
     put "share/fish/vendor_completions.d/$name.fish" 644 <(completions_of "$program" fish)
 done
-for text in LICENSE-APACHE LICENSE-MIT README.md CHANGELOG.md; do put "share/doc/gaxtrel/$text" 644 "$text"; done
+for text in LICENSE-APACHE LICENSE-MIT; do put "share/doc/gaxtrel/$text" 644 "$text"; done
+for text in README.md CHANGELOG.md; do put "share/doc/gaxtrel/$text" 644 <(linked "$text"); done
+if [[ $verb == remove && -d $folder/share/doc/gaxtrel ]]; then
+    rmdir --ignore-fail-on-non-empty "$folder/share/doc/gaxtrel"
+fi
