@@ -22,30 +22,36 @@ import count  # noqa: E402
 import figures  # noqa: E402
 
 MOST_WORDS = {
-    "README.md": 1_380,
+    "README.md": 1_300,
     "CONTRIBUTING.md": 500,
     "SECURITY.md": 650,
-    "docs/GUARANTEES.md": 2_070,
-    "docs/SPECIFICATION.md": 5_090,
+    "docs/GUARANTEES.md": 2_220,
+    "docs/SPECIFICATION.md": 4_400,
     "docs/ARCHITECTURE.md": 2_960,
-    "docs/PROVING.md": 4_450,
-    "docs/DECISIONS.md": 4_500,
+    "docs/PROVING.md": 4_060,
+    "docs/DECISIONS.md": 4_470,
     "docs/PERFORMANCE.md": 1_400,
     "docs/CHANGING.md": 1_600,
-    "docs/ROADMAP.md": 730,
-    "docs/GLOSSARY.md": 820,
-    "docs/LIBRARY.md": 890,
-    "crates/*/README.md": 5_330,
+    "docs/ROADMAP.md": 570,
+    "docs/GLOSSARY.md": 750,
+    "docs/LIBRARY.md": 870,
+    "crates/*/README.md": 3_130,
     "tests/README.md": 1_050,
     "capi/python/README.md": 500,
     "editors/emacs/README.md": 1_590,
     "editors/nvim/*.md": 1_500,
-    "*": 37_490,
+    "*": 33_720,
 }
 """How many words pages have at most, by the pattern of their names."""
 
 NOT_YET: set[str] = set()
 """The patterns whose pages are still too long. A page that gets there loses its place here."""
+
+READ_THROUGH = ["README.md", "CONTRIBUTING.md", "SECURITY.md", "CHANGELOG.md", "docs/*.md", "crates/*/README.md"]
+"""The patterns of the pages that someone may read through, but for EVIDENCE, which a script writes."""
+
+MOST_PROSE = 25_000
+"""How many words of prose these have at most, all together."""
 
 COUNTS = {"docs/EVIDENCE.md", "docs/PERFORMANCE.md", "docs/PROVING.md"}
 """The pages that may name counts of functions, edits, cases and runs."""
@@ -139,6 +145,19 @@ for pattern, most in MOST_WORDS.items():
             return judged([f"{pattern} has {number:,} words"] if number > most else [])
 
 
+def prose_of(text: str) -> int:
+    """How many words of a page are prose: no block of code is, no mark of a table, and code within a line is one word."""
+    lines = [line for line in without_blocks(text).splitlines() if not line.startswith("    ")]
+    return sum(bool(re.search(r"\w", word)) for word in re.sub(r"(`+)[^\n]*?\1", "x", "\n".join(lines)).split())
+
+
+@case(f"The pages that are read through have at most {MOST_PROSE:,} words of prose.")
+def prose(bench: Bench) -> Verdict:
+    number = sum(prose_of(text) for page, text in pages().items() if page != "docs/EVIDENCE.md"
+                 and any(fnmatch(page, pattern) for pattern in READ_THROUGH))
+    return judged([f"they have {number:,}"] if number > MOST_PROSE else [])
+
+
 @case("No page names a number of functions, edits, cases or runs: they are in EVIDENCE, or tools/count.py says them.")
 def counts_in_pages(bench: Bench) -> Verdict:
     faults = []
@@ -160,6 +179,32 @@ def drawn(bench: Bench) -> Verdict:
                    if made.get(name) != there.get(name)])
 
 
+# The version
+
+NAMES_OF_VERSION = {
+    "CHANGELOG.md": r"^(?:What |## \[)(\d[^],\s]*)",
+    "crates/grep_cmd/audit/version_of_other_scripts.edit": r'VERSION: &str = "(\S+) script',
+    "crates/grep_cmd/specs/Replies.antt": r'"occur (\S+) script',
+    "crates/grep_cmd/src/script.rt": r'VERSION: &str = "(\S+) script',
+    "editors/emacs/live-occur.el": r"^;; Version: (\S+)$",
+    "man/occur.1": r"^\.It Li occur Ar version .*\nThe version of the program, as\n\.Li (\S+) ,$",
+}
+"""How each file that names the version does so; the first name in it counts."""
+
+
+@case("All files that name the version name that of the file VERSION.")
+def versions(bench: Bench) -> Verdict:
+    pages()  # skipped where git is not there
+    version = (REPOSITORY / "VERSION").read_text(encoding="ascii").strip()
+    named = {name: re.findall(form, (REPOSITORY / name).read_text(encoding="utf-8"), re.MULTILINE)
+             for name, form in NAMES_OF_VERSION.items()}
+    faults = [f"{name}: {found[:1]}" for name, found in named.items() if found[:1] != [version]]
+    listed = subprocess.run(["git", "grep", "-lwF", "-e", version], cwd=REPOSITORY, timeout=SECONDS,
+                            capture_output=True, check=False).stdout.decode().split()
+    return judged(faults + [f"{name}: it isn't in the test's table"
+                            for name in listed if name not in {"VERSION", *named}])
+
+
 # Definitions and contracts
 
 
@@ -168,16 +213,81 @@ def definitions(bench: Bench) -> Verdict:
     return Verdict(Answer(count.table().encode()), Answer(count.table_of_page().encode()))
 
 
-@case("Each contract and law that GUARANTEES names is a function or a type of the crates.")
-def contracts(bench: Bench) -> Verdict:
-    sources = "\n".join(file.read_text(encoding="utf-8") for file in count.CRATES.glob("*/src/**/*.rt"))
-    known = set(re.findall(r"\b(?:fn|struct|enum|trait) (\w+)", sources))
-    promised = pages().get("docs/GUARANTEES.md", "").partition("## What no contract says")[0]
-    named: list[str] = []
-    for row in re.findall(r"^\| [^|\n]*\|([^|\n]*\|[^|\n]*)\|$", promised, re.MULTILINE):
-        for name in re.findall(r"`([^`]+)`", row):
-            named += name.split("::")
-    return judged([name for name in named if name not in known] if named else ["no contract is named"])
+def promises() -> list[list[str]]:
+    """The rows of GUARANTEES: what is promised, by which contract and which law, and what defines it."""
+    promised = pages().get("docs/GUARANTEES.md", "").partition("## Premises")[0]
+    rows = [[cell.strip() for cell in line[2:-1].split("|")]
+            for line in promised.splitlines() if line.startswith("| ")]
+    return [row for row in rows if row[0] != "promise"]
+
+
+LINKED_NAME = r"\[`([^`]+)`\]\(\.\./(crates/[^)]+)\)"
+"""A link to the code or the definition of a name."""
+
+FORMS_OF_NAMES = {
+    ".rt": r"\b(?:fn|struct|enum|trait) {}\b",
+    ".antt": r"^ *(?:(?:abbrev|unfoldable) )*(?:pub )?(?:data |record )?{}(?: |:|$)",
+}
+"""What defines a name, by the kind of the file."""
+
+
+def defines(file: Path, name: str) -> bool:
+    """Whether a file defines a function, a type or a word; a file of definitions also has its own name."""
+    if not file.is_file():
+        return False
+    text, last = file.read_text(encoding="utf-8"), re.escape(name.split("::")[-1])
+    found = re.search(FORMS_OF_NAMES[file.suffix].format(last), text, re.MULTILINE)
+    return bool(found) or file.suffix == ".antt" and file.stem == name
+
+
+@case("Each row of GUARANTEES links to a contract or a law, and to all that it names.")
+def linked_promises(bench: Bench) -> Verdict:
+    rows = promises()
+    faults = [f"not four cells: {row[0]}" for row in rows if len(row) != 4]
+    faults += [f"no contract and no law: {row[0]}" for row in rows if not re.search(LINKED_NAME, "".join(row[1:3]))]
+    faults += [f"no link: {row[0]}" for row in rows if "`" in re.sub(LINKED_NAME, "", "".join(row[1:]))]
+    return judged(faults if rows else ["there is no row"])
+
+
+@case("Each link to code or a definition with a name leads to a file that defines that name.")
+def linked_names(bench: Bench) -> Verdict:
+    return judged([f"{page}: {name} isn't defined in {target}" for page, text in pages().items()
+                   for name, target in re.findall(LINKED_NAME, text)
+                   if Path(target).suffix in FORMS_OF_NAMES and not defines(REPOSITORY / target, name)])
+
+
+NO_NAMES = {"NAMEPartialEq", "NAME_tests", "basic_", "bool_byte", "put_payload", "offset_bounds"}
+"""What pages write where a name is meant, and what they name of the toolchain."""
+
+NAMING = ["README.md", "CONTRIBUTING.md", "docs/*.md", "crates/*/README.md"]
+"""The pages whose names of code are looked up."""
+
+
+def words_of_sources() -> set[str]:
+    """All words of the files that git knows, but pages, and their names."""
+    listed = subprocess.run(["git", "ls-files", "-z"], cwd=REPOSITORY, timeout=SECONDS, capture_output=True, check=True)
+    names = [Path(name) for name in listed.stdout.decode().split("\0") if name and not name.endswith((".md", ".svg"))]
+    texts = [(REPOSITORY / name).read_bytes().decode(errors="replace") for name in names if (REPOSITORY / name).is_file()]
+    return {word for text in [*texts, *map(str, names)] for word in re.findall(r"\w+", text)}
+
+
+@case("Each name that a page writes as code, with an underscore or several capitals, is in the sources.")
+def cited_names(bench: Bench) -> Verdict:
+    known = words_of_sources() | NO_NAMES
+    shown = {page: without_blocks(text) for page, text in pages().items()
+             if any(fnmatch(page, pattern) for pattern in NAMING)}
+    names = {(page, name) for page, text in shown.items() for code in re.findall(r"`([^`\n]+)`", text)
+             for name in re.findall(r"(?<![-\w])[A-Za-z]\w*\b", code) if re.search(r"_|[a-z][A-Z]", name)}
+    return judged(sorted(f"{page}: {name}" for page, name in names if name not in known))
+
+
+@case("The line that the refusal in CONTRIBUTING names is that of the function which the page checks.")
+def refused_line(bench: Bench) -> Verdict:
+    page = pages().get("CONTRIBUTING.md", "")
+    crate, function = re.search(r"gaxtrel/(crates/\S+)\n +rt check --only (\w+)", page).groups()
+    file, number = re.search(r"note: (\S+):(\d+):1: it is not proved", page).groups()
+    line = (REPOSITORY / crate / file).read_text(encoding="utf-8").splitlines()[int(number) - 1]
+    return judged([] if f"fn {function}(" in line else [f"line {number} of {file} is {line}"])
 
 
 # Examples
