@@ -40,7 +40,7 @@ MOST_WORDS = {
     "capi/python/README.md": 500,
     "editors/emacs/README.md": 1_590,
     "editors/nvim/*.md": 1_500,
-    "*": 33_720,
+    "*": 33_750,
 }
 """How many words pages have at most, by the pattern of their names."""
 
