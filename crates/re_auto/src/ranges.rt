@@ -17,6 +17,24 @@ pub struct WordRange {
 }
 
 impl WordRange {
+    /// All words from the first of the range and word `k` to the last.
+    #[inline(always)]
+    pub fn with(self, k: usize) -> WordRange
+        requires { k < most_words }
+        ensures { (a c : List ℕ) → Covers self a → (k < length c) → (length c ≡ length a) →
+            ((q : ℕ) → Has c q → Has a q ⊎ (q / 64 ≡ k)) → Covers result c }
+    {
+        let first = k as u8;
+        let past = first + 1;
+        if self.first == self.past {
+            return WordRange { first, past };
+        }
+        WordRange {
+            first: self.first.min(first),
+            past: self.past.max(past),
+        }
+    }
+
     /// All words from the first of both to the last.
     #[inline(always)]
     pub fn joined(self, other: WordRange) -> WordRange

@@ -10,15 +10,19 @@ ghost use Rattle.re_auto.specs.Working.Positions.{part_of};
 ghost use Rattle.re_auto.specs.Working.Ranges.{Covers};
 ghost use Rattle.re_auto.specs.Working.Tables.{most_words};
 ghost use Rattle.re_ends.specs.Working.Closing.{AreClosed, AreMembers, AreMet, AreNoneMet, Byte, CanEnd};
-ghost use Rattle.re_ends.specs.Working.Groups.{group_of, AreGroupsFor, HasGroups, In, IsFirstIn, IsRow, IsStep, numbers_of};
+ghost use Rattle.re_ends.specs.Working.Groups.{group_of, half_of, AreGroupsFor, HasGroups, In, IsFirstIn};
+ghost use Rattle.re_ends.specs.Working.Groups.{IsRow, IsStep, Names, numbers_of};
 
 use crate::list::Run;
 use re_auto::{Automaton, Preceding, WordRange, bits};
 use re_trees::MOST_POSITIONS;
 use std::alloc::{AllocError, Global};
 
-// A member is the number of its group times this, plus its position.
-const GROUP: u32 = 1 << 16;
+// A piece of a row is the number of its group times this, plus the number of a half of a word times
+// `HALF`, plus the members of that half.
+const GROUP: u64 = 1 << 48;
+
+const HALF: u64 = 1 << 32;
 
 // No words of a set.
 const NO_WORDS: WordRange = WordRange { first: 0, past: 0 };
@@ -29,8 +33,8 @@ pub struct Groups {
     preceding: Preceding,
     left: Vec<u64>,
     met: Vec<u64>,
-    /// The members of the groups.
-    pub row: Vec<u32>,
+    /// The pieces of the groups.
+    pub row: Vec<u64>,
     /// For each group in turn the number of the group after the byte whose end it has. Where that is
     /// their number, the end is the place after the byte.
     pub runs: Vec<Run>,
@@ -66,7 +70,7 @@ impl Groups {
     }
 
     /// Steps back over a byte from the groups after it. `at_end` says that it is the line's last.
-    pub fn step(&mut self, automaton: &Automaton, after: &[u32], byte: u8, at_end: bool)
+    pub fn step(&mut self, automaton: &Automaton, after: &[u64], byte: u8, at_end: bool)
         requires made { AreGroupsFor (expression_of automaton.now) self.old }
         requires after { IsRow (positions (expression_of automaton.now)) after.now }
         ensures made { AreGroupsFor (expression_of automaton.now) self.new }
@@ -107,18 +111,19 @@ impl Groups {
     }
 
     // Closes the groups after the byte in turn. Returns their number.
-    fn close_all(&mut self, after: &[u32]) -> u16
+    fn close_all(&mut self, after: &[u64]) -> u16
         requires { (b : Byte) × (b.after ≡ after.now) × AreNoneMet b self.old }
         ensures { (b : Byte) → b.after ≡ after.now → AreNoneMet b self.old →
             (result ≡ b.count) × AreGroupsFor b.e self.new × AreClosed b b.count self.new }
     {
         let mut group = 0;
         let mut range = NO_WORDS;
-        'members: for i in 0..after.len() {
+        'pieces: for i in 0..after.len() {
             range = self.turn(after, i, group, range);
-            group = (after[i] / GROUP) as u16;
-            let position = (after[i] % GROUP) as usize;
-            range = self.preceding.add_to(&mut self.met, range, position);
+            let piece = after[i];
+            group = (piece / GROUP) as u16;
+            let preceding = &self.preceding;
+            range = preceding.add_to(&mut self.met, range, word_of(piece), members_of(piece));
         }
         if after.is_empty() {
             return 0;
@@ -127,9 +132,9 @@ impl Groups {
         group + 1
     }
 
-    // Closes the group if the next member is in another one. Returns the range of those met then.
+    // Closes the group if the next piece is of another one. Returns the range of those met then.
     #[inline(always)]
-    fn turn(&mut self, after: &[u32], i: usize, group: u16, range: WordRange) -> WordRange
+    fn turn(&mut self, after: &[u64], i: usize, group: u16, range: WordRange) -> WordRange
         requires i { i < length after.now }
         requires met { (b : Byte) × (b.after ≡ after.now) × AreMet b i group range self.old }
         ensures { (b : Byte) → b.after ≡ after.now → AreMet b i group range self.old →
@@ -163,12 +168,33 @@ impl Groups {
 
 // Whether the last group that there can be has a member.
 #[inline(always)]
-fn has_last(row: &[u32], group: u16) -> bool
+fn has_last(row: &[u64], group: u16) -> bool
     requires { AreMembers group row.now }
     ensures { IsTrue result ↔ ((q : ℕ) × In row.now group q) }
 {
     let count = row.len();
-    count > 0 && row[count - 1] / GROUP == group as u32
+    count > 0 && row[count - 1] / GROUP == group as u64
+}
+
+// The word that the half of a piece is of.
+#[inline(always)]
+fn word_of(piece: u64) -> usize
+    ensures { result ≡ half_of piece / 2 }
+{
+    (piece / (2 * HALF)) as usize % (1 << 15)
+}
+
+// The members of a piece, in their word.
+#[inline(always)]
+fn members_of(piece: u64) -> u64
+    ensures { (b : ℕ) → b < 64 →
+        (bit_at result b ≡ 1) ↔ Names piece (half_of piece / 2 * 64 + b) }
+{
+    let members = piece % HALF;
+    if piece / HALF % 2 == 0 {
+        return members;
+    }
+    members * HALF
 }
 
 // Puts a number after those of the runs.
@@ -190,8 +216,8 @@ fn add_number(runs: &mut Vec<Run>, number: u16)
     let _ = runs.push(Run { first, more: 0 });
 }
 
-// Takes those left that are met out of both sets, and makes them members of the group.
-fn take_met(met: &mut [u64], left: &mut [u64], range: WordRange, group: u16, row: &mut Vec<u32>)
+// Takes those left that are met out of both sets, and makes them pieces of the group.
+fn take_met(met: &mut [u64], left: &mut [u64], range: WordRange, group: u16, row: &mut Vec<u64>)
     requires covers { Covers range met.old }
     requires same { length met.old ≡ length left.old }
     requires few { length left.old ≤ most_words }
@@ -213,7 +239,7 @@ fn take_met(met: &mut [u64], left: &mut [u64], range: WordRange, group: u16, row
         let word = met[k] & left[k];
         met[k] = 0;
         left[k] &= !word;
-        put_members(row, group, k, word);
+        put_word(row, group, k, word);
         k = next_word(met, k + 1, past);
     }
 }
@@ -234,9 +260,9 @@ fn next_word(set: &[u64], from: usize, past: usize) -> usize
     past
 }
 
-// Makes the positions of word `k` of a set members of the group.
+// Makes the members of word `k` of a set pieces of the group.
 #[inline(always)]
-fn put_members(row: &mut Vec<u32>, group: u16, k: usize, word: u64)
+fn put_word(row: &mut Vec<u64>, group: u16, k: usize, word: u64)
     requires few { k < most_words }
     requires fresh { (j b : ℕ) → b < 64 → bit_at word b ≡ 1 → In row.old.items j (k * 64 + b) → ⊥ }
     requires small { (b : ℕ) → b < 64 → bit_at word b ≡ 1 → k * 64 + b < vec_capacity row.old }
@@ -247,34 +273,50 @@ fn put_members(row: &mut Vec<u32>, group: u16, k: usize, word: u64)
     ensures made { AreMembers group row.new.items }
     ensures room { vec_capacity row.old ≤ vec_capacity row.new }
 {
-    let mut rest = word;
-    'bits: while rest != 0 {
-        let bit = bits::take_lowest(&mut rest);
-        let position = (k * 64 + bit) as u32;
-        let _ = row.push(group as u32 * GROUP + position);
+    let first = group as u64 * GROUP + k as u64 * 2 * HALF;
+    put_piece(row, first + word % HALF);
+    put_piece(row, first + HALF + word / HALF);
+}
+
+// Puts a piece after the others, if it has a member.
+#[inline(always)]
+fn put_piece(row: &mut Vec<u64>, piece: u64)
+    requires fresh { (j q : ℕ) → Names piece q → In row.old.items j q → ⊥ }
+    requires small { (q : ℕ) → Names piece q → q < vec_capacity row.old }
+    requires made { AreMembers (group_of piece) row.old.items }
+    requires below { (j q : ℕ) → In row.old.items j q → q < vec_capacity row.old }
+    ensures added { (j q : ℕ) → In row.new.items j q ↔
+        (In row.old.items j q ⊎ (j ≡ group_of piece) × Names piece q) }
+    ensures made { AreMembers (group_of piece) row.new.items }
+    ensures room { vec_capacity row.old ≤ vec_capacity row.new }
+{
+    if piece % HALF == 0 {
+        return;
     }
+    let _ = row.push(piece);
 }
 
 /// The number of the first group that has a member in the set, counted from 1 on, or 0 if there is
 /// none.
-pub fn first_in(row: &[u32], set: &[u64]) -> u16
+pub fn first_in(row: &[u64], set: &[u64]) -> u16
     requires row { (n : ℕ) × (n < 2 ^ 15) × IsRow n row.now × (n ≤ length set.now * 64) }
     ensures { IsFirstIn (Has set.now) row.now result }
 {
-    'members: for i in 0..row.len() {
-        if bits::has(set, (row[i] % GROUP) as usize) {
-            return (row[i] / GROUP) as u16 + 1;
+    'pieces: for i in 0..row.len() {
+        let piece = row[i];
+        if members_of(piece) & set[word_of(piece)] != 0 {
+            return (piece / GROUP) as u16 + 1;
         }
     }
     0
 }
 
 // A number that equal rows share. No contract depends on it.
-fn hash_of(row: &[u32]) -> u64 {
+fn hash_of(row: &[u64]) -> u64 {
     let mut hash = 0u64;
-    'members: for i in 0..row.len() {
-        let spread = (row[i] as u64).wrapping_mul(0x9E37_79B9_7F4A_7C15);
-        hash = hash.wrapping_add(spread ^ (spread >> 32));
+    'pieces: for i in 0..row.len() {
+        let mixed = (hash ^ row[i]).wrapping_mul(0x9E37_79B9_7F4A_7C15);
+        hash = mixed ^ (mixed >> 32);
     }
     hash
 }

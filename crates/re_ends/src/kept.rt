@@ -59,7 +59,7 @@ const NO_STEP: Step = Step {
 pub struct KeptSteps {
     classes: Vec<u8>,
     width: usize,
-    rows: Vec<Vec<u32>>,
+    rows: Vec<Vec<u64>>,
     cells: Vec<Step>,
     lists: Vec<Vec<Run>>,
     numbers: HashMap<u64, usize>,
@@ -103,9 +103,9 @@ impl KeptSteps {
         self.width
     }
 
-    /// Removes all steps, and all rows but the first two. Returns where the row with these members
+    /// Removes all steps, and all rows but the first two. Returns where the row with these pieces
     /// begins.
-    pub fn begin_anew(&mut self, automaton: &Automaton, row: &[u32]) -> usize
+    pub fn begin_anew(&mut self, automaton: &Automaton, row: &[u64]) -> usize
         requires rows { AreRowsFor (expression_of automaton.now) self.old }
         requires row { IsRow (positions (expression_of automaton.now)) row.now }
         ensures sound { AreStepsFor (expression_of automaton.now) self.new }
@@ -136,8 +136,8 @@ impl KeptSteps {
         self.bytes = self.bytes.saturating_add(elements.saturating_mul(bytes));
     }
 
-    /// The members of a row's groups.
-    pub fn row(&self, row: usize) -> &[u32]
+    /// The pieces of a row's groups.
+    pub fn row(&self, row: usize) -> &[u64]
         requires sound { (e : Expression) × AreStepsFor e self.now }
         requires row { (end : Bool) × (of : List ℕ) × IsRowIn self.now row end of }
         ensures { (end : Bool) (of : List ℕ) → IsRowIn self.now row end of → result.now ≡ of }
@@ -244,7 +244,7 @@ impl KeptSteps {
         lengthen(&mut self.cells, first, self.width)?;
         self.rows.push(row)?;
         let _ = self.numbers.insert(groups.hash, number);
-        self.count_bytes(groups.row.len(), 4);
+        self.count_bytes(groups.row.len(), 8);
         self.count_bytes(self.width, 12);
         Ok(first)
     }

@@ -1,15 +1,18 @@
 -- For each position of an expression, those that can come directly before it.
-use Rattle.std.specs.Prelude.{◌≡◌}
+use Rattle.std.specs.Prelude.{◌≡◌, ℕ, suc, ◌↔◌, length}
 use Rattle.re_trees.specs.Expression.{Expression}
 use Rattle.re_trees.specs.Holds.{positions}
 use Rattle.re_auto.specs.declared.step.preceding.Preceding.{Preceding}
-use Rattle.re_auto.specs.Working.Bits.{RowsAre}
+use Rattle.re_auto.specs.Working.Bits.{Has, RowsAre}
 use Rattle.re_auto.specs.Working.Positions.{part_of}
 use Rattle.re_auto.specs.Working.Ranges.{CoverRows}
 use Rattle.re_auto.specs.Working.Tables.{words_for}
 
--- the row of each position is the set of those that it can follow
+-- The row of each position is the set of those that it can follow. A chained position can follow the
+-- one right before it, and no other.
 pub record ArePrecedingFor (e : Expression) (p : Preceding) : Type 0 where
   pub width : p.width ≡ words_for (positions e)
   pub rows : RowsAre p.rows.items (λ q r. (part_of e 0).follow r q) (positions e) p.width
+  pub chained : (length p.chained.items ≡ p.width) ×
+      ((q r : ℕ) → Has p.chained.items q → (part_of e 0).follow r q ↔ (suc r ≡ q))
   pub ranges : CoverRows p.ranges.items p.rows.items (positions e) p.width

@@ -1,12 +1,13 @@
 //! For each position of an automaton, the positions that can come directly before it.
-ghost use Rattle.std.specs.Prelude.{◌≡◌, ℕ, ◌*◌, ◌<◌, ◌↔◌, ◌⊎◌, IfOk, length};
+ghost use Rattle.std.specs.Prelude.{◌≡◌, ℕ, suc, ◌+◌, ◌*◌, ◌<◌, ◌≤◌, ◌↔◌, ◌⊎◌, IfOk, IsTrue, length};
+ghost use Rattle.std.specs.Int.{bit_at};
 ghost use Rattle.re_trees.specs.Expression.{Expression};
 ghost use Rattle.re_trees.specs.Holds.{positions};
 ghost use Rattle.re_auto.specs.Working.Bits.{Has, row_of};
 ghost use Rattle.re_auto.specs.Working.Positions.{part_of};
 ghost use Rattle.re_auto.specs.Working.Preceding.{ArePrecedingFor};
-ghost use Rattle.re_auto.specs.Working.Ranges.{Covers};
-ghost use Rattle.re_auto.specs.Working.Tables.{AreTablesOf, words_for};
+ghost use Rattle.re_auto.specs.Working.Ranges.{Covers, CoverRows};
+ghost use Rattle.re_auto.specs.Working.Tables.{AreTablesOf, most_words, words_for};
 
 use crate::bits;
 use crate::build::ends::blank_set;
@@ -20,6 +21,8 @@ use std::alloc::{AllocError, Global};
 pub struct Preceding {
     rows: Vec<u64>,
     ranges: Vec<WordRange>,
+    // Positions that only the one right before them can come before.
+    chained: Vec<u64>,
     width: usize,
 }
 
@@ -35,17 +38,62 @@ impl Preceding {
         let mut rows = blank_set(alloc, tables.size * width)?;
         turn(tables, &mut only, &mut rows);
         let ranges = ranges_of(alloc, &rows, width, tables.size)?;
+        let mut chained = blank_set(alloc, width)?;
+        add_chained(&mut chained, &rows, &ranges);
         Ok(Preceding {
             rows,
             ranges,
+            chained,
             width,
         })
     }
 
-    /// Adds the positions that can come directly before position `q` to a set, and returns a range of
-    /// words that covers it, from one that covered it before.
+    /// Adds the positions that can come directly before the members of word `k` of a set to another,
+    /// and returns a range of words that covers it, from one that covered it before.
     #[inline(always)]
-    pub fn add_to(&self, set: &mut [u64], range: WordRange, q: usize) -> WordRange
+    pub fn add_to(&self, set: &mut [u64], range: WordRange, k: usize, members: u64) -> WordRange
+        requires made { (e : Expression) × ArePrecedingFor e self.now ×
+            ((b : ℕ) → b < 64 → bit_at members b ≡ 1 → k * 64 + b < positions e) ×
+            (length set.old ≡ words_for (positions e)) }
+        requires word { (k < length set.old) × (length set.old ≤ most_words) }
+        requires covers { Covers range set.old }
+        ensures len { length set.new ≡ length set.old }
+        ensures covers { Covers result set.new }
+        ensures added { (e : Expression) (p : ℕ) → ArePrecedingFor e self.now →
+            Has set.new p ↔ (Has set.old p ⊎
+            ((b : ℕ) × (b < 64) × (bit_at members b ≡ 1) × (part_of e 0).follow p (k * 64 + b))) }
+    {
+        let chained = members & self.chained[k];
+        let range = add_before(set, range, k, chained);
+        self.add_rows(set, range, k, members & !chained)
+    }
+
+    // The same by the rows of the members, one after the other.
+    #[inline(always)]
+    fn add_rows(&self, set: &mut [u64], range: WordRange, k: usize, members: u64) -> WordRange
+        requires made { (e : Expression) × ArePrecedingFor e self.now ×
+            ((b : ℕ) → b < 64 → bit_at members b ≡ 1 → k * 64 + b < positions e) ×
+            (length set.old ≡ words_for (positions e)) }
+        requires word { (k < length set.old) × (length set.old ≤ most_words) }
+        requires covers { Covers range set.old }
+        ensures len { length set.new ≡ length set.old }
+        ensures covers { Covers result set.new }
+        ensures added { (e : Expression) (p : ℕ) → ArePrecedingFor e self.now →
+            Has set.new p ↔ (Has set.old p ⊎
+            ((b : ℕ) × (b < 64) × (bit_at members b ≡ 1) × (part_of e 0).follow p (k * 64 + b))) }
+    {
+        let mut covering = range;
+        let mut left = members;
+        'bits: while left != 0 {
+            let bit = bits::take_lowest(&mut left);
+            covering = self.add_row(set, covering, k * 64 + bit);
+        }
+        covering
+    }
+
+    // The same for position `q`.
+    #[inline(always)]
+    fn add_row(&self, set: &mut [u64], range: WordRange, q: usize) -> WordRange
         requires made { (e : Expression) × ArePrecedingFor e self.now × (q < positions e) ×
             (length set.old ≡ words_for (positions e)) }
         requires covers { Covers range set.old }
@@ -59,6 +107,56 @@ impl Preceding {
         bits::add_within(set, row, more);
         range.joined(more)
     }
+}
+
+// Adds the positions right before the members of word `k` of a set to another.
+#[inline(always)]
+fn add_before(set: &mut [u64], range: WordRange, k: usize, members: u64) -> WordRange
+    requires word { (k < length set.old) × (length set.old ≤ most_words) }
+    requires covers { Covers range set.old }
+    ensures len { length set.new ≡ length set.old }
+    ensures covers { Covers result set.new }
+    ensures added { (p : ℕ) → Has set.new p ↔ (Has set.old p ⊎
+        ((b : ℕ) × (b < 64) × (bit_at members b ≡ 1) × (suc p ≡ k * 64 + b))) }
+{
+    set[k] |= members / 2;
+    let here = range.with(k);
+    if members % 2 == 0 || k == 0 {
+        return here;
+    }
+    bits::insert(set, k * 64 - 1);
+    here.with(k - 1)
+}
+
+// Adds the positions that only the one right before them can come before, by the rows and ranges of
+// all.
+fn add_chained(chained: &mut [u64], rows: &[u64], ranges: &[WordRange])
+    requires rows { CoverRows ranges.now rows.now (length ranges.now) (length chained.old) }
+    requires len { length rows.now ≡ length ranges.now * length chained.old }
+    requires room { length ranges.now ≤ length chained.old * 64 }
+    requires none { (q : ℕ) → Has chained.old q → ⊥ }
+    ensures len { length chained.new ≡ length chained.old }
+    ensures right { (q p : ℕ) → Has chained.new q → (q < length ranges.now) ×
+        (Has (row_of rows.now (length chained.old) q) p ↔ (suc p ≡ q)) }
+{
+    let width = chained.len();
+    'positions: for q in 1..ranges.len() {
+        if is_only(bits::row(rows, width, q), ranges[q], q - 1) {
+            bits::insert(chained, q);
+        }
+    }
+}
+
+// Whether the set that the range covers has this number and no other.
+fn is_only(set: &[u64], range: WordRange, p: usize) -> bool
+    requires { Covers range set.now }
+    ensures { IsTrue result → (q : ℕ) → Has set.now q ↔ (q ≡ p) }
+{
+    let k = p / 64;
+    if range.first as usize != k || range.past as usize != k + 1 {
+        return false;
+    }
+    set[k] == 1 << (p % 64)
 }
 
 // Gives each position a row of those that can come directly before it. The rows have no members yet.

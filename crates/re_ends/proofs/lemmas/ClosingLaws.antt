@@ -1,9 +1,10 @@
--- Members of groups, and the groups that a step back closes.
-use Rattle.re_ends.proofs.Prelude.{◌≡◌, ℕ, zero, suc, ◌+◌, ◌-◌, ◌*◌, ◌/◌, ◌<◌, ◌≤◌, inl, inr, ◌⊎◌, ◌↔◌, List, [], ◌∷◌, ◌++◌, length, length-append, map, set, true, false, get_or, get_or-set_other, get_or-set_same, slice_index, get_or_append_left, refl, sym, subst, ap, ◌∙◌, arith, cases_lt, false≢true, Expression, Has, part_of, positions}
+-- Pieces of groups, and the groups that a step back closes.
+use Rattle.re_ends.proofs.Prelude.{◌≡◌, ℕ, zero, suc, ◌+◌, ◌-◌, ◌*◌, ◌/◌, ◌<◌, ◌≤◌, inl, inr, ◌⊎◌, ◌↔◌, List, [], ◌∷◌, ◌++◌, length, length-append, set, true, false, get_or, get_or-set_other, get_or-set_same, slice_index, get_or_append_left, refl, sym, subst, ap, ◌∙◌, arith, cases_lt, false≢true, Expression, Has, part_of, positions}
 use Rattle.std.specs.Prelude.{◌%◌, ◌^◌, bit_and}
 use Rattle.std.specs.Int.{bit_at, bit_not, w64}
-use Rattle.std.proofs.lemmas.Nat.Bits.{bit_at-lt, bit_at-zero, bit_at_and, bit_at_not}
+use Rattle.std.proofs.lemmas.Nat.Bits.{bit_at-lt, bit_at-trailing_zeros, bit_at-zero, bit_at_above, bit_at_and, bit_at_cat_high, bit_at_cat_low, bit_at_not}
 use Rattle.std.proofs.lemmas.Bool.{cases_eq}
+use Rattle.std.proofs.lemmas.Nat.{and_le_l}
 use Rattle.re_auto.proofs.lemmas.BitLemmas.{at_word}
 use Rattle.std.specs.List.{AllByRecursion, IsDistinct, list_any}
 use Rattle.std.proofs.Math.Dec.{eqb}
@@ -11,7 +12,7 @@ use Rattle.std.proofs.Math.Seq.{get_or-append_seam}
 use Rattle.std.proofs.lemmas.Bool.{ne_eqb}
 use Rattle.std.proofs.lemmas.Bool.Decides.{eqb_tells}
 use Rattle.std.proofs.lemmas.Map.Steps.{length-le_from_distinct_below}
-use Rattle.re_ends.specs.Working.Groups.{group_of, position_of, AreGroupsFor, AreInTurn, Grow, HasGroups, In, IsRow, IsStep}
+use Rattle.re_ends.specs.Working.Groups.{group_of, half_of, AreFull, AreGroupsFor, AreInTurn, Grow, HasGroups, In, IsRow, IsStep, Names}
 use Rattle.std.specs.declared.alloc.Global.{Global}
 use Rattle.std.specs.Prelude.{Vec}
 use Rattle.re_ends.specs.declared.groups.Groups.{Groups}
@@ -38,62 +39,156 @@ below n (x ∷ xs) small q h = elim (eqb_tells q x) [
   | inr other ↦ below n xs (λ j lt. small (suc j) (omega (arith, lt))) q (rw other.0 at h)
 ]
 
-pub position_at : (row : List ℕ) (i : ℕ) → slice_index (map position_of row) i ≡ position_of (slice_index row i)
-position_at [] i = refl
-position_at (x ∷ xs) zero = refl
-position_at (x ∷ xs) (suc i) = position_at xs i
+-- each piece has a position
+pub member : (row : List ℕ) → AreFull row → (i : ℕ) → i < length row → (q : ℕ) × In row (group_of (slice_index row i)) q
+member row full i lt = let (q, names) = full i lt in (q, (i, lt, refl, names))
 
-pub length_map : (row : List ℕ) → length (map position_of row) ≡ length row
-length_map [] = refl
-length_map (x ∷ xs) = ap suc (length_map xs)
+one_more : (x : ℕ) (xs : List ℕ) (q : ℕ) (qs : List ℕ) → Names x q → ((i : ℕ) → i < length xs → Names (slice_index xs i) (slice_index qs i)) → (i : ℕ) → i < suc (length xs) → Names (slice_index (x ∷ xs) i) (slice_index (q ∷ qs) i)
+one_more x xs q qs names rest zero lt = names
+one_more x xs q qs names rest (suc i) lt = rest i (omega (arith, lt))
 
-pub member : (row : List ℕ) (i : ℕ) → i < length row → In row (group_of (slice_index row i)) (position_of (slice_index row i))
-member row i lt = (i, lt, refl, refl)
+witnesses : (row : List ℕ) → AreFull row → (qs : List ℕ) × (length qs ≡ length row) × ((i : ℕ) → i < length row → Names (slice_index row i) (slice_index qs i))
+witnesses [] full = ([], refl, λ i lt. absurd (omega (arith, lt)))
+witnesses (x ∷ xs) full =
+    let (q, names) = full 0 (omega arith) in
+    let (qs, long, rest) = witnesses xs (λ i lt. full (suc i) (omega (arith, lt))) in (q ∷ qs, ap suc long, one_more x xs q qs names rest)
 
-pub few_members : (n : ℕ) {g : ℕ} {row : List ℕ} → AreMembers g row → ((j q : ℕ) → In row j q → q < n) → length row ≤ n
-few_members n {row = row} made small =
-    rw (← length_map row) (length-le_from_distinct_below (map position_of row) n
-    (distinct (map position_of row) (λ i j less lt same. made.apart i j less (rw (length_map row) at lt) (sym (position_at row i) ∙ same ∙ position_at row j)))
-    (below n (map position_of row) (λ j lt. rw (position_at row j) (small _ _ (member row j (rw (length_map row) at lt))))))
+few_pieces : (n : ℕ) {g : ℕ} {row : List ℕ} → AreMembers g row → ((j q : ℕ) → In row j q → q < n) → length row ≤ n
+few_pieces n {row = row} made small =
+    let (qs, long, at) = witnesses row made.full in
+    rw (← long) (length-le_from_distinct_below qs n
+    (distinct qs (λ i j less lt same. made.apart i j less (rw long at lt) _ (at i (omega (arith, less, lt, long))) (subst (Names (slice_index row j)) (sym same) (at j (rw long at lt)))))
+    (below n qs (λ j lt. small _ _ (j, rw long at lt, refl, at j (rw long at lt)))))
 
--- one member more
-module _ (g p : ℕ) (row : List ℕ) (small : p < 65536) where
-  long : length (row ++ (g * 65536 + p) ∷ []) ≡ length row + 1
-  long = length-append row ((g * 65536 + p) ∷ [])
+-- one piece more
+module _ (piece : ℕ) (row : List ℕ) where
+  long : length (row ++ piece ∷ []) ≡ length row + 1
+  long = length-append row (piece ∷ [])
 
-  at_old : (i : ℕ) → i < length row → slice_index (row ++ (g * 65536 + p) ∷ []) i ≡ slice_index row i
-  at_old i lt = get_or_append_left row ((g * 65536 + p) ∷ []) 0 i lt
+  at_old : (i : ℕ) → i < length row → slice_index (row ++ piece ∷ []) i ≡ slice_index row i
+  at_old i lt = get_or_append_left row (piece ∷ []) 0 i lt
 
-  pub in_pushed : (j q : ℕ) → In (row ++ (g * 65536 + p) ∷ []) j q ↔ (In row j q ⊎ (j ≡ g) × (q ≡ p))
+  pub in_pushed : (j q : ℕ) → In (row ++ piece ∷ []) j q ↔ (In row j q ⊎ (j ≡ group_of piece) × Names piece q)
   in_pushed j q = (
-    (λ (i, lt, is, at). elim (end_cases row (g * 65536 + p) i lt) [
-      | inl (less, old) ↦ inl (i, less, ap group_of (sym old) ∙ is, ap position_of (sym old) ∙ at)
-      | inr (last, value) ↦ inr (omega (arith, is, value, small), omega (arith, at, value, small))
+    (λ (i, lt, is, names). elim (end_cases row piece i lt) [
+      | inl (less, old) ↦ inl (i, less, ap group_of (sym old) ∙ is, subst (λ x. Names x q) old names)
+      | inr (last, value) ↦ inr (sym is ∙ ap group_of value, subst (λ x. Names x q) value names)
     ]),
     (λ h. elim h [
-      | inl (i, lt, is, at) ↦ (i, omega (arith, lt, long), ap group_of (at_old i lt) ∙ is, ap position_of (at_old i lt) ∙ at)
-      | inr same ↦ let at_last = get_or-append_seam row (g * 65536 + p) [] 0 in (length row, omega (arith, long), omega (arith, at_last, same.0, small), omega (arith, at_last, same.1, small))
+      | inl (i, lt, is, names) ↦ (i, omega (arith, lt, long), ap group_of (at_old i lt) ∙ is, subst (λ x. Names x q) (sym (at_old i lt)) names)
+      | inr (same, names) ↦ let at_last = get_or-append_seam row piece [] 0 in (length row, omega (arith, long), ap group_of at_last ∙ sym same, subst (λ x. Names x q) (sym at_last) names)
     ]),
   )
 
-  module _ (made : AreMembers g row) (fresh : (j : ℕ) → In row j p → ⊥) where
-    pub pushed : AreMembers g (row ++ (g * 65536 + p) ∷ [])
+  module _ (made : AreMembers (group_of piece) row) (fresh : (j q : ℕ) → Names piece q → In row j q → ⊥) (some : (q : ℕ) × Names piece q) where
+    pub pushed : AreMembers (group_of piece) (row ++ piece ∷ [])
     pushed = record {
-      in_turn = λ i j before lt. elim (end_cases row (g * 65536 + p) j lt) [
+      in_turn = λ i j before lt. elim (end_cases row piece j lt) [
         | inl (old, b) ↦ let a = at_old i (omega (arith, before, old)) in let le = made.in_turn i j before old in omega (arith, a, b, le)
-        | inr (last, value) ↦ let a = at_old i (omega (arith, before, last)) in let le = made.last _ _ (member row i (omega (arith, before, last))) in omega (arith, a, value, le, small)
+        | inr (last, value) ↦ let a = at_old i (omega (arith, before, last)) in let (q, here) = member row made.full i (omega (arith, before, last)) in let le = made.last _ q here in omega (arith, a, value, le)
       ];
       last = λ j q h. elim ((in_pushed j q).0 h) [ inl old ↦ made.last j q old | inr same ↦ omega (arith, same.0) ];
-      apart = λ i j before lt same. elim (end_cases row (g * 65536 + p) j lt) [
-        | inl (old, b) ↦ made.apart i j before old (ap position_of (sym (at_old i (omega (arith, before, old)))) ∙ same ∙ ap position_of b)
-        | inr (last, value) ↦ let a = at_old i (omega (arith, before, last)) in fresh _ (i, omega (arith, before, last), refl, omega (arith, a, same, value, small))
+      full = λ i lt. elim (end_cases row piece i lt) [
+        | inl (old, b) ↦ let (q, names) = made.full i old in (q, subst (λ x. Names x q) (sym b) names)
+        | inr (last, value) ↦ (some.0, subst (λ x. Names x some.0) (sym value) some.1)
+      ];
+      apart = λ i j before lt q here there. elim (end_cases row piece j lt) [
+        | inl (old, b) ↦ made.apart i j before old q (subst (λ x. Names x q) (at_old i (omega (arith, before, old))) here) (subst (λ x. Names x q) b there)
+        | inr (last, value) ↦ let less : i < length row = omega (arith, before, last) in fresh _ q (subst (λ x. Names x q) value there) (i, less, refl, subst (λ x. Names x q) (at_old i less) here)
       ];
     }
 
-    pub has_room : (n : ℕ) → p < n → ((j q : ℕ) → In row j q → q < n) → length row < n
+    pub has_room : (n : ℕ) → ((q : ℕ) → Names piece q → q < n) → ((j q : ℕ) → In row j q → q < n) → length row < n
     has_room n less small_row =
-        let few = few_members n pushed (λ j q h. elim ((in_pushed j q).0 h) [ inl old ↦ small_row j q old | inr same ↦ omega (arith, same.1, less) ]) in
+        let few = few_pieces n pushed (λ j q h. elim ((in_pushed j q).0 h) [ inl old ↦ small_row j q old | inr same ↦ less q same.1 ]) in
         omega (arith, few, long)
+
+-- the members of a piece are those of its half
+module _ (piece : ℕ) where
+  pub low_members : (half_of piece % 2 ≡ 0) → (b : ℕ) → b < 64 → (bit_at (piece % 2 ^ 32) b ≡ 1) ↔ Names piece (half_of piece / 2 * 64 + b)
+  low_members even b lt = elim (cases_lt b 32) [
+    | inl low ↦ let at : (half_of piece / 2 * 64 + b) % 32 ≡ b = omega (arith, low) in ((λ h. (omega (arith, even, low), ap (bit_at (piece % 2 ^ 32)) at ∙ h)), (λ h. sym (ap (bit_at (piece % 2 ^ 32)) at) ∙ h.1))
+    | inr high ↦ ((λ h. absurd (let none = bit_at_above (piece % 2 ^ 32) 32 b (omega arith) high in omega (arith, none, h))), (λ h. let half = h.0 in absurd (omega (arith, half, even, high, lt))))
+  ]
+
+  pub high_members : (half_of piece % 2 ≡ 1) → (b : ℕ) → b < 64 → (bit_at (piece % 2 ^ 32 * 2 ^ 32) b ≡ 1) ↔ Names piece (half_of piece / 2 * 64 + b)
+  high_members odd b lt =
+      let plus : piece % 2 ^ 32 * 2 ^ 32 ≡ piece % 2 ^ 32 * 2 ^ 32 + 0 = omega arith in
+      elim (cases_lt b 32) [
+        | inl low ↦
+            let none = ap (λ x. bit_at x b) plus ∙ bit_at_cat_low (piece % 2 ^ 32) 32 0 b low in
+            ((λ h. absurd (omega (arith, h, none, bit_at-zero b))), (λ h. let half = h.0 in absurd (omega (arith, half, odd, low))))
+        | inr high ↦
+            let at : (half_of piece / 2 * 64 + b) % 32 ≡ b - 32 = omega (arith, high, lt) in
+            let is = ap (λ x. bit_at x b) plus ∙ bit_at_cat_high (piece % 2 ^ 32) 32 0 b (omega arith) high ∙ sym (ap (bit_at (piece % 2 ^ 32)) at) in
+            ((λ h. (omega (arith, odd, high, lt), sym is ∙ h)), (λ h. is ∙ h.1))
+      ]
+
+  -- what holds of one of them holds of a bit of its word
+  pub piece_members : (members k : ℕ) → k ≡ half_of piece / 2 → ((b : ℕ) → b < 64 → (bit_at members b ≡ 1) ↔ Names piece (half_of piece / 2 * 64 + b)) → (R : ℕ → Type 0) →
+      ((b : ℕ) × (b < 64) × (bit_at members b ≡ 1) × R (k * 64 + b)) ↔ ((r : ℕ) × Names piece r × R r)
+  piece_members members k word are R = (
+    (λ (b, lt, bit, holds). (k * 64 + b, subst (λ n. Names piece (n * 64 + b)) (sym word) ((are b lt).0 bit), holds)),
+    (λ (r, names, holds).
+        let at : r ≡ k * 64 + r % 64 = (let half = names.0 in omega (arith, word, half)) in
+        (r % 64, omega arith, (are (r % 64) (omega arith)).1 (subst (Names piece) (at ∙ ap (λ n. n * 64 + r % 64) word) names), subst R at holds)),
+  )
+
+-- the group, the half and the members of a piece
+pub piece_names : (piece g half low : ℕ) → piece ≡ g * 2 ^ 48 + half * 2 ^ 32 + low → half < 65536 → low < 4294967296 → (q : ℕ) → Names piece q ↔ ((q / 32 ≡ half) × (bit_at low (q % 32) ≡ 1))
+piece_names piece g half low is few small q =
+    let at : half_of piece ≡ half = omega (arith, is, few, small) in
+    let bits : piece % 2 ^ 32 ≡ low = omega (arith, is, small) in
+    let same = ap (λ x. bit_at x (q % 32)) bits in
+    ((λ h. (sym h.0 ∙ at, sym same ∙ h.1)), (λ h. (at ∙ sym h.0, same ∙ h.1)))
+
+-- a word is its two halves
+pub halves : (k word q : ℕ) → word < 2 ^ 64 →
+    (((q / 32 ≡ k * 2) × (bit_at (word % 2 ^ 32) (q % 32) ≡ 1)) ⊎ ((q / 32 ≡ k * 2 + 1) × (bit_at (word / 2 ^ 32) (q % 32) ≡ 1))) ↔ ((b : ℕ) × (b < 64) × (bit_at word b ≡ 1) × (q ≡ k * 64 + b))
+halves k word q fits =
+    let is : word ≡ word / 2 ^ 32 * 2 ^ 32 + word % 2 ^ 32 = omega arith in (
+      (λ h. elim h [
+        | inl (half, bit) ↦ (q % 32, omega arith, ap (λ x. bit_at x (q % 32)) is ∙ bit_at_cat_low (word / 2 ^ 32) 32 (word % 2 ^ 32) (q % 32) (omega arith) ∙ bit, omega (arith, half))
+        | inr (half, bit) ↦
+            let at : q % 32 + 32 - 32 ≡ q % 32 = omega arith in
+            (q % 32 + 32, omega arith, ap (λ x. bit_at x (q % 32 + 32)) is ∙ bit_at_cat_high (word / 2 ^ 32) 32 (word % 2 ^ 32) (q % 32 + 32) (omega arith) (omega arith) ∙ ap (bit_at (word / 2 ^ 32)) at ∙ bit, omega (arith, half))
+      ]),
+      (λ (b, lt, bit, same). elim (cases_lt b 32) [
+        | inl low ↦
+            let at : q % 32 ≡ b = omega (arith, same, low) in
+            inl (omega (arith, same, low), ap (bit_at (word % 2 ^ 32)) at ∙ sym (bit_at_cat_low (word / 2 ^ 32) 32 (word % 2 ^ 32) b low) ∙ sym (ap (λ x. bit_at x b) is) ∙ bit)
+        | inr high ↦
+            let at : q % 32 ≡ b - 32 = omega (arith, same, high, lt) in
+            inr (omega (arith, same, high, lt), ap (bit_at (word / 2 ^ 32)) at ∙ sym (bit_at_cat_high (word / 2 ^ 32) 32 (word % 2 ^ 32) b (omega arith) high) ∙ sym (ap (λ x. bit_at x b) is) ∙ bit)
+      ]),
+    )
+
+-- a number that is not 0 has a bit, here at its lowest
+pub some_bit : (x : ℕ) → (x ≡ 0 → ⊥) → x < 2 ^ 64 → (b : ℕ) × (b < 64) × (bit_at x b ≡ 1)
+some_bit x some fits = let found = bit_at-trailing_zeros w64 x (omega (arith, some)) fits in (_, found.0, found.1)
+
+-- a piece whose members are not 0 has a position
+pub some_member : (piece : ℕ) → (piece % 2 ^ 32 ≡ 0 → ⊥) → (q : ℕ) × Names piece q
+some_member piece some =
+    let (b, lt, bit) = some_bit (piece % 2 ^ 32) some (omega arith) in
+    elim (cases_lt b 32) [
+      | inl low ↦ let at : (half_of piece * 32 + b) % 32 ≡ b = omega (arith, low) in (half_of piece * 32 + b, (omega (arith, low), ap (bit_at (piece % 2 ^ 32)) at ∙ bit))
+      | inr high ↦ absurd (let none = bit_at_above (piece % 2 ^ 32) 32 b (omega arith) high in omega (arith, none, bit))
+    ]
+
+-- a word has a number in common with a set exactly where the two words are not 0 together
+module _ (members : ℕ) (set : List ℕ) (k : ℕ) where
+  pub some_common : (bit_and members (get_or set k 0) ≡ 0 → ⊥) → members < 2 ^ 64 → (b : ℕ) × (b < 64) × (bit_at members b ≡ 1) × Has set (k * 64 + b)
+  some_common some fits =
+      let (b, lt, bit) = some_bit (bit_and members (get_or set k 0)) some (omega (arith, fits, and_le_l members (get_or set k 0))) in
+      let both = bit_at_and members (get_or set k 0) b in
+      (b, lt, omega (arith, bit, both, bit_at-lt members b, bit_at-lt (get_or set k 0) b), (at_word set k b lt).1 (omega (arith, bit, both, bit_at-lt members b, bit_at-lt (get_or set k 0) b)))
+
+  pub none_common : bit_and members (get_or set k 0) ≡ 0 → (b : ℕ) → b < 64 → bit_at members b ≡ 1 → Has set (k * 64 + b) → ⊥
+  none_common none b lt bit here =
+      let both = bit_at_and members (get_or set k 0) b in
+      let in_set = (at_word set k b lt).0 here in
+      omega (arith, bit, in_set, both, ap (λ x. bit_at x b) none, bit_at-zero b)
 
 -- the common members of word k of two sets are taken out of both
 module _ (met left : List ℕ) (k : ℕ) where
@@ -142,7 +237,7 @@ module _ (met left : List ℕ) (k : ℕ) where
         ((λ h. (sym same ∙ h, λ is met. other is)), (λ h. same ∙ h.0))
   ]
 
--- there are no more groups than members
+-- there are no more groups than pieces
 pub few_groups : (row : List ℕ) (count : ℕ) → AreInTurn row → HasGroups row count → count ≤ length row
 few_groups row count turn groups = elim (cases_lt 0 count) [
   | inl some ↦ let (q, (i, lt, is, at)) = (groups (count - 1)).0 (omega (arith, some)) in let low = at_least (count - 1) (omega (arith, some)) i lt is in omega (arith, low, lt)
@@ -165,7 +260,7 @@ few_groups row count turn groups = elim (cases_lt 0 count) [
 -- the group of the last member is the last that has one
 pub group_last : {g : ℕ} {row : List ℕ} → AreMembers g row → 0 < length row → (q : ℕ) → In row g q → group_of (slice_index row (length row - 1)) ≡ g
 group_last {row = row} made some q (i, lt, is, at) =
-    let le = made.last _ _ (member row (length row - 1) (omega (arith, some))) in
+    let le = made.last _ _ (member row made.full (length row - 1) (omega (arith, some))).1 in
     elim (cases_lt i (length row - 1)) [
       | inl less ↦ let low = made.in_turn i (length row - 1) less (omega (arith, some)) in omega (arith, le, low, is)
       | inr ge ↦ ap (λ n. group_of (slice_index row n)) (let same : length row - 1 ≡ i = omega (arith, lt, ge) in same) ∙ is
@@ -180,7 +275,7 @@ module _ {b : Byte} {k : ℕ} {left kept row : List ℕ} (closed : IsClosed b k 
   small_in j q h = let less = (part_numbered b.e 0).takes q b.code (closed.members j q h).0 in omega (arith, less.1)
 
   pub few_closed : length row ≤ positions b.e
-  few_closed = few_members (positions b.e) closed.made_of small_in
+  few_closed = few_pieces (positions b.e) closed.made_of small_in
 
   pub few_kept : length kept ≤ length row
   few_kept = few_groups row (length kept) closed.made_of.in_turn closed.made
@@ -242,7 +337,7 @@ module _ {b : Byte} {k : ℕ} {left kept row : List ℕ} (met left' : List ℕ) 
           | inr (same, at) ↦ (p, subst (λ n. In row' n p) (sym same) last)
         ]),
         (λ (q, h). let le = made.last j q h in omega (arith, le, length-append kept (k ∷ []))),
-      )) (record { in_turn = made.in_turn; last = λ j q h. (let le = made.last j q h in omega (arith, le, length-append kept (k ∷ []))); apart = made.apart })
+      )) (record { in_turn = made.in_turn; last = λ j q h. (let le = made.last j q h in omega (arith, le, length-append kept (k ∷ []))); full = made.full; apart = made.apart })
 
 -- groups that nothing can have the end of are closed
 pub skip : {b : Byte} {k : ℕ} {left kept row : List ℕ} (k' : ℕ) → IsClosed b k left kept row → k ≤ k' → ((i q : ℕ) → k ≤ i → i < k' → CanEnd b i q → ⊥) → IsClosed b k' left kept row
@@ -264,17 +359,17 @@ module _ {b : Byte} {i group : ℕ} {range : WordRange} {groups : Groups} (m : A
 
   pub is_met : ((j : ℕ) → i ≤ j → j < length b.after → group < group_of (slice_index b.after j)) → group < b.count → (q : ℕ) → Has groups.met.items q ↔ CanEnd b group q
   is_met over lt q = (
-    (λ h. let (j, before, is, follow) = (m.met q).0 h in inl (_, follow, (j, omega (arith, before, m.within), is, refl))),
+    (λ h. let (j, before, is, (r, names, follow)) = (m.met q).0 h in inl (r, follow, (j, omega (arith, before, m.within), is, names))),
     (λ h. elim h [
-      | inl (r, follow, (j, less, is, at)) ↦ elim (cases_lt j i) [
-        | inl before ↦ (m.met q).1 (j, before, is, subst (λ x. (part_of b.e 0).follow q x) (sym at) follow)
+      | inl (r, follow, (j, less, is, names)) ↦ elim (cases_lt j i) [
+        | inl before ↦ (m.met q).1 (j, before, is, (r, names, follow))
         | inr ge ↦ absurd (let more = over j ge less in omega (arith, more, is))
       ]
       | inr (same, ends) ↦ absurd (omega (arith, same, lt))
     ]),
   )
 
-  -- the next member is in another group: this one is closed
+  -- the next piece is in another group: this one is closed
   module _ (lt : i < length b.after) (other : group_of (slice_index b.after i) ≡ group → ⊥) where
     pub later : (j : ℕ) → i ≤ j → j < length b.after → group < group_of (slice_index b.after j)
     later j ge less =
@@ -285,7 +380,7 @@ module _ {b : Byte} {i group : ℕ} {range : WordRange} {groups : Groups} (m : A
         ]
 
     pub below_count : group < b.count
-    below_count = let less = group_below _ _ (member b.after i lt) in let more = later i (omega arith) lt in omega (arith, less, more)
+    below_count = let less = group_below _ _ (member b.after m.row.full i lt).1 in let more = later i (omega arith) lt in omega (arith, less, more)
 
     pub turned : (now : Groups) → AreGroupsFor b.e now → ((q : ℕ) → Has now.met.items q → ⊥) → AreClosed b (suc group) now →
         AreMet b i (group_of (slice_index b.after i)) (record { first = 0; past = 0 }) now
@@ -311,15 +406,15 @@ module _ {b : Byte} {i group : ℕ} {range : WordRange} {groups : Groups} (m : A
                   | inr last ↦ let same : group_of (slice_index b.after i) ≡ group_of (slice_index b.after j) = ap (λ n. group_of (slice_index b.after n)) (let e : i ≡ j = omega (arith, ge, last) in e) in omega (arith, same, is, high)
                 ]
               ]
-              | inr (same, ends) ↦ let less = group_below _ _ (member b.after i lt) in omega (arith, same, less, high)
+              | inr (same, ends) ↦ let less = group_below _ _ (member b.after m.row.full i lt).1 in omega (arith, same, less, high)
             ]),
         closed.1,
       );
     }
 
-  -- the next member is met
+  -- the next piece is met
   pub met_next : (lt : i < length b.after) → group_of (slice_index b.after i) ≡ group → (now : Groups) (range' : WordRange) → AreGroupsFor b.e now → AreClosed b group now → Covers range' now.met.items →
-      ((p : ℕ) → Has now.met.items p ↔ (Has groups.met.items p ⊎ (part_of b.e 0).follow p (position_of (slice_index b.after i)))) → AreMet b (i + 1) group range' now
+      ((p : ℕ) → Has now.met.items p ↔ (Has groups.met.items p ⊎ ((r : ℕ) × Names (slice_index b.after i) r × (part_of b.e 0).follow p r))) → AreMet b (i + 1) group range' now
   met_next lt same now range' made closed covers added = record {
     made = made;
     row = m.row;
@@ -332,16 +427,16 @@ module _ {b : Byte} {i group : ℕ} {range : WordRange} {groups : Groups} (m : A
       (λ h. elim ((added q).0 h) [ inl old ↦ let (j, before, is, follow) = (m.met q).0 old in (j, omega (arith, before), is, follow) | inr follow ↦ (i, omega arith, same, follow) ]),
       (λ (j, before, is, follow). (added q).1 (elim (cases_lt j i) [
         | inl less ↦ inl ((m.met q).1 (j, less, is, follow))
-        | inr ge ↦ inr (subst (λ n. (part_of b.e 0).follow q (position_of (slice_index b.after n))) (let e : j ≡ i = omega (arith, before, ge) in e) follow)
+        | inr ge ↦ inr (subst (λ n. (r : ℕ) × Names (slice_index b.after n) r × (part_of b.e 0).follow q r) (let e : j ≡ i = omega (arith, before, ge) in e) follow)
       ])),
     );
     closed = closed;
   }
 
-  -- all members were met
+  -- all pieces were met
   pub all_met : i ≡ length b.after → 0 < i → group_of (slice_index b.after (i - 1)) ≡ group → b.count ≡ suc group
   all_met end some last =
-      let less = group_below _ _ (member b.after (i - 1) (omega (arith, end, some))) in
+      let less = group_below _ _ (member b.after m.row.full (i - 1) (omega (arith, end, some))).1 in
       elim (cases_lt (suc group) b.count) [
         | inl more ↦ absurd (let (q, (j, within, is, at)) = (m.count (suc group)).0 more in let le = m.over j (omega (arith, within, end)) in omega (arith, le, is))
         | inr ge ↦ omega (arith, ge, less, last)
@@ -360,7 +455,7 @@ none_closed b left {kept} {row} is no_kept no_row =
       members = λ j q here. absurd (none j q here);
       all = λ i q lt t can. absurd (omega (arith, lt));
       made = λ k. ((λ lt. absurd (no_number k lt)), (λ (q, here). absurd (none k q here)));
-      made_of = record { in_turn = λ i j before lt. absurd (omega (arith, lt, ap length no_row)); last = λ j q here. absurd (none j q here); apart = λ i j before lt. absurd (omega (arith, lt, ap length no_row)) };
+      made_of = record { in_turn = λ i j before lt. absurd (omega (arith, lt, ap length no_row)); last = λ j q here. absurd (none j q here); full = λ i lt. absurd (omega (arith, lt, ap length no_row)); apart = λ i j before lt. absurd (omega (arith, lt, ap length no_row)) };
     }
 
 pub start : (b : Byte) (groups : Groups) → AreGroupsFor b.e groups → IsRow (positions b.e) b.after → HasGroups b.after b.count → ((q : ℕ) → Has groups.met.items q → ⊥) →
@@ -380,6 +475,7 @@ start b groups made row count none closed = record {
 -- once all are closed, the members are those before the byte
 pub closed_row : {b : Byte} {k : ℕ} {left kept row : List ℕ} → IsClosed b k left kept row → IsRow (positions b.e) row
 closed_row {kept = kept} closed = record {
+  full = closed.made_of.full;
   few = few_closed closed;
   small = small_in closed;
   in_turn = closed.made_of.in_turn;

@@ -184,6 +184,7 @@ module _ {e : Expression} {known : Rows} (right : AreRight e known) where
 
 pub no_groups : (n : ℕ) → IsRow n []
 no_groups n = record {
+  full = λ i lt. absurd (omega (arith, lt));
   few = omega arith;
   small = λ k q in_k. absurd (omega (arith, in_k.1));
   in_turn = λ i j lt less. absurd (omega (arith, less));

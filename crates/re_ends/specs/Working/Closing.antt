@@ -7,7 +7,7 @@ use Rattle.re_auto.specs.Working.Bits.{Has}
 use Rattle.re_auto.specs.Working.Positions.{part_of}
 use Rattle.re_auto.specs.Working.Ranges.{Covers}
 use Rattle.re_ends.specs.declared.groups.Groups.{Groups}
-use Rattle.re_ends.specs.Working.Groups.{group_of, position_of, AreGroupsFor, AreInTurn, CanHave, Grow, HasGroups, In, IsRow, numbers_of}
+use Rattle.re_ends.specs.Working.Groups.{group_of, AreFull, AreGroupsFor, AreInTurn, CanHave, Grow, HasGroups, In, IsRow, Names, numbers_of}
 
 -- the expression, the byte and whether it is the line's last, the groups after it and their number
 pub record Byte : Type 0 where
@@ -23,12 +23,13 @@ Takes b q = (part_of b.e 0).takes q b.code
 abbrev pub CanEnd : Byte → ℕ → ℕ → Type 0
 CanEnd b = CanHave (part_of b.e 0) b.at_end b.after b.count
 
--- members in turn, none after group g, and each position once
+-- full pieces in turn, none after group g, and each position once
 pub record AreMembers (g : ℕ) (row : List ℕ) : Type 0 where
   pub in_turn : AreInTurn row
   pub last : (j q : ℕ) → In row j q → j ≤ g
+  pub full : AreFull row
   pub apart : (i j : ℕ) → i < j → j < length row →
-      position_of (slice_index row i) ≡ position_of (slice_index row j) → ⊥
+      (q : ℕ) → Names (slice_index row i) q → Names (slice_index row j) q → ⊥
 
 -- Each position that takes the byte and can have an end of the groups below k is a member, with the
 -- first that it can have; the others that take it are left.
@@ -48,7 +49,7 @@ AreClosed b k groups =
     IsClosed b k groups.left.items (numbers_of groups.runs.items) groups.row.items ×
     (groups.count ≡ length (numbers_of groups.runs.items))
 
--- Of the members after the byte those before i were met: the groups below this one are closed, and the
+-- Of the pieces after the byte those before i were met: the groups below this one are closed, and the
 -- positions that can have its end by them are marked.
 pub record AreMet (b : Byte) (i group : ℕ) (range : WordRange) (groups : Groups) : Type 0 where
   pub made : AreGroupsFor b.e groups
@@ -61,9 +62,9 @@ pub record AreMet (b : Byte) (i group : ℕ) (range : WordRange) (groups : Group
   pub met : (q : ℕ) →
       Has groups.met.items q ↔
       ((j : ℕ) × (j < i) × (group_of (slice_index b.after j) ≡ group) ×
-      (part_of b.e 0).follow q (position_of (slice_index b.after j)))
+      ((r : ℕ) × Names (slice_index b.after j) r × (part_of b.e 0).follow q r))
   pub closed : AreClosed b group groups
 
--- no member was met, and nothing is closed
+-- no piece was met, and nothing is closed
 abbrev pub AreNoneMet : Byte → Groups → Type 0
 AreNoneMet b = AreMet b 0 0 (record { first = 0; past = 0 })

@@ -1,6 +1,7 @@
 -- Groups of positions at a place of a line: those of a group have the same greatest end, and the groups
--- with greater ends come first. A row has the members of all groups, and a list has the groups' ends.
+-- with greater ends come first. A row has the pieces of all groups, and a list has the groups' ends.
 use Rattle.std.specs.Prelude.{◌≡◌, ℕ, zero, suc, ◌/◌, ◌%◌, ◌^◌, ◌<◌, ◌≤◌, ◌↔◌, ◌⊎◌, Bool, List, [], ◌∷◌, ◌++◌, flat_map, length, map, slice_index, vec_capacity}
+use Rattle.std.specs.Int.{bit_at}
 use Rattle.std.specs.List.{range_with_len}
 use Rattle.re_trees.specs.Bytes.{Text}
 use Rattle.re_trees.specs.Expression.{Expression}
@@ -44,31 +45,40 @@ numbers r = range_with_len r.first (suc r.more)
 abbrev pub numbers_of : List Run → List ℕ
 numbers_of runs = flat_map numbers runs
 
--- a member of a row: the number of its group times 2^16, plus its position
+-- A piece of a row: the number of its group times 2^48, plus the number of a half of a word times 2^32,
+-- plus the positions of that half that are in the group.
 abbrev pub group_of : ℕ → ℕ
-group_of member = member / 2 ^ 16
+group_of piece = piece / 2 ^ 48
 
-abbrev pub position_of : ℕ → ℕ
-position_of member = member % 2 ^ 16
+abbrev pub half_of : ℕ → ℕ
+half_of piece = piece / 2 ^ 32 % 2 ^ 16
+
+-- the piece has the position
+abbrev pub Names : ℕ → ℕ → Type 0
+Names piece q = (half_of piece ≡ q / 32) × (bit_at (piece % 2 ^ 32) (q % 32) ≡ 1)
 
 -- the position is in group k
 abbrev pub In : List ℕ → ℕ → ℕ → Type 0
 In row k q =
-    (i : ℕ) × (i < length row) × (group_of (slice_index row i) ≡ k) ×
-    (position_of (slice_index row i) ≡ q)
+    (i : ℕ) × (i < length row) × (group_of (slice_index row i) ≡ k) × Names (slice_index row i) q
+
+-- no piece is empty
+abbrev pub AreFull : List ℕ → Type 0
+AreFull row = (i : ℕ) → i < length row → (q : ℕ) × Names (slice_index row i) q
 
 -- each of so many groups has a member, and there are no others
 abbrev pub HasGroups : List ℕ → ℕ → Type 0
 HasGroups row count = (k : ℕ) → (k < count) ↔ ((q : ℕ) × In row k q)
 
--- the members are in the order of their groups
+-- the pieces are in the order of their groups
 abbrev pub AreInTurn : List ℕ → Type 0
 AreInTurn row =
     (i j : ℕ) → i < j → j < length row →
     group_of (slice_index row i) ≤ group_of (slice_index row j)
 
--- the members of some groups, in turn: one at most for each of n positions
+-- the pieces of some groups of n positions, in turn
 pub record IsRow (n : ℕ) (row : List ℕ) : Type 0 where
+  pub full : AreFull row
   pub few : length row ≤ n
   pub small : (k q : ℕ) → In row k q → q < n
   pub in_turn : AreInTurn row

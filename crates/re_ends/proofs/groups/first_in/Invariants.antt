@@ -1,7 +1,7 @@
 use Rattle.re_ends.proofs.Prelude.{ℕ, ◌<◌, slice_index, Has}
-use Rattle.re_ends.specs.Working.Groups.{position_of}
+use Rattle.re_ends.specs.Working.Groups.{Names}
 use Rattle.re_ends.proofs.groups.first_in.Given as goal
 
--- none of the members before is in the set
-abbrev pub invariant-members : goal.invariant-members
-invariant-members l = (j : ℕ) → j < l.i → Has l.set (position_of (slice_index l.row j)) → ⊥
+-- no position of the pieces before is in the set
+abbrev pub invariant-pieces : goal.invariant-pieces
+invariant-pieces l = (j : ℕ) → j < l.i → (q : ℕ) → Names (slice_index l.row j) q → Has l.set q → ⊥

@@ -41,7 +41,7 @@ words-preserved c =
             (λ h. now.1 ((inv.left q).1 (h.0, λ lt met. h.1 (omega (arith, lt, next.from)) met), λ same met. h.1 (omega (arith, same, next.from)) ((inv.met q).0 met).1)),
           );
       added = λ j q.
-          let put = c.put_members.ensures.added j q in
+          let put = c.put_word.ensures.added j q in
           let word = laws.in_word c.words.met c.words.left k in (
             (λ h. elim (put.0 h) [
               | inl old ↦ elim ((inv.added j q).0 old) [ inl first ↦ inl first | inr (same, lt, m, l) ↦ inr (same, omega (arith, lt, next.from), m, l) ]
@@ -58,12 +58,12 @@ words-preserved c =
               ]
             ]),
           );
-      made = c.put_members.ensures.made;
-      room = omega (arith, inv.room, c.put_members.ensures.room);
+      made = c.put_word.ensures.made;
+      room = omega (arith, inv.room, c.put_word.ensures.room);
     }
 
-pub put_members-requires : goal.put_members-requires
-put_members-requires c =
+pub put_word-requires : goal.put_word-requires
+put_word-requires c =
     let inv = c.words.invariant in
     let word = laws.in_word c.words.met c.words.left c.words.k in
     record {
