@@ -1,7 +1,7 @@
 //! Search by stepping an automaton over the line, with a cache of the steps between sets of
 //! positions.
 ghost use Rattle.std.specs.Prelude.{◌≡◌, ℕ, ◌+◌, ◌-◌, ◌<◌, ◌≤◌, ◌↔◌, [], ◌∷◌, true, false, IsTrue, IfOk};
-ghost use Rattle.std.specs.Prelude.{IfErr, IfSome, length, slice_index, ◌⊎◌};
+ghost use Rattle.std.specs.Prelude.{IfErr, IfSome, length, slice_index, vec_capacity, ◌⊎◌};
 ghost use Rattle.std.specs.NonZero.{non_zero_usize_get};
 ghost use Rattle.re_trees.specs.Working.Trees.{expression_of};
 ghost use Rattle.re_trees.specs.Holds.{Matches, positions};
@@ -430,7 +430,7 @@ impl LineMatch for Cached {
         line: &[u8],
         window: Window,
         ends: &mut [usize],
-        spare: &mut [usize],
+        spare: &mut Vec<usize>,
         meter: &mut Meter,
     )
         requires window { IsWindowOf (expression_of self.old.tree) line.now window }
@@ -438,7 +438,7 @@ impl LineMatch for Cached {
         ensures added { AddsEnds
             (λ i m. FoundPast (expression_of self.old.tree ∷ []) line.now false (window.start + i) m)
             ends.old ends.old ends.new }
-        ensures samespare { length spare.new ≡ length spare.old }
+        ensures samespare { vec_capacity spare.old ≤ vec_capacity spare.new }
         ensures same { self.new ≡ self.old }
         ensures steps { AddsUpTo (window.end - window.start) 0 meter.old meter.new }
     {

@@ -1,5 +1,5 @@
 ghost use Rattle.std.specs.Prelude.{◌≡◌, Bool, ℕ, ◌+◌, ◌-◌, ◌<◌, ◌≤◌, ◌↔◌, [], ◌∷◌, IsTrue, IfSome, false};
-ghost use Rattle.std.specs.Prelude.{length};
+ghost use Rattle.std.specs.Prelude.{length, vec_capacity};
 ghost use Rattle.re_trees.specs.Expression.{Expression};
 ghost use Rattle.re_trees.specs.Holds.{Matches};
 ghost use Rattle.re_trees.specs.Lines.{lines_of};
@@ -62,16 +62,16 @@ pub trait LineMatch {
         line: &[u8],
         window: Window,
         ends: &mut [usize],
-        spare: &mut [usize],
+        spare: &mut Vec<usize>,
         meter: &mut Meter,
     )
         requires window { IsWindowOf (expression self.old) line.now window }
         requires ends { length ends.old ≡ window.end - window.start }
-        requires spare { window.end - window.start ≤ length spare.old }
+        requires spare { window.end - window.start ≤ vec_capacity spare.old }
         ensures added { AddsEnds
             (λ i m. FoundPast (expression self.old ∷ []) line.now false (window.start + i) m)
             ends.old ends.old ends.new }
-        ensures same_spare { length spare.new ≡ length spare.old }
+        ensures same_spare { vec_capacity spare.old ≤ vec_capacity spare.new }
         ensures same { SameMatcher expression whole room self.old self.new }
         ensures steps { AddsUpTo (window.end - window.start) 0 meter.old meter.new };
 

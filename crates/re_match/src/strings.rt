@@ -1,6 +1,6 @@
 //! Search for fixed strings (XCU grep, option `-F`).
 ghost use Rattle.std.specs.Prelude.{◌≡◌, ℕ, ◌+◌, ◌-◌, ◌<◌, ◌≤◌, ◌↔◌, [], ◌∷◌, false, true, IsTrue, IfOk};
-ghost use Rattle.std.specs.Prelude.{IfSome, Bool, ◌⊎◌, ◌^◌, length, map};
+ghost use Rattle.std.specs.Prelude.{IfSome, Bool, ◌⊎◌, ◌^◌, length, map, vec_capacity};
 ghost use Rattle.re_trees.specs.Bytes.{Text};
 ghost use Rattle.re_trees.specs.Expression.{byte, sequence};
 ghost use Rattle.re_trees.specs.Holds.{Matches};
@@ -149,13 +149,13 @@ impl Look {
 
     // Gives each place of the stretch of a line that begins at `start` the greatest end of the strings
     // that begin there.
-    fn put_ends(&self, line: &[u8], start: usize, ends: &mut [usize], spare: &mut [usize])
+    fn put_ends(&self, line: &[u8], start: usize, ends: &mut [usize], spare: &mut Vec<usize>)
         requires ends { length ends.old ≡ length line.now }
-        requires spare { length line.now ≤ length spare.old }
+        requires spare { length line.now ≤ vec_capacity spare.old }
         requires small { start + length line.now < 2 ^ 64 }
         ensures added { AddsEnds (λ i m. (j : ℕ) × (m < start + j)
             × IsFound (look_expression self.now ∷ []) line.now false 0 i j) line.now ends.old ends.new }
-        ensures same_spare { length spare.new ≡ length spare.old }
+        ensures same_spare { vec_capacity spare.old ≤ vec_capacity spare.new }
     {
         match self {
             Look::One(finder) => {
@@ -337,16 +337,16 @@ impl LineMatch for Strings {
         line: &[u8],
         window: Window,
         ends: &mut [usize],
-        spare: &mut [usize],
+        spare: &mut Vec<usize>,
         meter: &mut Meter,
     )
         requires window { IsWindowOf (matched_strings self.old) line.now window }
         requires ends { length ends.old ≡ window.end - window.start }
-        requires spare { window.end - window.start ≤ length spare.old }
+        requires spare { window.end - window.start ≤ vec_capacity spare.old }
         ensures added { AddsEnds
             (λ i m. FoundPast (matched_strings self.old ∷ []) line.now false (window.start + i) m)
             ends.old ends.old ends.new }
-        ensures same_spare { length spare.new ≡ length spare.old }
+        ensures same_spare { vec_capacity spare.old ≤ vec_capacity spare.new }
         ensures steps { AddsUpTo (window.end - window.start) 0 meter.old meter.new }
         ensures same { self.new ≡ self.old }
     {

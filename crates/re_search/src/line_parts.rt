@@ -42,7 +42,7 @@ impl Model for LineParts {
     ghost view = { λ p.
         record { room = p.room; seen = p.seen; first = p.first; ends = p.ends.items } };
 
-    ghost invariant = { λ p. (p.room ≤ vec_capacity p.ends) × (p.room ≤ length p.spare.items)
+    ghost invariant = { λ p. (p.room ≤ vec_capacity p.ends) × (p.room ≤ vec_capacity p.spare)
         × (p.first + length p.ends.items ≤ p.seen) × (p.seen < 2 ^ 64) };
 }
 
@@ -74,7 +74,8 @@ impl LineParts {
         }
         self.pass(0);
         self.ends.try_reserve(most)?;
-        self.spare.resize(most, 0)?;
+        self.spare.clear();
+        self.spare.try_reserve(most)?;
         self.room = most;
         Ok(())
     }
@@ -325,16 +326,16 @@ fn put_ends<M: LineMatch>(
     matchers: &mut [M],
     line: &[u8],
     ends: &mut [usize],
-    spare: &mut [usize],
+    spare: &mut Vec<usize>,
     meter: &mut Meter,
 )
     requires zeros { ends.old ≡ replicate (length line.now) 0 }
-    requires spare { length line.now ≤ length spare.old }
+    requires spare { length line.now ≤ vec_capacity spare.old }
     ensures right { AreAllEnds
         (record { expressions = map M.expression matchers.old; whole = false }) line.now ends.new }
     ensures same_matchers { SameMatchers M.expression M.whole M.room matchers.old matchers.new }
     ensures room { length ends.new ≡ length ends.old }
-    ensures spare { length spare.new ≡ length spare.old }
+    ensures spare { vec_capacity spare.old ≤ vec_capacity spare.new }
     ensures steps { AddsAtMost (length matchers.old * (length line.now + 1)) meter.old meter.new }
 {
     for matcher in matchers.iter_mut() {

@@ -1,6 +1,6 @@
 //! Matchers made from the texts of patterns.
 ghost use Rattle.std.specs.Prelude.{◌≡◌, ◌+◌, ◌-◌, ◌<◌, ◌≤◌, ◌↔◌, ◌⊎◌, [], ◌∷◌, true, false, IsTrue};
-ghost use Rattle.std.specs.Prelude.{IfOk, IfErr, IfSome, length, map};
+ghost use Rattle.std.specs.Prelude.{IfOk, IfErr, IfSome, length, map, vec_capacity};
 ghost use Rattle.re_syntax.specs.Working.Trees.{expression_of};
 ghost use Rattle.re_syntax.specs.Holds.{Matches, positions};
 ghost use Rattle.re_syntax.specs.Profile.{most_positions, most_states};
@@ -123,7 +123,7 @@ impl LineMatch for Matcher {
         line: &[u8],
         window: Window,
         ends: &mut [usize],
-        spare: &mut [usize],
+        spare: &mut Vec<usize>,
         meter: &mut Meter,
     ) {
         match self {

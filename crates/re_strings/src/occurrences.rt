@@ -1,6 +1,6 @@
 //! All places of a line where one text stands, also where two of them overlap.
 ghost use Rattle.std.specs.Prelude.{◌≡◌, ℕ, ◌+◌, ◌-◌, ◌^◌, ◌<◌, ◌≤◌, ◌⊎◌, length, slice_index};
-ghost use Rattle.std.specs.Prelude.{MatchOption};
+ghost use Rattle.std.specs.Prelude.{MatchOption, vec_capacity};
 ghost use Rattle.re_trees.specs.Working.PutEnds.{AddsEnds};
 ghost use Rattle.memchr.specs.Find.{OccursAt};
 ghost use Rattle.re_strings.specs.Working.Overlaps.{AgreesUpTo, CommonLength};
@@ -22,19 +22,21 @@ pub fn add_occurrences(
     line: &[u8],
     start: usize,
     ends: &mut [usize],
-    spare: &mut [usize],
+    spare: &mut Vec<usize>,
 )
     requires some { 1 ≤ length text.now }
     requires ends { length ends.old ≡ length line.now }
-    requires spare { length line.now ≤ length spare.old }
+    requires spare { length line.now ≤ vec_capacity spare.old }
     requires small { start + length line.now < 2 ^ 64 }
     ensures added { AddsEnds (λ i m. (m < start + (i + length text.now)) × OccursAt line.now text.now i)
         line.now ends.old ends.new }
-    ensures spare { length spare.new ≡ length spare.old }
+    ensures spare { vec_capacity spare.old ≤ vec_capacity spare.new }
 {
     if text.len() > line.len() {
         return;
     }
+    spare.clear();
+    let _ = spare.resize(text.len(), 0);
     find_own_lengths(text, spare);
     let mut window = ZBox { left: 0, right: 0 };
     'places: for place in 0..line.len() {

@@ -10,7 +10,7 @@ loop-matcher-init g c = record {
   right = no_ends c.args.line.now c.args.ends.now (λ i lt. ap (λ l. get_or l i 0) c.requires.zeros ∙ get_or-replicate _ i 0 0 lt);
   same_matchers = none_asked;
   room = ap length c.requires.zeros ∙ length-replicate _ _;
-  spare = refl;
+  spare = omega arith;
   steps = adds_none _ _ _;
 }
 
@@ -28,7 +28,7 @@ loop-matcher-preserved g c =
           c.loop-matcher.invariant.right (rw c.rest_of.ensures at c.add_ends.ensures.added);
       same_matchers = one_kept same i d _ c.add_ends.ensures.same;
       room = c.add_ends.ensures.added.0 ∙ c.loop-matcher.invariant.room;
-      spare = c.add_ends.ensures.same_spare ∙ c.loop-matcher.invariant.spare;
+      spare = omega (arith, c.add_ends.ensures.same_spare, c.loop-matcher.invariant.spare);
       steps = let long = length c.args.line.now in
           steps_more i _ _ _ _ c.loop-matcher.invariant.steps (adds_within (long - 0) (long + 1) 0 (long + 1) _ _ (omega arith) (omega arith) (rw c.rest_of.ensures at c.add_ends.ensures.steps));
     }
