@@ -236,7 +236,8 @@ impl Cached {
             result.start }
         ensures stops { StopsAt (expression_of self.old.tree) self.old.whole block.now result }
         ensures same { SameCached self.old self.new }
-        ensures steps { AddsUpTo (steps_to result) result.reached meter.old meter.new }
+        ensures steps { AddsUpTo (steps_to result.stop result.start result.reached) result.reached
+            meter.old meter.new }
     {
         let mode = self.mode();
         let Some(table) = &mut self.table else {
@@ -257,15 +258,18 @@ impl Cached {
         if table.is_matched_at_once(&asked) {
             return Sweep::none();
         }
-        let lines = table.walk_lines(&asked, most.min(block.len() - 1));
-        let Some(end) = line_end(block, lines.start) else {
-            return Sweep::none();
+        let lines = table.walk_lines(&asked, most.min(block.len() - 1), meter);
+        let Some(end) = line_end(block, lines.place) else {
+            unreachable!();
         };
         let asked = LineSearch {
             line: &block[lines.start..end],
             ..asked
         };
-        let from = table.count_walk(lines, meter);
+        let from = Spot {
+            place: lines.place - lines.start,
+            row: lines.row,
+        };
         let answer = search_on(table, &mut self.sets, &asked, from, meter);
         Sweep {
             start: lines.start,

@@ -149,7 +149,6 @@ impl Prefilter {
             PassesUnmatched e whole block.now result.start }
         ensures stops { (e : Expression) → IsPrefilterFor e self.now →
             StopsAt e whole block.now result }
-        ensures low { result.start ≤ result.first }
         ensures steps { AddsUpTo 0 result.reached meter.old meter.new }
     {
         if let Some(strings) = &self.strings {

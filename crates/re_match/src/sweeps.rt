@@ -105,7 +105,8 @@ pub trait Sweeps {
             result.start }
         ensures stops { StopsAt (expression self.old) (whole self.old) block.now result }
         ensures same { SameMatcher expression whole room self.old self.new }
-        ensures steps { AddsUpTo (steps_to result) result.reached meter.old meter.new };
+        ensures steps { AddsUpTo (steps_to result.stop result.start result.reached) result.reached
+            meter.old meter.new };
 
     /// Whether the line is matched at which a sweep stopped. A line that it looked over is not looked
     /// over again.

@@ -1,7 +1,8 @@
 -- Searches that go on by what is held, and where they get.
-use Rattle.re_steps.proofs.Prelude.{◌≡◌, ℕ, zero, suc, ◌+◌, ◌-◌, ◌*◌, ◌<◌, ◌≤◌, Bool, true, false, ◌⊎◌, inl, inr, List, Option, Some, None, length, nat_eq, nat_lt, get_or, slice_get, slice_index, refl, sym, ap, ◌∙◌, subst, arith, IsSome, lookup, Text, Expression, Mode, the_type, Search, Whole, StateSet, Steps, many_built, many_reused, IsSame, IsNextSet, Acceptance, unknown, shown, Mirrors, IsKeptOrLost, Cache, Stage, IsHeld, HoldsNoOther, GoesOver, Goes, LineSearch, StepTable, Spot, Went, Rows, limit, AreSound, IsRightFor, IsRowOf, SaysNext, ComesTo, Lands, LandsAlone, cell_at, cache_of, row_under, walked, IsAt, HasLanded, LeadsOn, Arrives, false≢true, lt-ltb, ltb-true, cases_eq, slice_get_within, slice_get-get_or, get_or_from_slice_get}
+use Rattle.re_steps.proofs.Prelude.{◌≡◌, ℕ, zero, suc, ◌+◌, ◌-◌, ◌*◌, ◌<◌, ◌≤◌, Bool, true, false, ◌⊎◌, inl, inr, List, Option, Some, None, length, nat_eq, nat_lt, get_or, slice_get, slice_index, refl, sym, ap, ◌∙◌, subst, arith, IsSome, lookup, Text, Expression, Mode, the_type, Search, Whole, StateSet, AddsUpTo, Steps, many_built, many_reused, IsSame, IsNextSet, Acceptance, unknown, shown, Mirrors, IsKeptOrLost, Cache, Stage, IsHeld, HoldsNoOther, GoesOver, Goes, LineSearch, StepTable, Spot, Went, Rows, limit, AreSound, IsRightFor, IsRowOf, SaysNext, ComesTo, Lands, LandsAlone, cell_at, row_under, walked, IsAt, HasLanded, LeadsOn, Arrives, false≢true, lt-ltb, ltb-true, cases_eq, slice_get_within, slice_get-get_or, get_or_from_slice_get}
 use denote.Enum.Bare.{sameb}
 use Rattle.re_steps.specs.declared.walk.Went.TheVariants as w
+use Rattle.re_meter.proofs.lemmas.Adding.{adds_none, reused_adds}
 use Rattle.re_steps.proofs.lemmas.StageLaws.{nothing_held, goes_on, same_sym}
 use Rattle.re_steps.proofs.lemmas.RowLaws.{cell_within, same_place, number_within}
 
@@ -9,10 +10,16 @@ use Rattle.re_steps.proofs.lemmas.RowLaws.{cell_within, same_place, number_withi
 pub walked_none : (place : ℕ) (steps : Steps) → walked (place - place) steps ≡ steps
 walked_none place steps = let none : place - place ≡ 0 = omega arith in ap (λ n. walked n steps) none
 
--- steps that were reused, and one more
-pub walked_more : (n : ℕ) (steps : Steps) → many_reused 1 (walked n steps) ≡ walked (suc n) steps
-walked_more zero steps = refl
-walked_more (suc n) steps = ap (λ k. record { built = steps.built; reused = k; passed = steps.passed }) (omega arith)
+-- steps that were reused, and some more
+pub walked_on : (m n k : ℕ) (steps : Steps) → k ≡ m + n → walked n (walked m steps) ≡ walked k steps
+walked_on zero n k steps is = let same : n ≡ k = omega (arith, is) in ap (λ j. walked j steps) same
+walked_on (suc m) zero k steps is = let same : suc m ≡ k = omega (arith, is) in ap (λ j. walked j steps) same
+walked_on (suc m) (suc n) zero steps is = absurd (omega (arith, is))
+walked_on (suc m) (suc n) (suc k) steps is = ap (λ j. record { built = steps.built; reused = j; passed = steps.passed }) (omega (arith, is))
+
+pub walked_adds : (n : ℕ) (steps : Steps) → AddsUpTo n 0 steps (walked n steps)
+walked_adds zero steps = adds_none 0 0 steps
+walked_adds (suc n) steps = reused_adds (suc n) 0 steps
 
 -- the mode is that for whole lines, or it isn't
 pub is_whole : (mode : Mode) → true ≡ sameb the_type mode Whole → mode ≡ Whole
@@ -210,8 +217,3 @@ module _ (asked : LineSearch) (old : StepTable) (before : Steps) (spot : Spot) (
   }
   arrives_on place cell (w.Reported answer) leads right on lands = record { right = right; finishes = λ first came. leads first (lands first came) }
   arrives_on place cell (w.Alone k) leads right on lands = absurd leads
-
-module _ (asked : LineSearch) (t : StepTable) (right : IsRightFor asked t) (steps : Steps) where
-  -- the stage at the first place of a line
-  abbrev pub first_stage : Stage
-  first_stage = record { set = right.first.start; cache = cache_of t; steps = steps }

@@ -1,9 +1,10 @@
 -- Where a search gets that goes on over a line by held pairs.
-use Rattle.std.specs.Prelude.{◌≡◌, ℕ, suc, ◌-◌, ◌*◌, ◌<◌, ◌≤◌, Bool, [], Some, length, slice_get, slice_range}
+use Rattle.std.specs.Prelude.{◌≡◌, ℕ, suc, ◌-◌, ◌<◌, ◌≤◌, Bool, [], ◌++◌, Some, length, slice_get, slice_range}
 use Rattle.re_trees.specs.Bytes.{Text}
 use Rattle.re_auto.specs.declared.step.state_set.StateSet.{StateSet}
 use Rattle.re_meter.specs.Meters.{Steps}
-use Rattle.re_runs.specs.Working.Blocks.{IsLineFrom, PassesUnmatched}
+use Rattle.re_trees.specs.Lines.{HasNoNewline}
+use Rattle.re_runs.specs.Working.Blocks.{PassesUnmatched}
 use Rattle.re_steps.specs.declared.table.LineSearch.{LineSearch}
 use Rattle.re_steps.specs.declared.table.StepTable.{StepTable}
 use Rattle.re_steps.specs.declared.walk.Lines.{Lines}
@@ -107,12 +108,11 @@ Ends asked old before spot new after (o.GaveUp k) =
 pub record GoesOverLines (asked : LineSearch) (t : StepTable) (lines : Lines) : Type 0 where
   pub passed : (whole : Bool) → asked.mode ≡ mode_for whole →
       PassesUnmatched (expression_in asked) whole asked.line.now lines.start
-  pub end : ℕ
-  pub cut : IsLineFrom asked.line.now lines.start end
   pub low : lines.start ≤ lines.place
-  pub high : lines.place ≤ end
+  pub within : lines.place < length asked.line.now
+  pub free : HasNoNewline (slice_range asked.line.now lines.start lines.place)
   pub row : IsRow t lines.row
-  pub comes : (first : Stage) (steps : Steps) →
-      IsAtOf asked (slice_range asked.line.now lines.start end) first t steps 0 (1 * t.stride) →
-      IsAtOf asked (slice_range asked.line.now lines.start end) first t
+  pub comes : (rest : Text) (start : StateSet) (steps : Steps) → slice_get t.sets.keys 1 ≡ Some start →
+      IsAtOf asked (slice_range asked.line.now lines.start lines.place ++ rest)
+      (record { set = start; cache = cache_of t; steps = steps }) t
       (walked (lines.place - lines.start) steps) (lines.place - lines.start) lines.row

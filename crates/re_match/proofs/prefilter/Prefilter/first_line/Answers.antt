@@ -1,7 +1,8 @@
-use Rattle.re_match.proofs.Prelude.{◌≤◌, subst, inl, inr, IfSome, any_literal, runs_of}
+use Rattle.re_match.proofs.Prelude.{◌≤◌, subst, inl, inr, IfSome, runs_of}
 use Rattle.re_needle.proofs.lemmas.NeededLines.{passes_unmatched_run}
 use Rattle.re_needle.proofs.lemmas.NeededLines.{passes_unmatched_begun}
-use Rattle.re_match.proofs.lemmas.SweptLines.{stops_either, stops_seen, stops_matched, stops_at_head}
+use Rattle.re_match.proofs.lemmas.SweptLines.{stops_seen, stops_matched, stops_at_head}
+use Rattle.re_runs.proofs.lemmas.Looks.{look_within}
 use Rattle.re_match.proofs.lemmas.NeededStrings.{passes_needed}
 use Rattle.re_match.proofs.prefilter.Prefilter.first_line.Goals as goal
 
@@ -10,8 +11,7 @@ returns-in-Some-clause-passes c = λ e is.
     passes_needed c.in-Some.strings e (rw c.in-Some.is at is.strings) c.args.whole c.args.block.now c.first_line.result.start c.first_line.ensures.passes
 
 pub returns-in-Some-clause-stops : goal.returns-in-Some-clause-stops
-returns-in-Some-clause-stops c = λ e is.
-    stops_either (any_literal c.in-Some.strings) e c.args.whole c.args.block.now c.first_line.result c.first_line.ensures.first c.first_line.ensures.unknown c.first_line.ensures.stops
+returns-in-Some-clause-stops c = λ e is. c.first_line.ensures.stops e c.args.whole
 
 pub returns-then-needle-clause-passes : goal.returns-then-needle-clause-passes
 returns-then-needle-clause-passes c = λ e is.
@@ -20,7 +20,7 @@ returns-then-needle-clause-passes c = λ e is.
     (passes_unmatched_begun e (runs_of c.in-Some-needle.needle.finder) (needle.first c.if-needle.true) c.args.block.now c.first_line_beginning_with-swept.result.start c.first_line_beginning_with-swept.ensures.passes)
 
 pub returns-then-needle-clause-stops : goal.returns-then-needle-clause-stops
-returns-then-needle-clause-stops c = λ e is. rw c.of.ensures (stops_seen e c.args.whole c.args.block.now c.first_line_beginning_with-swept.result c.first_line_beginning_with-swept.ensures.stops)
+returns-then-needle-clause-stops c = λ e is. rw c.of.ensures (stops_seen e c.args.whole c.args.block.now c.first_line_beginning_with-swept.result.start _ (look_within _ _) c.first_line_beginning_with-swept.ensures.stops)
 
 pub returns-then-has_run-clause-passes : goal.returns-then-has_run-clause-passes
 returns-then-has_run-clause-passes c = λ e is.
@@ -48,7 +48,7 @@ returns-clause-stops c = λ e is.
     let swept = c.first_line_with_run-swept.result in
     let of = c.first_line_with_run-swept.ensures in
     rw c.of-2.ensures (elim c.first_place-first.ensures [
-      | inl same ↦ rw same (stops_seen e c.args.whole block swept of.stops)
+      | inl same ↦ rw same (stops_seen e c.args.whole block swept.start _ (look_within _ _) of.stops)
       | inr (first, any, free, place) ↦
           let low = subst (λ p. IfSome p (λ k. swept.start ≤ k)) place of.low in
           rw any (stops_at_head e (runs_of c.in-Some-needle.needle.finder) block swept c.first_place-first.result (is.begin free) (needle.first first) needle.some place of.found low of.stops)

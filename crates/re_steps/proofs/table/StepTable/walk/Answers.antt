@@ -1,5 +1,5 @@
 use Rattle.re_steps.proofs.Prelude.{arith, ◌≡◌, suc, ◌+◌, ◌-◌, ◌<◌, slice_index, sym, subst, add-one, IsRow, cell_at, walked, expression_in, rows_of, IsAt}
-use Rattle.re_steps.proofs.lemmas.WalkLaws.{comes_on, walked_more, walked_none}
+use Rattle.re_steps.proofs.lemmas.WalkLaws.{comes_on, walked_on, walked_none}
 use Rattle.re_steps.proofs.table.StepTable.walk.Goals as goal
 
 pub places-preserved : goal.places-preserved
@@ -26,7 +26,7 @@ places-preserved c =
           let count : suc n ≡ c.places.place + 1 - c.args.from.place = omega (arith, c.places.invariant.low) in
           subst (λ r. IsAt c.args.asked.now first known (walked (c.places.place + 1 - c.args.from.place) steps) (c.places.place + 1) r) (sym same)
           (subst (λ k. IsAt c.args.asked.now first known (walked k steps) (c.places.place + 1) (cell_at known.classes.items known.pairs.cells at byte)) count
-          (rw (add-one c.places.place) (subst (λ s. IsAt c.args.asked.now first known s (suc c.places.place) (cell_at known.classes.items known.pairs.cells at byte)) (walked_more n steps) there)));
+          (rw (add-one c.places.place) (subst (λ s. IsAt c.args.asked.now first known s (suc c.places.place) (cell_at known.classes.items known.pairs.cells at byte)) (walked_on n 1 (suc n) steps (omega arith)) there)));
     }
 
 pub places-init : goal.places-init
