@@ -231,7 +231,8 @@ impl Cached {
     // something else comes up, is decided.
     #[inline(always)]
     fn walk(&mut self, block: &[u8], most: usize, meter: &mut Meter) -> Sweep
-        requires { IsBlock block.now }
+        requires block { IsBlock block.now }
+        requires search { self.old.whole ≡ false }
         ensures passes { PassesUnmatched (expression_of self.old.tree) self.old.whole block.now
             result.start }
         ensures stops { StopsAt (expression_of self.old.tree) self.old.whole block.now result }
@@ -239,7 +240,6 @@ impl Cached {
         ensures steps { AddsUpTo (steps_to result.stop result.start result.reached) result.reached
             meter.old meter.new }
     {
-        let mode = self.mode();
         let Some(table) = &mut self.table else {
             return Sweep::none();
         };
@@ -252,7 +252,7 @@ impl Cached {
         let asked = LineSearch {
             alloc: self.alloc,
             automaton: &self.automaton,
-            mode,
+            mode: Mode::Search,
             line: block,
         };
         if table.is_matched_at_once(&asked) {

@@ -117,7 +117,9 @@ impl Prefilter {
     // Whether lines of blocks are walked over. They are not where a look decides each line, or the first
     // bytes of most lines do.
     #[inline(always)]
-    fn walks(&self, whole: bool) -> bool {
+    fn walks(&self, whole: bool) -> bool
+        ensures { IsTrue result → whole ≡ false }
+    {
         if whole {
             return false;
         }
@@ -129,7 +131,9 @@ impl Prefilter {
 
     /// How many bytes of a block are walked over before the next look.
     #[inline(always)]
-    pub fn walk(&self, whole: bool) -> usize {
+    pub fn walk(&self, whole: bool) -> usize
+        ensures { 0 < result → whole ≡ false }
+    {
         if !self.walks(whole) {
             return 0;
         }

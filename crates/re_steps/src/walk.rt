@@ -1,6 +1,7 @@
 //! Searches by the pairs that are held.
 ghost use Rattle.std.specs.Prelude.{◌≡◌, ℕ, ◌+◌, ◌-◌, ◌*◌, ◌<◌, ◌≤◌, true, false, Some, IsTrue};
 ghost use Rattle.std.specs.Prelude.{IfSome, IfNone, length, slice_get, slice_index};
+ghost use Rattle.re_auto.specs.declared.mode.Mode.TheVariants.{Search};
 ghost use Rattle.re_auto.specs.declared.step.state_set.StateSet.{StateSet as Set};
 ghost use Rattle.re_meter.specs.Meters.{Steps, many_built, many_reused};
 ghost use Rattle.re_auto.specs.Working.StateSets.{IsNextSet};
@@ -117,6 +118,7 @@ impl StepTable {
     #[tactic(auto, using(crate::proofs::lemmas::WalkLaws::walked_is))]
     pub fn walk_lines(&mut self, asked: &LineSearch, most: usize, meter: &mut Meter) -> Lines
         requires ready { IsReady asked.now self.old }
+        requires search { asked.now.mode ≡ Search }
         requires plain { (start : Set) → slice_get self.old.sets.keys 1 ≡ Some start →
             IsPlain (expression_in asked.now) asked.now.mode start }
         requires block { IsBlock asked.now.line.now }

@@ -30,10 +30,9 @@ pub looks_twice : (cost more most : ℕ) (old mid new : Steps) → cost + more �
 looks_twice cost more most old mid new fits is counted = adds_passed 0 cost most more old mid new fits (only_passed cost cost old mid (omega arith) is) counted
 
 -- both kinds after both kinds
-pub adds_on : (first next first_bytes next_bytes most_steps most_bytes : ℕ) (old mid new : Steps) → first + next ≤ most_steps → first_bytes + next_bytes ≤ most_bytes
-    → AddsUpTo first first_bytes old mid → AddsUpTo next next_bytes mid new → AddsUpTo most_steps most_bytes old new
-adds_on first next first_bytes next_bytes most_steps most_bytes old mid new few fits a b =
-    within (first + next) most_steps (first_bytes + next_bytes) most_bytes old new few fits (both first next first_bytes next_bytes old mid new a b)
+pub adds_on : {first next first_bytes next_bytes most_steps most_bytes : ℕ} {old mid new : Steps} → AddsUpTo first first_bytes old mid → AddsUpTo next next_bytes mid new
+    → first + next ≤ most_steps → first_bytes + next_bytes ≤ most_bytes → AddsUpTo most_steps most_bytes old new
+adds_on a b few fits = within _ _ _ _ _ _ few fits (both _ _ _ _ _ _ _ a b)
 
 -- steps of a pass back
 pub walked_adds : (n reused : ℕ) (old new : Steps) → reused ≤ n → new ≡ many_built (n - reused) (many_reused reused old) → AddsUpTo n 0 old new

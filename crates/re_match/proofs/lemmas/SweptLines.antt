@@ -3,7 +3,8 @@ use Rattle.re_match.proofs.Prelude.{◌≡◌, ◌∙◌, ℕ, ◌+◌, ◌-◌,
 use Rattle.re_trees.specs.Bytes.{Bytes}
 use Rattle.re_runs.specs.Working.Runs.{IsLongestRun, IsNoWider, RunIsAt}
 use Rattle.re_meter.specs.Meters.{Steps, AddsAtMost}
-use Rattle.re_meter.proofs.lemmas.Adding.{adds_within, adds_both}
+use Rattle.re_meter.proofs.lemmas.Adding.{adds_both}
+use Rattle.re_match.proofs.lemmas.StepSums.{adds_on}
 use Rattle.re_runs.proofs.lemmas.BlockLemmas.{passed_within}
 use Rattle.re_match.specs.Working.Sweeps.{StopsIn, Says}
 use Rattle.re_runs.proofs.lemmas.Looks.{look_within, place_in_line}
@@ -107,7 +108,7 @@ stops_at_head e runs block swept at free begins wide place found low stops =
           record { high = high; near = omega (arith, stops end cut); same = from_head e runs block swept.start at end free begins finds low high cut; right = tt };
     }
 
-module _ (e : Expression) (whole : Bool) (block : Text) (start end : ℕ) (sweep : Sweep) (stops : StopsAt e whole (drop start block) sweep) (cut : IsLineFrom block (start + sweep.start) end) where
+module _ {e : Expression} {whole : Bool} (block : Text) (start : ℕ) {end : ℕ} {sweep : Sweep} (stops : StopsAt e whole (drop start block) sweep) (cut : IsLineFrom block (start + sweep.start) end) where
   stops_in : StopsIn e whole (drop start block) sweep (end - start)
   stops_in = stops.line (end - start) (line_after block start sweep.start end cut)
 
@@ -128,12 +129,10 @@ module _ (e : Expression) (whole : Bool) (block : Text) (start end : ℕ) (sweep
   searched = slice_range block (start + sweep.first) end
 
   -- the work of a sweep, and of the search of that line
-  pub turn_adds : (old begun swept new : Steps) → AddsAtMost start old begun → AddsUpTo (steps_to sweep.stop sweep.start sweep.reached) sweep.reached begun swept → AddsUpTo (steps_left sweep.stop (length searched + 1)) (left_for sweep.stop (length searched + 1)) swept new → AddsAtMost (end + 1) old new
-  turn_adds old begun swept new a b d =
-      let line = length searched in
+  pub turn_adds : {old begun swept new : Steps} → AddsAtMost start old begun → AddsUpTo (steps_to sweep.stop sweep.start sweep.reached) sweep.reached begun swept → AddsUpTo (steps_left sweep.stop (length searched + 1)) (left_for sweep.stop (length searched + 1)) swept new → AddsAtMost (end + 1) old new
+  turn_adds a b d =
       let all = both sweep.stop stops_in.near in
-      adds_within (start + steps_to sweep.stop sweep.start sweep.reached + steps_left sweep.stop (line + 1)) (end + 1) (start + sweep.reached + left_for sweep.stop (line + 1)) (end + 1) old new all.0 all.1
-      (adds_both (start + steps_to sweep.stop sweep.start sweep.reached) (steps_left sweep.stop (line + 1)) (start + sweep.reached) (left_for sweep.stop (line + 1)) old swept new (adds_both start (steps_to sweep.stop sweep.start sweep.reached) start sweep.reached old begun swept a b) d)
+      adds_on (adds_both _ _ _ _ _ _ _ a b) d all.0 all.1
     where
       long : length searched ≡ end - (start + sweep.first)
       long = length_range block (start + sweep.first) end (omega (arith, cut.1))
@@ -150,11 +149,9 @@ module _ (e : Expression) (whole : Bool) (block : Text) (start end : ℕ) (sweep
       both (Decided answer) near = (omega (arith, near, low, high), omega (arith, near, high))
 
 -- the work of a sweep after which no line is left
-pub last_sweep : (e : Expression) (whole : Bool) (block : Text) (start : ℕ) (sweep : Sweep) (old begun swept : Steps) → start ≤ length block → PassesUnmatched e whole (drop start block) sweep.start → StopsAt e whole (drop start block) sweep
+pub last_sweep : {e : Expression} {whole : Bool} (block : Text) {start : ℕ} {sweep : Sweep} {old begun swept : Steps} → start ≤ length block → PassesUnmatched e whole (drop start block) sweep.start → StopsAt e whole (drop start block) sweep
     → AddsAtMost start old begun → AddsUpTo (steps_to sweep.stop sweep.start sweep.reached) sweep.reached begun swept → AddsAtMost (length block) old swept
-last_sweep e whole block start sweep old begun swept within passes stops a b =
-    adds_within (start + steps_to sweep.stop sweep.start sweep.reached) (length block) (start + sweep.reached) (length block) old swept (most sweep.stop) (omega (arith, reached, within, size))
-    (adds_both start (steps_to sweep.stop sweep.start sweep.reached) start sweep.reached old begun swept a b)
+last_sweep {e} {whole} block {start} {sweep} within passes stops a b = adds_on a b (most sweep.stop) (omega (arith, reached, within, size))
   where
     few : sweep.start ≤ length (drop start block)
     few = passed_within (λ line. ¬ Matches e line whole) (drop start block) sweep.start passes

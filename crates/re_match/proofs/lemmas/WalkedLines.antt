@@ -1,9 +1,10 @@
 -- Walks by kept steps over the lines of a block, and the line that is searched where one stops.
-use Rattle.re_match.proofs.Prelude.{◌≡◌, ℕ, ◌+◌, ◌-◌, ◌≤◌, inl, inr, Bool, length, slice_range, refl, sym, ap, subst, arith, Text, Expression, Steps, AddsUpTo, IsLineFrom, Cache, Mode, Searches, mode_for, cache_of, Decided, StopsAt}
-use Rattle.re_meter.proofs.lemmas.Adding.{adds_within, adds_both}
+use Rattle.re_match.proofs.Prelude.{◌≡◌, ℕ, ◌+◌, ◌-◌, ◌≤◌, inl, inr, Bool, false, length, slice_range, refl, ap, subst, arith, Text, Expression, Steps, AddsUpTo, IsLineFrom, Cache, Searches, cache_of, Decided, StopsAt}
+use Rattle.re_match.proofs.lemmas.StepSums.{adds_on}
 use Rattle.re_runs.proofs.lemmas.Ranges.{joined_range, length_range, line_before, same_end}
 use Rattle.re_steps.specs.declared.table.LineSearch.{LineSearch}
 use Rattle.re_steps.specs.declared.table.StepTable.{StepTable}
+use Rattle.re_auto.specs.declared.mode.Mode.TheVariants.{Search}
 use Rattle.re_steps.specs.declared.walk.Lines.{Lines}
 use Rattle.re_steps.specs.Working.Stages.{Stage, Finishes}
 use Rattle.re_steps.specs.Working.Rows.{IsRight, IsRightFor, ComesTo, expression_in, walked}
@@ -15,13 +16,13 @@ use Rattle.re_steps.proofs.lemmas.StageLaws.{searches_say, searches_steps}
 use Rattle.re_steps.proofs.lemmas.WalkLaws.{walked_on, walked_adds}
 
 -- a table with rows is right
-pub right_of : (e : Expression) (mode : Mode) (whole : Bool) (most : ℕ) (t : StepTable) → IsTableFor e whole most t → mode ≡ mode_for whole → (length t.marks.items ≡ 0 → ⊥) → IsRight e mode t
-right_of e mode whole most t is same some = elim is.1 [
+pub right_of : {e : Expression} {most : ℕ} (t : StepTable) → IsTableFor e false most t → (length t.marks.items ≡ 0 → ⊥) → IsRight e Search t
+right_of t is some = elim is.1 [
   | inl blank ↦ absurd (some (ap length blank.marks))
-  | inr right ↦ subst (λ m. IsRight e m t) (sym same) right
+  | inr right ↦ right
 ]
 
-module _ (asked : LineSearch) (t : StepTable) (lines : Lines) (end : ℕ) (goes : GoesOverLines asked t lines) (rest : IsLineFrom asked.line.now lines.place end) where
+module _ {asked : LineSearch} {t : StepTable} {lines : Lines} {end : ℕ} (goes : GoesOverLines asked t lines) (rest : IsLineFrom asked.line.now lines.place end) where
   abbrev block : Text
   block = asked.line.now
 
@@ -37,7 +38,7 @@ module _ (asked : LineSearch) (t : StepTable) (lines : Lines) (end : ℕ) (goes 
   pub within_line : lines.place - lines.start ≤ length line
   within_line = omega (arith, long, rest.0)
 
-  module _ (right : IsRightFor asked t) (whole : Bool) (mode_is : asked.mode ≡ mode_for whole) (old after : Steps) (last : Cache) (answer : Bool)
+  module _ (right : IsRightFor asked t) (search : asked.mode ≡ Search) (old : Steps) {after : Steps} {last : Cache} {answer : Bool}
       (finishes : (first : Stage) → ComesTo (expression_in asked) asked.mode line first (cache_of t) (walked lines.place old) (lines.place - lines.start) lines.row → Finishes (expression_in asked) asked.mode line first last after answer) where
     searched : Searches (expression_in asked) asked.mode line (cache_of t) last (walked lines.start old) after answer
     searched =
@@ -54,19 +55,17 @@ module _ (asked : LineSearch) (t : StepTable) (lines : Lines) (end : ℕ) (goes 
         }
 
     -- the line is decided
-    pub walk_stops : StopsAt (expression_in asked) whole block (record { start = lines.start; first = lines.start; reached = end + 1; stop = Decided answer })
+    pub walk_stops : StopsAt (expression_in asked) false block (record { start = lines.start; first = lines.start; reached = end + 1; stop = Decided answer })
     walk_stops = record {
       within = omega (arith, rest.1);
       low = omega arith;
-      line = λ other there. subst (StopsIn (expression_in asked) whole block (record { start = lines.start; first = lines.start; reached = end + 1; stop = Decided answer })) (same_end block lines.start end other cut there) (record {
+      line = λ other there. subst (StopsIn (expression_in asked) false block (record { start = lines.start; first = lines.start; reached = end + 1; stop = Decided answer })) (same_end block lines.start end other cut there) (record {
         high = cut.0;
         near = omega arith;
         same = (λ m. m, λ m. m);
-        right = searches_say (expression_in asked) line whole (cache_of t) last (walked lines.start old) after answer (subst (λ m. Searches (expression_in asked) m line (cache_of t) last (walked lines.start old) after answer) mode_is searched);
+        right = searches_say false (subst (λ m. Searches (expression_in asked) m line (cache_of t) last (walked lines.start old) after answer) search searched);
       });
     }
 
     pub walk_adds : AddsUpTo (max lines.start (end + 1)) (end + 1) old after
-    walk_adds =
-        adds_within (lines.start + (length line + 1)) (max lines.start (end + 1)) 0 (end + 1) old after (omega (arith, long, cut.0)) (omega arith)
-        (adds_both lines.start (length line + 1) 0 0 old (walked lines.start old) after (walked_adds lines.start old) (searches_steps (expression_in asked) line asked.mode (cache_of t) last (walked lines.start old) after answer searched))
+    walk_adds = adds_on (walked_adds lines.start old) (searches_steps searched) (omega (arith, long, cut.0)) (omega arith)

@@ -1,5 +1,5 @@
 -- Walks by held pairs over the lines of a block.
-use Rattle.re_steps.proofs.Prelude.{◌≡◌, ℕ, suc, ◌+◌, ◌-◌, ◌*◌, ◌/◌, ◌<◌, Bool, true, false, IsTrue, ◌↔◌, inl, inr, Some, [], ◌∷◌, ◌++◌, length, take, get_or, slice_get, slice_get-get_or, slice_index, slice_range, refl, sym, ap, ◌∙◌, subst, arith, false≢true, Text, HasNoNewline, newline, IsBlock, PassesUnmatched, Matches, IsAccepting, StateSet, Acceptance, Stage, IsPlain, Searches, mode_for, LineSearch, StepTable, Lines, GoesOverLines, IsAtOf, IsRightFor, IsRow, cache_of, cell_at, expression_in, limit, rows_of, walked}
+use Rattle.re_steps.proofs.Prelude.{◌≡◌, ℕ, suc, ◌+◌, ◌-◌, ◌*◌, ◌/◌, ◌<◌, true, false, IsTrue, ◌↔◌, inl, inr, Some, [], ◌∷◌, ◌++◌, length, take, get_or, slice_get, slice_get-get_or, slice_index, slice_range, refl, sym, ap, ◌∙◌, subst, arith, false≢true, Text, HasNoNewline, newline, IsBlock, PassesUnmatched, Matches, Search, IsAccepting, StateSet, Acceptance, Stage, IsPlain, Searches, LineSearch, StepTable, Lines, GoesOverLines, IsAtOf, IsRightFor, IsRow, cache_of, cell_at, expression_in, limit, rows_of, walked}
 use Rattle.std.proofs.Common.{drop, append_assoc, append-nil, get_or-append-add, ◌≢◌}
 use Rattle.re_meter.specs.Meters.{fresh, many_reused}
 use Rattle.std.proofs.lemmas.List.{length-append}
@@ -17,7 +17,7 @@ module _ (asked : LineSearch) (t : StepTable) (right : IsRightFor asked t) (plai
   block = asked.line.now
 
   -- a walk is at the beginning of a line
-  pub walks_from : (start : ℕ) → ((whole : Bool) → asked.mode ≡ mode_for whole → PassesUnmatched (expression_in asked) whole block start) → start < length block → GoesOverLines asked t (record { start = start; place = start; row = 1 * t.stride })
+  pub walks_from : (start : ℕ) → PassesUnmatched (expression_in asked) false block start → start < length block → GoesOverLines asked t (record { start = start; place = start; row = 1 * t.stride })
   walks_from start passed within =
       let none : 0 ≡ start - start = omega arith in
       record {
@@ -66,9 +66,9 @@ module _ (asked : LineSearch) (t : StepTable) (right : IsRightFor asked t) (plai
   marked r (set, row) = omega (arith, row_inside (expression_in asked) asked.mode (rows_of t) right.sound r set row, right.sound.as_many)
 
   -- it goes over the newline of a line that isn't matched
-  pub walks_over : (lines : Lines) (none : Acceptance) → GoesOverLines asked t lines → slice_index block lines.place ≡ newline → (get_or t.marks.items (lines.row / t.stride) none).at_end ≡ false → lines.place + 1 < length block
+  pub walks_over : (lines : Lines) (none : Acceptance) → asked.mode ≡ Search → GoesOverLines asked t lines → slice_index block lines.place ≡ newline → (get_or t.marks.items (lines.row / t.stride) none).at_end ≡ false → lines.place + 1 < length block
       → GoesOverLines asked t (record { start = lines.place + 1; place = lines.place + 1; row = 1 * t.stride })
-  walks_over lines none goes ends not more = walks_from (lines.place + 1) passed more
+  walks_over lines none search goes ends not more = walks_from (lines.place + 1) passed more
     where
       line : Text
       line = slice_range block lines.start lines.place
@@ -96,10 +96,8 @@ module _ (asked : LineSearch) (t : StepTable) (right : IsRightFor asked t) (plai
             };
           }
 
-      unmatched : (whole : Bool) → asked.mode ≡ mode_for whole → ¬ Matches (expression_in asked) line whole
-      unmatched whole same m =
-          false≢true ((searches_say (expression_in asked) line whole (cache_of t) (cache_of t) fresh (walked (lines.place - lines.start) fresh) false (subst (λ mode. Searches (expression_in asked) mode line (cache_of t) (cache_of t) fresh (walked (lines.place - lines.start) fresh) false) same searched)).1 m)
+      unmatched : ¬ Matches (expression_in asked) line false
+      unmatched m = false≢true ((searches_say false (subst (λ mode. Searches (expression_in asked) mode line (cache_of t) (cache_of t) fresh (walked (lines.place - lines.start) fresh) false) search searched)).1 m)
 
-      passed : (whole : Bool) → asked.mode ≡ mode_for whole → PassesUnmatched (expression_in asked) whole block (lines.place + 1)
-      passed whole same =
-          passed_from (λ (line : Text). Matches (expression_in asked) line whole) block lines.start lines.place (line_here block lines.start lines.place goes.low goes.within goes.free ends) (goes.passed whole same) (unmatched whole same)
+      passed : PassesUnmatched (expression_in asked) false block (lines.place + 1)
+      passed = passed_from (λ (line : Text). Matches (expression_in asked) line false) block lines.start lines.place (line_here block lines.start lines.place goes.low goes.within goes.free ends) goes.passed unmatched

@@ -1,28 +1,28 @@
-use Rattle.re_match.proofs.Prelude.{refl, cache_of, expression_of}
+use Rattle.re_match.proofs.Prelude.{refl}
 use Rattle.re_match.proofs.lemmas.WalkedLines.{right_of, within_line, walk_stops, walk_adds}
 use Rattle.re_runs.proofs.lemmas.CountedBlocks.{newline_follows}
 use Rattle.re_match.proofs.cached.Cached.walk.Goals as goal
 
 pub walk_lines-lines-requires-clause-ready : goal.walk_lines-lines-requires-clause-ready
 walk_lines-lines-requires-clause-ready c =
-    let known = rw c.in-Some.is at c.self.invariant.4 in
-    (right_of (expression_of c.self.inside.automaton) c.mode-mode.result c.self.inside.whole _ c.in-Some.table known (rw (← c.self.view_is) at c.mode-mode.ensures) (c.if-not-walks.ensures refl), known.0)
+    let known = rw (c.in-Some.is, rw (← c.self.view_is) at c.requires.search) at c.self.invariant.4 in
+    (right_of c.in-Some.table known (c.if-not-walks.ensures refl), known.0)
 
 pub unreachable-requires : goal.unreachable-requires
-unreachable-requires c = newline_follows c.args.block.now c.walk_lines-lines.result.place c.requires c.walk_lines-lines.ensures.goes.within c.in_default-line_end.ensures
+unreachable-requires c = newline_follows c.args.block.now c.walk_lines-lines.result.place c.requires.block c.walk_lines-lines.ensures.goes.within c.in_default-line_end.ensures
 
 pub search_on-answer-requires-clause-within : goal.search_on-answer-requires-clause-within
-search_on-answer-requires-clause-within c = within_line _ _ c.walk_lines-lines.result c.in-Some-line_end.end c.walk_lines-lines.ensures.goes c.in-Some-line_end.ensures
+search_on-answer-requires-clause-within c = within_line c.walk_lines-lines.ensures.goes c.in-Some-line_end.ensures
 
 pub returns-clause-passes : goal.returns-clause-passes
-returns-clause-passes c = rw (← c.self.view_is) (c.walk_lines-lines.ensures.goes.passed c.self.inside.whole (rw (← c.self.view_is) at c.mode-mode.ensures))
+returns-clause-passes c = rw (c.requires.search, ← c.self.view_is) c.walk_lines-lines.ensures.goes.passed
 
 pub returns-clause-stops : goal.returns-clause-stops
 returns-clause-stops c =
     let lines = c.walk_lines-lines.ensures in
-    rw (← c.self.view_is) (walk_stops _ _ c.walk_lines-lines.result c.in-Some-line_end.end lines.goes c.in-Some-line_end.ensures lines.ready.0 c.self.inside.whole (rw (← c.self.view_is) at c.mode-mode.ensures) c.args.meter.now c.search_on-answer.new.meter (cache_of c.search_on-answer.new.table) c.search_on-answer.result (rw lines.counted at c.search_on-answer.ensures.finishes))
+    rw (c.requires.search, ← c.self.view_is) (walk_stops lines.goes c.in-Some-line_end.ensures lines.ready.0 refl c.args.meter.now (rw lines.counted at c.search_on-answer.ensures.finishes))
 
 pub returns-clause-steps : goal.returns-clause-steps
 returns-clause-steps c =
     let lines = c.walk_lines-lines.ensures in
-    walk_adds _ _ c.walk_lines-lines.result c.in-Some-line_end.end lines.goes c.in-Some-line_end.ensures lines.ready.0 c.self.inside.whole (rw (← c.self.view_is) at c.mode-mode.ensures) c.args.meter.now c.search_on-answer.new.meter (cache_of c.search_on-answer.new.table) c.search_on-answer.result (rw lines.counted at c.search_on-answer.ensures.finishes)
+    walk_adds lines.goes c.in-Some-line_end.ensures lines.ready.0 refl c.args.meter.now (rw lines.counted at c.search_on-answer.ensures.finishes)

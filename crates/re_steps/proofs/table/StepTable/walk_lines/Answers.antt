@@ -1,4 +1,4 @@
-use Rattle.re_steps.proofs.Prelude.{arith, Text, Matches, ◌≡◌, ◌+◌, ◌<◌, slice_index, sym, subst, rows_of, expression_in, cell_at, StepTable, GoesOverLines}
+use Rattle.re_steps.proofs.Prelude.{arith, false, Text, Matches, ◌≡◌, ◌+◌, ◌<◌, slice_index, sym, subst, rows_of, expression_in, cell_at, StepTable, GoesOverLines}
 use Rattle.re_runs.proofs.lemmas.BlockLemmas.{passes_none}
 use Rattle.re_steps.proofs.lemmas.RowLaws.{cell_within}
 use Rattle.re_steps.proofs.lemmas.LineWalks.{marked, walks_from, walks_on, walks_over}
@@ -14,7 +14,7 @@ places-init c =
       marks = c.as_slice-marks.ensures.value;
       goes =
           subst (λ r. GoesOverLines c.args.asked.now c.args.self.now (record { start = 0; place = 0; row = r })) (sym c.row-first.ensures)
-          (walks_from c.args.asked.now c.args.self.now c.requires.ready.0 c.requires.plain 0 (λ whole same. passes_none (λ (line : Text). ¬ Matches (expression_in c.args.asked.now) line whole) c.args.asked.now.line.now) (omega (arith, within)));
+          (walks_from c.args.asked.now c.args.self.now c.requires.ready.0 c.requires.plain 0 (passes_none (λ (line : Text). ¬ Matches (expression_in c.args.asked.now) line false) c.args.asked.now.line.now) (omega (arith, within)));
     }
 
 pub bounds-block-lines : goal.bounds-block-lines
@@ -32,7 +32,7 @@ places-preserved-then-byte-eq10 c =
       marks = i.marks;
       goes =
           subst (λ r. GoesOverLines c.args.asked.now c.args.self.now (record { start = c.places.lines.place + 1; place = c.places.lines.place + 1; row = r })) (sym c.row-first.ensures)
-          (walks_over c.args.asked.now c.args.self.now c.requires.ready.0 c.requires.plain c.places.lines _ i.goes c.if-byte-eq10.true (rw (i.marks, c.number.ensures) at c.if-marks-number.false) (omega (arith, c.requires.within, c.if-lines-most.false)));
+          (walks_over c.args.asked.now c.args.self.now c.requires.ready.0 c.requires.plain c.places.lines _ c.requires.search i.goes c.if-byte-eq10.true (rw (i.marks, c.number.ensures) at c.if-marks-number.false) (omega (arith, c.requires.within, c.if-lines-most.false)));
     }
 
 pub cell_in-cell-requires : goal.cell_in-cell-requires
