@@ -271,12 +271,7 @@ impl Cached {
             row: lines.row,
         };
         let answer = search_on(table, &mut self.sets, &asked, from, meter);
-        Sweep {
-            start: lines.start,
-            first: lines.start,
-            reached: end + 1,
-            stop: Stop::Decided(answer),
-        }
+        Sweep::to(lines.start, end + 1, Stop::Decided(answer))
     }
 
     // Where the next match of the line is.

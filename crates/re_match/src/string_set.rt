@@ -15,7 +15,7 @@ ghost use Rattle.re_runs.specs.Working.Blocks.{IsBlock, IsLineFrom, PassesUnmatc
 ghost use Rattle.re_trees.specs.Parts.{IsFound};
 ghost use Rattle.re_ends.specs.Working.GreatestEnds.{AddsEnds};
 
-use crate::sweeps::Sweep;
+use crate::sweeps::{Stop, Sweep};
 use re_auto::Meter;
 use re_runs::line_start;
 use re_strings::{AhoCorasick, table_of};
@@ -124,9 +124,9 @@ impl StringSet {
             return Sweep::none();
         }
         let Some(end) = self.table.first_end(block, meter) else {
-            return Sweep::to(block.len(), block.len());
+            return Sweep::to(block.len(), block.len(), Stop::Seen);
         };
-        Sweep::to(line_start(&block[..end]), end)
+        Sweep::to(line_start(&block[..end]), end, Stop::Seen)
     }
 
     /// The first string at `from` or later, and of those that begin there the longest. An empty

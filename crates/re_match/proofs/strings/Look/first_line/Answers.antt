@@ -7,7 +7,7 @@ use Rattle.re_match.proofs.strings.Look.first_line.Goals as goal
 pub returns-in-One-clause-passes : goal.returns-in-One-clause-passes
 returns-in-One-clause-passes c =
     let text = c.in-One.finder in
-    rw (c.in-One.is, c.of.ensures) (λ whole. passes_unmatched (sequence (map byte text)) text whole (sequence_needed text) c.args.block.now c.first_line_with-swept.result.start c.first_line_with-swept.ensures.passes)
+    rw (c.in-One.is, c.to.ensures) (λ whole. passes_unmatched (sequence (map byte text)) text whole (sequence_needed text) c.args.block.now c.first_line_with-swept.result.start c.first_line_with-swept.ensures.passes)
 
 pub returns-in-Many-clause-passes : goal.returns-in-Many-clause-passes
 returns-in-Many-clause-passes c =
