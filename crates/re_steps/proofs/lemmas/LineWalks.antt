@@ -1,5 +1,5 @@
 -- Walks by held pairs over the lines of a block.
-use Rattle.re_steps.proofs.Prelude.{◌≡◌, ℕ, suc, ◌+◌, ◌-◌, ◌*◌, ◌/◌, ◌<◌, true, false, IsTrue, ◌↔◌, inl, inr, Some, [], ◌∷◌, ◌++◌, length, take, get_or, slice_get, slice_get-get_or, slice_index, slice_range, refl, sym, ap, ◌∙◌, subst, arith, false≢true, Text, HasNoNewline, newline, IsBlock, PassesUnmatched, Matches, Search, IsAccepting, StateSet, Acceptance, Stage, IsPlain, Searches, LineSearch, StepTable, Lines, GoesOverLines, IsAtOf, IsRightFor, IsRow, cache_of, cell_at, expression_in, limit, rows_of, walked}
+use Rattle.re_steps.proofs.Prelude.{◌≡◌, ℕ, suc, ◌+◌, ◌-◌, ◌*◌, ◌/◌, ◌<◌, true, false, IsTrue, ◌↔◌, inl, inr, Some, [], ◌∷◌, ◌++◌, length, take, get_or, slice_get, slice_get-get_or, slice_index, slice_range, refl, sym, ap, ◌∙◌, subst, arith, false≢true, Text, HasNoNewline, newline, IsBlock, PassesUnmatched, Matches, Search, IsAccepting, StateSet, Acceptance, Stage, IsPlain, Searches, LineSearch, StepTable, Lines, GoesOverLines, IsAtOf, IsRightFor, IsRow, cache_of, cell_at, expression_in, limit, walked}
 use Rattle.std.proofs.Common.{drop, append_assoc, append-nil, get_or-append-add, ◌≢◌}
 use Rattle.re_meter.specs.Meters.{fresh, many_reused}
 use Rattle.std.proofs.lemmas.List.{length-append}
@@ -54,7 +54,7 @@ module _ (asked : LineSearch) (t : StepTable) (right : IsRightFor asked t) (plai
             let long : length front + 0 ≡ j = omega (arith, length_range block lines.start lines.place (omega (arith, within))) in
             let same : slice_index line j ≡ byte = ap (λ n. get_or line n 0) (sym long) ∙ get_or-append-add front (byte ∷ rest) 0 0 in
             let count : suc j ≡ lines.place + 1 - lines.start = omega (arith, low) in
-            let there = comes_on (expression_in asked) asked.mode (rows_of t) right.sound line first (walked j steps) j lines.row (omega (arith, long, length-append front (byte ∷ rest))) (omega (arith, same, small))
+            let there = comes_on right.sound line first (walked j steps) j lines.row (omega (arith, long, length-append front (byte ∷ rest))) (omega (arith, same, small))
             (subst (λ b. cell_at t.classes.items t.pairs.cells lines.row b < limit) (sym same) below) (goes.comes (byte ∷ rest) set steps is) in
             subst (λ l. IsAtOf asked l first t (walked (lines.place + 1 - lines.start) steps) (lines.place + 1 - lines.start) (cell_at t.classes.items t.pairs.cells lines.row byte)) (sym (ap (λ l. l ++ rest) more ∙ append_assoc front (byte ∷ []) rest))
             (subst (λ k. IsAtOf asked line first t (walked k steps) k (cell_at t.classes.items t.pairs.cells lines.row byte)) count
@@ -63,7 +63,7 @@ module _ (asked : LineSearch) (t : StepTable) (right : IsRightFor asked t) (plai
       }
 
   pub marked : (r : ℕ) → IsRow t r → r / t.stride < length t.marks.items
-  marked r (set, row) = omega (arith, row_inside (expression_in asked) asked.mode (rows_of t) right.sound r set row, right.sound.as_many)
+  marked r (set, row) = omega (arith, row_inside right.sound r set row, right.sound.as_many)
 
   -- it goes over the newline of a line that isn't matched
   pub walks_over : (lines : Lines) (none : Acceptance) → asked.mode ≡ Search → GoesOverLines asked t lines → slice_index block lines.place ≡ newline → (get_or t.marks.items (lines.row / t.stride) none).at_end ≡ false → lines.place + 1 < length block
@@ -81,7 +81,7 @@ module _ (asked : LineSearch) (t : StepTable) (right : IsRightFor asked t) (plai
           let within = goes.within in
           let size = length_range block lines.start lines.place (omega (arith, within)) in
           let came = subst (λ l. IsAtOf asked l first t (walked (lines.place - lines.start) fresh) (lines.place - lines.start) lines.row) (append-nil line) (goes.comes [] right.first.start fresh right.first.is_start) in
-          let says = mark_of_row (expression_in asked) asked.mode (rows_of t) right.sound lines.row came.set _ came.row (slice_get-get_or t.marks.items (lines.row / t.stride) none (marked lines.row goes.row)) in
+          let says = mark_of_row right.sound lines.row came.set _ came.row (slice_get-get_or t.marks.items (lines.row / t.stride) none (marked lines.row goes.row)) in
           record {
             first = first;
             stands = right.first.stands line;

@@ -1,4 +1,4 @@
-use Rattle.re_steps.proofs.Prelude.{arith, false, Text, Matches, ◌≡◌, ◌+◌, ◌<◌, slice_index, sym, subst, rows_of, expression_in, cell_at, StepTable, GoesOverLines}
+use Rattle.re_steps.proofs.Prelude.{arith, false, Text, Matches, ◌≡◌, ◌+◌, ◌<◌, slice_index, sym, subst, expression_in, cell_at, StepTable, GoesOverLines}
 use Rattle.re_runs.proofs.lemmas.BlockLemmas.{passes_none}
 use Rattle.re_steps.proofs.lemmas.RowLaws.{cell_within}
 use Rattle.re_steps.proofs.lemmas.LineWalks.{marked, walks_from, walks_on, walks_over}
@@ -40,7 +40,7 @@ cell_in-cell-requires c =
     let line = c.args.asked.now.line.now in
     let small : slice_index line c.places.lines.place < 256 = omega (arith, c.type_inv.block c.places.lines.place) in
     let row = c.places.invariant.goes.row in
-    rw (c.places.invariant.classes, c.places.invariant.cells) (cell_within (expression_in c.args.asked.now) c.args.asked.now.mode (rows_of c.args.self.now) c.requires.ready.0.sound c.places.lines.row (slice_index line c.places.lines.place) row.0 row.1 small)
+    rw (c.places.invariant.classes, c.places.invariant.cells) (cell_within c.requires.ready.0.sound c.places.lines.row (slice_index line c.places.lines.place) row.0 row.1 small)
 
 pub places-preserved : goal.places-preserved
 places-preserved c =
