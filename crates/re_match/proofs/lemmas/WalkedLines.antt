@@ -13,7 +13,7 @@ use Rattle.re_match.specs.Working.CachedMatchers.{IsTableFor}
 use Rattle.re_match.specs.Working.Sweeps.{StopsIn}
 use Rattle.std.specs.Prelude.{max}
 use Rattle.re_steps.proofs.lemmas.StageLaws.{searches_say, searches_steps}
-use Rattle.re_steps.proofs.lemmas.WalkLaws.{walked_on, walked_adds}
+use Rattle.re_steps.proofs.lemmas.WalkLaws.{walked_on, adds_walked}
 
 -- a table with rows is right
 pub right_of : {e : Expression} {most : ℕ} (t : StepTable) → IsTableFor e false most t → (length t.marks.items ≡ 0 → ⊥) → IsRight e Search t
@@ -68,4 +68,4 @@ module _ {asked : LineSearch} {t : StepTable} {lines : Lines} {end : ℕ} (goes 
     }
 
     pub walk_adds : AddsUpTo (max lines.start (end + 1)) (end + 1) old after
-    walk_adds = adds_on (walked_adds lines.start old) (searches_steps searched) (omega (arith, long, cut.0)) (omega arith)
+    walk_adds = adds_on (adds_walked lines.start old) (searches_steps searched) (omega (arith, long, cut.0)) (omega arith)

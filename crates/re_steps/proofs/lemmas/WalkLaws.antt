@@ -17,9 +17,9 @@ walked_on (suc m) zero k steps is = let same : suc m ≡ k = omega (arith, is) i
 walked_on (suc m) (suc n) zero steps is = absurd (omega (arith, is))
 walked_on (suc m) (suc n) (suc k) steps is = ap (λ j. record { built = steps.built; reused = j; passed = steps.passed }) (omega (arith, is))
 
-pub walked_adds : (n : ℕ) (steps : Steps) → AddsUpTo n 0 steps (walked n steps)
-walked_adds zero steps = adds_none 0 0 steps
-walked_adds (suc n) steps = reused_adds (suc n) 0 steps
+pub adds_walked : (n : ℕ) (steps : Steps) → AddsUpTo n 0 steps (walked n steps)
+adds_walked zero steps = adds_none 0 0 steps
+adds_walked (suc n) steps = reused_adds (suc n) 0 steps
 
 -- the mode is that for whole lines, or it isn't
 pub is_whole : (mode : Mode) → true ≡ sameb the_type mode Whole → mode ≡ Whole
