@@ -100,7 +100,7 @@ module _ (P : Text → Type 0) where
   -- ---- the same of a line by its two places
 
   module _ (block : Text) (start end : ℕ) (cut : IsLineFrom block start end) (passed : PassesAll Not block start) where
-    long : length (slice_range block start end) ≡ end - start
+    pub long : length (slice_range block start end) ≡ end - start
     long = length_range block start end (omega (arith, cut.1))
 
     -- it is passed
