@@ -7,7 +7,7 @@ pub use Rattle.re_match.specs.Working.Literals.{Literals, any_literal, literal_m
 pub use Rattle.re_match.specs.Working.Strings.{IsPartOfLines, look_expression}
 pub use Rattle.re_match.specs.Working.Aheads.{BeginsLater, past}
 pub use Rattle.re_match.specs.Working.Same.{SameMatcher}
-pub use Rattle.re_match.specs.Working.Sweeps.{IsSameFrom, LooksOver, StopsAt, left_for, stepped, steps_left, steps_to}
+pub use Rattle.re_match.specs.Working.Sweeps.{LooksOver, StopsAt, left_for, steps_left, steps_to}
 pub use Rattle.re_match.specs.declared.strings.Look.{Look}
 pub use Rattle.re_match.specs.declared.strings.Look.TheVariants.{Many, One}
 pub use Rattle.re_match.specs.declared.sweeps.Stop.{Stop}
@@ -23,7 +23,6 @@ pub use Rattle.re_runs.specs.declared.block.Swept.{Swept}
 pub use Rattle.re_needle.specs.declared.needle.Needle.{Needle}
 pub use Rattle.re_steps.specs.Working.Rows.{cache_of}
 pub use Rattle.re_steps.specs.Working.Stages.{Cache, IsReadied, Searches, mode_for}
-unfoldable pub use Rattle.re_steps.specs.Working.Stages.{Goes}
 pub use Rattle.re_strings.specs.Working.Branches.{text_at}
 pub use Rattle.re_strings.specs.Working.FixedSets.{IsString, Occurs}
 unfoldable pub use Rattle.re_strings.specs.Working.FixedSets.{IsBestOccurrence}

@@ -231,14 +231,15 @@ impl Cached {
     // something else comes up, is decided.
     #[inline(always)]
     fn walk(&mut self, block: &[u8], most: usize, meter: &mut Meter) -> Sweep
-        requires { IsBlock block.now }
+        requires block { IsBlock block.now }
+        requires search { self.old.whole ≡ false }
         ensures passes { PassesUnmatched (expression_of self.old.tree) self.old.whole block.now
             result.start }
         ensures stops { StopsAt (expression_of self.old.tree) self.old.whole block.now result }
         ensures same { SameCached self.old self.new }
-        ensures steps { AddsUpTo (steps_to result) result.reached meter.old meter.new }
+        ensures steps { AddsUpTo (steps_to result.stop result.start result.reached) result.reached
+            meter.old meter.new }
     {
-        let mode = self.mode();
         let Some(table) = &mut self.table else {
             return Sweep::none();
         };
@@ -251,28 +252,26 @@ impl Cached {
         let asked = LineSearch {
             alloc: self.alloc,
             automaton: &self.automaton,
-            mode,
+            mode: Mode::Search,
             line: block,
         };
         if table.is_matched_at_once(&asked) {
             return Sweep::none();
         }
-        let lines = table.walk_lines(&asked, most.min(block.len() - 1));
-        let Some(end) = line_end(block, lines.start) else {
-            return Sweep::none();
+        let lines = table.walk_lines(&asked, most.min(block.len() - 1), meter);
+        let Some(end) = line_end(block, lines.place) else {
+            unreachable!();
         };
         let asked = LineSearch {
             line: &block[lines.start..end],
             ..asked
         };
-        let from = table.count_walk(lines, meter);
+        let from = Spot {
+            place: lines.place - lines.start,
+            row: lines.row,
+        };
         let answer = search_on(table, &mut self.sets, &asked, from, meter);
-        Sweep {
-            start: lines.start,
-            first: lines.start,
-            reached: end + 1,
-            stop: Stop::Decided(answer),
-        }
+        Sweep::to(lines.start, end + 1, Stop::Decided(answer))
     }
 
     // Where the next match of the line is.

@@ -24,7 +24,9 @@ use crate::window::{Edges, rest_of};
 use re_auto::Meter;
 use re_ends::Window;
 use re_needle::{LookCost, Needle, has_begin};
-use re_runs::{RunFinder, Swept, first_line_beginning_with, first_line_with_run, has_no_newline};
+use re_runs::{
+    RunFinder, Swept, bytes_over, first_line_beginning_with, first_line_with_run, has_no_newline,
+};
 use re_trees::{Span, Tree};
 use std::alloc::{AllocError, Global};
 
@@ -117,7 +119,9 @@ impl Prefilter {
     // Whether lines of blocks are walked over. They are not where a look decides each line, or the first
     // bytes of most lines do.
     #[inline(always)]
-    fn walks(&self, whole: bool) -> bool {
+    fn walks(&self, whole: bool) -> bool
+        ensures { IsTrue result → whole ≡ false }
+    {
         if whole {
             return false;
         }
@@ -129,7 +133,9 @@ impl Prefilter {
 
     /// How many bytes of a block are walked over before the next look.
     #[inline(always)]
-    pub fn walk(&self, whole: bool) -> usize {
+    pub fn walk(&self, whole: bool) -> usize
+        ensures { 0 < result → whole ≡ false }
+    {
         if !self.walks(whole) {
             return 0;
         }
@@ -149,7 +155,6 @@ impl Prefilter {
             PassesUnmatched e whole block.now result.start }
         ensures stops { (e : Expression) → IsPrefilterFor e self.now →
             StopsAt e whole block.now result }
-        ensures low { result.start ≤ result.first }
         ensures steps { AddsUpTo 0 result.reached meter.old meter.new }
     {
         if let Some(strings) = &self.strings {
@@ -160,16 +165,17 @@ impl Prefilter {
         };
         if whole && needle.is_first {
             let swept = first_line_beginning_with(&needle.finder, block, meter);
-            return Sweep::of(block, swept, Stop::Seen);
+            return Sweep::to(swept.start, bytes_over(block, swept.place), Stop::Seen);
         }
         let swept = first_line_with_run(&needle.finder, block, meter);
+        let reached = bytes_over(block, swept.place);
         if needle.is_all && !whole && has_run(&needle.finder, block, swept) {
-            return Sweep::of(block, swept, Stop::Decided(true));
+            return Sweep::to(swept.start, reached, Stop::Decided(true));
         }
         let first = self.first_place(needle, whole, swept);
         Sweep {
             first,
-            ..Sweep::of(block, swept, Stop::Seen)
+            ..Sweep::to(swept.start, reached, Stop::Seen)
         }
     }
 

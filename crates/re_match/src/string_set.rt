@@ -8,14 +8,14 @@ ghost use Rattle.re_trees.specs.Lines.{lines_of, newline};
 ghost use Rattle.re_meter.specs.Meters.{AddsUpTo};
 ghost use Rattle.re_match.specs.Working.Literals.{any_literal, LooksForAny, ReachesPart};
 ghost use Rattle.re_match.specs.Working.Sweeps.{StopsAt};
-ghost use Rattle.re_match.specs.declared.sweeps.Stop.TheVariants.{Decided};
+ghost use Rattle.re_trees.specs.Expression.{Expression};
 ghost use Rattle.re_strings.specs.Working.Keys.{keys};
 ghost use Rattle.re_auto.specs.Searches.{FindsPart};
 ghost use Rattle.re_runs.specs.Working.Blocks.{IsBlock, IsLineFrom, PassesUnmatched};
 ghost use Rattle.re_trees.specs.Parts.{IsFound};
 ghost use Rattle.re_ends.specs.Working.GreatestEnds.{AddsEnds};
 
-use crate::sweeps::Sweep;
+use crate::sweeps::{Stop, Sweep};
 use re_auto::Meter;
 use re_runs::line_start;
 use re_strings::{AhoCorasick, table_of};
@@ -114,11 +114,9 @@ impl StringSet {
     pub fn first_line(&self, block: &[u8], meter: &mut Meter) -> Sweep
         requires { IsBlock block.now }
         ensures passes { PassesUnmatched (any_literal self.now) false block.now result.start }
-        ensures stops { StopsAt (any_literal self.now) false block.now result }
+        ensures stops { (e : Expression) (whole : Bool) → StopsAt e whole block.now result }
         ensures found { (end : ℕ) → IsLineFrom block.now result.start end →
             Matches (any_literal self.now) (slice_range block.now result.start end) false }
-        ensures unknown { (answer : Bool) → result.stop ≡ Decided answer → ⊥ }
-        ensures first { result.first ≡ result.start }
         ensures looked { LooksForAny self.now block.now meter.old meter.new }
         ensures steps { AddsUpTo 0 result.reached meter.old meter.new }
     {
@@ -126,9 +124,9 @@ impl StringSet {
             return Sweep::none();
         }
         let Some(end) = self.table.first_end(block, meter) else {
-            return Sweep::to(block.len(), block.len());
+            return Sweep::to(block.len(), block.len(), Stop::Seen);
         };
-        Sweep::to(line_start(&block[..end]), end)
+        Sweep::to(line_start(&block[..end]), end, Stop::Seen)
     }
 
     /// The first string at `from` or later, and of those that begin there the longest. An empty

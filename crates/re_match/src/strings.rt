@@ -31,7 +31,8 @@ use re_auto::{Meter, fresh_meter};
 use re_ends::Window;
 use re_needle::LookCost;
 use re_runs::{
-    bytes_to, count_by, find_text, first_line_with, has_no_newline, line_end, next_line_with,
+    bytes_over, bytes_to, count_by, find_text, first_line_with, has_no_newline, line_end,
+    next_line_with,
 };
 use re_strings::add_occurrences;
 use re_trees::Span;
@@ -123,7 +124,7 @@ impl Look {
         match self {
             Look::One(finder) => {
                 let swept = first_line_with(finder, block, meter);
-                Sweep::of(block, swept, Stop::Seen)
+                Sweep::to(swept.start, bytes_over(block, swept.place), Stop::Seen)
             }
             Look::Many(set) => set.first_line(block, meter),
         }

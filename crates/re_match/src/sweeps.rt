@@ -6,14 +6,13 @@ ghost use Rattle.re_trees.specs.Holds.{Matches};
 ghost use Rattle.re_trees.specs.Lines.{lines_of};
 ghost use Rattle.re_meter.specs.Meters.{AddsAtMost, AddsUpTo};
 ghost use Rattle.re_match.specs.declared.sweeps.Stop.TheVariants.{Unseen, Seen, Decided};
-ghost use Rattle.re_runs.specs.Working.Runs.{look_cost};
 ghost use Rattle.re_match.specs.Working.Same.{SameMatcher};
 ghost use Rattle.re_match.specs.Working.Sweeps.{StopsAt, left_for, steps_left, steps_to};
 ghost use Rattle.re_runs.specs.Working.Blocks.{IsBlock, PassesUnmatched};
 ghost use Rattle.re_runs.specs.Working.Blocks.{FindsMatched, next_cost};
 
 use re_auto::Meter;
-use re_runs::{Swept, bytes_over, line_end};
+use re_runs::line_end;
 use re_trees::Span;
 
 /// What a sweep says of the line at which it stopped.
@@ -54,32 +53,14 @@ impl Sweep {
         }
     }
 
-    /// A look stopped at `reached`, in the line that begins at `start`, which may be matched.
-    pub fn to(start: usize, reached: usize) -> Sweep
-        ensures { result ≡ record { start = start; first = start; reached = reached; stop = Seen } }
+    /// A sweep stopped at `reached`, and says this of the line there, which begins at `start`.
+    pub fn to(start: usize, reached: usize, stop: Stop) -> Sweep
+        ensures { result ≡ record { start = start; first = start; reached = reached; stop = stop } }
     {
         Sweep {
             start,
             first: start,
             reached,
-            stop: Stop::Seen,
-        }
-    }
-
-    /// A look stopped in a line of which it says this.
-    pub fn of(block: &[u8], swept: Swept, stop: Stop) -> Sweep
-        requires { IfSome swept.place (λ at. at ≤ length block.now) }
-        ensures { result ≡ record {
-          start = swept.start;
-          first = swept.start;
-          reached = look_cost block.now swept.place;
-          stop = stop;
-        } }
-    {
-        Sweep {
-            start: swept.start,
-            first: swept.start,
-            reached: bytes_over(block, swept.place),
             stop,
         }
     }
@@ -105,7 +86,8 @@ pub trait Sweeps {
             result.start }
         ensures stops { StopsAt (expression self.old) (whole self.old) block.now result }
         ensures same { SameMatcher expression whole room self.old self.new }
-        ensures steps { AddsUpTo (steps_to result) result.reached meter.old meter.new };
+        ensures steps { AddsUpTo (steps_to result.stop result.start result.reached) result.reached
+            meter.old meter.new };
 
     /// Whether the line is matched at which a sweep stopped. A line that it looked over is not looked
     /// over again.

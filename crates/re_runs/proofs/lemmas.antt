@@ -1,4 +1,5 @@
 pub mod Occurrences
+pub mod Ranges
 pub mod RunLaws
 pub mod BlockLemmas
 pub mod BegunLines

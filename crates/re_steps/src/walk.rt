@@ -1,6 +1,7 @@
 //! Searches by the pairs that are held.
 ghost use Rattle.std.specs.Prelude.{◌≡◌, ℕ, ◌+◌, ◌-◌, ◌*◌, ◌<◌, ◌≤◌, true, false, Some, IsTrue};
 ghost use Rattle.std.specs.Prelude.{IfSome, IfNone, length, slice_get, slice_index};
+ghost use Rattle.re_auto.specs.declared.mode.Mode.TheVariants.{Search};
 ghost use Rattle.re_auto.specs.declared.step.state_set.StateSet.{StateSet as Set};
 ghost use Rattle.re_meter.specs.Meters.{Steps, many_built, many_reused};
 ghost use Rattle.re_auto.specs.Working.StateSets.{IsNextSet};
@@ -98,26 +99,6 @@ impl StepTable {
         !self.marks.is_empty() && !self.pace.passes()
     }
 
-    /// Counts the steps of a walk over lines, and returns where it is on the last line.
-    #[inline(always)]
-    pub fn count_walk(&mut self, lines: Lines, meter: &mut Meter) -> Spot
-        requires low { lines.start ≤ lines.place }
-        ensures spot { result ≡ record { place = lines.place - lines.start; row = lines.row } }
-        ensures counted { meter.new ≡
-            walked (lines.place - lines.start) (many_reused lines.start meter.old) }
-        ensures same { rows_of self.new ≡ rows_of self.old }
-        ensures scratch { self.new.scratch ≡ self.old.scratch }
-    {
-        let place = lines.place - lines.start;
-        meter.add_reused_steps(lines.start as u64);
-        meter.add_reused_steps(place as u64);
-        self.pace.note_reused(lines.place);
-        Spot {
-            place,
-            row: lines.row,
-        }
-    }
-
     /// The spot at a line's first place.
     #[inline(always)]
     pub fn first_spot(&self) -> Spot
@@ -131,20 +112,28 @@ impl StepTable {
     }
 
     /// Goes over lines of a block whose pairs are held, none of which is matched, and over bytes of
-    /// the line after them, which does not begin after the place `most` and its newline.
+    /// the line after them, which does not begin after the place `most` and its newline. Each byte that
+    /// it goes over counts as one step.
     #[inline(never)]
-    pub fn walk_lines(&self, asked: &LineSearch, most: usize) -> Lines
-        requires right { IsRightFor asked.now self.now }
-        requires plain { (start : Set) → slice_get self.now.sets.keys 1 ≡ Some start →
+    #[tactic(auto, using(crate::proofs::lemmas::WalkLaws::walked_is))]
+    pub fn walk_lines(&mut self, asked: &LineSearch, most: usize, meter: &mut Meter) -> Lines
+        requires ready { IsReady asked.now self.old }
+        requires search { asked.now.mode ≡ Search }
+        requires plain { (start : Set) → slice_get self.old.sets.keys 1 ≡ Some start →
             IsPlain (expression_in asked.now) asked.now.mode start }
         requires block { IsBlock asked.now.line.now }
         requires within { most < length asked.now.line.now }
-        ensures { GoesOverLines asked.now self.now result }
+        ensures ready { IsReady asked.now self.new }
+        ensures most { self.new.pairs.most ≡ self.old.pairs.most }
+        ensures goes { GoesOverLines asked.now self.new result }
+        ensures counted { meter.new ≡ walked result.place meter.old }
     {
         let block = asked.line;
         let classes = self.classes.as_slice();
         let cells = self.pairs.cells();
-        let first = self.stride.row(1);
+        let marks = self.marks.as_slice();
+        let stride = &self.stride;
+        let first = stride.row(1);
         let mut lines = Lines {
             start: 0,
             place: 0,
@@ -153,8 +142,8 @@ impl StepTable {
         'places: loop {
             let byte = block[lines.place];
             if byte == b'\n' {
-                if lines.place >= most || self.mark(self.stride.number(lines.row)).at_end {
-                    return lines;
+                if lines.place >= most || marks[stride.number(lines.row)].at_end {
+                    break;
                 }
                 lines = Lines {
                     start: lines.place + 1,
@@ -165,11 +154,14 @@ impl StepTable {
             }
             let cell = cell_in(cells, lines.row, classes[byte as usize] as usize);
             if cell >= LIMIT {
-                return lines;
+                break;
             }
             lines.row = cell as usize;
             lines.place += 1;
         }
+        meter.add_reused_steps(lines.place as u64);
+        self.pace.note_reused(lines.place);
+        lines
     }
 
     /// Whether a matched stretch ends at the first place of the line, which is not its last.

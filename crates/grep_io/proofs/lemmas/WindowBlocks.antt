@@ -1,30 +1,9 @@
 -- The whole lines that lie in a buffer.
-use Rattle.grep_io.proofs.Prelude.{◌≡◌, ◌≢◌, ℕ, suc, ◌+◌, ◌-◌, ◌<◌, ◌≤◌, inl, inr, Bool, true, false, List, [], ◌∷◌, ◌++◌, length, take, drop, get_or, slice_range, refl, sym, ap, ◌∙◌, subst, arith, length-append, length-take, take-append-drop, drop-cons, ⊤, nat_lt, Text, newline, terminated, HasNoNewline, IsBlock, PassesAll, HasWholeLine, cases_lt, ltb-true, ltb-false, get_or-take, get_or-drop, get_or_append_left, get_or-append-add, length-drop, drop-take, drop-drop, take-take, All-append}
+use Rattle.grep_io.proofs.Prelude.{◌≡◌, ◌≢◌, ℕ, suc, ◌+◌, ◌-◌, ◌<◌, ◌≤◌, inl, inr, Bool, true, false, List, [], ◌∷◌, ◌++◌, length, take, drop, get_or, slice_range, refl, sym, ap, ◌∙◌, subst, arith, length-append, length-take, take-append-drop, drop-cons, ⊤, nat_lt, Text, newline, terminated, HasNoNewline, IsBlock, PassesAll, HasWholeLine, cases_lt, ltb-true, ltb-false, get_or_append_left, get_or-append-add, All-append}
 use Rattle.re_trees.proofs.lemmas.LinesLaws.{all_none}
 use Rattle.re_runs.proofs.lemmas.BlockLemmas.{ended_text}
-
--- ---- bytes of a range
-
--- a byte of a range is one of the buffer
-pub at_range : (buffer : Text) (start end k : ℕ) → start + k < end → get_or (slice_range buffer start end) k 0 ≡ get_or buffer (start + k) 0
-at_range buffer start end k below = get_or-take (end - start) (drop start buffer) k 0 (omega arith) ∙ get_or-drop start buffer k 0
-
-pub length_range : (buffer : Text) (start end : ℕ) → end ≤ length buffer → length (slice_range buffer start end) ≡ end - start
-length_range buffer start end within = omega (arith, length-take (end - start) (drop start buffer), length-drop start buffer)
-
--- what follows the first bytes of a range is a range
-pub drop_range : (buffer : Text) (start end k : ℕ) → start + k ≤ end → drop k (slice_range buffer start end) ≡ slice_range buffer (start + k) end
-drop_range buffer start end k h =
-    ap (λ n. drop k (take n (drop start buffer))) (omega arith) ∙ drop-take k (end - (start + k)) (drop start buffer)
-    ∙ ap (take (end - (start + k))) (drop-drop k start buffer ∙ ap (λ n. drop n buffer) (omega arith))
-
--- two ranges that meet are one
-pub joined_range : (buffer : Text) (start mid end : ℕ) → start ≤ mid → mid ≤ end → slice_range buffer start mid ++ slice_range buffer mid end ≡ slice_range buffer start end
-joined_range buffer start mid end low high =
-    let part = slice_range buffer start end in
-    let front : take (mid - start) part ≡ slice_range buffer start mid = take-take (mid - start) (end - start) (drop start buffer) (omega arith) in
-    let rest : drop (mid - start) part ≡ slice_range buffer mid end = drop_range buffer start end (mid - start) (omega arith) ∙ ap (λ n. slice_range buffer n end) (omega arith) in
-    ap (λ l. l ++ slice_range buffer mid end) (sym front) ∙ ap (λ l. take (mid - start) part ++ l) (sym rest) ∙ take-append-drop (mid - start) part
+use Rattle.re_runs.proofs.lemmas.Ranges.{at_range, drop_range, length_range}
+pub use Rattle.re_runs.proofs.lemmas.Ranges.{joined_range}
 
 -- ---- newlines
 

@@ -1,7 +1,8 @@
 -- The work of a look over a line, and of steps after it.
 use Rattle.re_match.proofs.Prelude.{◌+◌, min, inl, inr, length, sym, subst, arith, AddsUpTo, Text, Expression, LooksOver}
 use Rattle.re_meter.specs.Meters.{Steps, AddsAtMost}
-use Rattle.re_meter.proofs.lemmas.Adding.{adds_none, adds_within, adds_both, only_passed}
+use Rattle.re_meter.proofs.lemmas.Adding.{adds_none, adds_within, only_passed}
+use Rattle.re_match.proofs.lemmas.StepSums.{adds_on}
 use Rattle.re_runs.specs.Working.Runs.{longest_of}
 use Rattle.re_runs.proofs.lemmas.Looks.{look_within}
 use Rattle.re_match.proofs.lemmas.NeededStrings.{look_for_any}
@@ -19,5 +20,4 @@ module _ (e : Expression) (line : Text) where
 
   -- and then steps are taken
   pub looks_and_steps : (old mid new : Steps) → LooksOver e line old mid → AddsUpTo (length line + 1) 0 mid new → AddsAtMost (length line + 1) old new
-  looks_and_steps old mid new looked steps =
-      adds_within (0 + (length line + 1)) (length line + 1) (length line + 0) (length line + 1) old new (omega arith) (omega arith) (adds_both 0 (length line + 1) (length line) 0 old mid new (looks_once old mid looked) steps)
+  looks_and_steps old mid new looked steps = adds_on (looks_once old mid looked) steps (omega arith) (omega arith)

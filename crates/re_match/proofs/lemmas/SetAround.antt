@@ -1,13 +1,13 @@
 -- The line of a block in which the first of many strings ends.
-use Rattle.re_match.proofs.Prelude.{◌≡◌, ◌≢◌, ℕ, suc, ◌+◌, ◌-◌, ◌<◌, ◌≤◌, Bool, true, false, inl, inr, List, [], ◌∷◌, ◌++◌, All, Some, length, map, take, drop, get_or, slice_range, refl, sym, ap, ◌∙◌, subst, arith, length-drop, length-take, length-append, take-append-drop, ⊤, Text, Matches, newline, terminated, HasNoNewline, IsLineFrom, PassesAll, IsString, Occurs, key, keys, EndsFirst, Literals, any_literal, StopsAt, Unseen, Seen, Decided, dec_le, eqb-true, eq-eqb, get_or-append-add, get_or_append_left, get_or-drop, get_or-map, get_or-take, length-map, map-append, All-head}
+use Rattle.re_match.proofs.Prelude.{◌≡◌, ◌≢◌, ℕ, suc, ◌+◌, ◌-◌, ◌<◌, ◌≤◌, Bool, true, false, inl, inr, List, [], ◌∷◌, ◌++◌, All, Some, length, map, take, drop, get_or, slice_range, refl, sym, ap, ◌∙◌, subst, arith, length-drop, length-take, length-append, take-append-drop, ⊤, Text, Matches, newline, terminated, HasNoNewline, IsLineFrom, PassesAll, IsString, Occurs, key, keys, EndsFirst, Literals, any_literal, dec_le, eqb-true, eq-eqb, get_or-append-add, get_or_append_left, get_or-drop, get_or-map, get_or-take, length-map, map-append, All-head}
 use Rattle.re_trees.proofs.lemmas.Decisions.{Any-cases, Any-none}
 use Rattle.re_trees.proofs.lemmas.LinesLaws.{all_head, all_tail, none_before, none_in_empty, rest_has_none}
 use Rattle.re_runs.proofs.lemmas.BlockLemmas.{passed_within}
 use Rattle.re_runs.proofs.lemmas.Looks.{place_in_line}
+use Rattle.re_runs.proofs.lemmas.Ranges.{length_range}
 use Rattle.re_match.proofs.lemmas.SetBlocks.{piece_before, piece_after}
 use Rattle.re_strings.proofs.lemmas.KeyLaws.{key_newline}
 use Rattle.re_match.proofs.lemmas.SetMatches.{occurs_decides}
-use Rattle.re_match.proofs.lemmas.SweptLines.{whole_line}
 
 -- ---- the line around a string
 
@@ -109,7 +109,7 @@ module _ (l : Literals) (none_empty : IsString (map (keys l.fold) l.texts) [] �
         let low : start ≤ i = begins_in_line i o in
         let some : i < stop = o.1 in
         let near : stop ≤ end = place_in_line block start stop end fits start_low none cut in
-        let size : length line ≡ end - start = omega (arith, length-take (end - start) (drop start block), length-drop start block, below) in
+        let size = length_range block start end (omega (arith, below)) in
         let long : length (take start block) ≡ start = omega (arith, length-take start block, begin, below) in
         let whole : take start block ++ (line ++ newline ∷ more) ≡ block = ap (λ l. take start block ++ l) (sym cut.3) ∙ take-append-drop start block in
         let from : length (take start block) + (i - start) ≡ i = omega (arith, long, low) in
@@ -122,20 +122,3 @@ module _ (l : Literals) (none_empty : IsString (map (keys l.fold) l.texts) [] �
         let there : Occurs strings 0 (keys l.fold line) (i - start) (stop - start) =
         (omega arith, omega (arith, low, some), omega (arith, inside, length-map line (key l.fold)), subst (IsString strings) piece o.3) in
         (occurs_decides l line true none_empty ((λ e. (i - start, stop - start, there)), (λ e. refl))).0 refl
-
-    -- and the search stopped in it
-    pub stops_around : HasNoNewline (drop start (take stop block)) → StopsAt (any_literal l) false block (record { start = start; first = start; reached = stop; stop = Seen })
-    stops_around none = record {
-      within = fits;
-      near = λ end cut. let near = place_in_line block start stop end fits start_low none cut in omega (arith, near);
-      unseen = λ no. absurd (other no);
-      low = omega arith;
-      first = λ end cut. whole_line (any_literal l) false block start end cut;
-      decided = λ answer no. absurd (another answer no);
-    }
-      where
-        other : Seen ≡ Unseen → ⊥
-        other same = cc
-
-        another : (answer : Bool) → Seen ≡ Decided answer → ⊥
-        another answer same = cc

@@ -17,30 +17,23 @@ adds_within few most old new h a = within few most few most old new h h a
 pub adds_up : (first next most : ℕ) (old mid new : Steps) → first + next ≤ most → AddsAtMost first old mid → AddsAtMost next mid new → AddsAtMost most old new
 adds_up first next most old mid new h a b = adds_within (first + next) most old new h (adds_both first next old mid new a b)
 
+-- both kinds after both kinds
+pub adds_on : {first next first_bytes next_bytes most_steps most_bytes : ℕ} {old mid new : Steps} → AddsUpTo first first_bytes old mid → AddsUpTo next next_bytes mid new
+    → first + next ≤ most_steps → first_bytes + next_bytes ≤ most_bytes → AddsUpTo most_steps most_bytes old new
+adds_on a b few fits = within _ _ _ _ _ _ few fits (both _ _ _ _ _ _ _ a b)
+
 -- a look, and then steps of one kind
 pub look_and_built : (cost looks most_steps most_bytes : ℕ) (old mid new : Steps) → looks ≤ most_steps → cost ≤ most_bytes → mid ≡ many_passed cost old → new ≡ many_built looks mid → AddsUpTo most_steps most_bytes old new
 look_and_built cost looks most_steps most_bytes old mid new few fits is counted =
-    let none : most_bytes + 0 ≤ most_bytes = omega arith in
-    let no_more : 0 + looks ≤ most_steps = omega (arith, few) in
-    within (0 + looks) most_steps (most_bytes + 0) most_bytes old new no_more none
-    (both 0 looks most_bytes 0 old mid new (only_passed most_bytes cost old mid fits is) (subst (AddsUpTo looks 0 mid) (sym counted) (built_adds looks 0 mid)))
+    adds_on (only_passed most_bytes cost old mid fits is) (subst (AddsUpTo looks 0 mid) (sym counted) (built_adds looks 0 mid)) (omega (arith, few)) (omega arith)
 
 -- two looks
 pub looks_twice : (cost more most : ℕ) (old mid new : Steps) → cost + more ≤ most → mid ≡ many_passed cost old → new ≡ many_passed more mid → AddsUpTo 0 most old new
 looks_twice cost more most old mid new fits is counted = adds_passed 0 cost most more old mid new fits (only_passed cost cost old mid (omega arith) is) counted
 
--- both kinds after both kinds
-pub adds_on : (first next first_bytes next_bytes most_steps most_bytes : ℕ) (old mid new : Steps) → first + next ≤ most_steps → first_bytes + next_bytes ≤ most_bytes
-    → AddsUpTo first first_bytes old mid → AddsUpTo next next_bytes mid new → AddsUpTo most_steps most_bytes old new
-adds_on first next first_bytes next_bytes most_steps most_bytes old mid new few fits a b =
-    within (first + next) most_steps (first_bytes + next_bytes) most_bytes old new few fits (both first next first_bytes next_bytes old mid new a b)
-
 -- steps of a pass back
 pub walked_adds : (n reused : ℕ) (old new : Steps) → reused ≤ n → new ≡ many_built (n - reused) (many_reused reused old) → AddsUpTo n 0 old new
-walked_adds n reused old new few is =
-    let sum : reused + (n - reused) ≤ n = omega (arith, few) in
-    subst (AddsUpTo n 0 old) (sym is)
-    (within (reused + (n - reused)) n 0 0 old _ sum (omega arith) (both reused (n - reused) 0 0 old (many_reused reused old) _ (reused_adds reused 0 old) (built_adds (n - reused) 0 (many_reused reused old))))
+walked_adds n reused old new few is = subst (AddsUpTo n 0 old) (sym is) (adds_on (reused_adds reused 0 old) (built_adds (n - reused) 0 (many_reused reused old)) (omega (arith, few)) (omega arith))
 
 -- some bytes were passed
 pub passes : (most cost : ℕ) (old new : Steps) → cost ≤ most → new ≡ many_passed cost old → AddsAtMost most old new

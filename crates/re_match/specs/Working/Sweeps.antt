@@ -1,6 +1,6 @@
 -- Looks over lines and blocks: what they pass, where a sweep stops, and what is known of the line
 -- there.
-use Rattle.std.specs.Prelude.{◌≡◌, ℕ, ◌+◌, ◌-◌, ◌≤◌, ◌↔◌, ◌⊎◌, Bool, IsTrue, Option, min, length, slice_range}
+use Rattle.std.specs.Prelude.{◌≡◌, ℕ, ◌+◌, ◌-◌, ◌≤◌, ◌↔◌, ◌⊎◌, Bool, IsTrue, Option, min, max, length, slice_range, ⊤}
 use Rattle.re_trees.specs.Bytes.{Text}
 use Rattle.re_trees.specs.Expression.{Expression}
 use Rattle.re_trees.specs.Holds.{Matches}
@@ -14,25 +14,6 @@ use Rattle.re_match.specs.declared.sweeps.Stop.{Stop}
 use Rattle.re_match.specs.declared.sweeps.Stop.TheVariants.{Unseen, Seen, Decided}
 use Rattle.re_match.specs.declared.sweeps.Sweep.{Sweep}
 
--- the line of the block from `start` to `end` may be searched from the place `first` on
-abbrev pub IsSameFrom : Expression → Bool → Text → ℕ → ℕ → ℕ → Type 0
-IsSameFrom e whole block start first end =
-    (first ≤ end) ×
-    (Matches e (slice_range block first end) whole ↔ Matches e (slice_range block start end) whole)
-
--- the block was looked over up to a place of the line, or to the end of its newline; not beyond the
--- line's beginning if nothing was seen of it; what is left of the line from its first place on is matched
--- exactly if the line is; and what the sweep decides is right
-pub record StopsAt (e : Expression) (whole : Bool) (block : Text) (sweep : Sweep) : Type 0 where
-  pub within : sweep.reached ≤ length block
-  pub near : (end : ℕ) → IsLineFrom block sweep.start end → sweep.reached ≤ end + 1
-  pub unseen : sweep.stop ≡ Unseen → sweep.reached ≤ sweep.start
-  pub low : sweep.start ≤ sweep.first
-  pub first : (end : ℕ) → IsLineFrom block sweep.start end → IsSameFrom e whole block sweep.start sweep.first end
-  pub decided : (answer : Bool) → sweep.stop ≡ Decided answer → (end : ℕ) →
-      IsLineFrom block sweep.start end →
-      IsTrue answer ↔ Matches e (slice_range block sweep.start end) whole
-
 -- how many bytes of a line may still be passed
 abbrev pub left_for : Stop → ℕ → ℕ
 left_for Unseen most = most
@@ -45,14 +26,32 @@ steps_left Unseen most = most
 steps_left Seen most = most
 steps_left (Decided answer) most = 0
 
--- up to where steps may have been taken by a sweep that stops so
-abbrev pub stepped : Stop → ℕ → ℕ → ℕ
-stepped Unseen start reached = start
-stepped Seen start reached = start
-stepped (Decided answer) start reached = start + (reached - start)
+-- how many steps a sweep may have taken that stops so
+abbrev pub steps_to : Stop → ℕ → ℕ → ℕ
+steps_to Unseen start reached = start
+steps_to Seen start reached = start
+steps_to (Decided answer) start reached = max start reached
 
-abbrev pub steps_to : Sweep → ℕ
-steps_to sweep = stepped sweep.stop sweep.start sweep.reached
+-- what is said of whether a line is matched is right
+abbrev pub Says : Stop → Type 0 → Type 0
+Says Unseen matched = ⊤
+Says Seen matched = ⊤
+Says (Decided answer) matched = IsTrue answer ↔ matched
+
+-- a sweep stopped in the line that ends here: no byte up to the end of its newline is passed twice; what
+-- is left of it from its first place on is matched exactly if the line is; and what is said of it is right
+pub record StopsIn (e : Expression) (whole : Bool) (block : Text) (sweep : Sweep) (end : ℕ) : Type 0 where
+  pub high : sweep.first ≤ end
+  pub near : sweep.reached + left_for sweep.stop (end + 1 - sweep.start) ≤ end + 1
+  pub same : Matches e (slice_range block sweep.first end) whole
+      ↔ Matches e (slice_range block sweep.start end) whole
+  pub right : Says sweep.stop (Matches e (slice_range block sweep.start end) whole)
+
+-- where a sweep stopped in the block
+pub record StopsAt (e : Expression) (whole : Bool) (block : Text) (sweep : Sweep) : Type 0 where
+  pub within : sweep.reached ≤ length block
+  pub low : sweep.start ≤ sweep.first
+  pub line : (end : ℕ) → IsLineFrom block sweep.start end → StopsIn e whole block sweep end
 
 -- ---- looks over a line
 

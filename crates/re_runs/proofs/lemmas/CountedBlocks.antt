@@ -1,6 +1,8 @@
 -- How many lines of a block have a text.
-use Rattle.re_runs.proofs.Prelude.{◌≡◌, ◌≢◌, ℕ, ◌+◌, ◌-◌, ◌<◌, ◌≤◌, inl, inr, List, [], ◌∷◌, ◌++◌, All, Some, None, length, drop, take, slice_range, get_or, refl, sym, ap, ◌∙◌, subst, arith, length-append, length-drop, length-take, take-append-drop, append_assoc, dec_le, drop-append-add, get_or_append_left, get_or-append-add, get_or-drop, get_or-take, drop-append-le, All-drop, All-head, Text, newline, terminated, lines_of, HasNoNewline, OccursAt, FindsNeedle, IsBlock, IsLineFrom, StandsIn, HoldsOfMany}
+use Rattle.re_runs.proofs.Prelude.{◌≡◌, ◌≢◌, ℕ, suc, ◌+◌, ◌-◌, ◌<◌, ◌≤◌, inl, inr, List, [], ◌∷◌, ◌++◌, All, Some, None, length, drop, take, slice_range, slice_index, get_or, refl, sym, ap, ◌∙◌, subst, arith, length-append, length-drop, length-take, take-append-drop, append_assoc, dec_le, drop-append-add, get_or_append_left, get_or-append-add, get_or-drop, drop-append-le, All-drop, All-from_get_or, All-head, cases_lt, Text, newline, terminated, lines_of, HasNoNewline, OccursAt, FindsNeedle, IsBlock, IsLineFrom, StandsIn, HoldsOfMany}
 use Rattle.re_trees.proofs.lemmas.LinesLaws.{lines_of-terminated, all_head, all_tail, rest_has_none}
+use Rattle.re_runs.proofs.lemmas.Ranges.{length_range}
+use Rattle.re_runs.proofs.lemmas.Looks.{place_in_line}
 
 -- ---- where a newline is
 
@@ -8,6 +10,30 @@ use Rattle.re_trees.proofs.lemmas.LinesLaws.{lines_of-terminated, all_head, all_
 pub has_one : (xs ys : Text) → HasNoNewline (xs ++ newline ∷ ys) → ⊥
 has_one [] ys free = All-head (λ b. b ≢ newline) newline ys free refl
 has_one (x ∷ xs) ys free = has_one xs ys (rest_has_none x (xs ++ newline ∷ ys) free)
+
+-- from each place of whole lines on there is a newline
+newline_left : (lines : List Text) (i : ℕ) → i < length (terminated lines) → HasNoNewline (drop i (terminated lines)) → ⊥
+newline_left [] i below h = absurd (omega (arith, below))
+newline_left (t ∷ ts) i below h = elim (dec_le i (length t)) [
+  | yes near ↦ has_one (drop i t) (terminated ts) (subst HasNoNewline (drop-append-le i t (newline ∷ terminated ts) near) h)
+  | no far ↦
+      (let n = i - length t - 1 in
+      let place : length t + suc n ≡ i = omega (arith, far) in
+      newline_left ts n (omega (arith, below, far, length-append t (newline ∷ terminated ts)))
+      (subst HasNoNewline (ap (λ m. drop m (terminated (t ∷ ts))) (sym place) ∙ drop-append-add t (newline ∷ terminated ts) (suc n)) h))
+]
+
+-- so there is in a block
+pub newline_follows : (block : Text) (k : ℕ) → IsBlock block → k < length block → HasNoNewline (drop k block) → ⊥
+newline_follows block k (lines, free, is) below none = newline_left lines k (omega (arith, below, ap length is)) (subst (λ b. HasNoNewline (drop k b)) is none)
+
+-- after another byte more bytes follow
+pub more_follow : (block : Text) (k : ℕ) → IsBlock block → k < length block → (slice_index block k ≡ newline → ⊥) → k + 1 < length block
+more_follow block k whole below other = elim (cases_lt (k + 1) (length block)) [
+  | inl lt ↦ lt
+  | inr le ↦ absurd (newline_follows block k whole below
+      (All-from_get_or (λ b. b ≢ newline) (drop k block) 0 (λ i lt same. other (ap (λ n. get_or block n 0) (omega (arith, le, lt, length-drop k block)) ∙ sym (get_or-drop k block i 0) ∙ same))))
+]
 
 -- after the first newline the same is left
 same_rest : (xs ys rest more : Text) → HasNoNewline xs → HasNoNewline ys → xs ++ newline ∷ rest ≡ ys ++ newline ∷ more → rest ≡ more
@@ -63,23 +89,13 @@ module _ (text : Text) where
       let fits : at + length text ≤ length block = o.fits in
       let begin : start ≤ end = cut.0 in
       let below : end < length block = cut.1 in
-      let long : length line ≡ end - start = omega (arith, length-take (end - start) (drop start block), length-drop start block, below) in
       let front : length (take start block) ≡ start = omega (arith, length-take start block, low, fits) in
       let whole : take start block ++ (line ++ newline ∷ more) ≡ block = ap (λ l. take start block ++ l) (sym cut.3) ∙ take-append-drop start block in
       let place : length (take start block) + (at - start) ≡ at = omega (arith, front, low) in
       let there : OccursAt (line ++ newline ∷ more) text (at - start) =
       occurs_later (take start block) (line ++ newline ∷ more) (at - start) (subst (λ l. OccursAt l text (length (take start block) + (at - start))) (sym whole) (subst (OccursAt block text) (sym place) o)) in
-      elim (dec_le (at - start) (length line)) [
-        | yes near ↦ (at - start, occurs_within free line more (at - start) near there)
-        | no far ↦
-            (let inside : start + length line < at = omega (arith, far, low) in
-            let short : length line < length (drop start (take at block)) = omega (arith, length-drop start (take at block), length-take at block, fits, far) in
-            let end_is : length line ≡ length line + 0 = omega arith in
-            let byte : get_or (drop start (take at block)) (length line) 0 ≡ newline =
-            get_or-drop start (take at block) (length line) 0 ∙ get_or-take at block (start + length line) 0 inside ∙ sym (get_or-drop start block (length line) 0) ∙ ap (λ l. get_or l (length line) 0) cut.3
-            ∙ ap (λ n. get_or (line ++ newline ∷ more) n 0) end_is ∙ get_or-append-add line (newline ∷ more) 0 0 in
-            absurd (none (length line) 0 short byte))
-      ]
+      let near = place_in_line block start at end (omega (arith, fits)) low none cut in
+      (at - start, occurs_within free line more (at - start) (omega (arith, near, length_range block start end (omega (arith, below)))) there)
 
   -- ---- the next line with the text
 
@@ -128,24 +144,6 @@ module _ (text : Text) where
           })
     ]
 
-    -- from the place of the text on there is a newline
-    ends : (lines : List Text) (k : ℕ) → All HasNoNewline lines → FindsNeedle (terminated lines) text 0 (Some k) → HasNoNewline (drop k (terminated lines)) → ⊥
-    ends lines k all finds none = let fits : k + length text ≤ length (terminated lines) = finds.1.fits in last lines k (omega (arith, some, fits)) none
-      where
-        last : (ls : List Text) (i : ℕ) → i < length (terminated ls) → HasNoNewline (drop i (terminated ls)) → ⊥
-        last [] i below h = absurd (omega (arith, below))
-        last (t ∷ ts) i below h = elim (dec_le i (length t)) [
-          | yes near ↦ has_one (drop i t) (terminated ts) (subst HasNoNewline (drop-append-le i t (newline ∷ terminated ts) near) h)
-          | no far ↦
-              (let front = t ++ newline ∷ [] in
-              let whole : front ++ terminated ts ≡ terminated (t ∷ ts) = append_assoc t (newline ∷ []) (terminated ts) in
-              let long : length front ≡ length t + 1 = length-append t (newline ∷ []) in
-              let place : length front + (i - length front) ≡ i = omega (arith, far, long) in
-              let same : drop i (terminated (t ∷ ts)) ≡ drop (i - length front) (terminated ts) =
-              ap (drop i) (sym whole) ∙ ap (λ n. drop n (front ++ terminated ts)) (sym place) ∙ drop-append-add front (terminated ts) (i - length front) in
-              last ts (i - length front) (omega (arith, below, far, long, length-append t (newline ∷ terminated ts))) (subst HasNoNewline same h))
-        ]
-
   -- no line has the text
   none_stands : (lines : List Text) (rest : Text) → ((k : ℕ) → ¬ OccursAt (terminated lines) text k) → HoldsOfMany (StandsIn text) lines 0
   none_stands [] rest none = refl
@@ -170,9 +168,7 @@ module _ (text : Text) where
   module _ (block rest : Text) (count k : ℕ) (free : HasNoNewline text) (some : 1 ≤ length text) (is : IsLeftOf block rest count) (finds : FindsNeedle rest text 0 (Some k)) where
     -- there is a newline after the text
     pub ends_there : HasNoNewline (drop k rest) → ⊥
-    ends_there none =
-        let (lines, all, same) = is.is_block in
-        ends text free some lines k all (subst (λ b. FindsNeedle b text 0 (Some k)) same finds) (subst (λ b. HasNoNewline (drop k b)) same none)
+    ends_there none = let fits : k + length text ≤ length rest = finds.1.fits in newline_follows rest k is.is_block (omega (arith, some, fits)) none
 
     -- one line more is counted
     pub one_less : (line more : Text) → HasNoNewline line → drop k rest ≡ line ++ newline ∷ more → IsLeftOf block more (count + 1)

@@ -1,21 +1,15 @@
 -- Where a look over a block stops, and what it passed.
-use Rattle.re_runs.proofs.Prelude.{◌≡◌, ◌∙◌, ℕ, ◌+◌, ◌-◌, ◌<◌, ◌≤◌, ◌++◌, ◌∷◌, Option, None, Some, length, take, drop, get_or, slice_range, sym, ap, arith, length-take, length-drop, dec_le, get_or-drop, get_or-take, get_or-append-add, Text, newline, HasNoNewline, IsLineFrom, look_cost}
+use Rattle.re_runs.proofs.Prelude.{◌≡◌, ◌∙◌, ℕ, ◌+◌, ◌-◌, ◌≤◌, Option, None, Some, length, take, drop, get_or, ap, arith, length-take, length-drop, dec_le, get_or-drop, get_or-take, Text, HasNoNewline, IsLineFrom, look_cost}
+use Rattle.re_runs.proofs.lemmas.Ranges.{newline_at}
 
 -- a place without a newline between it and the line's beginning is in the line, or at its newline
 pub place_in_line : (block : Text) (start at end : ℕ) → at ≤ length block → start ≤ at → HasNoNewline (drop start (take at block)) → IsLineFrom block start end → at ≤ end
 place_in_line block start at end fits low none cut = elim (dec_le at end) [
   | yes near ↦ near
   | no far ↦
-      (let line = slice_range block start end in
-      let more = drop (end + 1) block in
-      let long : length line ≡ end - start = omega (arith, length-take (end - start) (drop start block), length-drop start block, cut.1) in
-      let inside : start + length line < at = omega (arith, far, long, cut.0) in
-      let short : length line < length (drop start (take at block)) = omega (arith, length-drop start (take at block), length-take at block, fits, inside) in
-      let end_is : length line ≡ length line + 0 = omega arith in
-      let byte : get_or (drop start (take at block)) (length line) 0 ≡ newline =
-      get_or-drop start (take at block) (length line) 0 ∙ get_or-take at block (start + length line) 0 inside ∙ sym (get_or-drop start block (length line) 0) ∙ ap (λ l. get_or l (length line) 0) cut.3
-      ∙ ap (λ n. get_or (line ++ newline ∷ more) n 0) end_is ∙ get_or-append-add line (newline ∷ more) 0 0 in
-      absurd (none (length line) 0 short byte))
+      (let there : start + (end - start) ≡ end = omega (arith, cut.0) in
+      absurd (none (end - start) 0 (omega (arith, length-drop start (take at block), length-take at block, fits, far, cut.0))
+      (get_or-drop start (take at block) (end - start) 0 ∙ get_or-take at block (start + (end - start)) 0 (omega (arith, far, there)) ∙ ap (λ n. get_or block n 0) there ∙ newline_at block start end cut)))
 ]
 
 -- a look that stopped there passed no byte beyond the line's newline

@@ -1,7 +1,8 @@
 -- The next line of a block that has a property, and how many lines have it.
-use Rattle.re_runs.proofs.Prelude.{◌≡◌, List, [], ◌∷◌, ◌++◌, All, refl, ap, ◌∙◌, append_assoc, ℕ, ◌+◌, ◌-◌, ◌<◌, ◌≤◌, inl, inr, Option, Some, None, length, drop, slice_range, sym, subst, arith, append-nil, length-append, length-drop, length-take, Text, newline, terminated, HasNoNewline, lines_of, Span, IsBlock, PassesAll, Lacks, StandsIn, HoldsOfMany, IsLineFrom, IsNext, FindsNext, drop-append_seam, drop-length, All-append, All-cons, All-drop, All-head, All-nil, All-tail}
+use Rattle.re_runs.proofs.Prelude.{◌≡◌, List, [], ◌∷◌, ◌++◌, All, refl, ap, ◌∙◌, append_assoc, ℕ, ◌+◌, ◌-◌, ◌<◌, ◌≤◌, inl, inr, Option, Some, None, length, drop, slice_range, sym, subst, arith, append-nil, length-append, length-drop, Text, newline, terminated, HasNoNewline, lines_of, Span, IsBlock, PassesAll, Lacks, StandsIn, HoldsOfMany, IsLineFrom, IsNext, FindsNext, drop-append_seam, drop-length, All-append, All-cons, All-drop, All-head, All-nil, All-tail}
 use Rattle.re_trees.proofs.lemmas.LinesLaws.{terminated-append, lines_of-line, all_head, all_tail, lines_of-terminated, all_cons, all_none, none_in_empty}
 use Rattle.re_runs.proofs.lemmas.CountedBlocks.{has_one}
+use Rattle.re_runs.proofs.lemmas.Ranges.{length_range}
 
 -- the lines of a text that begins with some, each ended by a newline, begin with these
 pub lines_of-beyond : (ts : List Text) (rest : Text) → All HasNoNewline ts → lines_of (terminated ts ++ rest) ≡ ts ++ lines_of rest
@@ -100,7 +101,7 @@ module _ (P : Text → Type 0) where
 
   module _ (block : Text) (start end : ℕ) (cut : IsLineFrom block start end) (passed : PassesAll Not block start) where
     pub long : length (slice_range block start end) ≡ end - start
-    long = let below : end < length block = cut.1 in omega (arith, length-take (end - start) (drop start block), length-drop start block, below)
+    long = length_range block start end (omega (arith, cut.1))
 
     -- it is passed
     pub passed_from : ¬ P (slice_range block start end) → PassesAll Not block (end + 1)

@@ -93,7 +93,7 @@ says_longer e mode sets more stride from byte cell t = record {
   special = λ high low. let on = t.special high low in record { into = on.into; row = row_longer sets more stride (cell - limit) on.into on.row; next = on.next; search = on.search; accepting = on.accepting };
 }
 
-module _ (e : Expression) (mode : Mode) (rows : Rows) (sound : AreSound e mode rows) where
+module _ {e : Expression} {mode : Mode} {rows : Rows} (sound : AreSound e mode rows) where
   -- each set has a cell for each byte
   pub cell_within : (r c : ℕ) (set : StateSet) → IsRowOf rows.sets rows.stride r set → c < 256 → r + slice_index rows.classes c < length rows.cells
   cell_within r c set row small =

@@ -129,12 +129,6 @@ module _ (e : Expression) (mode : Mode) (line : Text) where
   goes_steps zero first last goes = rw goes.steps (adds_none 0 0 first.steps)
   goes_steps (suc j) first last (middle, goes, over) = over_steps j (slice_index line j) first middle last over (goes_steps j first middle goes)
 
-  pub finishes_steps : (first : Stage) (cache : Cache) (steps : Steps) (answer : Bool) → Finishes e mode line first cache steps answer → AddsUpTo (length line + 1) 0 first.steps steps
-  finishes_steps first cache steps answer f =
-      let a = goes_steps f.place first (record { set = f.set; cache = cache; steps = steps }) f.goes in
-      let few : f.place ≤ length line + 1 = omega (arith, f.within) in
-      adds_within f.place (length line + 1) 0 0 first.steps steps few (omega arith) a
-
 module _ (e : Expression) (line : Text) where
   -- no matched stretch ends at a place with a set that is gone over
   none_here : (j : ℕ) (set : StateSet) → j < length line → IsPlain e Search set → StandsAt e Search line j set → ¬ EndsAt e Search line j
@@ -238,23 +232,23 @@ module _ (e : Expression) (line : Text) where
       at_end : (line : Text) → true ≡ is_end line (length line)
       at_end line = sym (eq-eqb (length line) (length line) refl)
 
-  pub finishes_say : (whole : Bool) (first : Stage) (cache : Cache) (steps : Steps) (answer : Bool) → StandsAt e (mode_for whole) line 0 first.set
-      → Finishes e (mode_for whole) line first cache steps answer → IsTrue answer ↔ Matches e line whole
-  finishes_say false = says_search
-  finishes_say true = says_whole
+-- a whole search
+pub searches_say : {e : Expression} {line : Text} {old new : Cache} {before after : Steps} {answer : Bool} (whole : Bool) → Searches e (mode_for whole) line old new before after answer → IsTrue answer ↔ Matches e line whole
+searches_say false s = says_search _ _ s.first _ _ _ s.stands s.finishes
+searches_say true s = says_whole _ _ s.first _ _ _ s.stands s.finishes
 
-  -- a whole search
-  pub searches_say : (whole : Bool) (old new : Cache) (before after : Steps) (answer : Bool) → Searches e (mode_for whole) line old new before after answer → IsTrue answer ↔ Matches e line whole
-  searches_say whole old new before after answer s = finishes_say whole s.first new after answer s.stands s.finishes
+readied_twice : (old middle first : Cache) → IsReadied old middle → IsReadied middle first → IsReadied old first
+readied_twice old middle first (inl same) later = subst (λ cache. IsReadied cache first) same later
+readied_twice old middle first (inr none) (inl same) = inr (none.0, ap (λ (cache : Cache). cache.entries) same ∙ none.1)
+readied_twice old middle first (inr none) (inr still) = inr (none.0, still.1)
 
-  readied_twice : (old middle first : Cache) → IsReadied old middle → IsReadied middle first → IsReadied old first
-  readied_twice old middle first (inl same) later = subst (λ cache. IsReadied cache first) same later
-  readied_twice old middle first (inr none) (inl same) = inr (none.0, ap (λ (cache : Cache). cache.entries) same ∙ none.1)
-  readied_twice old middle first (inr none) (inr still) = inr (none.0, still.1)
+module _ {e : Expression} {mode : Mode} {line : Text} {old new : Cache} {before after : Steps} {answer : Bool} (s : Searches e mode line old new before after answer) where
+  pub searches_steps : AddsUpTo (length line + 1) 0 before after
+  searches_steps =
+      let f = s.finishes in
+      adds_within f.place (length line + 1) 0 0 before after (omega (arith, f.within)) (omega arith)
+      (subst (λ b. AddsUpTo f.place 0 b after) s.steps (goes_steps e mode line f.place s.first (record { set = f.set; cache = new; steps = after }) f.goes))
 
-  -- a search with a cache that was made ready
-  pub searches_readied : (mode : Mode) (old middle new : Cache) (before after : Steps) (answer : Bool) → IsReadied old middle → Searches e mode line middle new before after answer → Searches e mode line old new before after answer
-  searches_readied mode old middle new before after answer ready s = record { first = s.first; stands = s.stands; cache = readied_twice old middle s.first.cache ready s.cache; steps = s.steps; finishes = s.finishes }
-
-  pub searches_steps : (mode : Mode) (old new : Cache) (before after : Steps) (answer : Bool) → Searches e mode line old new before after answer → AddsUpTo (length line + 1) 0 before after
-  searches_steps mode old new before after answer s = subst (λ b. AddsUpTo (length line + 1) 0 b after) s.steps (finishes_steps e mode line s.first new after answer s.finishes)
+  -- with a cache that was made ready
+  pub searches_readied : (first : Cache) → IsReadied first old → Searches e mode line first new before after answer
+  searches_readied first ready = record { first = s.first; stands = s.stands; cache = readied_twice first old s.first.cache ready s.cache; steps = s.steps; finishes = s.finishes }

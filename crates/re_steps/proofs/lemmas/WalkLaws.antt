@@ -1,7 +1,8 @@
 -- Searches that go on by what is held, and where they get.
-use Rattle.re_steps.proofs.Prelude.{◌≡◌, ℕ, zero, suc, ◌+◌, ◌-◌, ◌*◌, ◌<◌, ◌≤◌, Bool, true, false, ◌⊎◌, inl, inr, List, Option, Some, None, length, nat_eq, nat_lt, get_or, slice_get, slice_index, refl, sym, ap, ◌∙◌, subst, arith, IsSome, lookup, Text, Expression, Mode, the_type, Search, Whole, StateSet, Steps, many_built, many_reused, IsSame, IsNextSet, Acceptance, unknown, shown, Mirrors, IsKeptOrLost, Cache, Stage, IsHeld, HoldsNoOther, GoesOver, Goes, LineSearch, StepTable, Spot, Went, Rows, limit, AreSound, IsRightFor, IsRowOf, SaysNext, ComesTo, Lands, LandsAlone, cell_at, cache_of, row_under, walked, IsAt, HasLanded, LeadsOn, Arrives, false≢true, lt-ltb, ltb-true, cases_eq, slice_get_within, slice_get-get_or, get_or_from_slice_get}
+use Rattle.re_steps.proofs.Prelude.{◌≡◌, ℕ, zero, suc, ◌+◌, ◌-◌, ◌*◌, ◌<◌, ◌≤◌, Bool, true, false, ◌⊎◌, inl, inr, List, Option, Some, None, length, nat_eq, nat_lt, get_or, slice_get, slice_index, refl, sym, ap, ◌∙◌, subst, arith, IsSome, lookup, Text, Expression, Mode, the_type, Search, Whole, StateSet, AddsUpTo, Steps, many_built, many_reused, IsSame, IsNextSet, Acceptance, unknown, shown, Mirrors, IsKeptOrLost, Cache, Stage, IsHeld, HoldsNoOther, GoesOver, Goes, LineSearch, StepTable, Spot, Went, Rows, limit, AreSound, IsRightFor, IsRowOf, SaysNext, ComesTo, Lands, LandsAlone, cell_at, row_under, walked, IsAt, HasLanded, LeadsOn, Arrives, false≢true, lt-ltb, ltb-true, cases_eq, slice_get_within, slice_get-get_or, get_or_from_slice_get}
 use denote.Enum.Bare.{sameb}
 use Rattle.re_steps.specs.declared.walk.Went.TheVariants as w
+use Rattle.re_meter.proofs.lemmas.Adding.{adds_none, reused_adds}
 use Rattle.re_steps.proofs.lemmas.StageLaws.{nothing_held, goes_on, same_sym}
 use Rattle.re_steps.proofs.lemmas.RowLaws.{cell_within, same_place, number_within}
 
@@ -9,10 +10,16 @@ use Rattle.re_steps.proofs.lemmas.RowLaws.{cell_within, same_place, number_withi
 pub walked_none : (place : ℕ) (steps : Steps) → walked (place - place) steps ≡ steps
 walked_none place steps = let none : place - place ≡ 0 = omega arith in ap (λ n. walked n steps) none
 
--- steps that were reused, and one more
-pub walked_more : (n : ℕ) (steps : Steps) → many_reused 1 (walked n steps) ≡ walked (suc n) steps
-walked_more zero steps = refl
-walked_more (suc n) steps = ap (λ k. record { built = steps.built; reused = k; passed = steps.passed }) (omega arith)
+-- steps that were reused, and some more
+pub walked_on : (m n k : ℕ) (steps : Steps) → k ≡ m + n → walked n (walked m steps) ≡ walked k steps
+walked_on zero n k steps is = let same : n ≡ k = omega (arith, is) in ap (λ j. walked j steps) same
+walked_on (suc m) zero k steps is = let same : suc m ≡ k = omega (arith, is) in ap (λ j. walked j steps) same
+walked_on (suc m) (suc n) zero steps is = absurd (omega (arith, is))
+walked_on (suc m) (suc n) (suc k) steps is = ap (λ j. record { built = steps.built; reused = j; passed = steps.passed }) (omega (arith, is))
+
+pub adds_walked : (n : ℕ) (steps : Steps) → AddsUpTo n 0 steps (walked n steps)
+adds_walked zero steps = adds_none 0 0 steps
+adds_walked (suc n) steps = reused_adds (suc n) 0 steps
 
 -- the mode is that for whole lines, or it isn't
 pub is_whole : (mode : Mode) → true ≡ sameb the_type mode Whole → mode ≡ Whole
@@ -40,7 +47,7 @@ under_high cell high = rw (not_below cell limit high) refl
 pub sides : (m n : ℕ) → (m < n) ⊎ (n ≤ m)
 sides m n = search arith
 
-module _ (e : Expression) (mode : Mode) (rows : Rows) (sound : AreSound e mode rows) where
+module _ {e : Expression} {mode : Mode} {rows : Rows} (sound : AreSound e mode rows) where
   abbrev pub cache : Cache
   cache = record { classes = rows.classes; stride = rows.stride; sets = rows.sets; entries = rows.entries }
 
@@ -56,7 +63,7 @@ module _ (e : Expression) (mode : Mode) (rows : Rows) (sound : AreSound e mode r
   pub cell_held : (r byte : ℕ) (set : StateSet) → IsRowOf rows.sets rows.stride r set → byte < 256 → cell_at rows.classes rows.cells r byte < unknown → IsHeld cache set byte
   cell_held r byte set row small low =
       let at : r + slice_index rows.classes byte ≡ row.number * rows.stride + slice_index rows.classes byte = omega (arith, row.row) in
-      let shows = sound.mirrors.shows (r + slice_index rows.classes byte) (cell_within e mode rows sound r byte set row small) in
+      let shows = sound.mirrors.shows (r + slice_index rows.classes byte) (cell_within sound r byte set row small) in
       record {
         number = row.number;
         same = set;
@@ -71,7 +78,7 @@ module _ (e : Expression) (mode : Mode) (rows : Rows) (sound : AreSound e mode r
       let number : h.number ≡ row.number = sound.apart h.number row.number h.same set h.is row.is h.alike in
       let at : h.number * rows.stride + slice_index rows.classes byte ≡ r + slice_index rows.classes byte = ap (λ n. n * rows.stride + slice_index rows.classes byte) number ∙ ap (λ n. n + slice_index rows.classes byte) (sym row.row) in
       let place = r + slice_index rows.classes byte in
-      none_shown (lookup (nat_eq place) rows.entries) (sym none ∙ sound.mirrors.shows place (cell_within e mode rows sound r byte set row small))
+      none_shown (lookup (nat_eq place) rows.entries) (sym none ∙ sound.mirrors.shows place (cell_within sound r byte set row small))
       (λ v is. (sound.mirrors.within place v is).1) (subst (λ k. IsSome (lookup (nat_eq k) rows.entries)) at h.held)
 
   -- a search comes over a byte whose cell is a row
@@ -168,7 +175,7 @@ module _ (e : Expression) (mode : Mode) (rows : Rows) (sound : AreSound e mode r
       let here : IsRowOf sets-2 rows.stride (h.number * rows.stride) h.same = record { number = h.number; row = refl; is = h.is } in
       elim (cases_eq k (r + slice_index rows.classes byte)) [
         | inl same ↦
-            let both = same_place e mode (with_more sets-2 marks-2 cells-2 most-2) sound-2 (h.number * rows.stride) r (slice_index rows.classes b) (slice_index rows.classes byte) h.same set here (later r set row) (sound.classed b lt) (sound.classed byte small) same in
+            let both = same_place sound-2 (h.number * rows.stride) r (slice_index rows.classes b) (slice_index rows.classes byte) h.same set here (later r set row) (sound.classed b lt) (sound.classed byte small) same in
             inr (subst (IsSame other) both.1 (same_sym h.same other h.alike), sound.alike b byte lt small both.0)
         | inr not ↦
             let value = held_value (lookup (nat_eq k) now) refl h.held in
@@ -177,9 +184,9 @@ module _ (e : Expression) (mode : Mode) (rows : Rows) (sound : AreSound e mode r
             let old_cell : slice_index cells-2 k < unknown = kept (slice_index cells-2 k) (slice_index new k) (others k not) known in
             let entry : IsSome (lookup (nat_eq k) rows.entries) = some_shown (lookup (nat_eq k) rows.entries) (omega (arith, old_cell, sound-2.mirrors.shows k (omega (arith, inside, len)))) in
             let was = held_value (lookup (nat_eq k) rows.entries) refl entry in
-            let within : h.number < length rows.sets = number_within e mode rows sound h.number (slice_index rows.classes b) (sound.mirrors.within k was.0 was.1).0 in
+            let within : h.number < length rows.sets = number_within sound h.number (slice_index rows.classes b) (sound.mirrors.within k was.0 was.1).0 in
             let old : IsRowOf rows.sets rows.stride (h.number * rows.stride) (get_or rows.sets h.number h.same) = record { number = h.number; row = refl; is = slice_get-get_or rows.sets h.number h.same within } in
-            let both = same_place e mode (with_more sets-2 marks-2 cells-2 most-2) sound-2 (h.number * rows.stride) (h.number * rows.stride) (slice_index rows.classes b) (slice_index rows.classes b) (get_or rows.sets h.number h.same) h.same
+            let both = same_place sound-2 (h.number * rows.stride) (h.number * rows.stride) (slice_index rows.classes b) (slice_index rows.classes b) (get_or rows.sets h.number h.same) h.same
             (later (h.number * rows.stride) (get_or rows.sets h.number h.same) old) here (sound.classed b lt) (sound.classed b lt) refl in
             inl (record { number = h.number; same = h.same; is = slice_get-get_or rows.sets h.number h.same within ∙ ap Some both.1; alike = h.alike; held = entry })
       ]
@@ -210,8 +217,3 @@ module _ (asked : LineSearch) (old : StepTable) (before : Steps) (spot : Spot) (
   }
   arrives_on place cell (w.Reported answer) leads right on lands = record { right = right; finishes = λ first came. leads first (lands first came) }
   arrives_on place cell (w.Alone k) leads right on lands = absurd leads
-
-module _ (asked : LineSearch) (t : StepTable) (right : IsRightFor asked t) (steps : Steps) where
-  -- the stage at the first place of a line
-  abbrev pub first_stage : Stage
-  first_stage = record { set = right.first.start; cache = cache_of t; steps = steps }

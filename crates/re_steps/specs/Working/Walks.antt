@@ -1,9 +1,10 @@
 -- Where a search gets that goes on over a line by held pairs.
-use Rattle.std.specs.Prelude.{◌≡◌, ℕ, suc, ◌-◌, ◌*◌, ◌<◌, ◌≤◌, Bool, [], Some, length, slice_get, slice_range}
+use Rattle.std.specs.Prelude.{◌≡◌, ℕ, suc, ◌-◌, ◌<◌, ◌≤◌, Bool, false, [], ◌++◌, Some, length, slice_get, slice_range}
 use Rattle.re_trees.specs.Bytes.{Text}
 use Rattle.re_auto.specs.declared.step.state_set.StateSet.{StateSet}
 use Rattle.re_meter.specs.Meters.{Steps}
-use Rattle.re_runs.specs.Working.Blocks.{IsLineFrom, PassesUnmatched}
+use Rattle.re_trees.specs.Lines.{HasNoNewline}
+use Rattle.re_runs.specs.Working.Blocks.{PassesUnmatched}
 use Rattle.re_steps.specs.declared.table.LineSearch.{LineSearch}
 use Rattle.re_steps.specs.declared.table.StepTable.{StepTable}
 use Rattle.re_steps.specs.declared.walk.Lines.{Lines}
@@ -14,7 +15,7 @@ use Rattle.re_steps.specs.declared.walk.Outcome.{Outcome}
 use Rattle.re_steps.specs.declared.walk.Outcome.TheVariants as o
 use Rattle.re_steps.specs.Working.Rows.{IsRightFor, IsRow, ComesTo, Lands, LandsAlone, cache_of, walked}
 use Rattle.re_steps.specs.Working.Rows.{expression_in}
-use Rattle.re_steps.specs.Working.Stages.{Cache, Stage, Goes, Finishes, mode_for}
+use Rattle.re_steps.specs.Working.Stages.{Cache, Stage, Goes, Finishes}
 
 -- a search that came from a first stage is at place j in this row of the table
 abbrev pub IsAt : LineSearch → Stage → StepTable → Steps → ℕ → ℕ → Type 0
@@ -105,14 +106,12 @@ Ends asked old before spot new after (o.GaveUp k) =
 
 -- A walk by held pairs is at a place of a line of the block. No line before that one is matched.
 pub record GoesOverLines (asked : LineSearch) (t : StepTable) (lines : Lines) : Type 0 where
-  pub passed : (whole : Bool) → asked.mode ≡ mode_for whole →
-      PassesUnmatched (expression_in asked) whole asked.line.now lines.start
-  pub end : ℕ
-  pub cut : IsLineFrom asked.line.now lines.start end
+  pub passed : PassesUnmatched (expression_in asked) false asked.line.now lines.start
   pub low : lines.start ≤ lines.place
-  pub high : lines.place ≤ end
+  pub within : lines.place < length asked.line.now
+  pub free : HasNoNewline (slice_range asked.line.now lines.start lines.place)
   pub row : IsRow t lines.row
-  pub comes : (first : Stage) (steps : Steps) →
-      IsAtOf asked (slice_range asked.line.now lines.start end) first t steps 0 (1 * t.stride) →
-      IsAtOf asked (slice_range asked.line.now lines.start end) first t
+  pub comes : (rest : Text) (start : StateSet) (steps : Steps) → slice_get t.sets.keys 1 ≡ Some start →
+      IsAtOf asked (slice_range asked.line.now lines.start lines.place ++ rest)
+      (record { set = start; cache = cache_of t; steps = steps }) t
       (walked (lines.place - lines.start) steps) (lines.place - lines.start) lines.row

@@ -1,4 +1,4 @@
-use Rattle.re_match.proofs.Prelude.{rules, ℕ, ◌+◌, ◌-◌, ◌<◌, inl, refl, length, slice_index, arith, past}
+use Rattle.re_match.proofs.Prelude.{rules, ℕ, ◌+◌, ◌-◌, ◌<◌, inl, refl, length, slice_index, arith}
 use Rattle.re_match.proofs.lemmas.StepSums.{adds_on}
 use Rattle.re_match.proofs.lemmas.WindowLaws.{later_by_needle, later_by_bytes}
 use Rattle.re_match.proofs.prefilter.window_at.Goals as goal
@@ -11,7 +11,7 @@ returns-then-needle c = λ e before of right looked.
     let end = c.end-end.result in
     let high = c.end-end.ensures.low in (
       (later_by_needle e line from near c.args.needle.now of c.requires.low (omega (arith, c.requires.low, c.requires.within)) c.requires.next c.if-needle.true, (high, c.end-end.ensures.border e right)),
-      adds_on 0 0 (near + 1 - from) (past line end - near - 1) (near - from) (past line end - from) before _ _ (omega arith) (omega (arith, c.requires.low, c.requires.within, high)) looked c.end-end.ensures.passed,
+      adds_on looked c.end-end.ensures.passed (omega arith) (omega (arith, c.requires.low, c.requires.within, high)),
     )
 
 pub returns-in_default : goal.returns-in_default
@@ -22,7 +22,7 @@ returns-in_default c = λ e before of right looked.
     let long = length line in
     rw c.rest_of.ensures (
       ((omega arith, λ i j f. f.begins), (omega (arith, c.requires.low, c.requires.within), inl refl)),
-      adds_on 0 0 (near + 1 - from) (long - near - 1) (from - from) (past line long - from) before _ _ (omega arith) (omega (arith, c.requires.low, c.requires.within)) looked c.in_default.ensures.none,
+      adds_on looked c.in_default.ensures.none (omega arith) (omega (arith, c.requires.low, c.requires.within)),
     )
 
 pub returns : goal.returns
@@ -35,6 +35,5 @@ returns c = λ e before of right looked.
     let high = c.end-end-2.ensures.low in
     let small : (x : ℕ) → slice_index line x < 256 = search rules in (
       (later_by_bytes e line from near c.args.needle.now of c.requires.low (omega (arith, c.requires.low, c.requires.within)) c.requires.next c.args.edges.now right small start c.in-Some.ensures.low c.in-Some.ensures.high c.in-Some.ensures.outside, (omega (arith, high, c.in-Some.ensures.high), c.end-end-2.ensures.border e right)),
-      adds_on (start - from) 0 (near + 1 - from) (past line end - near - 1) (start - from) (past line end - from) before _ _ (omega arith) (omega (arith, c.requires.low, c.requires.within, high))
-          (adds_on 0 (start - from) (near + 1 - from) 0 (start - from) (near + 1 - from) before _ _ (omega arith) (omega arith) looked c.in-Some.ensures.steps) c.end-end-2.ensures.passed,
+      adds_on {first = start - from} {first_bytes = near + 1 - from} (adds_on looked c.in-Some.ensures.steps (omega arith) (omega arith)) c.end-end-2.ensures.passed (omega arith) (omega (arith, c.requires.low, c.requires.within, high)),
     )

@@ -1,4 +1,4 @@
-use Rattle.re_match.proofs.Prelude.{expression_of, mode_for, inl, refl}
+use Rattle.re_match.proofs.Prelude.{expression_of, inl, refl}
 use Rattle.re_match.proofs.lemmas.NeededStrings.{said_at_once}
 use Rattle.re_steps.proofs.lemmas.StageLaws.{searches_say, searches_steps}
 use Rattle.re_match.proofs.lemmas.LookLaws.{looks_over, looks_and_steps}
@@ -15,10 +15,9 @@ returns-in-Some-clause-counted c =
     record { looked = c.settled.new.meter; looks = c.in-Some.ensures.looked; answers = inl (record { settled = c.in-Some.ensures.settled; cache = refl; steps = refl }) }
 
 pub returns-clause-reported : goal.returns-clause-reported
-returns-clause-reported c =
-    searches_say (expression_of c.args.self.now.tree) c.args.line.now c.args.self.now.whole c.args.self.now.cache c.searched.new.self.cache c.settled.new.meter c.searched.new.meter c.searched.result c.searched.ensures.searches
+returns-clause-reported c = searches_say c.args.self.now.whole c.searched.ensures.searches
 
 pub returns-clause-steps : goal.returns-clause-steps
 returns-clause-steps c =
     looks_and_steps (expression_of c.args.self.now.tree) c.args.line.now _ _ _ c.settled.ensures.looked
-    (searches_steps (expression_of c.args.self.now.tree) c.args.line.now (mode_for c.args.self.now.whole) c.args.self.now.cache c.searched.new.self.cache c.settled.new.meter c.searched.new.meter c.searched.result c.searched.ensures.searches)
+    (searches_steps c.searched.ensures.searches)

@@ -1,6 +1,6 @@
 use Rattle.re_match.proofs.Prelude.{◌+◌, ◌-◌, ◌≤◌, length, drop, arith, length-drop, take_rest, Text, Matches}
 use Rattle.re_runs.proofs.lemmas.NextLines.{CountsTo, counts_next, counts_all}
-use Rattle.re_match.proofs.lemmas.StepSums.{adds_both, adds_within}
+use Rattle.re_match.proofs.lemmas.StepSums.{adds_on}
 use Rattle.re_match.proofs.lemmas.SameLaws.{same_twice}
 use Rattle.re_match.proofs.line_match.LineMatch.count_matched.Goals as goal
 
@@ -25,6 +25,5 @@ lines-preserved g c =
     record {
       counts = next;
       same = same_twice c.next_matched.ensures.same i.same;
-      steps = adds_within (length block - length rest + (at.end + 1)) (length block - length (drop (at.end + 1) rest)) _ _ few
-          (adds_both (length block - length rest) (at.end + 1) _ _ _ i.steps c.in-Some.ensures.steps);
+      steps = adds_on i.steps c.in-Some.ensures.steps few few;
     }

@@ -1,7 +1,8 @@
-use Rattle.re_match.proofs.Prelude.{◌≤◌, subst, inl, inr, IfSome, any_literal, runs_of}
+use Rattle.re_match.proofs.Prelude.{◌≤◌, subst, inl, inr, IfSome, runs_of}
 use Rattle.re_needle.proofs.lemmas.NeededLines.{passes_unmatched_run}
 use Rattle.re_needle.proofs.lemmas.NeededLines.{passes_unmatched_begun}
-use Rattle.re_match.proofs.lemmas.SweptLines.{stops_either, stops_seen, stops_matched, stops_at_head}
+use Rattle.re_match.proofs.lemmas.SweptLines.{stops_seen, stops_matched, stops_at_head}
+use Rattle.re_runs.proofs.lemmas.Looks.{look_within}
 use Rattle.re_match.proofs.lemmas.NeededStrings.{passes_needed}
 use Rattle.re_match.proofs.prefilter.Prefilter.first_line.Goals as goal
 
@@ -10,22 +11,21 @@ returns-in-Some-clause-passes c = λ e is.
     passes_needed c.in-Some.strings e (rw c.in-Some.is at is.strings) c.args.whole c.args.block.now c.first_line.result.start c.first_line.ensures.passes
 
 pub returns-in-Some-clause-stops : goal.returns-in-Some-clause-stops
-returns-in-Some-clause-stops c = λ e is.
-    stops_either (any_literal c.in-Some.strings) e c.args.whole c.args.block.now c.first_line.result c.first_line.ensures.first c.first_line.ensures.unknown c.first_line.ensures.stops
+returns-in-Some-clause-stops c = λ e is. c.first_line.ensures.stops e c.args.whole
 
 pub returns-then-needle-clause-passes : goal.returns-then-needle-clause-passes
 returns-then-needle-clause-passes c = λ e is.
     let needle = rw c.in-Some-needle.is at is.needle in
-    rw (c.of.ensures, c.if-whole.true)
+    rw (c.to.ensures, c.if-whole.true)
     (passes_unmatched_begun e (runs_of c.in-Some-needle.needle.finder) (needle.first c.if-needle.true) c.args.block.now c.first_line_beginning_with-swept.result.start c.first_line_beginning_with-swept.ensures.passes)
 
 pub returns-then-needle-clause-stops : goal.returns-then-needle-clause-stops
-returns-then-needle-clause-stops c = λ e is. rw c.of.ensures (stops_seen e c.args.whole c.args.block.now c.first_line_beginning_with-swept.result c.first_line_beginning_with-swept.ensures.stops)
+returns-then-needle-clause-stops c = λ e is. rw (c.to.ensures, c.bytes_over.ensures) (stops_seen e c.args.whole c.args.block.now c.first_line_beginning_with-swept.result.start _ (look_within _ _) c.first_line_beginning_with-swept.ensures.stops)
 
 pub returns-then-has_run-clause-passes : goal.returns-then-has_run-clause-passes
 returns-then-has_run-clause-passes c = λ e is.
     let needle = rw c.in-Some-needle.is at is.needle in
-    rw c.of-then-has_run.ensures (passes_unmatched_run e (runs_of c.in-Some-needle.needle.finder) c.args.whole needle.needed c.args.block.now c.first_line_with_run-swept.result.start c.first_line_with_run-swept.ensures.passes)
+    rw c.to-then-has_run.ensures (passes_unmatched_run e (runs_of c.in-Some-needle.needle.finder) c.args.whole needle.needed c.args.block.now c.first_line_with_run-swept.result.start c.first_line_with_run-swept.ensures.passes)
 
 pub returns-then-has_run-clause-stops : goal.returns-then-has_run-clause-stops
 returns-then-has_run-clause-stops c = λ e is.
@@ -34,12 +34,12 @@ returns-then-has_run-clause-stops c = λ e is.
     let run = runs_of c.in-Some-needle.needle.finder in
     let (at, last, place, longest, free) = c.has_run.ensures c.if-has_run.true in
     let low = subst (λ p. IfSome p (λ k. swept.start ≤ k)) place c.first_line_with_run-swept.ensures.low in
-    rw (c.of-then-has_run.ensures, c.if-not-whole.true) (stops_matched e run c.args.block.now swept at last (needle.all c.if-needle-2.true) needle.some place longest low free c.first_line_with_run-swept.ensures.stops)
+    rw (c.to-then-has_run.ensures, c.bytes_over-reached.ensures, c.if-not-whole.true) (stops_matched e run c.args.block.now swept at last (needle.all c.if-needle-2.true) needle.some place longest low free c.first_line_with_run-swept.ensures.stops)
 
 pub returns-clause-passes : goal.returns-clause-passes
 returns-clause-passes c = λ e is.
     let needle = rw c.in-Some-needle.is at is.needle in
-    rw c.of-2.ensures (passes_unmatched_run e (runs_of c.in-Some-needle.needle.finder) c.args.whole needle.needed c.args.block.now c.first_line_with_run-swept.result.start c.first_line_with_run-swept.ensures.passes)
+    rw c.to-2.ensures (passes_unmatched_run e (runs_of c.in-Some-needle.needle.finder) c.args.whole needle.needed c.args.block.now c.first_line_with_run-swept.result.start c.first_line_with_run-swept.ensures.passes)
 
 pub returns-clause-stops : goal.returns-clause-stops
 returns-clause-stops c = λ e is.
@@ -47,8 +47,8 @@ returns-clause-stops c = λ e is.
     let block = c.args.block.now in
     let swept = c.first_line_with_run-swept.result in
     let of = c.first_line_with_run-swept.ensures in
-    rw c.of-2.ensures (elim c.first_place-first.ensures [
-      | inl same ↦ rw same (stops_seen e c.args.whole block swept of.stops)
+    rw (c.to-2.ensures, c.bytes_over-reached.ensures) (elim c.first_place-first.ensures [
+      | inl same ↦ rw same (stops_seen e c.args.whole block swept.start _ (look_within _ _) of.stops)
       | inr (first, any, free, place) ↦
           let low = subst (λ p. IfSome p (λ k. swept.start ≤ k)) place of.low in
           rw any (stops_at_head e (runs_of c.in-Some-needle.needle.finder) block swept c.first_place-first.result (is.begin free) (needle.first first) needle.some place of.found low of.stops)

@@ -1,6 +1,7 @@
 use Rattle.re_match.proofs.Prelude.{None, Some, refl, inl, inr, sym, ◌∙◌, slice_range, false≢true, lines_of, Literals}
 use Rattle.re_trees.proofs.lemmas.LinesLaws.{AreLines-lines_of}
-use Rattle.re_match.proofs.lemmas.SetAround.{set_around, stops_around}
+use Rattle.re_match.proofs.lemmas.SetAround.{set_around}
+use Rattle.re_match.proofs.lemmas.SweptLines.{stops_before}
 use Rattle.re_match.proofs.lemmas.SetMatches.{empty_matches}
 use Rattle.re_match.proofs.lemmas.SetBlocks.{passes_set_block, passes_set_front}
 use Rattle.re_match.proofs.string_set.StringSet.first_line.Goals as goal
@@ -31,9 +32,7 @@ returns-clause-passes c =
     rw (c.to-2.ensures, ← c.self.view_is) (passes_set_front l (λ s. false≢true (sym c.if-self.false ∙ c.self.invariant.2.1 s)) c.args.block.now c.in-Some.end c.line_start.result c.in-Some.ensures.within.1 (c.in-Some.ensures.ends _ right) c.line_start.ensures.lines)
 
 pub returns-clause-stops : goal.returns-clause-stops
-returns-clause-stops c =
-    let l : Literals = record { texts = lines_of c.self.inside.texts.items; fold = c.self.inside.table.fold } in
-    rw (c.to-2.ensures, ← c.self.view_is) (stops_around l (λ s. false≢true (sym c.if-self.false ∙ c.self.invariant.2.1 s)) (AreLines-lines_of c.self.inside.texts.items).0 c.args.block.now c.line_start.result c.in-Some.end c.in-Some.ensures.within.1 c.line_start.ensures.lines c.line_start.ensures.last)
+returns-clause-stops c = rw c.to-2.ensures (λ e whole. stops_before e whole c.args.block.now c.line_start.result c.in-Some.end c.in-Some.ensures.within.1 c.line_start.ensures.lines c.line_start.ensures.last)
 
 pub returns-clause-found : goal.returns-clause-found
 returns-clause-found c =

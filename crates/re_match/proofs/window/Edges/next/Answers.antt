@@ -1,4 +1,4 @@
-use Rattle.re_match.proofs.Prelude.{rules, ℕ, ◌+◌, ◌-◌, ◌<◌, length, slice_index, arith, past}
+use Rattle.re_match.proofs.Prelude.{rules, ℕ, ◌+◌, ◌-◌, ◌<◌, length, slice_index, arith}
 use Rattle.re_meter.proofs.lemmas.Adding.{only_passed}
 use Rattle.re_match.proofs.lemmas.StepSums.{adds_on, passes}
 use Rattle.re_match.proofs.lemmas.WindowLaws.{later_by_run}
@@ -24,5 +24,5 @@ returns c = λ e right.
     let end = c.end-end.result in
     let high = c.end-end.ensures.low in (
       (later_by_run e line c.args.self.now right small from start at.on.0 at.passed, (high, c.end-end.ensures.border e right)),
-      adds_on 0 0 (start + 1 - from) (past line end - start - 1) (start - from) (past line end - from) _ _ _ (omega arith) (omega (arith, at.on.0, high, at.on.1, c.if-start-line.false)) (only_passed (start + 1 - from) (start + 1 - from) _ _ (omega arith) c.add_passed-2.ensures) c.end-end.ensures.passed,
+      adds_on {first_bytes = start + 1 - from} (only_passed _ (start + 1 - from) _ _ (omega arith) c.add_passed-2.ensures) c.end-end.ensures.passed (omega arith) (omega (arith, at.on.0, high, at.on.1, c.if-start-line.false)),
     )

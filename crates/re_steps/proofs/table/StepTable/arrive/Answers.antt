@@ -1,4 +1,4 @@
-use Rattle.re_steps.proofs.Prelude.{arith, ◌≡◌, ◌*◌, inl, inr, refl, sym, subst, IsNowhere, Goes, Stage, IsPlain, IsRowOf, cache_of, row_under, expression_in, rows_of}
+use Rattle.re_steps.proofs.Prelude.{arith, ◌≡◌, ◌*◌, inl, inr, refl, sym, subst, IsNowhere, Goes, Stage, IsPlain, IsRowOf, cache_of, row_under, expression_in}
 use Rattle.re_steps.proofs.lemmas.StageLaws.{goes_to}
 use Rattle.re_steps.proofs.lemmas.RowLaws.{row_zero}
 use Rattle.re_steps.proofs.lemmas.WalkLaws.{under_low, under_high, is_whole, is_search}
@@ -53,7 +53,7 @@ returns-then-eq-clause-leads c = λ first landed. let is = landed.1 in let lands
     let zero : c.args.cell ≡ 0 = omega (arith, c.if-cell-gt0.false) in
     let row : IsRowOf known.sets.keys known.stride 0 lands.set = subst (λ cell. IsRowOf known.sets.keys known.stride (row_under cell) lands.set) zero lands.row in
     let rows = c.requires.right.first in
-    let same = row_zero e c.args.asked.now.mode (rows_of known) c.requires.right.sound lands.set rows.nowhere row rows.is_nowhere in
+    let same = row_zero c.requires.right.sound lands.set rows.nowhere row rows.is_nowhere in
     let last : Stage = record { set = lands.set; cache = cache_of known; steps = c.args.meter.now } in
     record {
       place = c.args.place;
@@ -77,7 +77,7 @@ returns-clause-leads c =
       (rows.nowhere, zeroth),
       λ first landed. let is = landed.1 in let lands = landed.2 in
           let row : IsRowOf known.sets.keys known.stride 0 lands.set = subst (λ cell. IsRowOf known.sets.keys known.stride (row_under cell) lands.set) zero lands.row in
-          let same = row_zero e c.args.asked.now.mode (rows_of known) c.requires.right.sound lands.set rows.nowhere row rows.is_nowhere in
+          let same = row_zero c.requires.right.sound lands.set rows.nowhere row rows.is_nowhere in
           let plain : IsPlain e c.args.asked.now.mode lands.set = lands.plain (omega (arith, zero)) in
           record {
             set = lands.set;

@@ -12,8 +12,7 @@ cell_of-requires-clause-within c =
 
 pub cell_of-requires-clause-small : goal.cell_of-requires-clause-small
 cell_of-requires-clause-small c =
-    let known = c.number_of.new.self in
-    row_small (expression_in c.args.asked.now) c.args.asked.now.mode (rows_of known) c.in_ok-number.ensures.sound c.in_ok-number.number c.in_ok-number.ensures.number.0 c.in_ok-number.ensures.number.1
+    row_small c.in_ok-number.ensures.sound c.in_ok-number.number c.in_ok-number.ensures.number.0 c.in_ok-number.ensures.number.1
 
 pub returns-clause-right : goal.returns-clause-right
 returns-clause-right c = record {
@@ -29,4 +28,4 @@ returns-clause-cell c = λ from byte next.
     let alike = subst (IsSame same.0) (c.begin.ensures.keeps.scratch ∙ c.clear.ensures.keeps.scratch) same.2 in
     let mark = c.in_ok-number.ensures.sound.marked c.in_ok-number.number same.0 same.1 in
     says_cell e c.args.asked.now.mode known.sets.keys known.stride from c.args.self.now.scratch same.0 byte c.in_ok-number.number c.cell_of.result mark.mark same.1 alike next mark.reported_too
-    (row_small e c.args.asked.now.mode (rows_of known) c.in_ok-number.ensures.sound c.in_ok-number.number same.0 same.1) (c.cell_of.ensures mark.mark mark.is)
+    (row_small c.in_ok-number.ensures.sound c.in_ok-number.number same.0 same.1) (c.cell_of.ensures mark.mark mark.is)

@@ -6,23 +6,20 @@ use Rattle.re_steps.proofs.table.StepTable.learn.Goals as goal
 pub advance-requires-clause-from : goal.advance-requires-clause-from
 advance-requires-clause-from c =
     let row = c.requires.row in
-    subst (IsMadeFor (expression_in c.args.asked.now)) (sym (set_of_row (expression_in c.args.asked.now) c.args.asked.now.mode (rows_of c.args.self.now)
-    c.requires.ready.0.sound c.args.row c.number.result row.0 c.index-as_slice-number.result c.as_slice.result.now row.1 c.as_slice.ensures.keys c.number.ensures c.index-as_slice-number.is)) (c.requires.ready.0.sound.made row.1.number row.0 row.1.is)
+    subst (IsMadeFor (expression_in c.args.asked.now)) (sym (set_of_row c.requires.ready.0.sound c.args.row c.number.result row.0 c.index-as_slice-number.result c.as_slice.result.now row.1 c.as_slice.ensures.keys c.number.ensures c.index-as_slice-number.is)) (c.requires.ready.0.sound.made row.1.number row.0 row.1.is)
 
 pub returns-in_err-number-clause-next : goal.returns-in_err-number-clause-next
 returns-in_err-number-clause-next c = λ set row.
     subst (IsNextSet (expression_in c.args.asked.now) c.args.asked.now.mode set c.args.byte) (sym c.number_of.ensures.keeps.scratch)
     (subst (λ s. IsNextSet (expression_in c.args.asked.now) c.args.asked.now.mode s c.args.byte c.advance.new.into)
-    (set_of_row (expression_in c.args.asked.now) c.args.asked.now.mode (rows_of c.args.self.now)
-    c.requires.ready.0.sound c.args.row c.number.result set c.index-as_slice-number.result c.as_slice.result.now row c.as_slice.ensures.keys c.number.ensures c.index-as_slice-number.is)
+    (set_of_row c.requires.ready.0.sound c.args.row c.number.result set c.index-as_slice-number.result c.as_slice.result.now row c.as_slice.ensures.keys c.number.ensures c.index-as_slice-number.is)
     c.advance.ensures.next)
 
 pub returns-clause-next : goal.returns-clause-next
 returns-clause-next c = λ set row.
     subst (IsNextSet (expression_in c.args.asked.now) c.args.asked.now.mode set c.args.byte) (sym c.number_of.ensures.keeps.scratch)
     (subst (λ s. IsNextSet (expression_in c.args.asked.now) c.args.asked.now.mode s c.args.byte c.advance.new.into)
-    (set_of_row (expression_in c.args.asked.now) c.args.asked.now.mode (rows_of c.args.self.now)
-    c.requires.ready.0.sound c.args.row c.number.result set c.index-as_slice-number.result c.as_slice.result.now row c.as_slice.ensures.keys c.number.ensures c.index-as_slice-number.is)
+    (set_of_row c.requires.ready.0.sound c.args.row c.number.result set c.index-as_slice-number.result c.as_slice.result.now row c.as_slice.ensures.keys c.number.ensures c.index-as_slice-number.is)
     c.advance.ensures.next)
 
 pub cell_of-cell-requires-clause-within : goal.cell_of-cell-requires-clause-within
@@ -32,8 +29,7 @@ cell_of-cell-requires-clause-within c =
 
 pub cell_of-cell-requires-clause-small : goal.cell_of-cell-requires-clause-small
 cell_of-cell-requires-clause-small c =
-    let known = c.number_of.new.self in
-    row_small (expression_in c.args.asked.now) c.args.asked.now.mode (rows_of known) c.in_ok-number.ensures.sound c.in_ok-number.number c.in_ok-number.ensures.number.0 c.in_ok-number.ensures.number.1
+    row_small c.in_ok-number.ensures.sound c.in_ok-number.number c.in_ok-number.ensures.number.0 c.in_ok-number.ensures.number.1
 
 pub put-requires-clause-known : goal.put-requires-clause-known
 put-requires-clause-known c =
@@ -43,11 +39,10 @@ put-requires-clause-known c =
     let same = c.in_ok-number.ensures.number in
     let mark = c.in_ok-number.ensures.sound.marked c.in_ok-number.number same.0 same.1 in
     let next = subst (λ s. IsNextSet (expression_in c.args.asked.now) c.args.asked.now.mode s c.args.byte c.advance.new.into)
-    (set_of_row (expression_in c.args.asked.now) c.args.asked.now.mode (rows_of c.args.self.now)
-    c.requires.ready.0.sound c.args.row c.number.result row.0 c.index-as_slice-number.result c.as_slice.result.now row.1 c.as_slice.ensures.keys c.number.ensures c.index-as_slice-number.is)
+    (set_of_row c.requires.ready.0.sound c.args.row c.number.result row.0 c.index-as_slice-number.result c.as_slice.result.now row.1 c.as_slice.ensures.keys c.number.ensures c.index-as_slice-number.is)
     c.advance.ensures.next in
     (says_cell e c.args.asked.now.mode known.sets.keys known.stride row.0 c.advance.new.into same.0 c.args.byte c.in_ok-number.number c.cell_of-cell.result mark.mark same.1 same.2 next mark.reported_too
-    (row_small e c.args.asked.now.mode (rows_of known) c.in_ok-number.ensures.sound c.in_ok-number.number same.0 same.1) (c.cell_of-cell.ensures mark.mark mark.is)).0
+    (row_small c.in_ok-number.ensures.sound c.in_ok-number.number same.0 same.1) (c.cell_of-cell.ensures mark.mark mark.is)).0
 
 pub returns-clause-found : goal.returns-clause-found
 returns-clause-found c = λ set row.
@@ -56,11 +51,10 @@ returns-clause-found c = λ set row.
     let same = c.in_ok-number.ensures.number in
     let mark = c.in_ok-number.ensures.sound.marked c.in_ok-number.number same.0 same.1 in
     let next = subst (λ s. IsNextSet (expression_in c.args.asked.now) c.args.asked.now.mode s c.args.byte c.advance.new.into)
-    (set_of_row (expression_in c.args.asked.now) c.args.asked.now.mode (rows_of c.args.self.now)
-    c.requires.ready.0.sound c.args.row c.number.result set c.index-as_slice-number.result c.as_slice.result.now row c.as_slice.ensures.keys c.number.ensures c.index-as_slice-number.is)
+    (set_of_row c.requires.ready.0.sound c.args.row c.number.result set c.index-as_slice-number.result c.as_slice.result.now row c.as_slice.ensures.keys c.number.ensures c.index-as_slice-number.is)
     c.advance.ensures.next in
     says_cell e c.args.asked.now.mode known.sets.keys known.stride set c.advance.new.into same.0 c.args.byte c.in_ok-number.number c.cell_of-cell.result mark.mark same.1 same.2 next mark.reported_too
-    (row_small e c.args.asked.now.mode (rows_of known) c.in_ok-number.ensures.sound c.in_ok-number.number same.0 same.1) (c.cell_of-cell.ensures mark.mark mark.is)
+    (row_small c.in_ok-number.ensures.sound c.in_ok-number.number same.0 same.1) (c.cell_of-cell.ensures mark.mark mark.is)
 
 pub returns-clause-right : goal.returns-clause-right
 returns-clause-right c =
@@ -70,7 +64,7 @@ returns-clause-right c =
     let kept = c.in_ok-number.ensures.kept in
     let later : IsRowOf new.sets.keys new.stride c.args.row row.0 = record { number = row.1.number; row = row.1.row ∙ ap (λ n. row.1.number * n) (sym kept.stride); is = kept.sets row.1.number row.0 row.1.is } in
     record {
-      sound = rw c.put.ensures.most (sound_held e c.args.asked.now.mode (rows_of new) c.in_ok-number.ensures.sound c.put.new.self.cells c.put.new.self.entries c.args.row c.args.byte c.cell_of-cell.result row.0
+      sound = rw c.put.ensures.most (sound_held c.in_ok-number.ensures.sound c.put.new.self.cells c.put.new.self.entries c.args.row c.args.byte c.cell_of-cell.result row.0
           later c.ranges.byte.fits (returns-clause-found c row.0 row.1).1 c.put.ensures.len
           (subst (λ classes. (slice_index c.put.new.self.cells (c.args.row + slice_index classes c.args.byte) ≡ c.cell_of-cell.result) ⊎ (slice_index c.put.new.self.cells (c.args.row + slice_index classes c.args.byte) ≡ unknown)) c.as_slice-2.ensures.value c.put.ensures.here)
           (subst (λ classes. (k : ℕ) → (k ≡ c.args.row + slice_index classes c.args.byte → ⊥) → IsKeptOrLost (slice_index new.pairs.cells k) (slice_index c.put.new.self.cells k)) c.as_slice-2.ensures.value c.put.ensures.others)
@@ -94,7 +88,7 @@ returns-clause-others c = λ set row.
     (subst (λ cs. AreSound e c.args.asked.now.mode (rows_with cs new.stride new new.pairs.entries)) kept.classes c.in_ok-number.ensures.sound)) in
     subst (λ cs. HoldsNoOther e (cache_of known) set c.args.byte (record { classes = cs; stride = new.stride; sets = new.sets.keys; entries = c.put.new.self.entries })) (sym kept.classes)
     (subst (λ n. HoldsNoOther e (cache_of known) set c.args.byte (record { classes = known.classes.items; stride = n; sets = new.sets.keys; entries = c.put.new.self.entries })) (sym kept.stride)
-    (holds_no_other e c.args.asked.now.mode (rows_of known) c.requires.ready.0.sound new.sets.keys new.marks.items new.pairs.cells new.pairs.most sound
+    (holds_no_other c.requires.ready.0.sound new.sets.keys new.marks.items new.pairs.cells new.pairs.most sound
     (λ r other at. record { number = at.number; row = at.row; is = kept.sets at.number other at.is }) c.put.new.self.cells c.put.new.self.entries c.put.ensures.mirrors c.args.row c.args.byte set row c.ranges.byte.fits
     (subst (λ classes. (k : ℕ) → (k ≡ c.args.row + slice_index classes c.args.byte → ⊥) → IsKeptOrLost (slice_index new.pairs.cells k) (slice_index c.put.new.self.cells k)) (c.as_slice-2.ensures.value ∙ kept.classes) c.put.ensures.others)
     c.put.ensures.len))
@@ -128,8 +122,7 @@ put-requires-clause-within c =
     let known = c.args.self.now in
     let row = c.requires.row in
     let kept = c.in_ok-number.ensures.kept in
-    let inside = cell_within (expression_in c.args.asked.now) c.args.asked.now.mode (rows_of known)
-    c.requires.ready.0.sound c.args.row c.args.byte row.0 row.1 c.ranges.byte.fits in
+    let inside = cell_within c.requires.ready.0.sound c.args.row c.args.byte row.0 row.1 c.ranges.byte.fits in
     let classes : c.as_slice-2.result.now ≡ known.classes.items = c.as_slice-2.ensures.value ∙ kept.classes in
     rw classes (omega (arith, inside, kept.more))
 
@@ -138,8 +131,7 @@ put-requires-clause-none c =
     let known = c.args.self.now in
     let row = c.requires.row in
     let kept = c.in_ok-number.ensures.kept in
-    let inside = cell_within (expression_in c.args.asked.now) c.args.asked.now.mode (rows_of known)
-    c.requires.ready.0.sound c.args.row c.args.byte row.0 row.1 c.ranges.byte.fits in
+    let inside = cell_within c.requires.ready.0.sound c.args.row c.args.byte row.0 row.1 c.ranges.byte.fits in
     let classes : c.as_slice-2.result.now ≡ known.classes.items = c.as_slice-2.ensures.value ∙ kept.classes in
     rw classes (kept.cells (c.args.row + slice_index known.classes.items c.args.byte) inside ∙ c.requires.none)
 

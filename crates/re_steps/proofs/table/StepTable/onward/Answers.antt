@@ -45,7 +45,6 @@ step-requires-clause-cell c = c.walk-walk.ensures.cell (omega (arith, c.if-walk-
 
 pub returns-then-walk-asked-clause-arrives : goal.returns-then-walk-asked-clause-arrives
 returns-then-walk-asked-clause-arrives c =
-    let line = c.args.asked.now.line.now in
     let known = c.args.self.now in
     let walk = c.walk-walk.result in
     let counted = walked_is (walk.place - c.args.spot.place) c.args.meter.now c.add_reused_steps.new.self c.add_reused_steps.ensures.counted c.add_reused_steps.ensures.none in

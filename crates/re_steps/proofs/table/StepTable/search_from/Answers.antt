@@ -1,4 +1,4 @@
-use Rattle.re_steps.proofs.Prelude.{arith, ◌≡◌, length, inr, refl, ◌∙◌, expression_in, rows_of}
+use Rattle.re_steps.proofs.Prelude.{arith, ◌≡◌, length, inr, refl, ◌∙◌}
 use Rattle.re_steps.proofs.lemmas.RowLaws.{row_inside, mark_of_row}
 use Rattle.re_steps.proofs.table.StepTable.search_from.Goals as goal
 
@@ -34,10 +34,9 @@ returns-in-Alone-clause-ends c =
 
 pub mark-requires : goal.mark-requires
 mark-requires c =
-    let known = c.places.self in
     let sound = c.places.invariant.right.sound in
     let row = c.places.invariant.row in
-    let inside = row_inside (expression_in c.args.asked.now) c.args.asked.now.mode (rows_of known) sound c.places.spot.row row.0 row.1 in
+    let inside = row_inside sound c.places.spot.row row.0 row.1 in
     omega (arith, inside, c.number.ensures, sound.as_many)
 
 pub returns-clause-ends : goal.returns-clause-ends
@@ -46,7 +45,7 @@ returns-clause-ends c = record {
   finishes = λ first before.
       let came = c.places.invariant.comes first before in
       let last : c.places.spot.place ≡ length c.args.asked.now.line.now = omega (arith, c.places.invariant.within, c.places-test.false) in
-      let mark = mark_of_row (expression_in c.args.asked.now) c.args.asked.now.mode (rows_of c.places.self) c.places.invariant.right.sound
+      let mark = mark_of_row c.places.invariant.right.sound
       c.places.spot.row came.set c.mark.result came.row (rw (← c.number.ensures) c.mark.ensures) in
       record { place = c.places.spot.place; within = c.places.invariant.within; set = came.set; goes = came.goes; decides = inr (inr (record { last = last; reported = mark.at_end })) };
 }

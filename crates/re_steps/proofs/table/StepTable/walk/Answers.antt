@@ -1,11 +1,10 @@
-use Rattle.re_steps.proofs.Prelude.{arith, ◌≡◌, suc, ◌+◌, ◌-◌, ◌<◌, slice_index, sym, subst, add-one, IsRow, cell_at, walked, expression_in, rows_of, IsAt}
-use Rattle.re_steps.proofs.lemmas.WalkLaws.{comes_on, walked_more, walked_none}
+use Rattle.re_steps.proofs.Prelude.{arith, ◌≡◌, suc, ◌+◌, ◌-◌, ◌<◌, slice_index, sym, subst, add-one, IsRow, cell_at, walked, IsAt}
+use Rattle.re_steps.proofs.lemmas.WalkLaws.{comes_on, walked_on, walked_none}
 use Rattle.re_steps.proofs.table.StepTable.walk.Goals as goal
 
 pub places-preserved : goal.places-preserved
 places-preserved c =
     let known = c.args.self.now in
-    let e = expression_in c.args.asked.now in
     let line = c.args.asked.now.line.now in
     let byte = slice_index line c.places.place in
     let small : byte < 256 = omega (arith, c.type_inv.line c.places.place) in
@@ -21,18 +20,17 @@ places-preserved c =
       row = subst (IsRow known) (sym same) (on.into, on.row);
       comes = λ first steps came.
           let n = c.places.place - c.args.from.place in
-          let there = comes_on e c.args.asked.now.mode (rows_of known) c.requires.right.sound line first
+          let there = comes_on c.requires.right.sound line first
           (walked n steps) c.places.place at c.places-test.true small (omega (arith, same, c.if-cell-ge-LIMIT.false)) (c.places.invariant.comes first steps came) in
           let count : suc n ≡ c.places.place + 1 - c.args.from.place = omega (arith, c.places.invariant.low) in
           subst (λ r. IsAt c.args.asked.now first known (walked (c.places.place + 1 - c.args.from.place) steps) (c.places.place + 1) r) (sym same)
           (subst (λ k. IsAt c.args.asked.now first known (walked k steps) (c.places.place + 1) (cell_at known.classes.items known.pairs.cells at byte)) count
-          (rw (add-one c.places.place) (subst (λ s. IsAt c.args.asked.now first known s (suc c.places.place) (cell_at known.classes.items known.pairs.cells at byte)) (walked_more n steps) there)));
+          (rw (add-one c.places.place) (subst (λ s. IsAt c.args.asked.now first known s (suc c.places.place) (cell_at known.classes.items known.pairs.cells at byte)) (walked_on n 1 (suc n) steps (omega arith)) there)));
     }
 
 pub places-init : goal.places-init
 places-init c =
     let known = c.args.self.now in
-    let e = expression_in c.args.asked.now in
     record {
       classes = c.as_slice-classes.ensures.value;
       cells = c.cells-cells.ensures.cells;

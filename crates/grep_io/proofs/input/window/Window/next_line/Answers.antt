@@ -1,6 +1,7 @@
 use Rattle.grep_io.proofs.Prelude.{◌≡◌, ◌+◌, ◌-◌, ◌<◌, ◌≤◌, ◌++◌, length, length-take, drop, get_or, slice_range, refl, ap, sym, ◌∙◌, arith, subst, Text, newline, IsOneLineAndFew, Held, waiting}
 use Rattle.re_trees.proofs.lemmas.LinesLaws.{none_in_empty}
-use Rattle.grep_io.proofs.lemmas.WindowBlocks.{at_range, byte_at, newline_before}
+use Rattle.grep_io.proofs.lemmas.WindowBlocks.{byte_at, newline_before}
+use Rattle.re_runs.proofs.lemmas.Ranges.{at_range}
 use Rattle.grep_io.proofs.lemmas.WindowLemmas.{at_failure, one_line_and_few, ahead_at_newline, line_has_no_newline, below_range}
 use Rattle.grep_io.proofs.input.window.Window.next_line.Goals as goal
 
