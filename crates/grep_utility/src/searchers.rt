@@ -68,6 +68,7 @@ pub fn has_more_than(most: usize, texts: &[u8]) -> bool
 /// No list of the patterns is made. `None`: a pattern is something else or refused, or out of
 /// memory.
 fn many_strings(alloc: Global, texts: &[u8], syntax: Syntax, fold: bool) -> Option<Vec<u8>>
+    ensures few { IfSome result (λ _. length texts.now + 1 < 2 ^ 32) }
     ensures some { IfSome result (λ _. 1 ≤ length (lines_of texts.now)) }
     ensures read { IfSome result
         (λ strings. AreStrings syntax fold (lines_of texts.now) (lines_of strings.items)) }
@@ -87,7 +88,6 @@ fn many_strings(alloc: Global, texts: &[u8], syntax: Syntax, fold: bool) -> Opti
 
 /// The same of patterns among which are choices of strings. `None`: unknown, or out of memory.
 fn strings_of(alloc: Global, texts: &[u8], patterns: &[Pattern<'_>]) -> Option<Vec<u8>>
-    ensures few { IfSome result (λ _. length texts.now + 1 < 2 ^ 32) }
     ensures some { IfSome result (λ _. 1 ≤ length patterns.now) }
     ensures read { IfSome result
         (λ strings. (fold : Bool) → AreReadAs fold patterns.now (lines_of strings.items)) }
