@@ -30,6 +30,9 @@ const MANY_STOPS: u64 = 1_024;
 // Runs of so few sets are compared sooner than further tests are made at 32 places.
 const FEW_SETS: usize = 4;
 
+// From so many runs on it is worth while to ask which of them a place is marked for.
+const MANY_RUNS: usize = 4;
+
 /// Looks for the first of several runs of sets, one byte of each set in turn: for bytes of the rarest
 /// sets at 32 places at once, and where these are it compares the others. Contracts see the runs.
 #[derive(Drop)]
@@ -174,13 +177,13 @@ impl SetFinder {
         take_some(&self.runs, self.bits_at(line, place), line, place)
     }
 
-    // The bits of the runs that may be in the line at the place: all of eight where there is one run.
+    // The bits of the runs that may be in the line at the place: all of eight where there are few runs.
     #[inline(always)]
     fn bits_at(&self, line: &[u8], place: usize) -> u8
         requires { place ≤ length line.now }
         ensures { HaveBits result line.now (members_of self.now) place }
     {
-        if self.runs.len() < 2 {
+        if self.runs.len() < MANY_RUNS {
             return u8::MAX;
         }
         if line.len() - place < self.width {

@@ -1,4 +1,4 @@
-use Rattle.re_runs.proofs.Prelude.{rules, ◌%◌, ◌<◌, ◌≡◌, length, map, refl, sym, ◌∙◌, subst, arith, false≢true, length-map, members, RunIsAt, get_or, sets_of_each}
+use Rattle.re_runs.proofs.Prelude.{rules, ◌%◌, ◌<◌, length, map, refl, sym, ◌∙◌, subst, arith, false≢true, length-map, members, RunIsAt, get_or, sets_of_each}
 use Rattle.std.proofs.lemmas.List.{get_or_default}
 use Rattle.std.proofs.lemmas.Nat.Bits.{shr_and_one}
 use Rattle.re_runs.proofs.lemmas.RunLaws.{each_at, none_more}
