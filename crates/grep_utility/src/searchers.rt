@@ -17,12 +17,15 @@ use std::alloc::{AllocError, Global};
 /// How many strings one automaton is quick for, whose needle is a choice of as many runs.
 const FEW: usize = 8;
 
+/// From how many bytes on each string is one pass for the parts of several quicker than an automaton.
+const LONG: usize = 5;
+
 /// How many bytes the patterns may have that one pass looks for. They have at most one beginning
 /// more than bytes, and the pass numbers its beginnings in 32 bits.
 const MOST_BYTES: usize = 4_294_967_294;
 
-/// The matchers of a search for the patterns, which are the lines of `texts`: one for more than
-/// eight strings; else one automaton for as many as have 4,096 positions together.
+/// The matchers of a search for the patterns, which are the lines of `texts`: one for all that are
+/// strings, where that is quicker; else one automaton for as many as have 4,096 positions together.
 ///
 /// # Errors
 ///
@@ -45,7 +48,7 @@ pub fn searchers_of(
         return Ok(matchers);
     }
     let patterns = patterns_of(alloc, texts, syntax, options.ignore_case)?;
-    if let Some(strings) = strings_of(alloc, texts, &patterns) {
+    if let Some(strings) = strings_of(alloc, texts, &patterns, options) {
         let Ok(matchers) = joined(alloc, &strings, options) else {
             return Err(out_of_memory());
         };
@@ -86,8 +89,14 @@ fn many_strings(alloc: Global, texts: &[u8], syntax: Syntax, fold: bool) -> Opti
     Some(strings)
 }
 
-/// The same of patterns among which are choices of strings. `None`: unknown, or out of memory.
-fn strings_of(alloc: Global, texts: &[u8], patterns: &[Pattern<'_>]) -> Option<Vec<u8>>
+/// The strings that the patterns are, each followed by a newline, where one pass for all of them is
+/// quicker than an automaton. `None`: unknown, or out of memory.
+fn strings_of(
+    alloc: Global,
+    texts: &[u8],
+    patterns: &[Pattern<'_>],
+    options: &Options,
+) -> Option<Vec<u8>>
     ensures some { IfSome result (λ _. 1 ≤ length patterns.now) }
     ensures read { IfSome result
         (λ strings. (fold : Bool) → AreReadAs fold patterns.now (lines_of strings.items)) }
@@ -96,7 +105,7 @@ fn strings_of(alloc: Global, texts: &[u8], patterns: &[Pattern<'_>]) -> Option<V
         return None;
     }
     let strings = read_strings(alloc, patterns)?;
-    if !has_more_than(FEW, &strings) {
+    if !are_quicker(&strings, options) {
         return None;
     }
     Some(strings)
@@ -113,6 +122,18 @@ fn read_strings(alloc: Global, patterns: &[Pattern<'_>]) -> Option<Vec<u8>>
         patterns[place].add_strings(alloc, &mut strings)?;
     }
     Some(strings)
+}
+
+/// Whether one pass for the strings is quicker than an automaton: they are many, or parts are asked for
+/// and they are several that are long and in one case.
+fn are_quicker(strings: &[u8], options: &Options) -> bool {
+    if has_more_than(FEW, strings) {
+        return true;
+    }
+    options.only_matching
+        && !options.ignore_case
+        && has_more_than(1, strings)
+        && !split_file(strings).any(|string| string.len() < LONG)
 }
 
 /// The one matcher for all strings.
