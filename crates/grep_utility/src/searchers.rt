@@ -17,7 +17,7 @@ use std::alloc::{AllocError, Global};
 /// How many strings one automaton is quick for, whose needle is a choice of as many runs.
 const FEW: usize = 8;
 
-/// From how many bytes on each string is one pass for several quicker than an automaton.
+/// From how many bytes on each string is one pass for the parts of several quicker than an automaton.
 const LONG: usize = 5;
 
 /// How many bytes the patterns may have that one pass looks for. They have at most one beginning
@@ -71,6 +71,7 @@ pub fn has_more_than(most: usize, texts: &[u8]) -> bool
 /// No list of the patterns is made. `None`: a pattern is something else or refused, or out of
 /// memory.
 fn many_strings(alloc: Global, texts: &[u8], syntax: Syntax, fold: bool) -> Option<Vec<u8>>
+    ensures few { IfSome result (λ _. length texts.now + 1 < 2 ^ 32) }
     ensures some { IfSome result (λ _. 1 ≤ length (lines_of texts.now)) }
     ensures read { IfSome result
         (λ strings. AreStrings syntax fold (lines_of texts.now) (lines_of strings.items)) }
@@ -96,13 +97,11 @@ fn strings_of(
     patterns: &[Pattern<'_>],
     options: &Options,
 ) -> Option<Vec<u8>>
-    ensures few { IfSome result (λ _. length texts.now + 1 < 2 ^ 32) }
     ensures some { IfSome result (λ _. 1 ≤ length patterns.now) }
     ensures read { IfSome result
         (λ strings. (fold : Bool) → AreReadAs fold patterns.now (lines_of strings.items)) }
 {
-    let is_long = texts.len() > MOST_POSITIONS && patterns.len() <= FEW;
-    if is_long || texts.len() > MOST_BYTES || patterns.is_empty() {
+    if texts.len() > MOST_POSITIONS || patterns.is_empty() {
         return None;
     }
     let strings = read_strings(alloc, patterns)?;
@@ -125,14 +124,16 @@ fn read_strings(alloc: Global, patterns: &[Pattern<'_>]) -> Option<Vec<u8>>
     Some(strings)
 }
 
-/// Whether one pass for the strings is quicker than an automaton: they are many, or several that are long
-/// and in one case.
+/// Whether one pass for the strings is quicker than an automaton: they are many, or parts are asked for
+/// and they are several that are long and in one case.
 fn are_quicker(strings: &[u8], options: &Options) -> bool {
-    if !has_more_than(1, strings) {
-        return false;
+    if has_more_than(FEW, strings) {
+        return true;
     }
-    has_more_than(FEW, strings)
-        || !options.ignore_case && !split_file(strings).any(|string| string.len() < LONG)
+    options.only_matching
+        && !options.ignore_case
+        && has_more_than(1, strings)
+        && !split_file(strings).any(|string| string.len() < LONG)
 }
 
 /// The one matcher for all strings.

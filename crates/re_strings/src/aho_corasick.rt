@@ -1,10 +1,10 @@
 //! The steps over a line for many fixed strings.
-ghost use Rattle.std.specs.Prelude.{◌≡◌, ℕ, ◌+◌, ◌<◌, ◌≤◌, ◌↔◌, [], ◌∷◌, ◌++◌, IsTrue, Some};
+ghost use Rattle.std.specs.Prelude.{◌≡◌, ℕ, ◌+◌, ◌^◌, ◌<◌, ◌≤◌, ◌↔◌, [], ◌∷◌, ◌++◌, IsTrue, Some};
 ghost use Rattle.std.specs.Prelude.{IfSome, length, slice_index};
 ghost use Rattle.re_trees.specs.Bytes.{Text};
 ghost use Rattle.re_strings.specs.Working.FixedSets.{IsTrie, IsTrieOf, IsTable, IsTableOf, IsString};
-ghost use Rattle.re_strings.specs.Working.FixedSets.{AreFallbacks, AreFallbacksOf, AreStarts};
-ghost use Rattle.re_strings.specs.Working.FixedSets.{Labels, Steps, StepsOn, Occurs, NoneBetween, EndsIn};
+ghost use Rattle.re_strings.specs.Working.FixedSets.{AreFallbacks, AreFallbacksOf, AreSteps};
+ghost use Rattle.re_strings.specs.Working.FixedSets.{Labels, AreStepsOf, StepsOn, Occurs, NoneBetween, EndsIn};
 ghost use Rattle.re_strings.specs.Working.FixedSets.{StandsSince, StandsAtNode, IsBestOccurrence};
 ghost use Rattle.re_strings.specs.Working.FixedSets.{better_ending};
 ghost use Rattle.re_strings.specs.Working.Reached.{Reaches, IsNear, IsSettled, EndsFirst, end_cost};
@@ -23,8 +23,8 @@ use re_trees::Span;
 pub struct AhoCorasick {
     /// The nodes.
     pub trie: Trie,
-    /// The child of the root for each byte, the root if there is none.
-    pub starts: Vec<u32>,
+    /// The node after each byte at the first nodes, 256 for each: at these no children are searched.
+    pub steps: Vec<u32>,
     /// For each node the longest other one that it ends with; any value for the root.
     pub fails: Vec<u32>,
     /// The length of each node.
@@ -190,12 +190,12 @@ impl AhoCorasick {
             return (start, node);
         }
         let byte = key_of(fold, line[start]);
-        let into = step(&self.trie, &self.starts, &self.fails, node, byte);
+        let into = step(&self.trie, &self.steps, &self.fails, node, byte);
         (start + 1, into)
     }
 
-    // The place itself if a string has begun; else the first place from there on where one may
-    // begin, or the line's end if there is none.
+    // The place itself if a string has begun, or if no leaps are made; else the first place from there on
+    // where one may begin, or the line's end if there is none.
     #[inline(always)]
     fn next_start(&self, line: &[u8], place: usize, node: usize, fold: bool) -> usize
         requires table { IsTable self.now }
@@ -214,7 +214,7 @@ impl AhoCorasick {
             return place;
         }
         if self.leaps.window < 2 {
-            return first_start(&self.starts, line, place);
+            return place;
         }
         self.leaps.leap(&self.fronts, line, place, fold)
     }
@@ -222,43 +222,26 @@ impl AhoCorasick {
 
 // The node for the longest end of the bytes so far, after this byte.
 #[inline]
-pub fn step(trie: &Trie, starts: &[u32], fails: &[u32], node: usize, byte: u8) -> usize
+pub fn step(trie: &Trie, steps: &[u32], fails: &[u32], node: usize, byte: u8) -> usize
     requires trie { IsTrie trie.now.first.items trie.now.bytes.items }
-    requires starts { AreStarts trie.now.first.items starts.now }
+    requires steps { AreSteps trie.now.first.items steps.now }
     requires fails { AreFallbacks fails.now }
     requires few { length fails.now ≤ length trie.now.bytes.items }
+    requires small { length trie.now.bytes.items < 2 ^ 32 }
     requires within { node < length fails.now }
     ensures within { result < length trie.now.bytes.items }
     ensures near { result < slice_index trie.now.first.items (node + 1) }
     ensures step { (all : Labels) → IsTrieOf all trie.now.first.items trie.now.bytes.items →
-        StepsOn all 0 byte (slice_index starts.now byte) → AreFallbacksOf all fails.now
-        → Steps all node byte result }
+        AreStepsOf all steps.now → AreFallbacksOf all fails.now → StepsOn all node byte result }
 {
     let mut at = node;
-    'nodes: while at > 0 {
+    'nodes: while at * 256 + byte as usize >= steps.len() {
         if let Some(child) = trie.child(at, byte) {
             return child;
         }
         at = fails[at] as usize;
     }
-    starts[byte as usize] as usize
-}
-
-// The first place, `place` or later, whose byte a string begins with; the line's end if there is
-// none.
-fn first_start(starts: &[u32], line: &[u8], place: usize) -> usize
-    requires full { length starts.now ≡ 256 }
-    requires within { place ≤ length line.now }
-    ensures within { (place ≤ result) × (result ≤ length line.now) }
-    ensures passed { (k : ℕ) → place ≤ k → k < result →
-        (slice_index line.now k < 256) × (slice_index starts.now (slice_index line.now k) ≡ 0) }
-{
-    'places: for next in place..line.len() {
-        if starts[line[next] as usize] > 0 {
-            return next;
-        }
-    }
-    line.len()
+    steps[at * 256 + byte as usize] as usize
 }
 
 // Whether the best so far begins before this place.

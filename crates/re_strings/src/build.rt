@@ -8,7 +8,7 @@ ghost use Rattle.re_strings.specs.Working.FixedSets.{Labels};
 use crate::aho_corasick::AhoCorasick;
 use crate::growth::{Branch, grow};
 use crate::leaps::{leaps_of, window_of};
-use crate::links::{line_starts, links_of, starts_of};
+use crate::links::{links_of, starts_of, steps_of};
 use crate::trie::Trie;
 use std::alloc::{AllocError, Global};
 
@@ -33,17 +33,17 @@ pub fn table_of(alloc: Global, strings: &[&[u8]], fold: bool) -> Result<AhoCoras
     let nodes = nodes_of(alloc, strings)?;
     let trie = nodes.trie;
     let owns = nodes.owns;
-    let plain = starts_of(alloc, &trie, false)?;
-    let links = links_of(alloc, &trie, &plain, &owns)?;
+    let starts = starts_of(alloc, &trie)?;
+    let links = links_of(alloc, &trie, &starts, &owns)?;
     drop(owns);
-    let starts = line_starts(alloc, &trie, plain, fold)?;
+    let steps = steps_of(&trie, starts, &links.fails)?;
     let depths = depths_of(alloc, &trie)?;
     let window = window_of(strings);
     let leaps = leaps_of(alloc, strings, window)?;
     let fronts = leaps_of(alloc, strings, window.min(2))?;
     Ok(AhoCorasick {
         trie,
-        starts,
+        steps,
         fails: links.fails,
         depths,
         outputs: links.outputs,

@@ -23,7 +23,7 @@ impl AhoCorasick {
         let mut node = 0;
         'places: for place in 0..line.len() {
             let byte = key_of(self.fold, line[place]);
-            node = step(&self.trie, &self.starts, &self.fails, node, byte);
+            node = step(&self.trie, &self.steps, &self.fails, node, byte);
             self.put_outputs(node, place + 1, start + (place + 1), ends);
         }
     }

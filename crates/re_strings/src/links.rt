@@ -1,15 +1,17 @@
 //! The fallbacks of the nodes, and the strings that they end with.
-ghost use Rattle.std.specs.Prelude.{◌≡◌, ℕ, ◌+◌, ◌^◌, ◌<◌, ◌≤◌, ◌++◌, [], ◌∷◌, false, IfOk, length};
+ghost use Rattle.std.specs.Prelude.{◌≡◌, ℕ, ◌+◌, ◌^◌, ◌<◌, ◌≤◌, ◌++◌, [], ◌∷◌, IfOk, length};
 ghost use Rattle.std.specs.Prelude.{slice_index};
-ghost use Rattle.re_strings.specs.Working.FixedSets.{IsTrie, IsTrieOf, AreStarts, AreStartsOf};
+ghost use Rattle.re_strings.specs.Working.FixedSets.{IsTrie, IsTrieOf, AreSteps, AreStepsOf};
 ghost use Rattle.re_strings.specs.Working.FixedSets.{AreFallbacks, AreFallbacksOf, AreOwn};
 ghost use Rattle.re_strings.specs.Working.FixedSets.{AreLinked, AreLinkedFor, Labels, StandsFor};
 ghost use Rattle.re_strings.specs.Working.FixedSets.{StepsOn, own_or};
 
 use crate::aho_corasick::step;
-use crate::keys::key_of;
 use crate::trie::Trie;
 use std::alloc::{AllocError, Global};
+
+// How many nodes have a step for each byte.
+const FIRST: usize = 256;
 
 /// For each node its fallback, and the longest string that it ends with.
 #[derive(Drop)]
@@ -20,43 +22,44 @@ pub struct Links {
     pub outputs: Vec<u32>,
 }
 
-/// The child of the root for each byte as strings are compared, the root if there is none.
-pub fn starts_of(alloc: Global, trie: &Trie, fold: bool) -> Result<Vec<u32>, AllocError>
+/// The child of the root for each byte, the root if there is none.
+pub fn starts_of(alloc: Global, trie: &Trie) -> Result<Vec<u32>, AllocError>
     requires trie { IsTrie trie.now.first.items trie.now.bytes.items }
     requires few { length trie.now.bytes.items < 2 ^ 32 }
-    ensures starts { IfOk result (λ starts. AreStarts trie.now.first.items starts.items) }
+    ensures starts { IfOk result (λ starts. AreSteps trie.now.first.items starts.items) }
     ensures right { IfOk result
         (λ starts. (all : Labels) → IsTrieOf all trie.now.first.items trie.now.bytes.items →
-        AreStartsOf fold all starts.items) }
+        AreStepsOf all starts.items) }
 {
     let mut starts = Vec::new(alloc);
     'bytes: while starts.len() < 256 {
-        let start = start_of(trie, key_of(fold, starts.len() as u8));
+        let start = start_of(trie, starts.len() as u8);
         push_number(&mut starts, start)?;
     }
     Ok(starts)
 }
 
-/// The child of the root for each byte of a line. `plain` has that for each byte as it is.
-pub fn line_starts(
-    alloc: Global,
-    trie: &Trie,
-    plain: Vec<u32>,
-    fold: bool,
-) -> Result<Vec<u32>, AllocError>
+/// The node after each byte at the first nodes, 256 for each. `starts` has those at the root.
+pub fn steps_of(trie: &Trie, starts: Vec<u32>, fails: &[u32]) -> Result<Vec<u32>, AllocError>
     requires trie { IsTrie trie.now.first.items trie.now.bytes.items }
     requires few { length trie.now.bytes.items < 2 ^ 32 }
-    requires plain { AreStarts trie.now.first.items plain.items }
-    ensures starts { IfOk result (λ starts. AreStarts trie.now.first.items starts.items) }
+    requires starts { AreSteps trie.now.first.items starts.items }
+    requires fails { AreFallbacks fails.now }
+    requires all { length fails.now ≡ length trie.now.bytes.items }
+    ensures steps { IfOk result (λ steps. AreSteps trie.now.first.items steps.items) }
     ensures right { IfOk result
-        (λ starts. (all : Labels) → IsTrieOf all trie.now.first.items trie.now.bytes.items →
-        AreStartsOf false all plain.items → AreStartsOf fold all starts.items) }
+        (λ steps. (all : Labels) → IsTrieOf all trie.now.first.items trie.now.bytes.items →
+        AreStepsOf all starts.items → AreFallbacksOf all fails.now
+        → AreStepsOf all steps.items) }
 {
-    if fold {
-        let starts = starts_of(alloc, trie, fold)?;
-        return Ok(starts);
+    let end = trie.bytes.len().min(FIRST) * 256;
+    let mut steps = starts;
+    'steps: while steps.len() < end {
+        let byte = (steps.len() % 256) as u8;
+        let next = step(trie, &steps, fails, steps.len() / 256, byte);
+        push_number(&mut steps, next)?;
     }
-    Ok(plain)
+    Ok(steps)
 }
 
 // The child of the root for this byte, the root if there is none.
@@ -81,13 +84,13 @@ pub fn links_of(
 ) -> Result<Links, AllocError>
     requires trie { IsTrie trie.now.first.items trie.now.bytes.items }
     requires few { length trie.now.bytes.items < 2 ^ 32 }
-    requires starts { AreStarts trie.now.first.items starts.now }
+    requires starts { AreSteps trie.now.first.items starts.now }
     requires owns { length owns.now ≡ length trie.now.bytes.items }
     ensures linked { IfOk result
         (λ links. AreLinked (length trie.now.bytes.items) links.fails.items links.outputs.items) }
     ensures right { IfOk result
         (λ links. (all : Labels) → IsTrieOf all trie.now.first.items trie.now.bytes.items →
-        AreStartsOf false all starts.now → AreOwn all owns.now
+        AreStepsOf all starts.now → AreOwn all owns.now
         → AreLinkedFor all links.fails.items links.outputs.items) }
 {
     let mut fails = Vec::with_capacity(alloc, trie.bytes.len())?;
@@ -111,7 +114,7 @@ fn link_children(
 ) -> Result<(), AllocError>
     requires trie { IsTrie trie.now.first.items trie.now.bytes.items }
     requires few { length trie.now.bytes.items < 2 ^ 32 }
-    requires starts { AreStarts trie.now.first.items starts.now }
+    requires starts { AreSteps trie.now.first.items starts.now }
     requires owns { length owns.now ≡ length trie.now.bytes.items }
     requires within { node < length trie.now.bytes.items }
     requires linked { AreLinked (slice_index trie.now.first.items node) links.old.fails.items
@@ -122,7 +125,7 @@ fn link_children(
         links.new.outputs.items) }
     ensures right { IfOk result
         (λ _. (all : Labels) → IsTrieOf all trie.now.first.items trie.now.bytes.items →
-        AreStartsOf false all starts.now → AreOwn all owns.now
+        AreStepsOf all starts.now → AreOwn all owns.now
         → AreLinkedFor all links.old.fails.items links.old.outputs.items →
         AreLinkedFor all links.new.fails.items links.new.outputs.items) }
 {
@@ -139,14 +142,15 @@ fn link_children(
 // The fallback of a node's child that has this byte.
 fn fallback(trie: &Trie, starts: &[u32], fails: &[u32], node: usize, byte: u8) -> usize
     requires trie { IsTrie trie.now.first.items trie.now.bytes.items }
-    requires starts { AreStarts trie.now.first.items starts.now }
+    requires small { length trie.now.bytes.items < 2 ^ 32 }
+    requires starts { AreSteps trie.now.first.items starts.now }
     requires fails { AreFallbacks fails.now }
     requires few { length fails.now ≤ length trie.now.bytes.items }
     requires within { node < length fails.now }
     requires linked { slice_index trie.now.first.items node ≤ length fails.now }
     ensures before { result < slice_index trie.now.first.items node }
     ensures right { (all : Labels) → IsTrieOf all trie.now.first.items trie.now.bytes.items →
-        AreStartsOf false all starts.now → AreFallbacksOf all fails.now
+        AreStepsOf all starts.now → AreFallbacksOf all fails.now
         → StandsFor all.strings (all.label result) (all.label node ++ byte ∷ []) 1 }
 {
     if node == 0 {

@@ -1,5 +1,5 @@
 -- Bytes, strings and lines as they are compared.
-use Rattle.re_strings.proofs.Prelude.{◌≡◌, ◌↔◌, ℕ, ◌+◌, ◌-◌, ◌<◌, ◌≤◌, ◌⊎◌, inl, inr, Bool, true, false, IsTrue, ◌||◌, List, [], ◌∷◌, length, map, slice_index, nat_eq, refl, sym, ap, subst, ◌∙◌, arith, to_ascii_lowercase, Text, only, range, closed, other_case, lines_of, newline, put_before, key, keys, Labels, StepsOn, AreStartsOf, cases_lt, and_from, and_right, and_left, or_cases, le-leb, lt-leb, lt-ltb, le-ltb, cond-true, cond-false, eqb-true, eq-eqb, ne_eqb, cases_eq, get_or-map}
+use Rattle.re_strings.proofs.Prelude.{◌≡◌, ◌↔◌, ℕ, ◌+◌, ◌-◌, ◌<◌, ◌≤◌, ◌⊎◌, inl, inr, Bool, true, false, IsTrue, ◌||◌, List, [], ◌∷◌, length, map, slice_index, nat_eq, refl, sym, ap, ◌∙◌, arith, to_ascii_lowercase, Text, only, range, closed, other_case, lines_of, newline, put_before, key, keys, cases_lt, and_from, and_right, and_left, or_cases, le-leb, lt-leb, lt-ltb, le-ltb, cond-true, cond-false, eqb-true, eq-eqb, ne_eqb, cases_eq, get_or-map}
 
 -- a byte between two is in their range
 inside : (low high b : ℕ) → low ≤ b → b ≤ high → range low high b ≡ true
@@ -106,15 +106,6 @@ closed_byte b c = ((λ h. forward (or_cases (nat_eq c b) (nat_eq (other_case c) 
         either true e = refl
         either false e = e
 
--- what is compared is compared as it is
-pub key_again : (fold : Bool) (b : ℕ) → key fold (key fold b) ≡ key fold b
-key_again false b = key_plain (key false b)
-key_again true b =
-    elim (key_cases b) [
-      | inl (from, to, up) ↦ let late : 90 < key true b = omega (arith, up, from) in key_above (key true b) late
-      | inr (out, same) ↦ ap (key true) same
-    ]
-
 -- the lower case of std
 pub key_lower : (b : ℕ) → to_ascii_lowercase b ≡ key true b
 key_lower b =
@@ -177,24 +168,3 @@ lines_lowered t lowered is = ap lines_of (is ∙ keys_lower t) ∙ lines_of-keys
 
 pub lines_plain : (t : Text) → lines_of t ≡ map (keys false) (lines_of t)
 lines_plain t = sym (all_plain (lines_of t))
-
--- ---- rows of the root
-
--- the row of a byte as it is compared is right for that byte
-pub start_of_key : (fold : Bool) (all : Labels) (starts : List ℕ) → AreStartsOf fold all starts → (b k : ℕ) → k ≡ key fold b → k < 256 → StepsOn all 0 k (slice_index starts k)
-start_of_key fold all starts are b k is lt =
-    let same : key fold k ≡ k = ap (key fold) is ∙ key_again fold b ∙ sym is in
-    subst (λ c. StepsOn all 0 c (slice_index starts k)) same (are k lt)
-
--- where case counts each row is right for its byte
-pub start_of_plain : (all : Labels) (starts : List ℕ) → AreStartsOf false all starts → (b : ℕ) → b < 256 → StepsOn all 0 b (slice_index starts b)
-start_of_plain all starts are b lt = subst (λ c. StepsOn all 0 c (slice_index starts b)) (key_plain b) (are b lt)
-
--- bytes of a line whose rows lead to the root do so as they are compared
-pub passed_by_keys : (fold : Bool) (all : Labels) (starts line : List ℕ) → AreStartsOf fold all starts → (place next : ℕ) → next ≤ length line
-    → ((k : ℕ) → place ≤ k → k < next → (slice_index line k < 256) × (slice_index starts (slice_index line k) ≡ 0))
-    → (k : ℕ) → place ≤ k → k < next → StepsOn all 0 (slice_index (keys fold line) k) 0
-passed_by_keys fold all starts line are place next within passed k low high =
-    let here = passed k low high in
-    subst (λ c. StepsOn all 0 c 0) (sym (key_at fold line k (omega (arith, high, within))))
-    (subst (StepsOn all 0 (key fold (slice_index line k))) here.1 (are (slice_index line k) here.0))

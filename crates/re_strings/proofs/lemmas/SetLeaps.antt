@@ -1,7 +1,7 @@
 -- Leaps of a search for many strings: where none of them begins.
-use Rattle.re_strings.proofs.Prelude.{◌≡◌, ℕ, ◌+◌, ◌-◌, ◌<◌, ◌≤◌, inl, inr, List, [], ◌++◌, length, take, drop, slice_index, refl, sym, ap, subst, ◌∙◌, arith, length-drop, drop-append-le, length-take-le, get_or-drop, get_or-take, get_or_default, get_or_append_left, cases_lt, Text, Leaps, text_at, HaveSame, IsFront, IsString, Labels, StepsOn, Occurs, NoneBetween, NoneBegins, StandsAtNode, StandsSince, AreLeapsOf, pair_row}
+use Rattle.re_strings.proofs.Prelude.{◌≡◌, ℕ, ◌+◌, ◌-◌, ◌<◌, ◌≤◌, inl, inr, List, [], ◌++◌, length, take, drop, slice_index, refl, sym, ap, subst, ◌∙◌, arith, length-drop, drop-append-le, length-take-le, get_or-drop, get_or-take, get_or_default, get_or_append_left, cases_lt, Text, Leaps, text_at, HaveSame, IsFront, IsString, Labels, Occurs, NoneBetween, NoneBegins, StandsAtNode, StandsSince, AreLeapsOf, pair_row}
 use Rattle.re_strings.proofs.lemmas.SetSteps.{front_shorter, string_front, empty_end}
-use Rattle.re_strings.proofs.lemmas.SetSearch.{read_length, read_on, begins_with_node, nothing_read, none_at_root, root_stays, from_since}
+use Rattle.re_strings.proofs.lemmas.SetSearch.{read_length, read_on, begins_with_node, nothing_read, from_since}
 
 -- the bytes of a part of a line
 byte_of_part : (line : Text) (i j k : ℕ) → i + k < j → slice_index (drop i (take j line)) k ≡ slice_index line (i + k)
@@ -142,21 +142,6 @@ module _ (all : Labels) (from : ℕ) (line : Text) (root : all.label 0 ≡ []) (
   -- and none ends up to there
   pub leap_between : (next : ℕ) → NoneBegins all.strings line place next → NoneBetween all.strings from line place (next + 1)
   leap_between next none i k lt inside o = let on = o.1 in none_over next none i k (omega (arith, lt)) (omega (arith, on, inside)) o
-
-  -- the same where each byte that is passed leads from the root to the root
-  pub bytes_stand : (next : ℕ) → place ≤ next → next ≤ length line → ((k : ℕ) → place ≤ k → k < next → StepsOn all 0 (slice_index line k) 0) → StandsSince all from line next node
-  bytes_stand next le high passed = record {
-    since = g.since;
-    low = g.low;
-    none = λ i j beyond lt o. g.none i j (omega (arith, le, beyond)) lt o;
-    over = g.over;
-    stands = subst (StandsAtNode all g.since line next) (sym zero) (root_stays all g.since line place next node zero high passed g.stands next le (omega arith));
-  }
-
-  pub bytes_between : (next : ℕ) → next ≤ length line → ((k : ℕ) → place ≤ k → k < next → StepsOn all 0 (slice_index line k) 0) → NoneBetween all.strings from line place (next + 1)
-  bytes_between next high passed i k lt inside o =
-      none_at_root all g.since line root k (omega (arith, inside, high)) (root_stays all g.since line place next node zero high passed g.stands k (omega (arith, lt)) (omega (arith, inside))) i
-      (from_since all from line place node g i k (omega (arith, lt)) o)
 
 -- ---- making
 

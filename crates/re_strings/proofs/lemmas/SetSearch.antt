@@ -1,5 +1,5 @@
 -- Searches for many fixed strings: which of them end at a place, and which is the best.
-use Rattle.re_strings.proofs.Prelude.{◌≡◌, ◌↔◌, ℕ, zero, suc, add-one, ◌+◌, ◌-◌, ◌<◌, ◌≤◌, inl, inr, Bool, true, false, IsTrue, List, [], ◌∷◌, ◌++◌, length, take, drop, slice_index, nat_eq, Option, Some, None, refl, sym, ap, subst, ◌∙◌, arith, length-drop, if◌then◌else◌, get_or, eq-eqb, eq-or-lt_of_le, eqb-true, eqb-false, cases_lt, get_or_default_zero, drop-length, take-suc, drop-append-le, drop-drop, length-take-le, take-append-drop, Text, IsBest, Least, better, places, better_span, Span, IsFront, IsString, StandsFor, EndsIn, Labels, Steps, StepsOn, Occurs, NoneBetween, StandsAtNode, StandsSince, IsBestOccurrence, better_ending}
+use Rattle.re_strings.proofs.Prelude.{◌≡◌, ◌↔◌, ℕ, zero, suc, add-one, ◌+◌, ◌-◌, ◌<◌, ◌≤◌, inl, inr, Bool, true, false, IsTrue, List, [], ◌∷◌, ◌++◌, length, take, drop, slice_index, nat_eq, Option, Some, None, refl, sym, ap, subst, ◌∙◌, arith, length-drop, if◌then◌else◌, get_or, eq-eqb, eq-or-lt_of_le, eqb-true, eqb-false, cases_lt, get_or_default_zero, drop-length, take-suc, drop-append-le, drop-drop, length-take-le, take-append-drop, Text, IsBest, Least, better, places, better_span, Span, IsFront, IsString, StandsFor, EndsIn, Labels, StepsOn, Occurs, NoneBetween, StandsAtNode, StandsSince, IsBestOccurrence, better_ending}
 use Rattle.re_trees.proofs.lemmas.BestStretches.{better_places, best_so_far}
 use Rattle.re_strings.proofs.lemmas.SetSteps.{front_shorter, string_front, empty_end, may_at_first}
 
@@ -46,28 +46,8 @@ module _ (all : Labels) (from : ℕ) (line : Text) where
       all_dropped w n same = rw (← same) (drop-length w)
 
   -- a byte is read
-  pub byte_read : (place n m : ℕ) → place < length line → StandsAtNode all from line place n → Steps all n (slice_index line place) m → StandsAtNode all from line (place + 1) m
-  byte_read place n m lt s step = subst (λ w. StandsFor all.strings (all.label m) w from) (sym (one_more_byte line place lt)) (step (take place line) from s)
-
-  -- bytes are passed that no string begins with
-  pub bytes_passed : (count place : ℕ) → place + count ≤ length line → ((k : ℕ) → place ≤ k → k < place + count → StepsOn all 0 (slice_index line k) 0)
-      → StandsAtNode all from line place 0 → StandsAtNode all from line (place + count) 0
-  bytes_passed zero place within passed s = let same : place ≡ place + 0 = omega arith in subst (λ n. StandsAtNode all from line n 0) same s
-  bytes_passed (suc count) place within passed s =
-      let here = passed place (omega arith) (omega arith) in
-      let on : StandsAtNode all from line (place + 1) 0 =
-      byte_read place 0 0 (omega (arith, within)) s (λ w f stands. here w f (may_at_first all.strings (slice_index line place) (all.label 0) w f stands)) in
-      let end : place + 1 + count ≡ place + suc count = omega arith in
-      subst (λ n. StandsAtNode all from line n 0) end
-      (bytes_passed count (place + 1) (omega (arith, within)) (λ k low high. passed k (omega (arith, low)) (omega (arith, high))) on)
-
-  -- the root stays up to each of these places
-  pub root_stays : (place next node : ℕ) → node ≡ 0 → next ≤ length line → ((k : ℕ) → place ≤ k → k < next → StepsOn all 0 (slice_index line k) 0)
-      → StandsAtNode all from line place node → (k : ℕ) → place ≤ k → k ≤ next → StandsAtNode all from line k 0
-  root_stays place next node root within passed s k low high =
-      let at : place + (k - place) ≡ k = omega (arith, low) in
-      subst (λ n. StandsAtNode all from line n 0) at
-      (bytes_passed (k - place) place (omega (arith, low, high, within)) (λ j a b. passed j a (omega (arith, b, at, high))) (subst (StandsAtNode all from line place) root s))
+  pub byte_read : (place n m : ℕ) → place < length line → StandsAtNode all from line place n → StepsOn all n (slice_index line place) m → StandsAtNode all from line (place + 1) m
+  byte_read place n m lt s step = subst (λ w. StandsFor all.strings (all.label m) w from) (sym (one_more_byte line place lt)) (step (take place line) from (may_at_first all.strings (slice_index line place) (all.label n) (take place line) from s))
 
   -- a string that ends at a place begins where the node does or later
   pub begins_with_node : (place n : ℕ) (s : StandsAtNode all from line place n) → (i : ℕ) → from ≤ i → IsFront all.strings (drop i (take place line)) → s.start ≤ i
@@ -129,7 +109,7 @@ module _ (all : Labels) (from : ℕ) (line : Text) where
   }
 
   -- a byte is read
-  pub stands_after : (place n m : ℕ) → place < length line → StandsSince all from line place n → Steps all n (slice_index line place) m → StandsSince all from line (place + 1) m
+  pub stands_after : (place n m : ℕ) → place < length line → StandsSince all from line place n → StepsOn all n (slice_index line place) m → StandsSince all from line (place + 1) m
   stands_after place n m lt g step = record {
     since = g.since;
     low = g.low;

@@ -1,12 +1,11 @@
 -- Many fixed strings at once: the tree of their beginnings, each with the longest end of it that is
 -- such a beginning too by the Aho-Corasick algorithm.
-use Rattle.std.specs.Prelude.{◌≡◌, ℕ, ◌+◌, ◌-◌, ◌*◌, ◌<◌, ◌≤◌, Bool, List, [], ◌∷◌, ◌++◌, length, take, drop, Any, slice_index, Option, nat_eq, nat_lt, if◌then◌else◌}
+use Rattle.std.specs.Prelude.{◌≡◌, ℕ, ◌+◌, ◌-◌, ◌*◌, ◌^◌, ◌<◌, ◌≤◌, List, [], ◌∷◌, ◌++◌, length, take, drop, Any, slice_index, Option, nat_eq, nat_lt, if◌then◌else◌}
 use Rattle.re_trees.specs.Bytes.{Text, Begins}
 use Rattle.re_trees.specs.Working.BestStretches.{IsBest, places, better_span}
 use Rattle.re_trees.specs.declared.span.Span.{Span}
 use Rattle.re_strings.specs.declared.leaps.Leaps.{Leaps}
 use Rattle.re_strings.specs.declared.aho_corasick.AhoCorasick.{AhoCorasick}
-use Rattle.re_strings.specs.Working.Keys.{key}
 
 -- some string begins with the text
 abbrev pub IsFront : List Text → Text → Type 0
@@ -95,26 +94,21 @@ AreOutputs outputs = (n : ℕ) → n < length outputs → slice_index outputs n 
 abbrev pub EndsWith : List Text → Text → ℕ → Type 0
 EndsWith strings label n = (0 < n) × (n ≤ length label) × IsString strings (drop (length label - n) label)
 
--- the node after a step over a byte
-abbrev pub Steps : Labels → ℕ → ℕ → ℕ → Type 0
-Steps all n b m =
-    (w : Text) (from : ℕ) → StandsFor all.strings (all.label n) w from →
-    StandsFor all.strings (all.label m) (w ++ b ∷ []) from
-
--- the same after longer ends were tried
+-- the node after a step over a byte, where longer ends were tried
 abbrev pub StepsOn : Labels → ℕ → ℕ → ℕ → Type 0
 StepsOn all n b m =
     (w : Text) (from : ℕ) → MayStandFor all.strings (all.label n) w b from →
     StandsFor all.strings (all.label m) (w ++ b ∷ []) from
 
--- the children of the root by their bytes, 0 if there is none
-pub record AreStarts (first starts : List ℕ) : Type 0 where
-  pub full : length starts ≡ 256
-  pub nodes : (b : ℕ) → b < 256 → slice_index starts b < slice_index first 1
+-- the nodes after each byte at the root and perhaps at the nodes next to it, 256 for each
+pub record AreSteps (first steps : List ℕ) : Type 0 where
+  pub root : 256 ≤ length steps
+  pub nodes : (n b : ℕ) → b < 256 → n * 256 + b < length steps → slice_index steps (n * 256 + b) < slice_index first (n + 1)
 
--- each is right for its byte as strings are compared
-abbrev pub AreStartsOf : Bool → Labels → List ℕ → Type 0
-AreStartsOf fold all starts = (b : ℕ) → b < 256 → StepsOn all 0 (key fold b) (slice_index starts b)
+-- each is right for its byte
+abbrev pub AreStepsOf : Labels → List ℕ → Type 0
+AreStepsOf all steps =
+    (n b : ℕ) → b < 256 → n * 256 + b < length steps → StepsOn all n b (slice_index steps (n * 256 + b))
 
 -- a string, not the empty one, is in the text from place i, `from` or later, to place j
 abbrev pub Occurs : List Text → ℕ → Text → ℕ → ℕ → Type 0
@@ -151,7 +145,8 @@ pub record AreLeapsOf (strings : List Text) (l : Leaps) : Type 0 where
 -- the tables have a row for each node
 pub record IsTable (t : AhoCorasick) : Type 0 where
   pub trie : IsTrie t.trie.first.items t.trie.bytes.items
-  pub starts : AreStarts t.trie.first.items t.starts.items
+  pub few : length t.trie.bytes.items < 2 ^ 32
+  pub steps : AreSteps t.trie.first.items t.steps.items
   pub fallbacks : AreFallbacks t.fails.items
   pub fails : length t.fails.items ≡ length t.trie.bytes.items
   pub depths : length t.depths.items ≡ length t.trie.bytes.items
@@ -164,7 +159,7 @@ pub record IsTable (t : AhoCorasick) : Type 0 where
 -- the rows are right for the strings
 pub record IsTableOf (all : Labels) (t : AhoCorasick) : Type 0 where
   pub trie : IsTrieOf all t.trie.first.items t.trie.bytes.items
-  pub starts : AreStartsOf t.fold all t.starts.items
+  pub steps : AreStepsOf all t.steps.items
   pub fails : AreFallbacksOf all t.fails.items
   pub depths : (n : ℕ) → n < length t.trie.bytes.items →
       slice_index t.depths.items n ≡ length (all.label n)

@@ -1,5 +1,5 @@
-use Rattle.re_strings.proofs.Prelude.{◌≡◌, slice_index, arith}
-use Rattle.re_strings.proofs.lemmas.SetSteps.{may_at_first, goes_on, falls_back}
+use Rattle.re_strings.proofs.Prelude.{slice_index, arith}
+use Rattle.re_strings.proofs.lemmas.SetSteps.{goes_on, falls_back}
 use Rattle.re_strings.proofs.lemmas.SetTries.{ascends}
 use Rattle.re_strings.proofs.aho_corasick.step.Goals as goal
 
@@ -7,7 +7,7 @@ pub nodes-init : goal.nodes-init
 nodes-init c = record {
   within = c.requires.within;
   low = omega arith;
-  may = λ all t f w from s. may_at_first all.strings c.args.byte (all.label c.args.node) w from s;
+  may = λ all t f w from s. s;
 }
 
 pub returns-in-Some-clause-step : goal.returns-in-Some-clause-step
@@ -24,9 +24,7 @@ nodes-preserved c = record {
 }
 
 pub returns-clause-step : goal.returns-clause-step
-returns-clause-step c = λ all t s f w from stands.
-    let root : c.nodes.at ≡ 0 = omega arith in
-    s w from (rw root at (c.nodes.invariant.may all t f w from stands))
+returns-clause-step c = λ all t s f w from stands. s c.nodes.at c.args.byte (omega arith) (omega (arith, c.nodes-test.false)) w from (c.nodes.invariant.may all t f w from stands)
 
 pub returns-in-Some-clause-near : goal.returns-in-Some-clause-near
 returns-in-Some-clause-near c =
@@ -36,12 +34,13 @@ returns-in-Some-clause-near c =
 
 pub returns-clause-near : goal.returns-clause-near
 returns-clause-near c =
-    let near = c.requires.starts.nodes c.args.byte (omega arith) in
-    let up = ascends c.args.trie.now.first.items c.args.trie.now.bytes.items c.requires.trie 0 c.args.node (omega arith) (let a = c.requires.within in let b = c.requires.few in omega (arith, a, b)) in
+    let near = c.requires.steps.nodes c.nodes.at c.args.byte (omega arith) (omega (arith, c.nodes-test.false)) in
+    let up = ascends c.args.trie.now.first.items c.args.trie.now.bytes.items c.requires.trie c.nodes.at c.args.node c.nodes.invariant.low (let a = c.requires.within in let b = c.requires.few in omega (arith, a, b)) in
     omega (arith, near, up)
 
 pub returns-clause-within : goal.returns-clause-within
 returns-clause-within c =
-    let near = c.requires.starts.nodes c.args.byte (omega arith) in
-    let within = c.requires.trie.within 0 c.requires.trie.some in
+    let near = c.requires.steps.nodes c.nodes.at c.args.byte (omega arith) (omega (arith, c.nodes-test.false)) in
+    let few = c.requires.few in
+    let within = c.requires.trie.within c.nodes.at (omega (arith, few, c.nodes.invariant.within)) in
     omega (arith, near, within)

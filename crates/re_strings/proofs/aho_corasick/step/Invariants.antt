@@ -1,4 +1,4 @@
-use Rattle.re_strings.proofs.Prelude.{ℕ, ◌<◌, ◌≤◌, length, Text, Labels, IsTrieOf, AreFallbacksOf, StandsFor, MayStandFor}
+use Rattle.re_strings.proofs.Prelude.{ℕ, ◌<◌, ◌≤◌, length, Text, Labels, IsTrieOf, AreFallbacksOf, MayStandFor}
 use Rattle.re_strings.proofs.aho_corasick.step.Given as goal
 
 abbrev pub invariant-nodes : goal.invariant-nodes
@@ -6,7 +6,7 @@ invariant-nodes l = record {
   within : l.at < length l.fails;
   low : l.at ≤ l.node;
   may : (all : Labels) → IsTrieOf all l.trie.first.items l.trie.bytes.items → AreFallbacksOf all l.fails
-      → (w : Text) (from : ℕ) → StandsFor all.strings (all.label l.node) w from → MayStandFor all.strings (all.label l.at) w l.byte from;
+      → (w : Text) (from : ℕ) → MayStandFor all.strings (all.label l.node) w l.byte from → MayStandFor all.strings (all.label l.at) w l.byte from;
 }
 
 abbrev pub decreases-nodes : goal.decreases-nodes

@@ -6,13 +6,13 @@ pub returns-clause-right : goal.returns-clause-right
 returns-clause-right c = λ strings same.
     let (label, trie, own) = c.in_ok-nodes.ensures.right strings same in
     let all : Labels = record { strings = strings; label = label } in
-    let plain = c.in_ok-plain.ensures.right all trie in
-    let linked = (rw (c.deref.ensures.value, c.deref-2.ensures.value) at c.in_ok-links.ensures.right) all trie plain own in
+    let starts = c.in_ok-starts.ensures.right all trie in
+    let linked = (rw (c.deref.ensures.value, c.deref-2.ensures.value) at c.in_ok-links.ensures.right) all trie starts own in
     let ended = c.in_ok-links.ensures.linked.all_outputs in (
       label,
       record {
         trie = trie;
-        starts = c.in_ok-starts.ensures.right all trie plain;
+        steps = c.in_ok-steps.ensures.right all trie starts (rw c.deref-3.ensures.value linked.fallbacks);
         fails = linked.fallbacks;
         depths = c.in_ok-depths.ensures.right all trie;
         outputs = λ n lt. linked.ended n (omega (arith, lt, ended));
@@ -24,7 +24,8 @@ returns-clause-right c = λ strings same.
 pub returns-clause-table : goal.returns-clause-table
 returns-clause-table c = record {
   trie = c.in_ok-nodes.ensures.trie;
-  starts = c.in_ok-starts.ensures.starts;
+  few = c.in_ok-nodes.ensures.few;
+  steps = c.in_ok-steps.ensures.steps;
   fallbacks = c.in_ok-links.ensures.linked.fallbacks;
   fails = c.in_ok-links.ensures.linked.all_fails;
   depths = c.in_ok-depths.ensures.all;

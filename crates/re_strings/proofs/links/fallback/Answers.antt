@@ -1,5 +1,5 @@
 use Rattle.re_strings.proofs.Prelude.{◌≡◌, ◌+◌, ◌-◌, ◌<◌, ◌≤◌, slice_index, subst, arith}
-use Rattle.re_strings.proofs.lemmas.KeyLaws.{start_of_plain}
+use Rattle.re_strings.proofs.lemmas.SetSteps.{may_at_first}
 use Rattle.re_strings.proofs.lemmas.SetTries.{ascends}
 use Rattle.re_strings.proofs.links.fallback.Goals as goal
 
@@ -17,7 +17,8 @@ returns-clause-before c =
 pub returns-clause-right : goal.returns-clause-right
 returns-clause-right c = λ all t s f.
     let inside : 0 < c.args.node = omega arith in
-    c.step.ensures.step all t (start_of_plain all c.args.starts.now s c.args.byte (omega arith)) f (all.label c.args.node) 1 (f c.args.node inside c.requires.within)
+    c.step.ensures.step all t s f (all.label c.args.node) 1
+    (may_at_first all.strings c.args.byte (all.label (slice_index c.args.fails.now c.args.node)) (all.label c.args.node) 1 (f c.args.node inside c.requires.within))
 
 pub returns-then-node-eq0-clause-before : goal.returns-then-node-eq0-clause-before
 returns-then-node-eq0-clause-before c =

@@ -1,5 +1,5 @@
-use Rattle.re_strings.proofs.Prelude.{◌≡◌, ℕ, ◌+◌, ◌<◌, length, slice_index, refl, sym, subst, ◌∙◌, arith, length-map, Labels, IsTableOf, StandsAtNode, Steps, EndsWith, Occurs, key, keys}
-use Rattle.re_strings.proofs.lemmas.KeyLaws.{key_at, start_of_key}
+use Rattle.re_strings.proofs.Prelude.{◌≡◌, ℕ, ◌+◌, ◌<◌, ◌≤◌, length, slice_index, refl, sym, subst, ◌∙◌, arith, length-map, AddsEnds, Labels, List, Text, IsTableOf, StandsAtNode, StepsOn, EndsWith, Occurs, key, keys}
+use Rattle.re_strings.proofs.lemmas.KeyLaws.{key_at}
 use Rattle.re_strings.proofs.lemmas.SetSearch.{byte_read, node_length, nothing_read}
 use Rattle.re_strings.proofs.lemmas.SetEnds.{OccursBy, adds_no_ends, adds_more_ends, same_ends_added, one_place_more}
 use Rattle.re_strings.proofs.aho_corasick.AhoCorasick.add_ends.Goals as goal
@@ -11,6 +11,15 @@ places-init c = record {
   added = λ all t. adds_no_ends (OccursBy all c.args.start (keys c.args.self.now.fold c.args.line.now) 0) c.args.line.now c.args.ends.now c.requires.fits
       (λ i m lt p. let end = p.2 in let o = p.3 in let low = o.0 in let on = o.1 in omega (arith, end, low, on));
 }
+
+-- the ends of the strings that end at one place more
+one_place : (all : Labels) (start place node : ℕ) (line keyed : Text) (first ends more : List ℕ) → place < length keyed → StandsAtNode all 0 keyed (place + 1) node → AddsEnds (OccursBy all start keyed place) line first ends
+    → (length (all.label node) ≤ place + 1 → AddsEnds (λ i m. (n : ℕ) × (m < start + (place + 1)) × (i + n ≡ place + 1) × EndsWith all.strings (all.label node) n) ends ends more)
+    → AddsEnds (OccursBy all start keyed (place + 1)) line first more
+one_place all start place node line keyed first ends more inside stands had put =
+    let size_read = node_length all 0 keyed (place + 1) node (omega (arith, inside)) stands in
+    adds_more_ends (OccursBy all start keyed place) (λ i m. (n : ℕ) × (m < start + (place + 1)) × (i + n ≡ place + 1) × EndsWith all.strings (all.label node) n) (OccursBy all start keyed (place + 1))
+    line ends first ends more had.0 had (put (omega (arith, size_read))) (λ i m lt. one_place_more all keyed (place + 1) node (omega (arith, inside)) stands start place refl i m)
 
 pub places-preserved : goal.places-preserved
 places-preserved c =
@@ -24,18 +33,12 @@ places-preserved c =
     let node = c.step-node.result in
     let stands : (all : Labels) → IsTableOf all c.args.self.now → StandsAtNode all 0 line (place + 1) node =
     λ all t.
-    let steps = (rw (c.deref.ensures.value, c.deref-in-places.ensures.value) at c.step-node.ensures.step) all t.trie
-    (start_of_key fold all c.args.self.now.starts.items t.starts (slice_index c.args.line.now place) c.key_of-byte.result c.key_of-byte.ensures (omega arith)) t.fails in
-    byte_read all 0 line place c.places.node c.step-node.result (omega (arith, size, inside)) (c.places.invariant.stands all t) (subst (λ b. Steps all c.places.node b c.step-node.result) here steps) in
+    let steps = (rw (c.deref.ensures.value, c.deref-in-places.ensures.value) at c.step-node.ensures.step) all t.trie t.steps t.fails in
+    byte_read all 0 line place c.places.node c.step-node.result (omega (arith, size, inside)) (c.places.invariant.stands all t) (subst (λ b. StepsOn all c.places.node b c.step-node.result) here steps) in
     record {
       in_trie = c.step-node.ensures.within;
       stands = stands;
-      added = λ all t.
-          let had = c.places.invariant.added all t in
-          let size_read = node_length all 0 line (place + 1) node (omega (arith, size, inside)) (stands all t) in
-          adds_more_ends (OccursBy all start line place) (λ i m. (n : ℕ) × (m < start + (place + 1)) × (i + n ≡ place + 1) × EndsWith all.strings (all.label node) n) (OccursBy all start line (place + 1))
-          c.args.line.now c.places.ends c.args.ends.now c.places.ends c.put_outputs.new.ends had.0 had (c.put_outputs.ensures all t (omega (arith, size_read)))
-          (λ i m lt. one_place_more all line (place + 1) node (omega (arith, size, inside)) (stands all t) start place refl i m);
+      added = λ all t. one_place all start place node c.args.line.now line c.args.ends.now c.places.ends c.put_outputs.new.ends (omega (arith, size, inside)) (stands all t) (c.places.invariant.added all t) (c.put_outputs.ensures all t);
     }
 
 pub returns : goal.returns

@@ -1,5 +1,5 @@
-use Rattle.re_strings.proofs.Prelude.{◌≡◌, ◌<◌, ap, length, slice_index, sym, subst, ◌∙◌, arith, length-map, Steps, StandsAtNode, key, keys}
-use Rattle.re_strings.proofs.lemmas.KeyLaws.{key_at, start_of_key}
+use Rattle.re_strings.proofs.Prelude.{◌≡◌, ◌<◌, ap, length, slice_index, sym, subst, ◌∙◌, arith, length-map, StepsOn, StandsAtNode, key, keys}
+use Rattle.re_strings.proofs.lemmas.KeyLaws.{key_at}
 use Rattle.re_strings.proofs.lemmas.SetSearch.{byte_read, stands_after}
 use Rattle.re_strings.proofs.aho_corasick.AhoCorasick.pass.Goals as goal
 
@@ -17,10 +17,9 @@ returns-clause-stands c = λ all t from low s.
     let inside : start < length c.args.line.now = omega (arith, within, c.if-start-line.false) in
     let is : c.key_of-byte.result ≡ key fold (slice_index c.args.line.now start) = c.key_of-byte.ensures ∙ ap (λ f. key f (slice_index c.args.line.now start)) c.requires.alike in
     let here : c.key_of-byte.result ≡ slice_index line start = is ∙ sym (key_at fold c.args.line.now start inside) in
-    let steps = (rw (c.deref.ensures.value, c.deref-2.ensures.value) at c.step-into.ensures.step) all t.trie
-    (start_of_key fold all c.args.self.now.starts.items t.starts (slice_index c.args.line.now start) c.key_of-byte.result is (omega arith)) t.fails in
+    let steps = (rw (c.deref.ensures.value, c.deref-2.ensures.value) at c.step-into.ensures.step) all t.trie t.steps t.fails in
     stands_after all from line start c.args.node c.step-into.result (omega (arith, size, inside)) (c.next_start-start.ensures.stands all t from low s)
-    (subst (λ b. Steps all c.args.node b c.step-into.result) here steps)
+    (subst (λ b. StepsOn all c.args.node b c.step-into.result) here steps)
 
 pub returns-clause-begun : goal.returns-clause-begun
 returns-clause-begun c = λ all t from some s.
@@ -32,7 +31,6 @@ returns-clause-begun c = λ all t from some s.
     let inside : start < length c.args.line.now = omega (arith, within, c.if-start-line.false) in
     let is : c.key_of-byte.result ≡ key fold (slice_index c.args.line.now start) = c.key_of-byte.ensures ∙ ap (λ f. key f (slice_index c.args.line.now start)) c.requires.alike in
     let here : c.key_of-byte.result ≡ slice_index line start = is ∙ sym (key_at fold c.args.line.now start inside) in
-    let steps = (rw (c.deref.ensures.value, c.deref-2.ensures.value) at c.step-into.ensures.step) all t.trie
-    (start_of_key fold all c.args.self.now.starts.items t.starts (slice_index c.args.line.now start) c.key_of-byte.result is (omega arith)) t.fails in
+    let steps = (rw (c.deref.ensures.value, c.deref-2.ensures.value) at c.step-into.ensures.step) all t.trie t.steps t.fails in
     byte_read all from line start c.args.node c.step-into.result (omega (arith, size, inside)) (subst (λ n. StandsAtNode all from line n c.args.node) (sym (c.next_start-start.ensures.begun some)) s)
-    (subst (λ b. Steps all c.args.node b c.step-into.result) here steps)
+    (subst (λ b. StepsOn all c.args.node b c.step-into.result) here steps)
