@@ -1,9 +1,10 @@
-use Rattle.grep_session.proofs.Prelude.{◌≡◌, ◌<◌, ◌≤◌, [], ◌∷◌, ◌++◌, All, length, map, take, get_or, sym, ap, subst, ◌∙◌, arith, take_all, AllAnswer, most_patterns, all_of, line_text, IsWithin, SearchesEach, WasKept, AddsColumns, matched_expression}
+use Rattle.grep_session.proofs.Prelude.{◌≡◌, ◌+◌, ◌<◌, ◌≤◌, [], ◌∷◌, ◌++◌, All, length, map, take, get_or, sym, ap, subst, ◌∙◌, arith, take_all, AllAnswer, most_patterns, all_of, line_text, IsWithin, SearchesEach, WasKept, AddsColumns, HasChanged, Expression, List, matched_expression}
 use Rattle.grep_core.proofs.lemmas.CostLaws.{same_length}
 use Rattle.grep_session.proofs.lemmas.FoundLemmas.{adds_no_column, adds_columns, adds_column, all_by_chunk, chunks_next, texts_next, texts_rest}
 use Rattle.re_search.proofs.lemmas.KeptMatchers.{none_asked, same_over}
 use Rattle.grep_session.proofs.lemmas.StepLemmas.{not_searched, each_both, each_front}
 use Rattle.grep_session.proofs.columns.find_in_lines.Goals as goal
+use Rattle.grep_session.proofs.columns.find_in_lines.Goals.{After-find_in_chunk}
 
 pub loop-i-init : goal.loop-i-init
 loop-i-init c = record {
@@ -21,29 +22,26 @@ find_in_chunk-requires-clause-few c = subst (λ n. n ≤ most_patterns) (sym (sa
 pub find_in_chunk-requires-clause-within : goal.find_in_chunk-requires-clause-within
 find_in_chunk-requires-clause-within c = subst (IsWithin c.args.change) (sym (same_length matched_expression _ _ c.loop-i.invariant.same_matchers.same_expressions)) c.requires.within
 
-pub returns-in_err-one-clause-steps : goal.returns-in_err-one-clause-steps
-returns-in_err-one-clause-steps c = λ before changed h k.
+-- the steps up to here
+spent : (c : After-find_in_chunk) → let es = map matched_expression c.args.matchers.now in let chunks = c.args.lines.now in let options = c.args.search.now.options in (before changed : List Expression) → HasChanged c.args.change es before changed options
+    → All (WasKept c.args.change before options) (all_of chunks) → SearchesEach c.args.change changed es options (map line_text (all_of (take (c.loop-i.i + 1) chunks))) c.args.meter.now c.find_in_chunk.new.meter
+spent c = λ before changed h k.
     let s = c.loop-i.invariant in
     let i = c.loop-i.i in
     let chunks = c.args.lines.now in
     let inside : i < length chunks = omega (arith, c.loop-i-test.true, c.chunk_count-i-end.ensures) in
     let chunk : c.chunk.result.now ≡ get_or chunks i [] = c.chunk.ensures in
-    let spent = rw s.same_matchers.same_expressions at c.find_in_chunk.ensures.steps in
+    let one = rw s.same_matchers.same_expressions at c.find_in_chunk.ensures.steps in
     let kept : All (WasKept c.args.change before c.args.search.now.options) c.chunk.result.now = subst (All (WasKept c.args.change before c.args.search.now.options)) (sym chunk) (all_by_chunk (WasKept c.args.change before c.args.search.now.options) chunks k i [] inside) in
-    let both = texts_next chunks i inside ∙ ap (λ ls. map line_text (all_of (take i chunks)) ++ map line_text ls) (sym chunk) in
-    each_front _ _ _ _ _ _ _ _ _ (texts_rest chunks i inside) (each_both _ _ _ _ _ _ _ _ _ _ both (s.steps before changed h k) (spent before changed h kept))
+    each_both _ _ _ _ _ _ _ _ _ _ (texts_next chunks i inside ∙ ap (λ ls. map line_text (all_of (take i chunks)) ++ map line_text ls) (sym chunk)) (s.steps before changed h k) (one before changed h kept)
+
+pub returns-in_err-one-clause-steps : goal.returns-in_err-one-clause-steps
+returns-in_err-one-clause-steps c = λ before changed h k.
+    each_front _ _ _ _ _ _ _ _ _ (texts_rest c.args.lines.now c.loop-i.i (omega (arith, c.loop-i-test.true, c.chunk_count-i-end.ensures))) (spent (goal.at.returns-in_err-one-clause-steps c).After-find_in_chunk before changed h k)
 
 pub returns-in_err-push-clause-steps : goal.returns-in_err-push-clause-steps
 returns-in_err-push-clause-steps c = λ before changed h k.
-    let s = c.loop-i.invariant in
-    let i = c.loop-i.i in
-    let chunks = c.args.lines.now in
-    let inside : i < length chunks = omega (arith, c.loop-i-test.true, c.chunk_count-i-end.ensures) in
-    let chunk : c.chunk.result.now ≡ get_or chunks i [] = c.chunk.ensures in
-    let spent = rw s.same_matchers.same_expressions at c.find_in_chunk.ensures.steps in
-    let kept : All (WasKept c.args.change before c.args.search.now.options) c.chunk.result.now = subst (All (WasKept c.args.change before c.args.search.now.options)) (sym chunk) (all_by_chunk (WasKept c.args.change before c.args.search.now.options) chunks k i [] inside) in
-    let both = texts_next chunks i inside ∙ ap (λ ls. map line_text (all_of (take i chunks)) ++ map line_text ls) (sym chunk) in
-    each_front _ _ _ _ _ _ _ _ _ (texts_rest chunks i inside) (each_both _ _ _ _ _ _ _ _ _ _ both (s.steps before changed h k) (spent before changed h kept))
+    each_front _ _ _ _ _ _ _ _ _ (texts_rest c.args.lines.now c.loop-i.i (omega (arith, c.loop-i-test.true, c.chunk_count-i-end.ensures))) (spent (goal.at.returns-in_err-push-clause-steps c).After-find_in_chunk before changed h k)
 
 pub loop-i-preserved : goal.loop-i-preserved
 loop-i-preserved c =
@@ -53,18 +51,12 @@ loop-i-preserved c =
     let es = map matched_expression c.args.matchers.now in
     let options = c.args.search.now.options in
     let inside : i < length chunks = omega (arith, c.loop-i-test.true, c.chunk_count-i-end.ensures) in
-    let chunk : c.chunk.result.now ≡ get_or chunks i [] = c.chunk.ensures in
-    let spent = rw s.same_matchers.same_expressions at c.find_in_chunk.ensures.steps in
     let right = rw s.same_matchers.same_expressions at c.in_ok-one.ensures.ok in
     let one = adds_column c.args.change es options c.chunk.result.now c.in_ok-one.one c.loop-i.found.items c.push.new.all.items c.in_ok-push.ensures.ok c.in_ok-one.ensures.fits right in
-    let all = chunks_next chunks i inside ∙ ap (λ ls. take i chunks ++ ls ∷ []) (sym chunk) in
     record {
-      found = adds_columns c.args.change es options (take i chunks) (c.chunk.result.now ∷ []) _ _ _ _ all s.found one;
+      found = adds_columns c.args.change es options (take i chunks) (c.chunk.result.now ∷ []) _ _ _ _ (chunks_next chunks i inside ∙ ap (λ ls. take i chunks ++ ls ∷ []) (sym c.chunk.ensures)) s.found one;
       same_matchers = same_over c.find_in_chunk.ensures.same_matchers s.same_matchers;
-      steps = λ before changed h k.
-          let kept : All (WasKept c.args.change before options) c.chunk.result.now = subst (All (WasKept c.args.change before options)) (sym chunk) (all_by_chunk (WasKept c.args.change before options) chunks k i [] inside) in
-          let both = texts_next chunks i inside ∙ ap (λ ls. map line_text (all_of (take i chunks)) ++ map line_text ls) (sym chunk) in
-          each_both _ _ _ _ _ _ _ _ _ _ both (s.steps before changed h k) (spent before changed h kept);
+      steps = spent (goal.at.loop-i-preserved c).After-find_in_chunk;
     }
 
 pub returns-clause-ok : goal.returns-clause-ok
