@@ -9,12 +9,16 @@ use Rattle.grep_session.proofs.lemmas.FitLemmas.{zip-at, zip-set}
 use Rattle.grep_session.proofs.lemmas.PatternLemmas.{Chosen-as, has_matcher}
 use Rattle.grep_session.proofs.lemmas.NarrowingLemmas.{narrower_string}
 
+-- whether a text narrows the pattern in whose place it is put
+abbrev pub NarrowsIf : Inside → ℕ → Text → Bool → Type 0
+NarrowsIf s p text narrower = MatchBool narrower (Narrows s.syntax s.options (get_or (inputs_of s).patterns p []) text) (Narrows s.syntax s.options (get_or (inputs_of s).patterns p []) text → ⊥)
+
 -- matcher and text of another pattern are put in the place of one
 pub record IsPut (s : Inside) (p : ℕ) (text : Text) (narrower : Bool) (matcher gone : Matcher) (all : List Matcher) : Type 0 where
   pub old : IsSession s
   pub inside : p < length (inputs_of s).patterns
   pub other : text ≡ get_or (inputs_of s).patterns p [] → ⊥
-  pub narrows : MatchBool narrower (Narrows s.syntax s.options (get_or (inputs_of s).patterns p []) text) (Narrows s.syntax s.options (get_or (inputs_of s).patterns p []) text → ⊥)
+  pub narrows : NarrowsIf s p text narrower
   pub new : AreMatchers s.syntax s.options (text ∷ []) (matcher ∷ [])
   pub few : KeepAtMost s.states (matcher ∷ [])
   pub at : gone ≡ get_or s.matchers.items p gone
@@ -37,7 +41,7 @@ module _ {s : Inside} {p : ℕ} {text : Text} {narrower : Bool} {matcher gone : 
       let among : p < length (map matched_expression s.matchers.items) = omega (arith, has_place, length-map s.matchers.items matched_expression) in
       (matched_expression gone, matched_expression matcher, among, sym was_at, ap (map matched_expression) i.put ∙ map-set matched_expression s.matchers.items p matcher, refl, is_narrow narrower i.narrows)
     where
-      is_narrow : (n : Bool) → MatchBool n (Narrows s.syntax s.options (get_or (inputs_of s).patterns p []) text) (Narrows s.syntax s.options (get_or (inputs_of s).patterns p []) text → ⊥) → n ≡ true → IsNarrower (matched_expression matcher) (matched_expression gone) s.options
+      is_narrow : (n : Bool) → NarrowsIf s p text n → n ≡ true → IsNarrower (matched_expression matcher) (matched_expression gone) s.options
       is_narrow true narrows on = narrower_string s.syntax s.options (get_or (inputs_of s).patterns p []) text (matched_expression gone) (matched_expression matcher) narrows was_meant i.new.meant.0
       is_narrow false narrows on = absurd (false≢true on)
 
@@ -70,7 +74,7 @@ module _ {s : Inside} {p : ℕ} {text : Text} {narrower : Bool} {matcher gone : 
       searched_session s t s.syntax s.options _ all is texts i.old are_put (subst (λ n. n ≤ most_patterns) (sym many) i.old.few) rooms same kept files marks
 
   -- the lines that were searched by the new pattern
-  put_paired : (n : Bool) (lines paired : List Text) → MatchBool n (Narrows s.syntax s.options (get_or (inputs_of s).patterns p []) text) (Narrows s.syntax s.options (get_or (inputs_of s).patterns p []) text → ⊥) → Chosen (IsSought (Replaced p n) (matched_expression gone ∷ matched_expression matcher ∷ []) s.options) lines paired
+  put_paired : (n : Bool) (lines paired : List Text) → NarrowsIf s p text n → Chosen (IsSought (Replaced p n) (matched_expression gone ∷ matched_expression matcher ∷ []) s.options) lines paired
       → IfHolds (Narrows s.syntax s.options (get_or (inputs_of s).patterns p []) text) (Chosen (λ line. Matches (matched_expression gone) line s.options.line_regexp) lines paired) (paired ≡ lines)
   put_paired true lines paired narrows chosen =
       let Matched_by : Text → Expression → Type 0 = λ line e. Matches e line s.options.line_regexp in

@@ -4,7 +4,7 @@ use Rattle.grep_session.proofs.lemmas.SessionLemmas.{inputs_are}
 use Rattle.grep_core.proofs.lemmas.CostLaws.{same_length}
 use Rattle.grep_session.proofs.lemmas.EditLemmas.{left_session}
 use Rattle.grep_session.proofs.lemmas.PatternLemmas.{has_matcher}
-use Rattle.grep_session.proofs.lemmas.PuttingLemmas.{text_at, puts_same, refuses_put, IsPut, has_place, has_put, are_put, many, put_session, takes_put, bounded_again}
+use Rattle.grep_session.proofs.lemmas.PuttingLemmas.{text_at, puts_same, refuses_put, IsPut, NarrowsIf, has_place, has_put, are_put, many, put_session, takes_put, bounded_again}
 use Rattle.grep_session.proofs.session.Session.change_pattern.Goals as goal
 use Rattle.grep_session.proofs.session.Session.change_pattern.Goals.{After-exchange-gone}
 
@@ -22,9 +22,7 @@ is_put c =
       old = c.self.invariant;
       inside = omega (arith, here, length-map texts (λ text. text.items));
       other = λ same. c.if-is_text.ensures (c.deref-2.ensures.value ∙ same ∙ sym old);
-      narrows =
-          subst (λ t. MatchBool narrower (Narrows s.syntax s.options (get_or (inputs_of s).patterns p []) t) (Narrows s.syntax s.options (get_or (inputs_of s).patterns p []) t → ⊥)) c.deref-5.ensures.value
-          (subst (λ o. MatchBool narrower (Narrows s.syntax s.options o c.deref-5.result.now) (Narrows s.syntax s.options o c.deref-5.result.now → ⊥)) old_again c.narrows-narrower.ensures);
+      narrows = subst (λ t. NarrowsIf s p t narrower) c.deref-5.ensures.value (subst (λ o. MatchBool narrower (Narrows s.syntax s.options o c.deref-5.result.now) (Narrows s.syntax s.options o c.deref-5.result.now → ⊥)) old_again c.narrows-narrower.ensures);
       new = subst (λ t. AreMatchers s.syntax s.options (t ∷ []) (c.in-Ok.matcher ∷ [])) c.deref-3.ensures.value c.in-Ok.ensures.ok;
       few = c.in-Ok.ensures.rooms;
       at = c.exchange-gone.ensures.gone;
