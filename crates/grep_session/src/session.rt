@@ -22,9 +22,7 @@ use crate::marks::{know_all, lose_all, push_file, touch};
 use crate::new_lines::NewLines;
 use crate::options::{Effect, effect_of, is_same, option_of, with_option};
 use crate::pattern_matchers::{read_matcher, read_matchers};
-use crate::patterns::{
-    add_matchers, add_texts, is_text, narrows, put_text, reserve_texts, texts_of, too_many,
-};
+use crate::patterns::{add_texts, is_text, narrows, put_text, texts_of, too_many};
 use crate::removal::{drop_column, exchange, put_back};
 use crate::replaced_lines::{find_place, put_in};
 use crate::search::search_new;
@@ -376,7 +374,7 @@ impl Session {
             Ok(texts) => texts,
             Err(_) => return Err(EditFault::Memory),
         };
-        let matchers = match read_matchers(
+        let mut matchers = match read_matchers(
             self.alloc,
             &texts,
             self.syntax,
@@ -386,12 +384,12 @@ impl Session {
             Ok(matchers) => matchers,
             Err(fault) => return Err(fault),
         };
-        match reserve_texts(&mut self.texts, texts.len()) {
+        match self.texts.try_reserve(texts.len()) {
             Ok(()) => {}
             Err(_) => return Err(EditFault::Memory),
         }
         let first = self.matchers.len();
-        match add_matchers(&mut self.matchers, matchers) {
+        match self.matchers.append(&mut matchers) {
             Ok(()) => {}
             Err(_) => return Err(EditFault::Memory),
         }
