@@ -1,6 +1,6 @@
 //! The texts of a pattern list, and their place in a session.
 ghost use Rattle.std.specs.Prelude.{◌≡◌, ◌≤◌, ◌<◌, ◌+◌, ◌++◌, length, map, vec_len};
-ghost use Rattle.std.specs.Prelude.{vec_capacity, MatchBool, IfOk, slice_set};
+ghost use Rattle.std.specs.Prelude.{vec_capacity, MatchBool, IfOk};
 ghost use Rattle.re_syntax.specs.Lines.{list_of};
 ghost use Rattle.grep_session.specs.Touched.{Narrows};
 ghost use Rattle.re_syntax.specs.Profile.{most_patterns};
@@ -57,14 +57,6 @@ pub fn narrows(syntax: Syntax, options: &Options, old: &[u8], new: &[u8]) -> boo
         return false;
     }
     Finder::new(old).find(new).is_some()
-}
-
-/// Puts a text in the place of another.
-pub fn put_text(texts: &mut Vec<Vec<u8>>, p: usize, text: Vec<u8>)
-    requires { p < length texts.old.items }
-    ensures { texts.new.items ≡ slice_set texts.old.items p text }
-{
-    texts[p] = text;
 }
 
 /// Adds texts, for which there is room.

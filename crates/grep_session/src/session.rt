@@ -22,7 +22,7 @@ use crate::marks::{know_all, lose_all, push_file, touch};
 use crate::new_lines::NewLines;
 use crate::options::{Effect, effect_of, is_same, option_of, with_option};
 use crate::pattern_matchers::{read_matcher, read_matchers};
-use crate::patterns::{add_texts, is_text, narrows, put_text, texts_of, too_many};
+use crate::patterns::{add_texts, is_text, narrows, texts_of, too_many};
 use crate::removal::{drop_column, exchange, put_back};
 use crate::replaced_lines::{find_place, put_in};
 use crate::search::search_new;
@@ -374,7 +374,7 @@ impl Session {
             Ok(texts) => texts,
             Err(_) => return Err(EditFault::Memory),
         };
-        let mut matchers = match read_matchers(
+        let mut more = match read_matchers(
             self.alloc,
             &texts,
             self.syntax,
@@ -389,7 +389,7 @@ impl Session {
             Err(_) => return Err(EditFault::Memory),
         }
         let first = self.matchers.len();
-        match self.matchers.append(&mut matchers) {
+        match self.matchers.append(&mut more) {
             Ok(()) => {}
             Err(_) => return Err(EditFault::Memory),
         }
@@ -516,7 +516,7 @@ impl Session {
                 return Err(EditFault::Memory);
             }
         }
-        put_text(&mut self.texts, p, text);
+        self.texts[p] = text;
         lose_all(&mut self.marks);
         Ok(())
     }

@@ -1,4 +1,4 @@
-use Rattle.grep_session.proofs.Prelude.{◌≡◌, ◌<◌, ◌≤◌, Ok, Err, inl, inr, refl, ap, map, map-set, MatchBool, Narrows, AreMatchers, most_patterns, matched_expression, length, sym, subst, ◌∙◌, arith, [], ◌∷◌, get_or, length-map, RefusesFirst, EditGives, ChangePattern, inputs_of}
+use Rattle.grep_session.proofs.Prelude.{◌≡◌, ◌<◌, ◌≤◌, Ok, Err, inl, inr, refl, map-set, MatchBool, Narrows, AreMatchers, most_patterns, matched_expression, length, sym, subst, ◌∙◌, arith, [], ◌∷◌, get_or, length-map, RefusesFirst, EditGives, ChangePattern, inputs_of}
 use Rattle.grep_session.proofs.lemmas.StepLemmas.{takes_none}
 use Rattle.grep_session.proofs.lemmas.SessionLemmas.{inputs_are}
 use Rattle.grep_core.proofs.lemmas.CostLaws.{same_length}
@@ -95,13 +95,13 @@ returns-clause-steps c =
 pub invariant_of-self-2 : goal.invariant_of-self-2
 invariant_of-self-2 c =
     let i = is_put (goal.at.invariant_of-self-2 c).After-exchange-gone in
-    put_session i _ refl (ap (map (λ text. text.items)) c.put_text.ensures ∙ map-set (λ text. text.items) c.self.inside.texts.items c.args.p c.args.text) c.find_columns.ensures.same_matchers (c.in-Ok-find_columns.ensures.ok _ _ (has_put i) c.self.invariant.kept) c.find_columns.ensures.same c.lose_all.ensures
+    put_session i _ refl (map-set (λ text. text.items) c.self.inside.texts.items c.args.p c.args.text) c.find_columns.ensures.same_matchers (c.in-Ok-find_columns.ensures.ok _ _ (has_put i) c.self.invariant.kept) c.find_columns.ensures.same c.lose_all.ensures
 
 pub returns-clause-gives : goal.returns-clause-gives
 returns-clause-gives c =
     let s = c.self.inside in
     let i = is_put (goal.at.returns-clause-gives c).After-exchange-gone in
-    let texts = ap (map (λ text. text.items)) c.put_text.ensures ∙ map-set (λ text. text.items) s.texts.items c.args.p c.args.text in
+    let texts = map-set (λ text. text.items) s.texts.items c.args.p c.args.text in
     rw (← c.self.view_is) (inl (i.inside, inl (i.new.readable, (λ j. Ok (record { syntax = s.syntax; options = s.options; patterns = texts j; files = c.find_columns.ensures.same j })))))
 
 pub returns-clause-marks : goal.returns-clause-marks
