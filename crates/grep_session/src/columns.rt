@@ -1,7 +1,7 @@
 //! What is found in all lines after a change of the patterns, chunk by chunk. Where patterns were
 //! added, removed or replaced, only the new ones are searched for, and the parts of the lines that
 //! one of these matches. A narrower pattern is searched for in lines that the old one matched.
-ghost use Rattle.std.specs.Prelude.{◌≡◌, ◌≤◌, [], List, length, map, All, IsTrue};
+ghost use Rattle.std.specs.Prelude.{◌≡◌, ◌≤◌, List, length, map, All, IsTrue};
 ghost use Rattle.std.specs.Prelude.{IfOk, OnErr, vec_capacity};
 ghost use Rattle.re_syntax.specs.Expression.{Expression};
 ghost use Rattle.re_syntax.specs.Profile.{most_patterns};
@@ -11,7 +11,7 @@ ghost use Rattle.line_chunks.specs.Working.Chunks.{FitsColumn, all_of, line_text
 ghost use Rattle.grep_session.specs.Working.Changed.{HasChanged, WasKept, WasFileKept, IsWithin};
 ghost use Rattle.grep_session.specs.Working.Changed.{SearchesEach};
 ghost use Rattle.grep_session.specs.Working.Columns.{AddsColumns, StaysSame};
-ghost use Rattle.grep_session.specs.Working.Found.{IsColumn, chunks_of_files, lines_of_files};
+ghost use Rattle.grep_session.specs.Working.Found.{IsColumn, lines_of_files};
 ghost use Rattle.grep_session.specs.Working.Kept.{IsFileKept, kept_file};
 ghost use Rattle.grep_session.specs.Working.Rooms.{AreSame};
 
@@ -81,24 +81,25 @@ fn find_in_chunk(
 /// Adds what is found in the chunks of a file after a change of the patterns.
 pub fn find_in_lines(
     search: &SearchContext,
-    matchers: &mut [Matcher],
+    matchers: &mut Vec<Matcher>,
     change: Change,
     lines: &FileLines,
     found: &mut Vec<Option<Found>>,
     line_parts: &mut LineParts,
     meter: &mut Meter,
 ) -> Result<(), AllocError>
-    requires whole { AllAnswer search.now.options.line_regexp (map wants_whole matchers.old) }
-    requires few { length matchers.old ≤ most_patterns }
-    requires within { IsWithin change (length matchers.old) }
-    ensures same_matchers { AreSame matchers.old matchers.new }
+    requires whole { AllAnswer search.now.options.line_regexp (map wants_whole matchers.old.items) }
+    requires few { length matchers.old.items ≤ most_patterns }
+    requires within { IsWithin change (length matchers.old.items) }
+    ensures same_matchers { AreSame matchers.old.items matchers.new.items }
+    ensures room { vec_capacity matchers.new ≡ vec_capacity matchers.old }
     ensures ok { IfOk result (λ _.
-        AddsColumns change (map matched_expression matchers.old) search.now.options lines.now
+        AddsColumns change (map matched_expression matchers.old.items) search.now.options lines.now
         found.old.items found.new.items) }
     ensures steps { (before changed : List Expression) →
-        HasChanged change (map matched_expression matchers.old) before changed search.now.options →
-        All (WasKept change before search.now.options) (all_of lines.now)
-        → SearchesEach change changed (map matched_expression matchers.old) search.now.options
+        HasChanged change (map matched_expression matchers.old.items) before changed
+        search.now.options → All (WasKept change before search.now.options) (all_of lines.now)
+        → SearchesEach change changed (map matched_expression matchers.old.items) search.now.options
         (map line_text (all_of lines.now)) meter.old meter.new }
 {
     for i in 0..lines.chunk_count() {
@@ -106,46 +107,6 @@ pub fn find_in_lines(
         push(found, one)?;
     }
     Ok(())
-}
-
-/// What is found in the chunks of all files, in order, after a change of the patterns.
-fn find_all(
-    search: &SearchContext,
-    matchers: &mut [Matcher],
-    change: Change,
-    files: &[KeptFile],
-    meter: &mut Meter,
-) -> Result<Vec<Option<Found>>, AllocError>
-    requires whole { AllAnswer search.now.options.line_regexp (map wants_whole matchers.old) }
-    requires few { length matchers.old ≤ most_patterns }
-    requires within { IsWithin change (length matchers.old) }
-    ensures same_matchers { AreSame matchers.old matchers.new }
-    ensures ok { IfOk result (λ found.
-        AddsColumns change (map matched_expression matchers.old) search.now.options
-        (chunks_of_files files.now) [] found.items) }
-    ensures steps { (before changed : List Expression) →
-        HasChanged change (map matched_expression matchers.old) before changed search.now.options →
-        All (WasFileKept change before search.now.options) files.now
-        → SearchesEach change changed (map matched_expression matchers.old) search.now.options
-        (lines_of_files (map kept_file files.now)) meter.old meter.new }
-{
-    let mut line_parts = LineParts::new(search.alloc);
-    let mut found = Vec::new(search.alloc);
-    for file in files {
-        let Some(lines) = &file.lines else {
-            continue;
-        };
-        find_in_lines(
-            search,
-            matchers,
-            change,
-            lines,
-            &mut found,
-            &mut line_parts,
-            meter,
-        )?;
-    }
-    Ok(found)
 }
 
 /// Replaces what is kept of the lines of a session's files with what is found in them after a
@@ -180,7 +141,22 @@ pub fn find_columns(
         alloc,
         options: *options,
     };
-    let found = find_all(&search, matchers, change, files, meter)?;
+    let mut line_parts = LineParts::new(alloc);
+    let mut found = Vec::new(alloc);
+    for file in files.iter() {
+        let Some(lines) = &file.lines else {
+            continue;
+        };
+        find_in_lines(
+            &search,
+            matchers,
+            change,
+            lines,
+            &mut found,
+            &mut line_parts,
+            meter,
+        )?;
+    }
     put_columns(files, found);
     Ok(())
 }

@@ -1,5 +1,5 @@
 //! How what is found in all lines replaces what is kept of them.
-ghost use Rattle.std.specs.Prelude.{◌≡◌, List, [], map, length, drop, All};
+ghost use Rattle.std.specs.Prelude.{◌≡◌, List, map, length, drop, All};
 ghost use Rattle.std.specs.List.{AllZip};
 ghost use Rattle.std.specs.Option.{option_map};
 ghost use Rattle.std.specs.Vec.Iter.{into_iter_items};
@@ -28,20 +28,6 @@ fn put_found_in(file: &mut KeptFile, found: &mut IntoIter<Option<Found>>)
     }
 }
 
-/// Replaces what is kept of all lines of the files, in order, with what was found in them.
-fn put_all(files: &mut [KeptFile], found: Vec<Option<Found>>)
-    requires { AllZip FitsColumn (chunks_of_files files.old) found.items }
-    ensures same { map kept_file files.new ≡ map kept_file files.old }
-    ensures right { (es : List Expression) (options : Options) →
-        AllZip (IsColumn es options) (chunks_of_files files.old) found.items →
-        All (IsFileKept es options) files.new }
-{
-    let mut rest = found.into_iter();
-    for file in files.iter_mut() {
-        put_found_in(file, &mut rest);
-    }
-}
-
 /// Replaces what is kept of all lines of a session's files, in order, with what was found in them.
 pub fn put_columns(files: &mut Vec<KeptFile>, found: Vec<Option<Found>>)
     requires { AllZip FitsColumn (chunks_of_files files.old.items) found.items }
@@ -50,5 +36,8 @@ pub fn put_columns(files: &mut Vec<KeptFile>, found: Vec<Option<Found>>)
         AllZip (IsColumn es options) (chunks_of_files files.old.items) found.items →
         All (IsFileKept es options) files.new.items }
 {
-    put_all(files, found);
+    let mut rest = found.into_iter();
+    for file in files.iter_mut() {
+        put_found_in(file, &mut rest);
+    }
 }

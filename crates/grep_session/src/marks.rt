@@ -9,28 +9,12 @@ use crate::kept::KeptFile;
 use line_marks::Mark;
 use std::alloc::AllocError;
 
-/// Leaves no line of these files untouched.
-fn lose_each(marks: &mut [Mark])
-    ensures { marks.new ≡ map lost marks.old }
-{
-    for mark in marks.iter_mut() {
-        mark.lose();
-    }
-}
-
 /// Leaves no line of any file untouched.
 pub fn lose_all(marks: &mut Vec<Mark>)
     ensures { marks.new.items ≡ map lost marks.old.items }
 {
-    lose_each(marks);
-}
-
-/// Makes each mark whole: all changes of these files are reported.
-fn know_each(marks: &mut [Mark])
-    ensures { marks.new ≡ map (λ mark. whole_mark mark.lines) marks.old }
-{
     for mark in marks.iter_mut() {
-        mark.report();
+        mark.lose();
     }
 }
 
@@ -38,7 +22,9 @@ fn know_each(marks: &mut [Mark])
 pub fn know_all(marks: &mut Vec<Mark>)
     ensures { marks.new.items ≡ map (λ mark. whole_mark mark.lines) marks.old.items }
 {
-    know_each(marks);
+    for mark in marks.iter_mut() {
+        mark.report();
+    }
 }
 
 /// Notes that `count` lines of file `k` from line `start` on were replaced, and that it has `lines`

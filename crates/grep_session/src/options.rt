@@ -1,6 +1,5 @@
 //! Options by their names.
 ghost use Rattle.std.specs.Prelude.{◌≡◌, MatchBool};
-ghost use Rattle.grep_core.specs.declared.options.Flag.TheVariants.{OnlyMatching};
 ghost use Rattle.grep_session.specs.Working.Effects.{HasEffect};
 ghost use Rattle.grep_session.specs.Edits.{option_of, with_option};
 
@@ -100,7 +99,8 @@ pub fn effect_of(flag: Flag, on: bool) -> Effect
     match flag {
         Flag::IgnoreCase => Effect::Verdicts,
         Flag::LineRegexp => Effect::Verdicts,
-        Flag::OnlyMatching => effect_of_parts(on),
+        Flag::OnlyMatching if on => Effect::Parts,
+        Flag::OnlyMatching => Effect::Hits,
         Flag::Count => Effect::Output,
         Flag::FilesWithMatches => Effect::Output,
         Flag::LineNumber => Effect::Output,
@@ -108,14 +108,4 @@ pub fn effect_of(flag: Flag, on: bool) -> Effect
         Flag::NoMessages => Effect::Output,
         Flag::InvertMatch => Effect::Hits,
     }
-}
-
-// The same for `-o`.
-fn effect_of_parts(on: bool) -> Effect
-    ensures { HasEffect OnlyMatching on result }
-{
-    if on {
-        return Effect::Parts;
-    }
-    Effect::Hits
 }

@@ -1,6 +1,6 @@
 //! The texts of a pattern list, and their place in a session.
 ghost use Rattle.std.specs.Prelude.{◌≡◌, ◌≤◌, ◌<◌, ◌+◌, ◌++◌, length, map, vec_len};
-ghost use Rattle.std.specs.Prelude.{vec_capacity, MatchBool, IfOk, OnErr, slice_set};
+ghost use Rattle.std.specs.Prelude.{vec_capacity, MatchBool, IfOk};
 ghost use Rattle.re_syntax.specs.Lines.{list_of};
 ghost use Rattle.grep_session.specs.Touched.{Narrows};
 ghost use Rattle.re_syntax.specs.Profile.{most_patterns};
@@ -9,7 +9,7 @@ use crate::options::is_same;
 use crate::vec_push::push;
 use grep_core::Options;
 use memchr::memmem::Finder;
-use re_search::{Matcher, Syntax};
+use re_search::Syntax;
 use re_syntax::{MOST_PATTERNS, split_list};
 use std::alloc::{AllocError, Global};
 
@@ -59,36 +59,10 @@ pub fn narrows(syntax: Syntax, options: &Options, old: &[u8], new: &[u8]) -> boo
     Finder::new(old).find(new).is_some()
 }
 
-/// Puts a text in the place of another.
-pub fn put_text(texts: &mut Vec<Vec<u8>>, p: usize, text: Vec<u8>)
-    requires { p < length texts.old.items }
-    ensures { texts.new.items ≡ slice_set texts.old.items p text }
-{
-    texts[p] = text;
-}
-
-/// Makes room for texts.
-pub fn reserve_texts(texts: &mut Vec<Vec<u8>>, more: usize) -> Result<(), AllocError>
-    ensures items { texts.new.items ≡ texts.old.items }
-    ensures room { IfOk result (λ _. vec_len texts.new + more ≤ vec_capacity texts.new) }
-{
-    texts.try_reserve(more)?;
-    Ok(())
-}
-
 /// Adds texts, for which there is room.
 pub fn add_texts(texts: &mut Vec<Vec<u8>>, mut more: Vec<Vec<u8>>)
     requires { vec_len texts.old + vec_len more ≤ vec_capacity texts.old }
     ensures { texts.new.items ≡ texts.old.items ++ more.items }
 {
     let _ = texts.append(&mut more);
-}
-
-/// Adds matchers.
-pub fn add_matchers(matchers: &mut Vec<Matcher>, mut more: Vec<Matcher>) -> Result<(), AllocError>
-    ensures ok { IfOk result (λ _. matchers.new.items ≡ matchers.old.items ++ more.items) }
-    ensures err { OnErr result (matchers.new.items ≡ matchers.old.items) }
-{
-    matchers.append(&mut more)?;
-    Ok(())
 }

@@ -23,18 +23,6 @@ fn drop_in_file(file: &mut KeptFile, p: usize)
     }
 }
 
-/// Removes pattern `p` from what is kept of files.
-fn drop_in_files(files: &mut [KeptFile], p: usize)
-    ensures same { map kept_file files.new ≡ map kept_file files.old }
-    ensures kept { (es : List Expression) (options : Options) → p < length es →
-        options.only_matching ≡ false → All (IsFileKept es options) files.old →
-        All (IsFileKept (remove es p) options) files.new }
-{
-    for file in files.iter_mut() {
-        drop_in_file(file, p);
-    }
-}
-
 /// Removes pattern `p` from what is kept of the files of a session.
 pub fn drop_column(files: &mut Vec<KeptFile>, p: usize)
     ensures same { map kept_file files.new.items ≡ map kept_file files.old.items }
@@ -42,7 +30,9 @@ pub fn drop_column(files: &mut Vec<KeptFile>, p: usize)
         options.only_matching ≡ false → All (IsFileKept es options) files.old.items →
         All (IsFileKept (remove es p) options) files.new.items }
 {
-    drop_in_files(files, p);
+    for file in files.iter_mut() {
+        drop_in_file(file, p);
+    }
 }
 
 /// Puts a removed matcher back in its place. There is room for it.
@@ -61,12 +51,4 @@ pub fn exchange(matchers: &mut Vec<Matcher>, p: usize, new: Matcher) -> Matcher
     ensures gone { result ≡ get_or matchers.old.items p result }
 {
     replace(&mut matchers[p], new)
-}
-
-/// Puts a replaced matcher back in its place.
-pub fn put_again(matchers: &mut Vec<Matcher>, p: usize, gone: Matcher)
-    requires { p < length matchers.old.items }
-    ensures { matchers.new.items ≡ slice_set matchers.old.items p gone }
-{
-    matchers[p] = gone;
 }

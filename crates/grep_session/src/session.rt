@@ -1,18 +1,12 @@
 //! A session.
-ghost use Rattle.std.specs.Prelude.{◌≡◌, ◌≢◌, ◌≤◌, ◌<◌, Ok, false, length, map};
-ghost use Rattle.std.specs.Prelude.{IsTrue, IfErr, MatchBool, [], ◌∷◌, get_or};
-ghost use Rattle.grep_core.specs.Working.MatcherLists.{AreMatchers};
-ghost use Rattle.grep_session.specs.Working.Rooms.{KeepAtMost};
+ghost use Rattle.std.specs.Prelude.{◌≡◌, ◌≢◌, ◌≤◌, Ok, length, IsTrue, IfErr};
 ghost use Rattle.grep_session.specs.declared.fault.EditFault.TheVariants.{Memory};
 ghost use Rattle.grep_session.specs.Edits.{Edit, AddFile, AddMissing, DropFile, Splice};
 ghost use Rattle.grep_session.specs.Edits.{AddPatterns, DropPattern, ChangePattern, SetFlag};
 ghost use Rattle.grep_session.specs.Edits.{SetSyntax, SetContext, EditGives, Applies};
-ghost use Rattle.grep_session.specs.Edits.{with_patterns};
-ghost use Rattle.std.specs.List.{remove};
 ghost use Rattle.re_syntax.specs.Profile.{most_states};
 ghost use Rattle.grep_session.specs.Touched.{TakesSteps, NeedsNoMemory, Touches, searched_by};
-ghost use Rattle.grep_session.specs.Touched.{parts_alone, all_lines, Narrows};
-ghost use Rattle.line_marks.specs.Stretches.{lost};
+ghost use Rattle.grep_session.specs.Touched.{parts_alone, all_lines};
 ghost use Rattle.grep_session.specs.Marks.{new_watched, all_known, MarksGiven};
 ghost use Rattle.grep_session.specs.Working.Sessions.{LosesMarks};
 ghost use Rattle.grep_session.specs.Working.Again.{ReadsAgain, AreReadable, read_as};
@@ -28,10 +22,8 @@ use crate::marks::{know_all, lose_all, push_file, touch};
 use crate::new_lines::NewLines;
 use crate::options::{Effect, effect_of, is_same, option_of, with_option};
 use crate::pattern_matchers::{read_matcher, read_matchers};
-use crate::patterns::{
-    add_matchers, add_texts, is_text, narrows, put_text, reserve_texts, texts_of, too_many,
-};
-use crate::removal::{drop_column, exchange, put_again, put_back};
+use crate::patterns::{add_texts, is_text, narrows, texts_of, too_many};
+use crate::removal::{drop_column, exchange, put_back};
 use crate::replaced_lines::{find_place, put_in};
 use crate::search::search_new;
 use grep_core::{Context, Flag, Options};
@@ -382,7 +374,7 @@ impl Session {
             Ok(texts) => texts,
             Err(_) => return Err(EditFault::Memory),
         };
-        let matchers = match read_matchers(
+        let mut more = match read_matchers(
             self.alloc,
             &texts,
             self.syntax,
@@ -392,12 +384,12 @@ impl Session {
             Ok(matchers) => matchers,
             Err(fault) => return Err(fault),
         };
-        match reserve_texts(&mut self.texts, texts.len()) {
+        match self.texts.try_reserve(texts.len()) {
             Ok(()) => {}
             Err(_) => return Err(EditFault::Memory),
         }
         let first = self.matchers.len();
-        match add_matchers(&mut self.matchers, matchers) {
+        match self.matchers.append(&mut more) {
             Ok(()) => {}
             Err(_) => return Err(EditFault::Memory),
         }
@@ -438,21 +430,13 @@ impl Session {
         if p >= self.texts.len() {
             return Err(EditFault::NoSuchPattern);
         }
-        if self.options.only_matching {
-            return self.drop_with_parts(p, meter);
+        if !self.options.only_matching {
+            drop_column(&mut self.files, p);
+            self.matchers.remove(p);
+            self.texts.remove(p);
+            lose_all(&mut self.marks);
+            return Ok(());
         }
-        self.drop_without_parts(p);
-        Ok(())
-    }
-
-    /// Removes pattern `p`, and searches the parts of the lines that it matched.
-    fn drop_with_parts(&mut self, p: usize, meter: &mut Meter) -> Result<(), EditFault>
-        requires within { p < length self.old.inputs.patterns }
-        ensures gives { EditGives (DropPattern p) self.old.inputs self.new.inputs result }
-        ensures same_states { self.new.states ≡ self.old.states }
-        ensures marks { MarksGiven (DropPattern p) self.old self.new.marks result }
-        ensures steps { TakesSteps (DropPattern p) self.old.inputs meter.old meter.new }
-    {
         let gone = self.matchers.remove(p);
         let change = Change::Dropped(p);
         match find_columns(
@@ -516,36 +500,6 @@ impl Session {
             Err(fault) => return Err(fault),
         };
         let narrower = narrows(self.syntax, &self.options, &self.texts[p], &text);
-        self.replace_pattern(p, text, matcher, narrower, meter)
-    }
-
-    /// Puts another text and its matcher in the place of pattern `p`; `narrower` says whether it is
-    /// known to match no line that the old one doesn't.
-    fn replace_pattern(
-        &mut self,
-        p: usize,
-        text: Vec<u8>,
-        matcher: Matcher,
-        narrower: bool,
-        meter: &mut Meter,
-    ) -> Result<(), EditFault>
-        requires within { p < length self.old.inputs.patterns }
-        requires other { text.items ≢ get_or self.old.inputs.patterns p [] }
-        requires narrower { MatchBool narrower
-            (Narrows self.old.inputs.syntax self.old.inputs.options
-            (get_or self.old.inputs.patterns p []) text.items)
-            (Narrows self.old.inputs.syntax self.old.inputs.options
-            (get_or self.old.inputs.patterns p []) text.items → ⊥) }
-        requires is_new { AreMatchers self.old.inputs.syntax self.old.inputs.options
-            (text.items ∷ []) (matcher ∷ []) }
-        requires few { KeepAtMost self.old.states (matcher ∷ []) }
-        ensures gives { EditGives (ChangePattern p text.items) self.old.inputs self.new.inputs
-            result }
-        ensures same_states { self.new.states ≡ self.old.states }
-        ensures marks { MarksGiven (ChangePattern p text.items) self.old self.new.marks result }
-        ensures steps { TakesSteps (ChangePattern p text.items) self.old.inputs meter.old
-            meter.new }
-    {
         let gone = exchange(&mut self.matchers, p, matcher);
         let change = Change::Replaced(p, narrower);
         match find_columns(
@@ -558,27 +512,12 @@ impl Session {
         ) {
             Ok(()) => {}
             Err(_) => {
-                put_again(&mut self.matchers, p, gone);
+                exchange(&mut self.matchers, p, gone);
                 return Err(EditFault::Memory);
             }
         }
-        put_text(&mut self.texts, p, text);
+        self.texts[p] = text;
         lose_all(&mut self.marks);
         Ok(())
-    }
-
-    /// Removes pattern `p` where no parts are kept; later patterns move up. Nothing is allocated.
-    fn drop_without_parts(&mut self, p: usize)
-        requires within { p < length self.old.inputs.patterns }
-        requires no_parts { self.old.inputs.options.only_matching ≡ false }
-        ensures inputs { self.new.inputs ≡
-            with_patterns (remove self.old.inputs.patterns p) self.old.inputs }
-        ensures same_states { self.new.states ≡ self.old.states }
-        ensures marks { self.new.marks ≡ map lost self.old.marks }
-    {
-        drop_column(&mut self.files, p);
-        self.matchers.remove(p);
-        self.texts.remove(p);
-        lose_all(&mut self.marks);
     }
 }

@@ -1,5 +1,5 @@
 -- A pattern is removed, and the numbers of those that match a line stay right.
-use Rattle.grep_session.proofs.Prelude.{Option, Some, IfSome, ◌≡◌, ℕ, zero, suc, ◌+◌, ◌-◌, ◌<◌, ◌≤◌, Bool, MatchBool, All, true, false, not, List, [], ◌∷◌, ◌++◌, inl, inr, length, map, take, drop, nat_eq, nat_lt, cond, if◌then◌else◌, refl, sym, ap, subst, ◌∙◌, arith, set, option_map, AllWithin, AllZip, remove, filter, Syntax, IsMeant, Matcher, IsReadable, matched_expression, wants_whole, AllAnswer, AreMeant, whole, AreParts, Options, KeptLine, all_of, line_text, line_without, Text, Expression, Matches, IfHolds, lowered, without, AreMatching, IsKept, span_places, file_with, AreMatchers, All-append, All-take, All-drop, All-map, All-weaker, get_or-set_other, map-append, nat_tests}
+use Rattle.grep_session.proofs.Prelude.{Option, Some, IfSome, ◌≡◌, ℕ, zero, suc, ◌+◌, ◌-◌, ◌<◌, ◌≤◌, Bool, MatchBool, All, true, false, not, List, [], ◌∷◌, ◌++◌, inl, inr, length, map, take, drop, nat_eq, nat_lt, cond, if◌then◌else◌, refl, sym, ap, subst, ◌∙◌, arith, set, option_map, AllWithin, AllZip, remove, filter, Syntax, IsMeant, Matcher, IsReadable, matched_expression, wants_whole, AllAnswer, AreMeant, whole, AreParts, Options, KeptLine, all_of, line_text, line_without, Text, Expression, Matches, IfHolds, lowered, without, AreMatching, IsKept, span_places, file_with, AreMatchers, All-append, All-take, All-drop, All-map, All-weaker, get_or-set_other, map-append, nat_tests, length-append, length-take, length-drop}
 use Rattle.grep_session.proofs.lemmas.SessionLemmas.{map-remove}
 use Rattle.std.specs.Bool.{⊤}
 
@@ -109,13 +109,15 @@ AllZip-remove P (x ∷ xs) [] k h = absurd h
 AllZip-remove P (x ∷ xs) (y ∷ ys) zero h = h.1
 AllZip-remove P (x ∷ xs) (y ∷ ys) (suc k) h = (h.0, AllZip-remove P xs ys k h.1)
 
+-- as many are left
+pub length-remove : {X : Type 0} (xs : List X) (k : ℕ) → k < length xs → length (remove xs k) + 1 ≡ length xs
+length-remove xs k h = omega (arith, h, length-append (take k xs) (drop (suc k) xs), length-take k xs, length-drop (suc k) xs)
+
 -- the matchers without one are those of the patterns without one
-pub AreMatchers-remove : (syntax : Syntax) (options : Options) (texts fewer : List Text) (old new : List Matcher) (p : ℕ) → fewer ≡ remove texts p → new ≡ remove old p → length new ≡ length fewer → AreMatchers syntax options texts old → AreMatchers syntax options fewer new
-AreMatchers-remove syntax options texts fewer old new p gone left many s = record {
-  meant =
-      subst (λ ts. AreMeant syntax options ts (map matched_expression new)) (sym gone)
-      (subst (AreMeant syntax options (remove texts p)) (sym (map-remove matched_expression old new p left)) (AllZip-remove (λ text e. IsMeant syntax options.ignore_case text e) texts (map matched_expression old) p s.meant));
+pub AreMatchers-remove : (syntax : Syntax) (options : Options) (texts : List Text) (old new : List Matcher) (p : ℕ) → p < length texts → new ≡ remove old p → AreMatchers syntax options texts old → AreMatchers syntax options (remove texts p) new
+AreMatchers-remove syntax options texts old new p within left s = record {
+  meant = subst (AreMeant syntax options (remove texts p)) (sym (map-remove matched_expression old new p left)) (AllZip-remove (λ text e. IsMeant syntax options.ignore_case text e) texts (map matched_expression old) p s.meant);
   wholes = subst (AllAnswer options.line_regexp) (sym (map-remove wants_whole old new p left)) (All-remove (λ w. w ≡ options.line_regexp) (map wants_whole old) p s.wholes);
-  readable = subst (All (IsReadable syntax options.ignore_case)) (sym gone) (All-remove (IsReadable syntax options.ignore_case) texts p s.readable);
-  counted = many;
+  readable = All-remove (IsReadable syntax options.ignore_case) texts p s.readable;
+  counted = omega (arith, within, s.counted, ap length left, length-remove old p (omega (arith, within, s.counted)), length-remove texts p within);
 }

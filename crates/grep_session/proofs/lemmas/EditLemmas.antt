@@ -1,7 +1,8 @@
 -- How an edit changes a session's inputs, and what is kept.
-use Rattle.grep_session.proofs.Prelude.{◌≡◌, ◌≢◌, ℕ, suc, ◌+◌, ◌<◌, ◌≤◌, List, [], ◌∷◌, ◌++◌, length, map, take, drop, Option, Some, None, Ok, IfSome, inl, inr, refl, sym, ap, subst, ◌∙◌, All, get_or, slice_set, arith, set, map-set_same, map-set, length-map, All-append, All-take, All-drop, All-set, splice, option_map, Syntax, Text, Expression, HasNoNewline, Matcher, matched_expression, wants_whole, AllAnswer, Steps, Options, File, Inputs, AreMeant, whole, missing, file_at, most_patterns, KeptFile, Inside, AreSame, Rebuild, SearchesEach, IsSession, inputs_of, AreFit, KeptLine, line_text, AddFile, Splice, Applies, spliced, whole_file, with_files, IsKept, IsFileKept, kept_file, kept_lines, file_with, AreMatchers, HasPlace, TakesSteps, NeedsNoMemory}
+use Rattle.grep_session.proofs.Prelude.{◌≡◌, ◌≢◌, ℕ, suc, ◌+◌, ◌<◌, ◌≤◌, List, [], ◌∷◌, ◌++◌, length, map, take, drop, Option, Some, None, Ok, IfSome, inl, inr, refl, sym, ap, subst, ◌∙◌, All, get_or, slice_set, arith, set, map-set_same, map-set, length-map, All-append, All-take, All-drop, All-set, splice, option_map, Syntax, Text, Expression, HasNoNewline, Matcher, matched_expression, wants_whole, AllAnswer, Steps, Options, File, Inputs, AreMeant, whole, missing, file_at, most_patterns, KeptFile, Inside, AreSame, Rebuild, SearchesEach, IsSession, inputs_of, AreFit, KeptLine, line_text, AddFile, Splice, Applies, spliced, whole_file, with_files, IsKept, IsFileKept, kept_file, kept_lines, file_with, AreMatchers, HasPlace, TakesSteps, NeedsNoMemory, KeepAtMost, lost}
 use Rattle.std.proofs.lemmas.List.{get_or-map}
 use Rattle.grep_core.proofs.lemmas.CostLaws.{same_length}
+use Rattle.grep_session.proofs.lemmas.FitLemmas.{fit_as, fit_lose}
 use Rattle.grep_session.proofs.lemmas.RoomLemmas.{keep_same}
 use Rattle.grep_session.proofs.lemmas.StepLemmas.{takes_lines}
 use Rattle.grep_session.proofs.lemmas.SessionLemmas.{map-splice}
@@ -29,6 +30,25 @@ asked_session s t is texts old same kept fit = subst IsSession (sym is) (record 
   some_states = old.some_states;
   few_states = old.few_states;
   fit = fit;
+})
+
+-- nothing of its files and marks changed
+pub left_session : (s t : Inside) → t ≡ record s { texts = t.texts; matchers = t.matchers; files = t.files; marks = t.marks } → t.texts.items ≡ s.texts.items → IsSession s → AreSame s.matchers.items t.matchers.items → t.files.items ≡ s.files.items → t.marks.items ≡ s.marks.items → IsSession t
+left_session s t is texts old same files marks =
+    asked_session s t is texts old same (subst (All (IsFileKept (map matched_expression s.matchers.items) s.options)) (sym files) old.kept) (fit_as (map kept_file s.files.items) _ s.marks.items _ (ap (map kept_file) files) marks old.fit)
+
+-- a session with other patterns, after all was searched that these ask for
+pub searched_session : (s t : Inside) (syntax : Syntax) (options : Options) (texts : List Text) (all : List Matcher) → t ≡ record s { syntax = syntax; options = options; texts = t.texts; matchers = t.matchers; files = t.files; marks = t.marks } → map (λ text. text.items) t.texts.items ≡ texts → IsSession s
+    → AreMatchers syntax options texts all → length all ≤ most_patterns → KeepAtMost s.states all → AreSame all t.matchers.items → All (IsFileKept (map matched_expression t.matchers.items) options) t.files.items → map kept_file t.files.items ≡ map kept_file s.files.items
+    → t.marks.items ≡ map lost s.marks.items → IsSession t
+searched_session s t syntax options texts all is read old made few rooms same kept files marks = subst IsSession (sym is) (record {
+  matchers = subst (λ ts. AreMatchers syntax options ts t.matchers.items) (sym read) (AreMatchers-same syntax options texts all t.matchers.items made same.same_expressions same.same_wholes);
+  few = subst (λ n. n ≤ most_patterns) (sym (same_length matched_expression _ _ same.same_expressions)) few;
+  kept = kept;
+  rooms = keep_same s.states all t.matchers.items same.same_rooms rooms;
+  some_states = old.some_states;
+  few_states = old.few_states;
+  fit = fit_lose (map kept_file s.files.items) _ s.marks.items _ files marks old.fit;
 })
 
 -- ---- lines that are replaced

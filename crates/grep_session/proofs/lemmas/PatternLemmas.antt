@@ -1,11 +1,13 @@
 -- A pattern is removed where parts are kept: the steps that this takes, and how it is put back.
-use Rattle.grep_session.proofs.Prelude.{◌≡◌, ℕ, zero, suc, ◌<◌, List, [], ◌∷◌, ◌++◌, inl, inr, length, map, take, drop, get_or, refl, sym, ap, subst, ◌∙◌, arith, map-append, length-map, AllZip, remove, insert, take-map, drop-map, Expression, Matches, IsMeant, Steps, IfHolds, Chosen, Inputs, AreMeant, Matched, Matcher, matched_expression, room_of, wants_whole, Dropped, HasChanged, SearchesEach, AreSame, DropPattern, with_patterns, TakesSteps, parts_alone, all_lines, Inside, IsSession, inputs_of}
+use Rattle.grep_session.proofs.Prelude.{◌≡◌, ℕ, zero, suc, ◌<◌, List, [], ◌∷◌, ◌++◌, inl, inr, length, map, take, drop, get_or, refl, sym, ap, subst, ◌∙◌, arith, map-append, length-map, AllZip, remove, insert, take-map, drop-map, Expression, Matches, IsMeant, Steps, IfHolds, Chosen, Inputs, AreMeant, Matched, Matcher, matched_expression, room_of, wants_whole, Dropped, HasChanged, SearchesEach, AreSame, DropPattern, with_patterns, TakesSteps, parts_alone, all_lines, Inside, IsSession, inputs_of, ◌≤◌, All, IsFileKept, kept_file, lost, most_patterns}
 use Rattle.std.proofs.lemmas.List.{get_or-map}
 use Rattle.re_syntax.proofs.lemmas.Decisions.{Any-first}
 use Rattle.re_syntax.proofs.lemmas.SomeOfJoined.{Any-single}
 use Rattle.grep_session.proofs.lemmas.SessionLemmas.{map-remove}
 use Rattle.grep_session.proofs.lemmas.StepLemmas.{pairs_cost-none, takes_touched}
-use Rattle.grep_session.proofs.lemmas.DroppingLemmas.{AllZip-remove}
+use Rattle.grep_session.proofs.lemmas.DroppingLemmas.{AllZip-remove, AreMatchers-remove, length-remove}
+use Rattle.grep_session.proofs.lemmas.EditLemmas.{searched_session}
+use Rattle.grep_session.proofs.lemmas.RoomLemmas.{keep_without}
 
 -- two lists at one place
 AllZip-at : {X Y : Type 0} (P : X → Y → Type 0) (xs : List X) (ys : List Y) (k : ℕ) (d : X) (e : Y) → AllZip P xs ys → k < length xs → P (get_or xs k d) (get_or ys k e)
@@ -30,6 +32,13 @@ module _ (s : Inside) (p : ℕ) (old : IsSession s) (inside : p < length (inputs
   has_dropped gone left at rest =
       let among : p < length (map matched_expression s.matchers.items) = omega (arith, has_matcher, length-map s.matchers.items matched_expression) in
       (matched_expression gone, among, ap matched_expression at ∙ sym (get_or-map matched_expression s.matchers.items p gone (matched_expression gone) has_matcher), map-remove matched_expression s.matchers.items left p rest, refl)
+
+  -- the session without it, of which all was searched that has to be
+  pub dropped_session : (t : Inside) (left : List Matcher) → t ≡ record s { texts = t.texts; matchers = t.matchers; files = t.files; marks = t.marks } → t.texts.items ≡ remove s.texts.items p → left ≡ remove s.matchers.items p → AreSame left t.matchers.items
+      → All (IsFileKept (map matched_expression t.matchers.items) s.options) t.files.items → map kept_file t.files.items ≡ map kept_file s.files.items → t.marks.items ≡ map lost s.marks.items → IsSession t
+  dropped_session t left is texts rest same kept files marks =
+      let few : length left ≤ most_patterns = omega (arith, old.few, ap length rest, length-remove s.matchers.items p has_matcher) in
+      searched_session s t s.syntax s.options _ left is (map-remove (λ text. text.items) s.texts.items t.texts.items p texts) old (AreMatchers-remove s.syntax s.options _ s.matchers.items left p inside rest old.matchers) few (keep_without s.states s.matchers.items left p rest old.rooms) same kept files marks
 
 -- the parts of the lines that the removed pattern matched were searched
 pub takes_drop : (p : ℕ) (old : Inputs) (es before : List Expression) (e : Expression) (begun ended : Steps) → p < length old.patterns → AreMeant old.syntax old.options old.patterns before → HasChanged (Dropped p) es before (e ∷ []) old.options

@@ -1,75 +1,93 @@
 -- Another pattern is put in the place of one: the matchers after that, and the steps that it takes.
-use Rattle.grep_session.proofs.Prelude.{Bool, true, false, false≢true, MatchBool, Matches, Matched, Chosen, IfHolds, IsSought, IsNarrower, Narrows, ◌≡◌, ℕ, zero, suc, ◌<◌, ◌≤◌, List, [], ◌∷◌, Ok, Err, All, All-cons, All-head, All-nil, All-set, inl, inr, length, map, get_or, refl, sym, ap, subst, ◌∙◌, arith, set, map-set, length-map, slice_set, Text, Expression, IsMeant, Matcher, IsReadable, AllAnswer, matched_expression, room_of, wants_whole, Steps, Inputs, AreMeant, Replaced, EditFault, HasChanged, SearchesEach, AreSame, IsSession, inputs_of, Inside, Applies, ChangePattern, EditGives, with_patterns, AreMatchers, RefusesFirst, TakesSteps, KeepAtMost, all_lines}
+use Rattle.grep_session.proofs.Prelude.{Bool, true, false, false≢true, MatchBool, Matches, Matched, Chosen, IfHolds, IsSought, IsNarrower, Narrows, ◌≡◌, ℕ, zero, suc, ◌<◌, ◌≤◌, List, [], ◌∷◌, Ok, Err, All, All-cons, All-head, All-nil, All-set, inl, inr, length, map, get_or, refl, sym, ap, subst, ◌∙◌, arith, set, map-set, length-map, slice_set, Text, Expression, IsMeant, Matcher, IsReadable, AllAnswer, matched_expression, room_of, wants_whole, Steps, Inputs, AreMeant, Replaced, EditFault, HasChanged, SearchesEach, AreSame, IsSession, inputs_of, Inside, Applies, ChangePattern, EditGives, with_patterns, AreMatchers, RefusesFirst, TakesSteps, KeepAtMost, all_lines, IsFileKept, kept_file, lost, most_patterns}
 use Rattle.std.proofs.lemmas.List.{get_or-map, length-set, set-get_or}
 use Rattle.re_syntax.proofs.lemmas.Decisions.{Any-first}
 use Rattle.re_syntax.proofs.lemmas.SomeOfJoined.{Any-single}
+use Rattle.grep_session.proofs.lemmas.EditLemmas.{searched_session}
 use Rattle.grep_session.proofs.lemmas.StepLemmas.{chosen_all, takes_touched}
 use Rattle.grep_session.proofs.lemmas.FitLemmas.{zip-at, zip-set}
 use Rattle.grep_session.proofs.lemmas.PatternLemmas.{Chosen-as, has_matcher}
 use Rattle.grep_session.proofs.lemmas.NarrowingLemmas.{narrower_string}
 
-module _ (s : Inside) (p : ℕ) (text : Text) (matcher : Matcher) (old : IsSession s) (inside : p < length (inputs_of s).patterns) (new : AreMatchers s.syntax s.options (text ∷ []) (matcher ∷ [])) where
-  -- whether the new text narrows
-  abbrev pub NarrowsIf : Bool → Type 0
-  NarrowsIf narrower = MatchBool narrower (Narrows s.syntax s.options (get_or (inputs_of s).patterns p []) text) (Narrows s.syntax s.options (get_or (inputs_of s).patterns p []) text → ⊥)
+-- whether a text narrows the pattern in whose place it is put
+abbrev pub NarrowsIf : Inside → ℕ → Text → Bool → Type 0
+NarrowsIf s p text narrower = MatchBool narrower (Narrows s.syntax s.options (get_or (inputs_of s).patterns p []) text) (Narrows s.syntax s.options (get_or (inputs_of s).patterns p []) text → ⊥)
 
-  was_at : (gone : Matcher) → gone ≡ get_or s.matchers.items p gone → get_or (map matched_expression s.matchers.items) p (matched_expression gone) ≡ matched_expression gone
-  was_at gone at = get_or-map matched_expression s.matchers.items p gone (matched_expression gone) (has_matcher s p old inside) ∙ ap matched_expression (sym at)
+-- matcher and text of another pattern are put in the place of one
+pub record IsPut (s : Inside) (p : ℕ) (text : Text) (narrower : Bool) (matcher gone : Matcher) (all : List Matcher) : Type 0 where
+  pub old : IsSession s
+  pub inside : p < length (inputs_of s).patterns
+  pub other : text ≡ get_or (inputs_of s).patterns p [] → ⊥
+  pub narrows : NarrowsIf s p text narrower
+  pub new : AreMatchers s.syntax s.options (text ∷ []) (matcher ∷ [])
+  pub few : KeepAtMost s.states (matcher ∷ [])
+  pub at : gone ≡ get_or s.matchers.items p gone
+  pub put : all ≡ slice_set s.matchers.items p matcher
+
+module _ {s : Inside} {p : ℕ} {text : Text} {narrower : Bool} {matcher gone : Matcher} {all : List Matcher} (i : IsPut s p text narrower matcher gone all) where
+  pub has_place : p < length s.matchers.items
+  has_place = has_matcher s p i.old i.inside
+
+  was_at : get_or (map matched_expression s.matchers.items) p (matched_expression gone) ≡ matched_expression gone
+  was_at = get_or-map matched_expression s.matchers.items p gone (matched_expression gone) has_place ∙ ap matched_expression (sym i.at)
 
   -- the expression that the replaced one was read as
-  was_meant : (gone : Matcher) → gone ≡ get_or s.matchers.items p gone → IsMeant s.syntax s.options.ignore_case (get_or (inputs_of s).patterns p []) (matched_expression gone)
-  was_meant gone at =
-      subst (IsMeant s.syntax s.options.ignore_case (get_or (inputs_of s).patterns p [])) (was_at gone at) (zip-at (λ text e. IsMeant s.syntax s.options.ignore_case text e) (inputs_of s).patterns (map matched_expression s.matchers.items) p [] (matched_expression gone) inside old.matchers.meant)
+  was_meant : IsMeant s.syntax s.options.ignore_case (get_or (inputs_of s).patterns p []) (matched_expression gone)
+  was_meant =
+      subst (IsMeant s.syntax s.options.ignore_case (get_or (inputs_of s).patterns p [])) was_at (zip-at (λ text e. IsMeant s.syntax s.options.ignore_case text e) (inputs_of s).patterns (map matched_expression s.matchers.items) p [] (matched_expression gone) i.inside i.old.matchers.meant)
 
-  -- a narrower text has a narrower expression
-  is_narrow : (narrower : Bool) (gone : Matcher) → gone ≡ get_or s.matchers.items p gone → NarrowsIf narrower → narrower ≡ true → IsNarrower (matched_expression matcher) (matched_expression gone) s.options
-  is_narrow true gone at narrows on = narrower_string s.syntax s.options (get_or (inputs_of s).patterns p []) text (matched_expression gone) (matched_expression matcher) narrows (was_meant gone at) new.meant.0
-  is_narrow false gone at narrows on = absurd (false≢true on)
+  pub has_put : HasChanged (Replaced p narrower) (map matched_expression all) (map matched_expression s.matchers.items) (matched_expression gone ∷ matched_expression matcher ∷ []) s.options
+  has_put =
+      let among : p < length (map matched_expression s.matchers.items) = omega (arith, has_place, length-map s.matchers.items matched_expression) in
+      (matched_expression gone, matched_expression matcher, among, sym was_at, ap (map matched_expression) i.put ∙ map-set matched_expression s.matchers.items p matcher, refl, is_narrow narrower i.narrows)
+    where
+      is_narrow : (n : Bool) → NarrowsIf s p text n → n ≡ true → IsNarrower (matched_expression matcher) (matched_expression gone) s.options
+      is_narrow true narrows on = narrower_string s.syntax s.options (get_or (inputs_of s).patterns p []) text (matched_expression gone) (matched_expression matcher) narrows was_meant i.new.meant.0
+      is_narrow false narrows on = absurd (false≢true on)
 
-  pub has_put : (narrower : Bool) (gone : Matcher) (all : List Matcher) → gone ≡ get_or s.matchers.items p gone → all ≡ slice_set s.matchers.items p matcher → NarrowsIf narrower
-      → HasChanged (Replaced p narrower) (map matched_expression all) (map matched_expression s.matchers.items) (matched_expression gone ∷ matched_expression matcher ∷ []) s.options
-  has_put narrower gone all at put narrows =
-      let among : p < length (map matched_expression s.matchers.items) = omega (arith, has_matcher s p old inside, length-map s.matchers.items matched_expression) in
-      (matched_expression gone, matched_expression matcher, among, sym (was_at gone at), ap (map matched_expression) put ∙ map-set matched_expression s.matchers.items p matcher, refl, is_narrow narrower gone at narrows)
+  pub many : length all ≡ length s.matchers.items
+  many = ap length i.put ∙ length-set s.matchers.items p matcher
 
   -- the matchers are those of the patterns
-  pub are_put : (all : List Matcher) → all ≡ slice_set s.matchers.items p matcher → AreMatchers s.syntax s.options (slice_set (inputs_of s).patterns p text) all
-  are_put all put =
+  pub are_put : AreMatchers s.syntax s.options (slice_set (inputs_of s).patterns p text) all
+  are_put =
       let patterns = (inputs_of s).patterns in
       let whole = s.options.line_regexp in
+      let Readable : Text → Type 0 = IsReadable s.syntax s.options.ignore_case in
       record {
         meant =
-            subst (AreMeant s.syntax s.options (slice_set patterns p text)) (sym (ap (map matched_expression) put ∙ map-set matched_expression s.matchers.items p matcher))
-            (zip-set (λ text e. IsMeant s.syntax s.options.ignore_case text e) patterns (map matched_expression s.matchers.items) p text (matched_expression matcher) old.matchers.meant new.meant.0);
+            subst (AreMeant s.syntax s.options (slice_set patterns p text)) (sym (ap (map matched_expression) i.put ∙ map-set matched_expression s.matchers.items p matcher))
+            (zip-set (λ text e. IsMeant s.syntax s.options.ignore_case text e) patterns (map matched_expression s.matchers.items) p text (matched_expression matcher) i.old.matchers.meant i.new.meant.0);
         wholes =
-            subst (AllAnswer whole) (sym (ap (map wants_whole) put ∙ map-set wants_whole s.matchers.items p matcher))
-            (All-set (λ w. w ≡ whole) (map wants_whole s.matchers.items) p (wants_whole matcher) (All-head (λ w. w ≡ whole) (wants_whole matcher) [] new.wholes) old.matchers.wholes);
-        readable = All-set (IsReadable s.syntax s.options.ignore_case) patterns p text (All-head (IsReadable s.syntax s.options.ignore_case) text [] new.readable) old.matchers.readable;
-        counted = ap length put ∙ length-set s.matchers.items p matcher ∙ old.matchers.counted ∙ sym (length-set patterns p text);
+            subst (AllAnswer whole) (sym (ap (map wants_whole) i.put ∙ map-set wants_whole s.matchers.items p matcher))
+            (All-set (λ w. w ≡ whole) (map wants_whole s.matchers.items) p (wants_whole matcher) (All-head (λ w. w ≡ whole) (wants_whole matcher) [] i.new.wholes) i.old.matchers.wholes);
+        readable = All-set Readable patterns p text (All-head Readable text [] i.new.readable) i.old.matchers.readable;
+        counted = many ∙ i.old.matchers.counted ∙ sym (length-set patterns p text);
       }
 
-  -- they may keep no more than any
-  pub keep_put : (all : List Matcher) → all ≡ slice_set s.matchers.items p matcher → KeepAtMost s.states (matcher ∷ []) → KeepAtMost s.states all
-  keep_put all put few =
-      subst (All (λ room. room ≤ s.states)) (sym (ap (map room_of) put ∙ map-set room_of s.matchers.items p matcher))
-      (All-set (λ room. room ≤ s.states) (map room_of s.matchers.items) p (room_of matcher) (All-head (λ room. room ≤ s.states) (room_of matcher) [] few) old.rooms)
+  -- the session after it, where all was searched
+  pub put_session : (t : Inside) → t ≡ record s { texts = t.texts; matchers = t.matchers; files = t.files; marks = t.marks } → map (λ text. text.items) t.texts.items ≡ slice_set (inputs_of s).patterns p text → AreSame all t.matchers.items
+      → All (IsFileKept (map matched_expression t.matchers.items) s.options) t.files.items → map kept_file t.files.items ≡ map kept_file s.files.items → t.marks.items ≡ map lost s.marks.items → IsSession t
+  put_session t is texts same kept files marks =
+      let rooms = subst (All (λ room. room ≤ s.states)) (sym (ap (map room_of) i.put ∙ map-set room_of s.matchers.items p matcher))
+      (All-set (λ room. room ≤ s.states) (map room_of s.matchers.items) p (room_of matcher) (All-head (λ room. room ≤ s.states) (room_of matcher) [] i.few) i.old.rooms) in
+      searched_session s t s.syntax s.options _ all is texts i.old are_put (subst (λ n. n ≤ most_patterns) (sym many) i.old.few) rooms same kept files marks
 
   -- the lines that were searched by the new pattern
-  put_paired : (narrower : Bool) (gone : Matcher) (lines paired : List Text) → NarrowsIf narrower → Chosen (IsSought (Replaced p narrower) (matched_expression gone ∷ matched_expression matcher ∷ []) s.options) lines paired
+  put_paired : (n : Bool) (lines paired : List Text) → NarrowsIf s p text n → Chosen (IsSought (Replaced p n) (matched_expression gone ∷ matched_expression matcher ∷ []) s.options) lines paired
       → IfHolds (Narrows s.syntax s.options (get_or (inputs_of s).patterns p []) text) (Chosen (λ line. Matches (matched_expression gone) line s.options.line_regexp) lines paired) (paired ≡ lines)
-  put_paired true gone lines paired narrows chosen =
+  put_paired true lines paired narrows chosen =
       let Matched_by : Text → Expression → Type 0 = λ line e. Matches e line s.options.line_regexp in
       let e = matched_expression gone in
       inl (narrows, Chosen-as (λ line. Matched (e ∷ []) s.options line) (λ line. Matches e line s.options.line_regexp) (λ line m. Any-single (Matched_by line) e m) (λ line m. Any-first (Matched_by line) e [] m) lines paired chosen)
-  put_paired false gone lines paired narrows chosen = inr (narrows, chosen_all (IsSought (Replaced p false) (matched_expression gone ∷ matched_expression matcher ∷ []) s.options) lines paired (λ line. tt) chosen)
+  put_paired false lines paired narrows chosen = inr (narrows, chosen_all (IsSought (Replaced p false) (matched_expression gone ∷ matched_expression matcher ∷ []) s.options) lines paired (λ line. tt) chosen)
 
   -- these lines were searched by the new pattern, and those that it or the old one matches for parts
-  pub takes_put : (narrower : Bool) (gone : Matcher) (all : List Matcher) (begun ended : Steps) → NarrowsIf narrower → gone ≡ get_or s.matchers.items p gone → all ≡ slice_set s.matchers.items p matcher → (text ≡ get_or (inputs_of s).patterns p [] → ⊥)
-      → SearchesEach (Replaced p narrower) (matched_expression gone ∷ matched_expression matcher ∷ []) (map matched_expression all) s.options (all_lines (inputs_of s)) begun ended → TakesSteps (ChangePattern p text) (inputs_of s) begun ended
-  takes_put narrower gone all begun ended narrows at put other searched =
+  pub takes_put : (begun ended : Steps) → SearchesEach (Replaced p narrower) (matched_expression gone ∷ matched_expression matcher ∷ []) (map matched_expression all) s.options (all_lines (inputs_of s)) begun ended → TakesSteps (ChangePattern p text) (inputs_of s) begun ended
+  takes_put begun ended searched =
       let inputs = inputs_of s in
-      takes_touched (ChangePattern p text) inputs (with_patterns (slice_set inputs.patterns p text) inputs) (Replaced p narrower) (matched_expression gone ∷ matched_expression matcher ∷ []) (map matched_expression all) (all_lines inputs) begun ended (inl (inside, inl (new.readable, refl))) (are_put all put).meant searched (λ paired parted c d.
-      (record { patterns = 1; paired = paired; lines = parted }, inr (other, (matched_expression gone, was_meant gone at, matched_expression matcher, new.meant.0, paired, put_paired narrower gone (all_lines inputs) paired narrows c, parted, d, refl)), refl, refl))
+      takes_touched (ChangePattern p text) inputs (with_patterns (slice_set inputs.patterns p text) inputs) (Replaced p narrower) (matched_expression gone ∷ matched_expression matcher ∷ []) (map matched_expression all) (all_lines inputs) begun ended (inl (i.inside, inl (i.new.readable, refl))) are_put.meant searched (λ paired parted c d.
+      (record { patterns = 1; paired = paired; lines = parted }, inr (i.other, (matched_expression gone, was_meant, matched_expression matcher, i.new.meant.0, paired, put_paired narrower (all_lines inputs) paired i.narrows c, parted, d, refl)), refl, refl))
 
 -- ---- the old one is put back
 
@@ -86,11 +104,11 @@ back_same f xs all now new p one gone h is put same back =
     ∙ ap (set (map f xs) p) at ∙ set-get_or (map f xs) p (f gone)
 
 -- the matchers are the same as before
-pub bounded_again : (xs all now new : List Matcher) (p : ℕ) (one gone : Matcher) → p < length xs → gone ≡ get_or xs p gone → all ≡ slice_set xs p one → AreSame all now → new ≡ slice_set now p gone → AreSame xs new
-bounded_again xs all now new p one gone h is put same back = record {
-  same_expressions = back_same matched_expression xs all now new p one gone h is put same.same_expressions back;
-  same_wholes = back_same wants_whole xs all now new p one gone h is put same.same_wholes back;
-  same_rooms = back_same room_of xs all now new p one gone h is put same.same_rooms back;
+pub bounded_again : {s : Inside} {p : ℕ} {text : Text} {narrower : Bool} {one gone : Matcher} {all now new : List Matcher} → IsPut s p text narrower one gone all → AreSame all now → new ≡ slice_set now p gone → AreSame s.matchers.items new
+bounded_again {s} {p} {one = one} {gone} {all} {now} {new} i same back = record {
+  same_expressions = back_same matched_expression s.matchers.items all now new p one gone (has_place i) i.at i.put same.same_expressions back;
+  same_wholes = back_same wants_whole s.matchers.items all now new p one gone (has_place i) i.at i.put same.same_wholes back;
+  same_rooms = back_same room_of s.matchers.items all now new p one gone (has_place i) i.at i.put same.same_rooms back;
 }
 
 -- ---- what is reported

@@ -1,38 +1,115 @@
-use Rattle.grep_session.proofs.Prelude.{All, map, sym, subst, AllZip, AreSame, matched_expression, IsFileKept, IsColumn, chunks_of_files, FitsColumn}
+use Rattle.grep_session.proofs.Prelude.{◌≡◌, ◌<◌, ◌≤◌, ◌∙◌, All, length, map, take, get_or, take_all, sym, refl, ap, subst, arith, [], AllAnswer, AllZip, most_patterns, Expression, HasChanged, IsWithin, List, SearchesEach, WasFileKept, FitsColumn, IsColumn, IsFileKept, chunks_of, chunks_of_files, lines_of_files, AddsColumns, kept_file, matched_expression}
+use Rattle.re_search.proofs.lemmas.KeptMatchers.{none_asked, same_over}
 use Rattle.grep_core.proofs.lemmas.CostLaws.{same_length}
-use Rattle.grep_session.proofs.lemmas.FoundLemmas.{files_by_chunk}
-use Rattle.grep_session.proofs.lemmas.AddingLemmas.{all_back}
+use Rattle.grep_session.proofs.lemmas.FoundLemmas.{adds_columns, adds_no_column, chunks_on, files_by_chunk, no_chunks, its_chunks, its_lines, was_kept}
+use Rattle.grep_session.proofs.lemmas.ColumnLemmas.{files_next, files_with_parts, kept_at}
+use Rattle.grep_session.proofs.lemmas.StepLemmas.{not_searched, each_both, each_front}
 use Rattle.grep_session.proofs.columns.find_columns.Goals as goal
+use Rattle.grep_session.proofs.columns.find_columns.Goals.{After-file-item, After-find_in_lines}
 
-pub returns-in_err-found-clause-same_matchers : goal.returns-in_err-found-clause-same_matchers
-returns-in_err-found-clause-same_matchers c =
-    let same = rw c.deref_mut.ensures.value at c.find_all.ensures.same_matchers in
-    subst (AreSame c.args.matchers.now.items) (sym (all_back c.args.matchers.now.len c.args.matchers.now.items c.find_all.new.matchers c.args.matchers.now.ok.0 (same_length matched_expression _ _ same.same_expressions))) same
+-- the next file is one of them
+there : (c : After-file-item) → let files = c.args.files.now.items in (c.loop-file.file-index < length files) × (c.file-item.result ≡ get_or files c.loop-file.file-index c.file-item.result)
+there c =
+    let less : c.loop-file.file-index < length c.args.files.now.items = omega (arith, c.loop-file-test.true, ap length c.deref-file-items.ensures.value) in
+    (less, rw c.deref-file-items.ensures.value at c.file-item.is)
 
-pub returns-clause-same_matchers : goal.returns-clause-same_matchers
-returns-clause-same_matchers c =
-    let same = rw c.deref_mut.ensures.value at c.find_all.ensures.same_matchers in
-    subst (AreSame c.args.matchers.now.items) (sym (all_back c.args.matchers.now.len c.args.matchers.now.items c.find_all.new.matchers c.args.matchers.now.ok.0 (same_length matched_expression _ _ same.same_expressions))) same
+-- its lines were searched
+spent : (c : After-find_in_lines) → let es = map matched_expression c.args.matchers.now.items in let options = c.args.options.now in let x = c.file-item.result in (before changed : List Expression) → HasChanged c.args.change es before changed options
+    → WasFileKept c.args.change before options x → SearchesEach c.args.change changed es options (kept_file x).lines c.loop-file.meter c.find_in_lines.new.meter
+spent c = λ before changed h k.
+    let s = c.loop-file.invariant in
+    let x = c.file-item.result in
+    let one = rw s.same_matchers.same_expressions at c.find_in_lines.ensures.steps in
+    subst (λ ls. SearchesEach c.args.change changed (map matched_expression c.args.matchers.now.items) c.args.options.now ls c.loop-file.meter c.find_in_lines.new.meter) (sym (its_lines x c.in-Some.lines c.in-Some.is)) (one before changed h (was_kept x c.in-Some.lines c.in-Some.is c.args.change before c.args.options.now k))
+
+pub loop-file-init : goal.loop-file-init
+loop-file-init c = record {
+  found = subst (AddsColumns c.args.change (map matched_expression c.args.matchers.now.items) c.args.options.now [] []) (sym c.new-found.ensures.items) (adds_no_column _ _ _ []);
+  same_matchers = none_asked;
+  room = refl;
+  steps = λ before changed h k. not_searched _ _ _ _ _ _;
+}
+
+pub find_in_lines-requires-clause-whole : goal.find_in_lines-requires-clause-whole
+find_in_lines-requires-clause-whole c = subst (AllAnswer c.args.options.now.line_regexp) (sym c.loop-file.invariant.same_matchers.same_wholes) c.requires.whole
+
+pub find_in_lines-requires-clause-few : goal.find_in_lines-requires-clause-few
+find_in_lines-requires-clause-few c = subst (λ n. n ≤ most_patterns) (sym (same_length matched_expression _ _ c.loop-file.invariant.same_matchers.same_expressions)) c.requires.few
+
+pub find_in_lines-requires-clause-within : goal.find_in_lines-requires-clause-within
+find_in_lines-requires-clause-within c = subst (IsWithin c.args.change) (sym (same_length matched_expression _ _ c.loop-file.invariant.same_matchers.same_expressions)) c.requires.within
+
+pub returns-in_err-find_in_lines-clause-same_matchers : goal.returns-in_err-find_in_lines-clause-same_matchers
+returns-in_err-find_in_lines-clause-same_matchers c = same_over c.find_in_lines.ensures.same_matchers c.loop-file.invariant.same_matchers
+
+pub returns-in_err-find_in_lines-clause-room : goal.returns-in_err-find_in_lines-clause-room
+returns-in_err-find_in_lines-clause-room c = c.find_in_lines.ensures.room ∙ c.loop-file.invariant.room
+
+pub returns-in_err-find_in_lines-clause-steps : goal.returns-in_err-find_in_lines-clause-steps
+returns-in_err-find_in_lines-clause-steps c = λ before changed h k.
+    let files = c.args.files.now.items in
+    let x = c.file-item.result in
+    let i = c.loop-file.file-index in
+    let at = there (goal.at.returns-in_err-find_in_lines-clause-steps c).After-file-item in
+    each_front _ _ _ _ _ _ _ _ _ (files_with_parts kept_file files i x at.0 at.1)
+    (each_both _ _ _ _ _ _ _ _ _ _ refl (c.loop-file.invariant.steps before changed h k) (spent (goal.at.returns-in_err-find_in_lines-clause-steps c).After-find_in_lines before changed h (kept_at (WasFileKept c.args.change before c.args.options.now) files i x at.0 at.1 k)))
+
+pub loop-file-preserved : goal.loop-file-preserved
+loop-file-preserved c =
+    let s = c.loop-file.invariant in
+    let x = c.file-item.result in
+    let files = c.args.files.now.items in
+    let i = c.loop-file.file-index in
+    let es = map matched_expression c.args.matchers.now.items in
+    let options = c.args.options.now in
+    let at = there (goal.at.loop-file-preserved c).After-file-item in
+    let added = subst (λ fs. AddsColumns c.args.change fs options c.in-Some.lines c.loop-file.found.items c.find_in_lines.new.found.items) s.same_matchers.same_expressions c.in_ok-find_in_lines.ensures.ok in
+    let more = subst (λ cs. AddsColumns c.args.change es options cs c.loop-file.found.items c.find_in_lines.new.found.items) (sym (its_chunks x c.in-Some.lines c.in-Some.is)) added in
+    record {
+      found = adds_columns c.args.change es options (chunks_of_files (take i files)) (chunks_of x) _ _ _ _ (chunks_on files i x at.0 at.1) s.found more;
+      same_matchers = same_over c.find_in_lines.ensures.same_matchers s.same_matchers;
+      room = c.find_in_lines.ensures.room ∙ s.room;
+      steps = λ before changed h k. each_both _ _ _ _ _ _ _ _ _ _ (files_next kept_file files i x at.0 at.1) (s.steps before changed h k) (spent (goal.at.loop-file-preserved c).After-find_in_lines before changed h (kept_at (WasFileKept c.args.change before options) files i x at.0 at.1 k));
+    }
+
+pub loop-file-preserved-in_default : goal.loop-file-preserved-in_default
+loop-file-preserved-in_default c =
+    let s = c.loop-file.invariant in
+    let x = c.file-item.result in
+    let files = c.args.files.now.items in
+    let i = c.loop-file.file-index in
+    let es = map matched_expression c.args.matchers.now.items in
+    let options = c.args.options.now in
+    let found = c.loop-file.found.items in
+    let at = there (goal.at.loop-file-preserved-in_default c).After-file-item in
+    let none = subst (λ cs. AddsColumns c.args.change es options cs found found) (sym (no_chunks x c.in_default.is)) (adds_no_column c.args.change es options found) in
+    record {
+      found = adds_columns c.args.change es options (chunks_of_files (take i files)) (chunks_of x) _ _ _ _ (chunks_on files i x at.0 at.1) s.found none;
+      same_matchers = s.same_matchers;
+      room = s.room;
+      steps = λ before changed h k. each_both _ _ _ _ _ _ _ _ _ _ (files_next kept_file files i x at.0 at.1) (s.steps before changed h k) (not_searched _ _ _ _ _ _);
+    }
 
 pub put_columns-requires : goal.put_columns-requires
 put_columns-requires c =
-    let a = rw (c.deref_mut.ensures.value, c.deref.ensures.value) at c.in_ok-found.ensures.ok in
-    subst (AllZip FitsColumn (chunks_of_files c.args.files.now.items)) (sym a.added) a.fit
+    let files = c.args.files.now.items in
+    let all : take c.loop-file.file-index files ≡ files = take_all _ _ (omega (arith, c.loop-file-test.false, ap length c.deref-file-items.ensures.value)) in
+    let a = subst (λ fs. AddsColumns c.args.change (map matched_expression c.args.matchers.now.items) c.args.options.now (chunks_of_files fs) [] c.loop-file.found.items) all c.loop-file.invariant.found in
+    subst (AllZip FitsColumn (chunks_of_files files)) (sym a.added) a.fit
 
 pub returns-clause-ok : goal.returns-clause-ok
 returns-clause-ok c = λ before changed h k.
-    let same = rw c.deref_mut.ensures.value at c.find_all.ensures.same_matchers in
-    let a = rw (c.deref_mut.ensures.value, c.deref.ensures.value) at c.in_ok-found.ensures.ok in
+    let s = c.loop-file.invariant in
+    let es = map matched_expression c.args.matchers.now.items in
     let options = c.args.options.now in
     let files = c.args.files.now.items in
-    let es = map matched_expression c.find_all.new.matchers in
-    let right = a.are_right before changed h (files_by_chunk c.args.change before options files k) in
-    let there = subst (AllZip (IsColumn (map matched_expression c.args.matchers.now.items) options) (chunks_of_files files)) (sym a.added) right in
-    let kept = c.put_columns.ensures.right es options (subst (λ fs. AllZip (IsColumn fs options) (chunks_of_files files) c.in_ok-found.found.items) (sym same.same_expressions) there) in
-    subst (λ matchers. All (IsFileKept (map matched_expression matchers) options) c.put_columns.new.files.items) (sym (all_back c.args.matchers.now.len c.args.matchers.now.items c.find_all.new.matchers c.args.matchers.now.ok.0 (same_length matched_expression _ _ same.same_expressions))) kept
-
-pub returns-in_err-found-clause-steps : goal.returns-in_err-found-clause-steps
-returns-in_err-found-clause-steps c = rw (c.deref_mut.ensures.value, c.deref.ensures.value) at c.find_all.ensures.steps
+    let all : take c.loop-file.file-index files ≡ files = take_all _ _ (omega (arith, c.loop-file-test.false, ap length c.deref-file-items.ensures.value)) in
+    let a = subst (λ fs. AddsColumns c.args.change es options (chunks_of_files fs) [] c.loop-file.found.items) all s.found in
+    let right = subst (AllZip (IsColumn es options) (chunks_of_files files)) (sym a.added) (a.are_right before changed h (files_by_chunk c.args.change before options files k)) in
+    subst (λ fs. All (IsFileKept fs options) c.put_columns.new.files.items) (sym s.same_matchers.same_expressions) (c.put_columns.ensures.right es options right)
 
 pub returns-clause-steps : goal.returns-clause-steps
-returns-clause-steps c = rw (c.deref_mut.ensures.value, c.deref.ensures.value) at c.find_all.ensures.steps
+returns-clause-steps c = λ before changed h k.
+    let files = c.args.files.now.items in
+    let all : take c.loop-file.file-index files ≡ files = take_all _ _ (omega (arith, c.loop-file-test.false, ap length c.deref-file-items.ensures.value)) in
+    subst (λ fs. SearchesEach c.args.change changed (map matched_expression c.args.matchers.now.items) c.args.options.now (lines_of_files (map kept_file fs)) c.args.meter.now c.loop-file.meter) all (c.loop-file.invariant.steps before changed h k)

@@ -1,9 +1,17 @@
-use Rattle.grep_session.proofs.Prelude.{◌+◌, ◌≤◌, length, map, Some, sym, ap, subst, ◌∙◌, arith, refl, length-map, Matches, Text, terminated, AddsAtMost, line_text, IsNextLine, matched_expression, wants_whole}
+use Rattle.grep_session.proofs.Prelude.{◌≡◌, ◌+◌, ◌≤◌, length, map, Some, sym, ap, subst, ◌∙◌, arith, refl, length-map, Matches, Text, terminated, AddsAtMost, line_text, IsNextLine, next_line_cost, matched_expression, wants_whole}
 use Rattle.re_runs.proofs.lemmas.NextLines.{block_lines}
 use Rattle.re_meter.proofs.lemmas.Adding.{adds_both, adds_within, adds_none}
 use Rattle.grep_session.proofs.lemmas.ColumnLoops.{column_none, column_next, column_done}
 use Rattle.grep_session.proofs.lemmas.NextLineLemmas.{none_from, next_there, place_fits, bytes_up_to, bytes_within, bytes_rest}
 use Rattle.grep_session.proofs.line_matches.add_column.Goals as goal
+use Rattle.grep_session.proofs.line_matches.add_column.Goals.{After-number_at-k}
+
+-- the next line that is matched, and its bytes
+found : (c : After-number_at-k) → let texts = map line_text c.args.chunk.now in IsNextLine (matched_expression c.loop-from.matcher) (wants_whole c.loop-from.matcher) texts c.loop-from.from (Some c.number_at-k.result) × (c.in-Some.at.end + 1 ≡ next_line_cost texts c.loop-from.from (Some c.number_at-k.result))
+found c =
+    let texts = map line_text c.args.chunk.now in
+    let within : c.loop-from.from ≤ length texts = omega (arith, c.loop-from.invariant.within, length-map c.args.chunk.now line_text) in
+    next_there (matched_expression c.loop-from.matcher) (wants_whole c.loop-from.matcher) texts _ c.loop-from.from c.start.result (length c.args.chunk.now) c.number_at-k.result c.in-Some.at c.text_from.ensures.lines c.in-Some.ensures.reported within c.start.ensures.start (sym (length-map c.args.chunk.now line_text)) c.number_at-k.ensures.at
 
 pub loop-from-init : goal.loop-from-init
 loop-from-init c = record {
@@ -43,24 +51,19 @@ returns-in_err-note-clause-steps c =
     let texts = map line_text c.args.chunk.now in
     let from = c.loop-from.from in
     let k = c.number_at-k.result in
-    let within : from ≤ length texts = omega (arith, i.within, length-map c.args.chunk.now line_text) in
-    let found = next_there (matched_expression c.loop-from.matcher) (wants_whole c.loop-from.matcher) texts _ from c.start.result (length c.args.chunk.now) k c.in-Some.at c.text_from.ensures.lines c.in-Some.ensures.reported within c.start.ensures.start (sym (length-map c.args.chunk.now line_text)) c.number_at-k.ensures.at in
-    let spent = subst (λ n. AddsAtMost n c.loop-from.meter c.next_matched.new.meter) found.1 c.in-Some.ensures.steps in
-    adds_within _ _ _ _ _ _ (bytes_within texts (k + 1)) (bytes_within texts (k + 1)) (subst (λ n. AddsAtMost n c.args.meter.now c.next_matched.new.meter) (bytes_up_to texts from (k + 1) (omega (arith, found.0.0))) (adds_both _ _ _ _ _ _ _ i.steps spent))
+    let there = found (goal.at.returns-in_err-note-clause-steps c).After-number_at-k in
+    let spent = subst (λ n. AddsAtMost n c.loop-from.meter c.next_matched.new.meter) there.1 c.in-Some.ensures.steps in
+    adds_within _ _ _ _ _ _ (bytes_within texts (k + 1)) (bytes_within texts (k + 1)) (subst (λ n. AddsAtMost n c.args.meter.now c.next_matched.new.meter) (bytes_up_to texts from (k + 1) (omega (arith, there.0.0))) (adds_both _ _ _ _ _ _ _ i.steps spent))
 
 pub overflow_add-from : goal.overflow_add-from
 overflow_add-from c =
-    let texts = map line_text c.args.chunk.now in
-    let within : c.loop-from.from ≤ length texts = omega (arith, c.loop-from.invariant.within, length-map c.args.chunk.now line_text) in
-    let found = next_there (matched_expression c.loop-from.matcher) (wants_whole c.loop-from.matcher) texts _ c.loop-from.from c.start.result (length c.args.chunk.now) c.number_at-k.result c.in-Some.at c.text_from.ensures.lines c.in-Some.ensures.reported within c.start.ensures.start (sym (length-map c.args.chunk.now line_text)) c.number_at-k.ensures.at in
-    omega (arith, found.0.1, length-map c.args.chunk.now line_text, c.len.ensures, c.len.type_inv)
+    let there = found (goal.at.overflow_add-from c).After-number_at-k in
+    omega (arith, there.0.1, length-map c.args.chunk.now line_text, c.len.ensures, c.len.type_inv)
 
 pub loop-from-smaller : goal.loop-from-smaller
 loop-from-smaller c =
-    let texts = map line_text c.args.chunk.now in
-    let within : c.loop-from.from ≤ length texts = omega (arith, c.loop-from.invariant.within, length-map c.args.chunk.now line_text) in
-    let found = next_there (matched_expression c.loop-from.matcher) (wants_whole c.loop-from.matcher) texts _ c.loop-from.from c.start.result (length c.args.chunk.now) c.number_at-k.result c.in-Some.at c.text_from.ensures.lines c.in-Some.ensures.reported within c.start.ensures.start (sym (length-map c.args.chunk.now line_text)) c.number_at-k.ensures.at in
-    omega (arith, found.0.0, found.0.1, length-map c.args.chunk.now line_text)
+    let there = found (goal.at.loop-from-smaller c).After-number_at-k in
+    omega (arith, there.0.0, there.0.1, length-map c.args.chunk.now line_text)
 
 pub loop-from-preserved : goal.loop-from-preserved
 loop-from-preserved c =
@@ -68,10 +71,9 @@ loop-from-preserved c =
     let texts = map line_text c.args.chunk.now in
     let from = c.loop-from.from in
     let k = c.number_at-k.result in
-    let within : from ≤ length texts = omega (arith, i.within, length-map c.args.chunk.now line_text) in
-    let found = next_there (matched_expression c.loop-from.matcher) (wants_whole c.loop-from.matcher) texts _ from c.start.result (length c.args.chunk.now) k c.in-Some.at c.text_from.ensures.lines c.in-Some.ensures.reported within c.start.ensures.start (sym (length-map c.args.chunk.now line_text)) c.number_at-k.ensures.at in
-    let next : IsNextLine (matched_expression c.args.matcher.now) (wants_whole c.args.matcher.now) texts from (Some k) = rw (← i.same_expression, ← i.same_whole) found.0 in
-    let spent = subst (λ n. AddsAtMost n c.loop-from.meter c.next_matched.new.meter) found.1 c.in-Some.ensures.steps in
+    let there = found (goal.at.loop-from-preserved c).After-number_at-k in
+    let next : IsNextLine (matched_expression c.args.matcher.now) (wants_whole c.args.matcher.now) texts from (Some k) = rw (← i.same_expression, ← i.same_whole) there.0 in
+    let spent = subst (λ n. AddsAtMost n c.loop-from.meter c.next_matched.new.meter) there.1 c.in-Some.ensures.steps in
     record {
       within = omega (arith, next.1, length-map c.args.chunk.now line_text);
       column = column_next (matched_expression c.args.matcher.now) (wants_whole c.args.matcher.now) c.args.number texts from k _ _ _ next c.in_ok-note.ensures.ok i.column;

@@ -9,12 +9,12 @@ returns-then-len-eq0-clause-steps c = not_searched _ _ _ _ _ _
 
 pub returns-in_err-find_in_lines-clause-steps : goal.returns-in_err-find_in_lines-clause-steps
 returns-in_err-find_in_lines-clause-steps c =
-    let steps = rw c.deref_mut.ensures.value at c.find_in_lines.ensures.steps in
+    let steps = c.find_in_lines.ensures.steps in
     subst (λ (ls : List Text). SearchesEach Rebuild (map matched_expression c.args.matchers.now.items) (map matched_expression c.args.matchers.now.items) c.args.options.now ls c.args.meter.now c.find_in_lines.new.meter) c.kept_of-lines.ensures.same (steps [] _ refl (all_anew [] c.args.options.now (all_of c.kept_of-lines.result)))
 
 pub returns-clause-steps : goal.returns-clause-steps
 returns-clause-steps c =
-    let steps = rw c.deref_mut.ensures.value at c.find_in_lines.ensures.steps in
+    let steps = c.find_in_lines.ensures.steps in
     subst (λ (ls : List Text). SearchesEach Rebuild (map matched_expression c.args.matchers.now.items) (map matched_expression c.args.matchers.now.items) c.args.options.now ls c.args.meter.now c.find_in_lines.new.meter) c.kept_of-lines.ensures.same (steps [] _ refl (all_anew [] c.args.options.now (all_of c.kept_of-lines.result)))
 
 pub returns-in_err-find_in_lines-clause-memory : goal.returns-in_err-find_in_lines-clause-memory
@@ -33,7 +33,7 @@ returns-clause-texts c = ap (λ cs. map line_text (all_of cs)) c.put_columns.ens
 
 pub returns-clause-ok : goal.returns-clause-ok
 returns-clause-ok c =
-    let a = rw c.deref_mut.ensures.value at c.in_ok-find_in_lines.ensures.ok in
+    let a = c.in_ok-find_in_lines.ensures.ok in
     let es = map matched_expression c.args.matchers.now.items in
     let options = c.args.options.now in
     let chunks = c.kept_of-lines.result in

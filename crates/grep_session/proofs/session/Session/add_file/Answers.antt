@@ -1,25 +1,26 @@
-use Rattle.grep_session.proofs.Prelude.{◌≡◌, Ok, All, List, length, Text, new_mark, map, inl, refl, ap, ◌∙◌, sym, subst, ◌++◌, ◌∷◌, [], map-append, All-push, matched_expression, whole_file, with_files, IsFileKept, kept_file, inputs_of}
-use Rattle.grep_session.proofs.lemmas.EditLemmas.{asked_session, file_steps}
-use Rattle.grep_session.proofs.lemmas.FitLemmas.{fit_as, fit_pushed}
+use Rattle.grep_session.proofs.Prelude.{◌≡◌, Ok, All, List, length, Text, new_mark, map, inl, refl, ap, ◌∙◌, sym, subst, ◌++◌, ◌∷◌, [], map-append, All-push, matched_expression, whole_file, with_files, IsFileKept, kept_file, inputs_of, AddFile, TakesSteps}
+use Rattle.grep_session.proofs.lemmas.EditLemmas.{asked_session, left_session, file_steps}
+use Rattle.grep_session.proofs.lemmas.FitLemmas.{fit_pushed}
 use Rattle.grep_session.proofs.session.Session.add_file.Goals as goal
+use Rattle.grep_session.proofs.session.Session.add_file.Goals.{After-search_new}
+
+takes : (c : After-search_new) → TakesSteps (AddFile c.args.name.items c.args.lines) (inputs_of c.self.inside) c.args.meter.now c.search_new.new.meter
+takes c = file_steps c.self.inside c.self.invariant _ c.search_new.ensures.free _ _ c.search_new.ensures.steps c.args.name.items
 
 pub returns-in-Err-clause-steps : goal.returns-in-Err-clause-steps
-returns-in-Err-clause-steps c = rw (← c.self.view_is) (file_steps c.self.inside c.self.invariant _ c.search_new.ensures.free _ _ c.search_new.ensures.steps c.args.name.items)
+returns-in-Err-clause-steps c = rw (← c.self.view_is) (takes (goal.at.returns-in-Err-clause-steps c).After-search_new)
 
 pub returns-in-Err-push_file-clause-steps : goal.returns-in-Err-push_file-clause-steps
-returns-in-Err-push_file-clause-steps c = rw (← c.self.view_is) (file_steps c.self.inside c.self.invariant _ c.search_new.ensures.free _ _ c.search_new.ensures.steps c.args.name.items)
+returns-in-Err-push_file-clause-steps c = rw (← c.self.view_is) (takes (goal.at.returns-in-Err-push_file-clause-steps c).After-search_new)
 
 pub returns-clause-steps : goal.returns-clause-steps
-returns-clause-steps c = rw (← c.self.view_is) (file_steps c.self.inside c.self.invariant _ c.search_new.ensures.free _ _ c.search_new.ensures.steps c.args.name.items)
+returns-clause-steps c = rw (← c.self.view_is) (takes (goal.at.returns-clause-steps c).After-search_new)
 
 pub invariant_of-self : goal.invariant_of-self
-invariant_of-self c = asked_session c.self.inside _ refl refl c.self.invariant c.search_new.ensures.same_matchers c.self.invariant.kept c.self.invariant.fit
+invariant_of-self c = left_session c.self.inside _ refl refl c.self.invariant c.search_new.ensures.same_matchers refl refl
 
 pub invariant_of-self-in-Err-push_file : goal.invariant_of-self-in-Err-push_file
-invariant_of-self-in-Err-push_file c =
-    let s = c.self.inside in
-    asked_session s _ refl refl c.self.invariant c.search_new.ensures.same_matchers (subst (All (IsFileKept (map matched_expression s.matchers.items) s.options)) (sym c.in-Err-push_file.ensures.err.0) c.self.invariant.kept)
-    (fit_as (map kept_file s.files.items) _ s.marks.items _ (ap (map kept_file) c.in-Err-push_file.ensures.err.0) c.in-Err-push_file.ensures.err.1 c.self.invariant.fit)
+invariant_of-self-in-Err-push_file c = left_session c.self.inside _ refl refl c.self.invariant c.search_new.ensures.same_matchers c.in-Err-push_file.ensures.err.0 c.in-Err-push_file.ensures.err.1
 
 pub invariant_of-self-2 : goal.invariant_of-self-2
 invariant_of-self-2 c =

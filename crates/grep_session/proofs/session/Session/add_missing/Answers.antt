@@ -1,14 +1,11 @@
-use Rattle.grep_session.proofs.Prelude.{All, refl, map, sym, ap, subst, All-push, matched_expression, IsFileKept, kept_file}
-use Rattle.grep_session.proofs.lemmas.EditLemmas.{asked_session}
-use Rattle.grep_session.proofs.lemmas.FitLemmas.{fit_as, fit_pushed}
+use Rattle.grep_session.proofs.Prelude.{All, refl, map, sym, subst, All-push, matched_expression, IsFileKept}
+use Rattle.grep_session.proofs.lemmas.EditLemmas.{asked_session, left_session}
+use Rattle.grep_session.proofs.lemmas.FitLemmas.{fit_pushed}
 use Rattle.re_search.proofs.lemmas.KeptMatchers.{none_asked}
 use Rattle.grep_session.proofs.session.Session.add_missing.Goals as goal
 
 pub invariant_of-self : goal.invariant_of-self
-invariant_of-self c =
-    let s = c.self.inside in
-    asked_session s _ refl refl c.self.invariant none_asked (subst (All (IsFileKept (map matched_expression s.matchers.items) s.options)) (sym c.in-Err.ensures.err.0) c.self.invariant.kept)
-    (fit_as (map kept_file s.files.items) _ s.marks.items _ (ap (map kept_file) c.in-Err.ensures.err.0) c.in-Err.ensures.err.1 c.self.invariant.fit)
+invariant_of-self c = left_session c.self.inside _ refl refl c.self.invariant none_asked c.in-Err.ensures.err.0 c.in-Err.ensures.err.1
 
 pub invariant_of-self-2 : goal.invariant_of-self-2
 invariant_of-self-2 c =

@@ -1,12 +1,26 @@
-use Rattle.grep_session.proofs.Prelude.{◌≡◌, ◌≤◌, All, [], refl, Ok, map, inl, sym, ap, subst, ◌∙◌, matched_expression, wants_whole, AllAnswer, Inputs, read_as, most_patterns, IsFileKept, inputs_of, all_lines, kept_file}
-use Rattle.grep_core.proofs.lemmas.CostLaws.{same_length}
-use Rattle.grep_session.proofs.lemmas.EditLemmas.{AreMatchers-same, asked_session}
+use Rattle.grep_session.proofs.Prelude.{◌≡◌, [], refl, Ok, map, inl, sym, ap, subst, ◌∙◌, matched_expression, wants_whole, AllAnswer, AreMatchers, Inputs, Edit, Applies, Touches, TakesSteps, parts_alone, read_as, inputs_of, all_lines}
+use Rattle.grep_session.proofs.lemmas.EditLemmas.{left_session, searched_session}
 use Rattle.grep_session.proofs.lemmas.AllPatternsRead.{ready_files, AreMatchers-options}
-use Rattle.grep_session.proofs.lemmas.RoomLemmas.{keep_same}
 use Rattle.grep_session.proofs.lemmas.StepLemmas.{takes_parts}
 use Rattle.grep_session.proofs.lemmas.SessionLemmas.{inputs_are}
-use Rattle.grep_session.proofs.lemmas.FitLemmas.{fit_as, fit_lose}
 use Rattle.grep_session.proofs.session.Session.part_again.Goals as goal
+use Rattle.grep_session.proofs.session.Session.part_again.Goals.{After-find_columns}
+
+-- the lines have to be whole as before
+same_whole : (c : After-find_columns) → c.args.options.line_regexp ≡ c.self.inside.options.line_regexp
+same_whole c = c.requires.same_whole ∙ sym (ap (λ (i : Inputs). i.options.line_regexp) (inputs_are c.self.view_is))
+
+-- the matchers serve under the new options too
+made : (c : After-find_columns) → AreMatchers c.self.inside.syntax c.args.options (inputs_of c.self.inside).patterns c.self.inside.matchers.items
+made c =
+    let s = c.self.inside in
+    AreMatchers-options s.syntax s.options c.args.options _ s.matchers.items (same_whole c) (c.requires.same_case ∙ sym (ap (λ (i : Inputs). i.options.ignore_case) (inputs_are c.self.view_is))) c.self.invariant.matchers
+
+steps : (c : After-find_columns) → let old = inputs_of c.self.inside in (edit : Edit) → Applies edit old (Ok (read_as old.syntax c.args.options old)) → Touches edit old (parts_alone (all_lines old)) → TakesSteps edit old c.args.meter.now c.find_columns.new.meter
+steps c = λ edit applies touches.
+    let s = c.self.inside in
+    let old = inputs_of s in
+    takes_parts edit old (read_as old.syntax c.args.options old) [] (map matched_expression s.matchers.items) (all_lines old) _ _ applies touches (made c).meant (c.find_columns.ensures.steps _ [] refl (ready_files (map matched_expression s.matchers.items) s.options c.args.options (same_whole c) s.files.items c.self.invariant.kept))
 
 pub find_columns-requires-clause-whole : goal.find_columns-requires-clause-whole
 find_columns-requires-clause-whole c =
@@ -15,52 +29,24 @@ find_columns-requires-clause-whole c =
     subst (λ w. AllAnswer w (map wants_whole s.matchers.items)) (sym whole) c.self.invariant.matchers.wholes
 
 pub returns-in-Err-clause-steps : goal.returns-in-Err-clause-steps
-returns-in-Err-clause-steps c =
-    let s = c.self.inside in
-    let old = inputs_of s in
-    let whole : c.args.options.line_regexp ≡ s.options.line_regexp = c.requires.same_whole ∙ sym (ap (λ (i : Inputs). i.options.line_regexp) (inputs_are c.self.view_is)) in
-    let case : c.args.options.ignore_case ≡ s.options.ignore_case = c.requires.same_case ∙ sym (ap (λ (i : Inputs). i.options.ignore_case) (inputs_are c.self.view_is)) in
-    let made = AreMatchers-options s.syntax s.options c.args.options _ s.matchers.items whole case c.self.invariant.matchers in
-    rw (← c.self.view_is) (λ edit applies touches. takes_parts edit old (read_as old.syntax c.args.options old) [] (map matched_expression s.matchers.items) (all_lines old) _ _ applies touches made.meant (c.find_columns.ensures.steps _ [] refl (ready_files (map matched_expression s.matchers.items) s.options c.args.options whole s.files.items c.self.invariant.kept)))
+returns-in-Err-clause-steps c = rw (← c.self.view_is) (steps (goal.at.returns-in-Err-clause-steps c).After-find_columns)
 
 pub returns-clause-steps : goal.returns-clause-steps
-returns-clause-steps c =
-    let s = c.self.inside in
-    let old = inputs_of s in
-    let whole : c.args.options.line_regexp ≡ s.options.line_regexp = c.requires.same_whole ∙ sym (ap (λ (i : Inputs). i.options.line_regexp) (inputs_are c.self.view_is)) in
-    let case : c.args.options.ignore_case ≡ s.options.ignore_case = c.requires.same_case ∙ sym (ap (λ (i : Inputs). i.options.ignore_case) (inputs_are c.self.view_is)) in
-    let made = AreMatchers-options s.syntax s.options c.args.options _ s.matchers.items whole case c.self.invariant.matchers in
-    rw (← c.self.view_is) (λ edit applies touches. takes_parts edit old (read_as old.syntax c.args.options old) [] (map matched_expression s.matchers.items) (all_lines old) _ _ applies touches made.meant (c.find_columns.ensures.steps _ [] refl (ready_files (map matched_expression s.matchers.items) s.options c.args.options whole s.files.items c.self.invariant.kept)))
+returns-clause-steps c = rw (← c.self.view_is) (steps (goal.at.returns-clause-steps c).After-find_columns)
 
 pub invariant_of-self-2 : goal.invariant_of-self-2
 invariant_of-self-2 c =
     let s = c.self.inside in
-    let whole : c.args.options.line_regexp ≡ s.options.line_regexp = c.requires.same_whole ∙ sym (ap (λ (i : Inputs). i.options.line_regexp) (inputs_are c.self.view_is)) in
-    let case : c.args.options.ignore_case ≡ s.options.ignore_case = c.requires.same_case ∙ sym (ap (λ (i : Inputs). i.options.ignore_case) (inputs_are c.self.view_is)) in
-    let made = AreMatchers-options s.syntax s.options c.args.options _ s.matchers.items whole case c.self.invariant.matchers in
-    let same = c.find_columns.ensures.same_matchers.same_expressions in
-    record {
-      matchers = AreMatchers-same s.syntax c.args.options _ s.matchers.items _ made same c.find_columns.ensures.same_matchers.same_wholes;
-      few = subst (λ n. n ≤ most_patterns) (sym (same_length matched_expression _ _ same)) c.self.invariant.few;
-      kept = c.in-Ok.ensures.ok _ [] refl (ready_files (map matched_expression s.matchers.items) s.options c.args.options whole s.files.items c.self.invariant.kept);
-      rooms = keep_same s.states s.matchers.items _ c.find_columns.ensures.same_matchers.same_rooms c.self.invariant.rooms;
-      some_states = c.self.invariant.some_states;
-      few_states = c.self.invariant.few_states;
-      fit = fit_lose (map kept_file s.files.items) _ s.marks.items _ c.find_columns.ensures.same c.lose_all.ensures c.self.invariant.fit;
-    }
+    let at = (goal.at.invariant_of-self-2 c).After-find_columns in
+    searched_session s _ s.syntax c.args.options _ s.matchers.items refl refl c.self.invariant (made at) c.self.invariant.few c.self.invariant.rooms c.find_columns.ensures.same_matchers (c.in-Ok.ensures.ok _ [] refl (ready_files (map matched_expression s.matchers.items) s.options c.args.options (same_whole at) s.files.items c.self.invariant.kept)) c.find_columns.ensures.same c.lose_all.ensures
 
 pub returns-clause-gives : goal.returns-clause-gives
 returns-clause-gives c =
     let s = c.self.inside in
-    let whole : c.args.options.line_regexp ≡ s.options.line_regexp = c.requires.same_whole ∙ sym (ap (λ (i : Inputs). i.options.line_regexp) (inputs_are c.self.view_is)) in
-    let case : c.args.options.ignore_case ≡ s.options.ignore_case = c.requires.same_case ∙ sym (ap (λ (i : Inputs). i.options.ignore_case) (inputs_are c.self.view_is)) in
-    let made = AreMatchers-options s.syntax s.options c.args.options _ s.matchers.items whole case c.self.invariant.matchers in
-    rw (← c.self.view_is) (inl (made.readable, ap (λ fs. Ok (record { syntax = s.syntax; options = c.args.options; patterns = map (λ text. text.items) s.texts.items; files = fs })) c.find_columns.ensures.same))
+    rw (← c.self.view_is) (inl ((made (goal.at.returns-clause-gives c).After-find_columns).readable, ap (λ fs. Ok (record { syntax = s.syntax; options = c.args.options; patterns = map (λ text. text.items) s.texts.items; files = fs })) c.find_columns.ensures.same))
 
 pub invariant_of-self : goal.invariant_of-self
-invariant_of-self c =
-    let s = c.self.inside in
-    asked_session s _ refl refl c.self.invariant c.find_columns.ensures.same_matchers (subst (All (IsFileKept (map matched_expression s.matchers.items) s.options)) (sym c.in-Err.ensures.err) c.self.invariant.kept) (fit_as (map kept_file s.files.items) _ s.marks.items _ c.find_columns.ensures.same refl c.self.invariant.fit)
+invariant_of-self c = left_session c.self.inside _ refl refl c.self.invariant c.find_columns.ensures.same_matchers c.in-Err.ensures.err refl
 
 pub returns-clause-marks : goal.returns-clause-marks
 returns-clause-marks c = rw (← c.self.view_is) c.lose_all.ensures

@@ -6,6 +6,14 @@ use Rattle.grep_session.proofs.lemmas.FitLemmas.{fit_lose, given_flag}
 use Rattle.grep_session.proofs.lemmas.EditLemmas.{asked_session}
 use Rattle.re_search.proofs.lemmas.KeptMatchers.{none_asked}
 use Rattle.grep_session.proofs.session.Session.set_flag.Goals as goal
+use Rattle.grep_session.proofs.session.Session.set_flag.Goals.{Else-option_of-on, After-with_option-options}
+
+-- the value is another
+other : (c : Else-option_of-on) → option_of c.args.flag c.args.self.now.inputs.options ≡ c.args.on → ⊥
+other c = λ e. false≢true (sym c.if-option_of-on.false ∙ (booleans_Decides c.option_of.result c.args.on).1 (c.option_of.ensures ∙ ap (λ (w : Watched). option_of c.args.flag w.inputs.options) c.self.view_is ∙ e))
+
+options : (c : After-with_option-options) → c.with_option-options.result ≡ with_option c.args.flag c.args.on c.args.self.now.inputs.options
+options c = c.with_option-options.ensures ∙ ap (λ (i : Inputs). with_option c.args.flag c.args.on i.options) (inputs_are c.self.view_is)
 
 pub returns-then-option_of-on-clause-gives : goal.returns-then-option_of-on-clause-gives
 returns-then-option_of-on-clause-gives c =
@@ -15,45 +23,38 @@ pub returns-in-Verdicts-clause-gives : goal.returns-in-Verdicts-clause-gives
 returns-in-Verdicts-clause-gives c =
     let old = c.args.self.now.inputs in
     let new = c.read_again.new.self.inputs in
-    let options = c.with_option-options.ensures ∙ ap (λ (i : Inputs). with_option c.args.flag c.args.on i.options) (inputs_are c.self.view_is) in
-    let gives = subst (λ o. ReadsAgain c.self.inside.syntax o old new c.read_again.result) options c.read_again.ensures.gives in
+    let gives = subst (λ o. ReadsAgain c.self.inside.syntax o old new c.read_again.result) (options (goal.at.returns-in-Verdicts-clause-gives c).After-with_option-options) c.read_again.ensures.gives in
     sets_flag c.args.flag c.args.on old new c.read_again.result (subst (λ s. ReadsAgain s (with_option c.args.flag c.args.on old.options) old new c.read_again.result) (ap (λ (i : Inputs). i.syntax) (inputs_are c.self.view_is)) gives)
 
 pub returns-in-Verdicts-clause-steps : goal.returns-in-Verdicts-clause-steps
 returns-in-Verdicts-clause-steps c =
     let old = c.args.self.now.inputs in
-    let options = c.with_option-options.ensures ∙ ap (λ (i : Inputs). with_option c.args.flag c.args.on i.options) (inputs_are c.self.view_is) in
     let steps = subst (λ o. (edit : Edit) → (AreReadable c.self.inside.syntax o old → Applies edit old (Ok (read_as c.self.inside.syntax o old))) → Touches edit old (searched_by (length old.patterns) (all_lines old)) → TakesSteps edit old c.args.meter.now c.read_again.new.meter)
-    options c.read_again.ensures.steps in
+    (options (goal.at.returns-in-Verdicts-clause-steps c).After-with_option-options) c.read_again.ensures.steps in
     let all = subst (λ s. (edit : Edit) → (AreReadable s (with_option c.args.flag c.args.on old.options) old → Applies edit old (Ok (read_as s (with_option c.args.flag c.args.on old.options) old))) → Touches edit old (searched_by (length old.patterns) (all_lines old)) → TakesSteps edit old c.args.meter.now c.read_again.new.meter)
     (ap (λ (i : Inputs). i.syntax) (inputs_are c.self.view_is)) steps in
-    let other : option_of c.args.flag old.options ≡ c.args.on → ⊥ = λ e. false≢true (sym c.if-option_of-on.false ∙ (booleans_Decides c.option_of.result c.args.on).1 (c.option_of.ensures ∙ ap (λ (i : Inputs). option_of c.args.flag i.options) (inputs_are c.self.view_is) ∙ e)) in
-    all (SetFlag c.args.flag c.args.on) (λ readable. inl (readable, refl)) (inr (other, sym (c.in-Verdicts.ensures.touches old)))
+    all (SetFlag c.args.flag c.args.on) (λ readable. inl (readable, refl)) (inr ((other (goal.at.returns-in-Verdicts-clause-steps c).Else-option_of-on), sym (c.in-Verdicts.ensures.touches old)))
 
 pub returns-in-Parts-clause-gives : goal.returns-in-Parts-clause-gives
 returns-in-Parts-clause-gives c =
     let old = c.args.self.now.inputs in
     let new = c.part_again.new.self.inputs in
-    let options = c.with_option-options.ensures ∙ ap (λ (i : Inputs). with_option c.args.flag c.args.on i.options) (inputs_are c.self.view_is) in
-    sets_flag c.args.flag c.args.on old new c.part_again.result (subst (λ o. ReadsAgain old.syntax o old new c.part_again.result) options c.part_again.ensures.gives)
+    sets_flag c.args.flag c.args.on old new c.part_again.result (subst (λ o. ReadsAgain old.syntax o old new c.part_again.result) (options (goal.at.returns-in-Parts-clause-gives c).After-with_option-options) c.part_again.ensures.gives)
 
 pub returns-in-Parts-clause-steps : goal.returns-in-Parts-clause-steps
 returns-in-Parts-clause-steps c =
     let old = c.args.self.now.inputs in
-    let options = c.with_option-options.ensures ∙ ap (λ (i : Inputs). with_option c.args.flag c.args.on i.options) (inputs_are c.self.view_is) in
     let readable = subst (λ (i : Inputs). All (IsReadable i.syntax i.options.ignore_case) i.patterns) (inputs_are c.self.view_is) c.self.invariant.matchers.readable in
     let case = subst (λ f. (with_option f c.args.on old.options).ignore_case ≡ old.options.ignore_case) (sym c.in-Parts.ensures.0) refl in
-    let applies = subst (λ o. Applies (SetFlag c.args.flag c.args.on) old (Ok (read_as old.syntax o old))) (sym options) (applies_flag c.args.flag c.args.on old case readable) in
+    let applies = subst (λ o. Applies (SetFlag c.args.flag c.args.on) old (Ok (read_as old.syntax o old))) (sym (options (goal.at.returns-in-Parts-clause-steps c).After-with_option-options)) (applies_flag c.args.flag c.args.on old case readable) in
     let touches = subst (λ f. parts_alone (all_lines old) ≡ touched_by_flag f old) (sym c.in-Parts.ensures.0) refl in
-    let other : option_of c.args.flag old.options ≡ c.args.on → ⊥ = λ e. false≢true (sym c.if-option_of-on.false ∙ (booleans_Decides c.option_of.result c.args.on).1 (c.option_of.ensures ∙ ap (λ (i : Inputs). option_of c.args.flag i.options) (inputs_are c.self.view_is) ∙ e)) in
-    c.part_again.ensures.steps (SetFlag c.args.flag c.args.on) applies (inr (other, touches))
+    c.part_again.ensures.steps (SetFlag c.args.flag c.args.on) applies (inr ((other (goal.at.returns-in-Parts-clause-steps c).Else-option_of-on), touches))
 
 pub returns-in-Output-clause-gives : goal.returns-in-Output-clause-gives
 returns-in-Output-clause-gives c =
     let old = c.args.self.now.inputs in
-    let options = c.with_option-options.ensures ∙ ap (λ (i : Inputs). with_option c.args.flag c.args.on i.options) (inputs_are c.self.view_is) in
     let readable = subst (λ (i : Inputs). All (IsReadable i.syntax i.options.ignore_case) i.patterns) (inputs_are c.self.view_is) c.self.invariant.matchers.readable in
-    let applies = subst (λ o. Applies (SetFlag c.args.flag c.args.on) old (Ok (read_as old.syntax o old))) (sym options) (applies_flag c.args.flag c.args.on old (c.in-Output.ensures.0.same_case old.options) readable) in
+    let applies = subst (λ o. Applies (SetFlag c.args.flag c.args.on) old (Ok (read_as old.syntax o old))) (sym (options (goal.at.returns-in-Output-clause-gives c).After-with_option-options)) (applies_flag c.args.flag c.args.on old (c.in-Output.ensures.0.same_case old.options) readable) in
     subst (λ n. Applies (SetFlag c.args.flag c.args.on) old (Ok n)) (sym c.put_options-in-Output.ensures.inputs) applies
 
 pub returns-then-option_of-on-clause-steps : goal.returns-then-option_of-on-clause-steps
@@ -62,9 +63,8 @@ returns-then-option_of-on-clause-steps c = takes_none (SetFlag c.args.flag c.arg
 pub returns-in-Hits-clause-gives : goal.returns-in-Hits-clause-gives
 returns-in-Hits-clause-gives c =
     let old = c.args.self.now.inputs in
-    let options = c.with_option-options.ensures ∙ ap (λ (i : Inputs). with_option c.args.flag c.args.on i.options) (inputs_are c.self.view_is) in
     let readable = subst (λ (i : Inputs). All (IsReadable i.syntax i.options.ignore_case) i.patterns) (inputs_are c.self.view_is) c.self.invariant.matchers.readable in
-    let applies = subst (λ o. Applies (SetFlag c.args.flag c.args.on) old (Ok (read_as old.syntax o old))) (sym options) (applies_flag c.args.flag c.args.on old (c.in-Hits.ensures.0.same_case old.options) readable) in
+    let applies = subst (λ o. Applies (SetFlag c.args.flag c.args.on) old (Ok (read_as old.syntax o old))) (sym (options (goal.at.returns-in-Hits-clause-gives c).After-with_option-options)) (applies_flag c.args.flag c.args.on old (c.in-Hits.ensures.0.same_case old.options) readable) in
     let step = c.put_options.ensures.inputs ∙ ap (λ (i : Inputs). read_as i.syntax c.with_option-options.result i) (inputs_are c.self.view_is) in
     subst (λ n. Applies (SetFlag c.args.flag c.args.on) old (Ok n)) (sym step) applies
 
@@ -80,24 +80,16 @@ returns-then-option_of-on-clause-marks c =
 
 pub returns-in-Verdicts-clause-marks : goal.returns-in-Verdicts-clause-marks
 returns-in-Verdicts-clause-marks c =
-    let old = c.args.self.now.inputs in
-    let other : option_of c.args.flag old.options ≡ c.args.on → ⊥ = λ e. false≢true (sym c.if-option_of-on.false ∙ (booleans_Decides c.option_of.result c.args.on).1 (c.option_of.ensures ∙ ap (λ (w : Watched). option_of c.args.flag w.inputs.options) c.self.view_is ∙ e)) in
-    given_flag c.args.flag c.args.on c.args.self.now c.read_again.new.self.marks c.read_again.result other c.in-Verdicts.ensures.loses c.read_again.ensures.marks
+    given_flag c.args.flag c.args.on c.args.self.now c.read_again.new.self.marks c.read_again.result (other (goal.at.returns-in-Verdicts-clause-marks c).Else-option_of-on) c.in-Verdicts.ensures.loses c.read_again.ensures.marks
 
 pub returns-in-Parts-clause-marks : goal.returns-in-Parts-clause-marks
 returns-in-Parts-clause-marks c =
-    let old = c.args.self.now.inputs in
-    let other : option_of c.args.flag old.options ≡ c.args.on → ⊥ = λ e. false≢true (sym c.if-option_of-on.false ∙ (booleans_Decides c.option_of.result c.args.on).1 (c.option_of.ensures ∙ ap (λ (w : Watched). option_of c.args.flag w.inputs.options) c.self.view_is ∙ e)) in
-    given_flag c.args.flag c.args.on c.args.self.now c.part_again.new.self.marks c.part_again.result other (subst LosesAll (sym c.in-Parts.ensures.0) (λ marks. refl)) c.part_again.ensures.marks
+    given_flag c.args.flag c.args.on c.args.self.now c.part_again.new.self.marks c.part_again.result (other (goal.at.returns-in-Parts-clause-marks c).Else-option_of-on) (subst LosesAll (sym c.in-Parts.ensures.0) (λ marks. refl)) c.part_again.ensures.marks
 
 pub returns-in-Hits-clause-marks : goal.returns-in-Hits-clause-marks
 returns-in-Hits-clause-marks c =
-    let old = c.args.self.now.inputs in
-    let other : option_of c.args.flag old.options ≡ c.args.on → ⊥ = λ e. false≢true (sym c.if-option_of-on.false ∙ (booleans_Decides c.option_of.result c.args.on).1 (c.option_of.ensures ∙ ap (λ (w : Watched). option_of c.args.flag w.inputs.options) c.self.view_is ∙ e)) in
-    inr (other, c.put_options.ensures.marks ∙ c.lose_all.ensures ∙ ap (λ (w : Watched). map lost w.marks) c.self.view_is ∙ sym (c.in-Hits.ensures.1 c.args.self.now.marks))
+    inr ((other (goal.at.returns-in-Hits-clause-marks c).Else-option_of-on), c.put_options.ensures.marks ∙ c.lose_all.ensures ∙ ap (λ (w : Watched). map lost w.marks) c.self.view_is ∙ sym (c.in-Hits.ensures.1 c.args.self.now.marks))
 
 pub returns-in-Output-clause-marks : goal.returns-in-Output-clause-marks
 returns-in-Output-clause-marks c =
-    let old = c.args.self.now.inputs in
-    let other : option_of c.args.flag old.options ≡ c.args.on → ⊥ = λ e. false≢true (sym c.if-option_of-on.false ∙ (booleans_Decides c.option_of.result c.args.on).1 (c.option_of.ensures ∙ ap (λ (w : Watched). option_of c.args.flag w.inputs.options) c.self.view_is ∙ e)) in
-    inr (other, c.put_options-in-Output.ensures.marks ∙ sym (c.in-Output.ensures.1 c.args.self.now.marks))
+    inr ((other (goal.at.returns-in-Output-clause-marks c).Else-option_of-on), c.put_options-in-Output.ensures.marks ∙ sym (c.in-Output.ensures.1 c.args.self.now.marks))

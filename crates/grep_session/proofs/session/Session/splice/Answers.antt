@@ -1,21 +1,38 @@
-use Rattle.grep_session.proofs.Prelude.{◌≡◌, Ok, IfSome, map, refl, sym, subst, ◌∙◌, ap, get_or, All, arith, matched_expression, KeptFile, Splice, Applies, spliced, with_files, IsKept, IsFileKept, kept_lines, all_of, line_text, inputs_of, watched_of}
-use Rattle.grep_session.proofs.lemmas.EditLemmas.{asked_session, splice_steps, applies_splice, in_kept, kept_put, files_same, files_spliced, files_kept, needs_for_lines, empty_map}
+use Rattle.grep_session.proofs.Prelude.{◌≡◌, ◌+◌, Ok, IfSome, length, map, refl, sym, subst, ◌∙◌, ap, get_or, set, All, arith, matched_expression, KeptFile, Splice, Applies, HasPlace, TakesSteps, splice, spliced, file_at, with_files, IsKept, IsFileKept, kept_file, kept_lines, all_of, line_text, inputs_of, watched_of}
+use Rattle.grep_session.proofs.lemmas.EditLemmas.{asked_session, left_session, splice_steps, applies_splice, in_kept, kept_put, files_same, files_spliced, files_kept, needs_for_lines, empty_map}
 use Rattle.grep_session.proofs.lemmas.StepLemmas.{takes_none}
 use Rattle.grep_session.proofs.lemmas.SessionLemmas.{inputs_are}
 use Rattle.grep_session.proofs.lemmas.FitLemmas.{as_many, fit_as, fit_spliced, given_splice, lines_spliced, mark_within, mark_rest, mark_spliced}
 use Rattle.grep_session.proofs.session.Session.splice.Goals as goal
+use Rattle.grep_session.proofs.session.Session.splice.Goals.{After-search_new, After-line_count-many}
+
+there : (c : After-search_new) → HasPlace (inputs_of c.self.inside).files c.args.k c.args.start c.args.count
+there c = rw c.deref.ensures.value at c.in-Ok.ensures.place
+
+takes : (c : After-search_new) → TakesSteps (Splice c.args.k c.args.start c.args.count c.args.lines) (inputs_of c.self.inside) c.args.meter.now c.search_new.new.meter
+takes c = splice_steps c.self.inside c.self.invariant _ c.search_new.ensures.free _ _ c.search_new.ensures.steps _ _ _ (there c)
+
+-- the files with the new lines, and how many lines theirs has
+made : (c : After-line_count-many) → let old = (inputs_of c.self.inside).files in let come = map line_text (all_of c.in-Ok-search_new.kept) in (map kept_file (set c.self.inside.files.items c.args.k c.put_in.new.file) ≡ spliced old c.args.k c.args.start c.args.count come)
+    × (c.line_count-many.result ≡ length (splice (file_at old c.args.k).lines c.args.start (c.args.start + c.args.count) come))
+made c =
+    let old = (inputs_of c.self.inside).files in
+    let kept = all_of c.in-Ok-search_new.kept in
+    let place = rw c.deref.ensures.value at c.in-Ok.ensures.place in
+    let all = files_spliced c.args.start c.args.count kept c.self.inside.files.items c.args.k c.index_mut.result.now c.put_in.new.file place c.index_mut.ensures.value c.put_in.ensures.name c.in-Ok-put_in.ensures.ok in
+    (all, c.line_count-many.ensures ∙ lines_spliced _ old c.args.k c.args.start c.args.count (map line_text kept) c.index.result.now place.in_files all c.index.ensures)
 
 pub returns-in-Err-clause-steps : goal.returns-in-Err-clause-steps
 returns-in-Err-clause-steps c = takes_none (Splice c.args.k c.args.start c.args.count c.args.lines) _ _
 
 pub returns-in-Err-search_new-clause-steps : goal.returns-in-Err-search_new-clause-steps
-returns-in-Err-search_new-clause-steps c = rw (← c.self.view_is) (splice_steps c.self.inside c.self.invariant _ c.search_new.ensures.free _ _ c.search_new.ensures.steps _ _ _ (rw c.deref.ensures.value at c.in-Ok.ensures.place))
+returns-in-Err-search_new-clause-steps c = rw (← c.self.view_is) (takes (goal.at.returns-in-Err-search_new-clause-steps c).After-search_new)
 
 pub returns-in-Err-put_in-clause-steps : goal.returns-in-Err-put_in-clause-steps
-returns-in-Err-put_in-clause-steps c = rw (← c.self.view_is) (splice_steps c.self.inside c.self.invariant _ c.search_new.ensures.free _ _ c.search_new.ensures.steps _ _ _ (rw c.deref.ensures.value at c.in-Ok.ensures.place))
+returns-in-Err-put_in-clause-steps c = rw (← c.self.view_is) (takes (goal.at.returns-in-Err-put_in-clause-steps c).After-search_new)
 
 pub returns-clause-steps : goal.returns-clause-steps
-returns-clause-steps c = rw (← c.self.view_is) (splice_steps c.self.inside c.self.invariant _ c.search_new.ensures.free _ _ c.search_new.ensures.steps _ _ _ (rw c.deref.ensures.value at c.in-Ok.ensures.place))
+returns-clause-steps c = rw (← c.self.view_is) (takes (goal.at.returns-clause-steps c).After-search_new)
 
 pub returns-in-Err-put_in-clause-gives : goal.returns-in-Err-put_in-clause-gives
 returns-in-Err-put_in-clause-gives c =
@@ -31,99 +48,62 @@ invariant_of-self-2 c =
     let old = inputs_of s in
     let d = c.index_mut.result.now in
     let at : d ≡ get_or s.files.items c.args.k d = c.index_mut.ensures.value in
-    let place = rw c.deref.ensures.value at c.in-Ok.ensures.place in
+    let place = there (goal.at.invariant_of-self-2 c).After-search_new in
     let come = map line_text (all_of c.in-Ok-search_new.kept) in
-    let all = files_spliced c.args.start c.args.count (all_of c.in-Ok-search_new.kept) s.files.items c.args.k d c.put_in.new.file place at c.put_in.ensures.name c.in-Ok-put_in.ensures.ok in
-    let lines = c.line_count-many.ensures ∙ lines_spliced _ old.files c.args.k c.args.start c.args.count come c.index.result.now place.in_files all c.index.ensures in
+    let now = made (goal.at.invariant_of-self-2 c).After-line_count-many in
     let es = map matched_expression s.matchers.items in
-    let within = in_kept s.files.items c.args.k place.in_files in
-    let before : IfSome (kept_lines d) (All (IsKept es s.options)) = subst (λ (f : KeptFile). IsFileKept es s.options f) (sym at) (c.self.invariant.kept c.args.k d within) in
+    let before : IfSome (kept_lines d) (All (IsKept es s.options)) = subst (λ (f : KeptFile). IsFileKept es s.options f) (sym at) (c.self.invariant.kept c.args.k d (in_kept s.files.items c.args.k place.in_files)) in
     let kept = files_kept es s.options s.files.items c.args.k c.put_in.new.file _ c.self.invariant.kept c.in-Ok-put_in.ensures.ok (kept_put c.args.start c.args.count (all_of c.in-Ok-search_new.kept) es s.options (kept_lines d) before c.in-Ok-search_new.ensures.ok) in
-    let marks = mark_spliced old.files s.marks.items c.self.invariant.fit c.args.k c.args.start c.args.count come place.in_files place.in_file c.line_count-many.result lines c.touch.new.marks.items c.touch.ensures in
+    let marks = mark_spliced old.files s.marks.items c.self.invariant.fit c.args.k c.args.start c.args.count come place.in_files place.in_file c.line_count-many.result now.1 c.touch.new.marks.items c.touch.ensures in
     asked_session s _ refl refl c.self.invariant c.search_new.ensures.same_matchers kept
-    (fit_as (spliced old.files c.args.k c.args.start c.args.count come) _ _ _ all marks.2
+    (fit_as (spliced old.files c.args.k c.args.start c.args.count come) _ _ _ now.0 marks.2
     (fit_spliced old.files s.marks.items c.self.invariant.fit c.args.k c.args.start c.args.count come place.in_files place.in_file marks.0 marks.1))
 
 pub touch-requires-clause-inside : goal.touch-requires-clause-inside
 touch-requires-clause-inside c =
     let s = c.self.inside in
-    let place = rw c.deref.ensures.value at c.in-Ok.ensures.place in
+    let place = there (goal.at.touch-requires-clause-inside c).After-search_new in
     omega (arith, place.in_files, as_many (inputs_of s).files s.marks.items c.self.invariant.fit)
 
 pub touch-requires-clause-within : goal.touch-requires-clause-within
 touch-requires-clause-within c =
-    let s = c.self.inside in
-    let old = inputs_of s in
-    let d = c.index_mut.result.now in
-    let at : d ≡ get_or s.files.items c.args.k d = c.index_mut.ensures.value in
-    let place = rw c.deref.ensures.value at c.in-Ok.ensures.place in
-    let come = map line_text (all_of c.in-Ok-search_new.kept) in
-    let all = files_spliced c.args.start c.args.count (all_of c.in-Ok-search_new.kept) s.files.items c.args.k d c.put_in.new.file place at c.put_in.ensures.name c.in-Ok-put_in.ensures.ok in
-    let lines = c.line_count-many.ensures ∙ lines_spliced _ old.files c.args.k c.args.start c.args.count come c.index.result.now place.in_files all c.index.ensures in
-    mark_within old.files s.marks.items c.self.invariant.fit c.args.k c.args.start c.args.count come place.in_files place.in_file c.line_count-many.result lines
+    let place = there (goal.at.touch-requires-clause-within c).After-search_new in
+    mark_within (inputs_of c.self.inside).files _ c.self.invariant.fit _ _ _ _ place.in_files place.in_file _ (made (goal.at.touch-requires-clause-within c).After-line_count-many).1
 
 pub touch-requires-clause-rest : goal.touch-requires-clause-rest
 touch-requires-clause-rest c =
-    let s = c.self.inside in
-    let old = inputs_of s in
-    let d = c.index_mut.result.now in
-    let at : d ≡ get_or s.files.items c.args.k d = c.index_mut.ensures.value in
-    let place = rw c.deref.ensures.value at c.in-Ok.ensures.place in
-    let come = map line_text (all_of c.in-Ok-search_new.kept) in
-    let all = files_spliced c.args.start c.args.count (all_of c.in-Ok-search_new.kept) s.files.items c.args.k d c.put_in.new.file place at c.put_in.ensures.name c.in-Ok-put_in.ensures.ok in
-    let lines = c.line_count-many.ensures ∙ lines_spliced _ old.files c.args.k c.args.start c.args.count come c.index.result.now place.in_files all c.index.ensures in
-    mark_rest old.files s.marks.items c.self.invariant.fit c.args.k c.args.start c.args.count come place.in_files place.in_file c.line_count-many.result lines
+    let place = there (goal.at.touch-requires-clause-rest c).After-search_new in
+    mark_rest (inputs_of c.self.inside).files _ c.self.invariant.fit _ _ _ _ place.in_files place.in_file _ (made (goal.at.touch-requires-clause-rest c).After-line_count-many).1
 
 pub returns-clause-marks : goal.returns-clause-marks
 returns-clause-marks c =
     let s = c.self.inside in
-    let old = inputs_of s in
-    let d = c.index_mut.result.now in
-    let at : d ≡ get_or s.files.items c.args.k d = c.index_mut.ensures.value in
-    let place = rw c.deref.ensures.value at c.in-Ok.ensures.place in
+    let place = there (goal.at.returns-clause-marks c).After-search_new in
     let come = map line_text (all_of c.in-Ok-search_new.kept) in
-    let all = files_spliced c.args.start c.args.count (all_of c.in-Ok-search_new.kept) s.files.items c.args.k d c.put_in.new.file place at c.put_in.ensures.name c.in-Ok-put_in.ensures.ok in
-    let lines = c.line_count-many.ensures ∙ lines_spliced _ old.files c.args.k c.args.start c.args.count come c.index.result.now place.in_files all c.index.ensures in
-    let marks = mark_spliced old.files s.marks.items c.self.invariant.fit c.args.k c.args.start c.args.count come place.in_files place.in_file c.line_count-many.result lines c.touch.new.marks.items c.touch.ensures in
+    let marks = mark_spliced (inputs_of s).files s.marks.items c.self.invariant.fit c.args.k c.args.start c.args.count come place.in_files place.in_file c.line_count-many.result (made (goal.at.returns-clause-marks c).After-line_count-many).1 c.touch.new.marks.items c.touch.ensures in
     rw (← c.self.view_is) (given_splice c.args.k c.args.start c.args.count c.args.lines come (watched_of s) c.touch.new.marks.items c.in-Ok-search_new.ensures.texts marks)
 
 pub returns-clause-gives : goal.returns-clause-gives
 returns-clause-gives c =
-    let s = c.self.inside in
-    let old = inputs_of s in
-    let d = c.index_mut.result.now in
-    let at : d ≡ get_or s.files.items c.args.k d = c.index_mut.ensures.value in
-    let place = rw c.deref.ensures.value at c.in-Ok.ensures.place in
-    let come = map line_text (all_of c.in-Ok-search_new.kept) in
-    let all = files_spliced c.args.start c.args.count (all_of c.in-Ok-search_new.kept) s.files.items c.args.k d c.put_in.new.file place at c.put_in.ensures.name c.in-Ok-put_in.ensures.ok in
-    let lines = c.args.lines in
-    let now = all ∙ ap (λ ls. spliced old.files c.args.k c.args.start c.args.count ls) c.in-Ok-search_new.ensures.texts in
-    rw (← c.self.view_is) (subst (λ fs. Applies (Splice c.args.k c.args.start c.args.count lines) old (Ok (with_files fs old))) (sym now) (applies_splice old _ _ _ lines place c.search_new.ensures.free))
+    let old = inputs_of c.self.inside in
+    let now = (made (goal.at.returns-clause-gives c).After-line_count-many).0 ∙ ap (λ ls. spliced old.files c.args.k c.args.start c.args.count ls) c.in-Ok-search_new.ensures.texts in
+    rw (← c.self.view_is) (subst (λ fs. Applies (Splice c.args.k c.args.start c.args.count c.args.lines) old (Ok (with_files fs old))) (sym now) (applies_splice old _ _ _ c.args.lines (there (goal.at.returns-clause-gives c).After-search_new) c.search_new.ensures.free))
 
 pub returns-in-Err-search_new-clause-memory : goal.returns-in-Err-search_new-clause-memory
 returns-in-Err-search_new-clause-memory c =
-    let s = c.self.inside in
-    let old = inputs_of s in
-    let lines = c.args.lines in
-    let place = rw c.deref.ensures.value at c.in-Ok.ensures.place in
-    rw (← c.self.view_is) (λ need. absurd (needs_for_lines old c.args.k c.args.start c.args.count lines place (λ empty. c.in-Err-search_new.ensures.memory empty) need))
+    rw (← c.self.view_is) (λ need. absurd (needs_for_lines (inputs_of c.self.inside) _ _ _ _ (there (goal.at.returns-in-Err-search_new-clause-memory c).After-search_new) (λ empty. c.in-Err-search_new.ensures.memory empty) need))
 
 pub returns-in-Err-put_in-clause-memory : goal.returns-in-Err-put_in-clause-memory
 returns-in-Err-put_in-clause-memory c =
-    let s = c.self.inside in
-    let old = inputs_of s in
-    let lines = c.args.lines in
-    let place = rw c.deref.ensures.value at c.in-Ok.ensures.place in
-    rw (← c.self.view_is) (λ need. absurd (needs_for_lines old c.args.k c.args.start c.args.count lines place (λ empty. c.in-Err-put_in.ensures.memory (empty_map line_text (all_of c.in-Ok-search_new.kept) (c.in-Ok-search_new.ensures.texts ∙ empty))) need))
+    rw (← c.self.view_is) (λ need. absurd (needs_for_lines (inputs_of c.self.inside) _ _ _ _ (there (goal.at.returns-in-Err-put_in-clause-memory c).After-search_new) (λ empty. c.in-Err-put_in.ensures.memory (empty_map line_text (all_of c.in-Ok-search_new.kept) (c.in-Ok-search_new.ensures.texts ∙ empty))) need))
 
 pub index_mut-requires : goal.index_mut-requires
 index_mut-requires c =
     let files = c.self.inside.files in
-    let place = rw c.deref.ensures.value at c.in-Ok.ensures.place in
-    omega (arith, in_kept files.items c.args.k place.in_files, files.ok.0)
+    omega (arith, in_kept files.items c.args.k (there (goal.at.index_mut-requires c).After-search_new).in_files, files.ok.0)
 
 pub invariant_of-self : goal.invariant_of-self
-invariant_of-self c = asked_session c.self.inside _ refl refl c.self.invariant c.search_new.ensures.same_matchers c.self.invariant.kept c.self.invariant.fit
+invariant_of-self c = left_session c.self.inside _ refl refl c.self.invariant c.search_new.ensures.same_matchers refl refl
 
 pub invariant_of-self-in-Err-put_in : goal.invariant_of-self-in-Err-put_in
 invariant_of-self-in-Err-put_in c =
@@ -131,8 +111,7 @@ invariant_of-self-in-Err-put_in c =
     let es = map matched_expression s.matchers.items in
     let d = c.index_mut.result.now in
     let at : d ≡ get_or s.files.items c.args.k d = c.index_mut.ensures.value in
-    let place = rw c.deref.ensures.value at c.in-Ok.ensures.place in
-    let within = in_kept s.files.items c.args.k place.in_files in
+    let within = in_kept s.files.items c.args.k (there (goal.at.invariant_of-self-in-Err-put_in c).After-search_new).in_files in
     let before : IfSome (kept_lines d) (All (IsKept es s.options)) = subst (λ (f : KeptFile). IsFileKept es s.options f) (sym at) (c.self.invariant.kept c.args.k d within) in
     let kept = files_kept es s.options s.files.items c.args.k c.put_in.new.file _ c.self.invariant.kept c.in-Err-put_in.ensures.err before in
     let same = files_same s.files.items c.args.k d c.put_in.new.file (ap (λ n. n.items) c.put_in.ensures.name ∙ ap (λ (f : KeptFile). f.name.items) at) (c.in-Err-put_in.ensures.err ∙ ap kept_lines at) in

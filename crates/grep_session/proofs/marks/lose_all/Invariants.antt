@@ -1,7 +1,7 @@
 use Rattle.grep_session.proofs.Prelude.{◌≡◌, lost}
 use Rattle.grep_session.proofs.lemmas.LostLemmas.{mapped_to}
-use Rattle.grep_session.proofs.marks.lose_each.Given as goal
+use Rattle.grep_session.proofs.marks.lose_all.Given as goal
 
 -- the first are lost, and the others are as they were
 abbrev pub invariant-loop-mark : goal.invariant-loop-mark
-invariant-loop-mark l = l.marks ≡ mapped_to lost l.fn.marks l.mark-index
+invariant-loop-mark l = l.mark-items ≡ mapped_to lost l.fn.marks.items l.mark-index
