@@ -23,12 +23,11 @@ static int compile(gaxtrel_matcher *matcher, sqlite3_value *pattern, char **mess
     }
 }
 
-/* The part with all of its first and of its last character, which have four bytes at most. */
+/* The part with all of its first and of its last character. */
 static gaxtrel_part widened(gaxtrel_part part, const uint8_t *text, size_t length) {
-    gaxtrel_part wide = part;
-    while (wide.start > 0 && part.start - wide.start < 3 && text[wide.start] >> 6 == 2) wide.start--;
-    while (wide.end < length && wide.end - part.end < 3 && text[wide.end] >> 6 == 2) wide.end++;
-    return wide;
+    while (part.start > 0 && text[part.start] >> 6 == 2) part.start--;
+    while (part.end < length && text[part.end] >> 6 == 2) part.end++;
+    return part;
 }
 
 /* The functions. */
