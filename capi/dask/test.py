@@ -1,4 +1,3 @@
-#!/usr/bin/env python3
 """Compares gaxtrel_dask with the built grep: test.py GREP. The last line is `N passed, M failed`."""
 
 import random
@@ -16,8 +15,8 @@ def files(folder: Path) -> list[str]:
     """Names of files, and of some that can't be read."""
     random.seed(7)
     texts = [b"", b"\n", b"a\0bc\nerror", b"x\xff bbc\n\n123x\n" * 20_000]
-    texts += ["\n".join(random.choice(["", "error", "abbc", "123", "x 456", "é"]) for _ in range(random.randrange(50))).encode()
-              for _ in range(200)]
+    lines = ["", "error", "abbc", "123", "x 456", "é"]
+    texts += ["\n".join(random.choices(lines, k=random.randrange(50))).encode() for _ in range(200)]
     for number, text in enumerate(texts):
         (folder / f"{number} é").write_bytes(text)
     return [str(folder / f"{number} é") for number in range(len(texts))] + [str(folder), str(folder / "missing")]

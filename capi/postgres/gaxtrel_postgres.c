@@ -1,6 +1,6 @@
-/* A PostgreSQL extension: gaxtrel_match(text, pattern) and gaxtrel_part(text, pattern). Patterns are extended. Each line
-   of a text is searched on its own, as `~` does with (?n), and between lines a query can be cancelled. A part that cuts a
-   character is widened to all of it. */
+/* A PostgreSQL extension: gaxtrel_match(text, pattern) and gaxtrel_part(text, pattern). Patterns are extended. Each
+   line of a text is searched alone, as by `~` with (?n), and between lines a query can be cancelled. A part that cuts
+   a character is widened to all of it. */
 #include "postgres.h"
 
 #include "fmgr.h"

@@ -1,4 +1,3 @@
-#!/usr/bin/env python3
 """Starts a PostgreSQL of its own in a temporary folder, and asks it: test.py INSTALL.., the command that installs the
 extension below the folder that its last word, DESTDIR=, then names. Root runs the server as the user postgres. The last
 line is `N passed, M failed`."""
@@ -14,10 +13,11 @@ from pathlib import Path
 
 HOSTILE = "([ab]{0,60}a){60}c"
 ROWS = [
-    ("CREATE EXTENSION gaxtrel; SELECT provolatile, proisstrict, proparallel FROM pg_proc WHERE proname LIKE 'gaxtrel%'",
-     "i|t|s\ni|t|s"),
+    ("CREATE EXTENSION gaxtrel; "
+     "SELECT provolatile, proisstrict, proparallel FROM pg_proc WHERE proname LIKE 'gaxtrel%'", "i|t|s\ni|t|s"),
     ("SELECT gaxtrel_match('abc', '^b|c$'), gaxtrel_match('abc', '^b'), gaxtrel_match('', 'a*')", "t|f|t"),
-    ("SELECT gaxtrel_match(NULL, 'a') IS NULL, gaxtrel_match('a', NULL) IS NULL, gaxtrel_part(NULL, 'a') IS NULL", "t|t|t"),
+    ("SELECT gaxtrel_match(NULL, 'a') IS NULL, gaxtrel_match('a', NULL) IS NULL, gaxtrel_part(NULL, 'a') IS NULL",
+     "t|t|t"),
     ("SELECT gaxtrel_part('xabcde', 'ab|abcd|bc'), gaxtrel_part('b', 'a*') IS NULL, gaxtrel_part('', 'a') IS NULL",
      "abcd|t|t"),
     ("SELECT gaxtrel_part('äb', '.'), gaxtrel_part('aäb', '[^a]b'), gaxtrel_part('a😀', 'a.')", "ä|äb|a😀"),
@@ -25,7 +25,8 @@ ROWS = [
      r"gaxtrel_part(E'x\nab\nabb', 'ab+$')", "t|t|f|ab"),
     ("SELECT gaxtrel_match('a', 'a(b')", "ERROR:  invalid regular expression: UnclosedGroup at 1"),
     (r"SELECT gaxtrel_part('a', '(a)\1')", "ERROR:  invalid regular expression: BackReference at 3"),
-    ("SELECT count(*) FROM (VALUES ('a', 'a'), ('a', 'b'), ('b', 'b'), ('b', 'a+')) t(s, p) WHERE gaxtrel_match(s, p)", "2"),
+    ("SELECT count(*) FROM (VALUES ('a', 'a'), ('a', 'b'), ('b', 'b'), ('b', 'a+')) t(s, p) WHERE gaxtrel_match(s, p)",
+     "2"),
     # the lines of a thousand texts, beside (?n)
     ("SELECT count(*), count(*) FILTER (WHERE gaxtrel_match(s, p) <> (s ~ ('(?n)' || p))) FROM (SELECT "
      "translate(md5(k::text), '0123456789', E'\\n\\naabbaabb') s FROM generate_series(1, 1000) k) t, "
@@ -33,8 +34,9 @@ ROWS = [
      "6000|0"),
     (f"SELECT gaxtrel_match(repeat('ab', 5000) || 'bc', '{HOSTILE}')", "f"),
     # matchers are freed
-    ("DO $$ BEGIN FOR k IN 1..5000 LOOP PERFORM gaxtrel_match(s, 'a{' || k % 200 || '}b|c[d-f]+') FROM (VALUES ('ab'), ('c')) "
-     r"t(s); END LOOP; END $$; SELECT substring(pg_read_file('/proc/self/status') FROM 'VmRSS:\s+(\d+)')::int < 50000", "t"),
+    ("DO $$ BEGIN FOR k IN 1..5000 LOOP PERFORM gaxtrel_match(s, 'a{' || k % 200 || '}b|c[d-f]+') "
+     "FROM (VALUES ('ab'), ('c')) t(s); END LOOP; END $$; "
+     r"SELECT substring(pg_read_file('/proc/self/status') FROM 'VmRSS:\s+(\d+)')::int < 50000", "t"),
     ("SET max_parallel_workers_per_gather = 2; SET parallel_setup_cost = 0; SET parallel_tuple_cost = 0; "
      "SET min_parallel_table_scan_size = 0; CREATE TABLE t AS SELECT k || ' ab' s FROM generate_series(1, 100000) k; "
      "SELECT count(*) FROM t WHERE gaxtrel_match(s, '7 ab$')", "10000"),

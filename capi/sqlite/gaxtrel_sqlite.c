@@ -1,6 +1,7 @@
 /* A SQLite extension: `text REGEXP pattern`, gaxtrel_part(pattern, text), and the table gaxtrel_parts(pattern, text) of
-   `part`, `first` and `end`. Patterns are extended. A text is one line, whatever its bytes are; places are bytes of it,
-   from 0. What cuts a character of UTF-8 is widened to all of it. */
+   `part`, `first` and `end`. Patterns are extended. A text is one line, whatever its bytes are; places are of bytes,
+   from 0. A part that cuts a character of UTF-8 is widened to all of it, and one that begins in the part before it is
+   left out. */
 #include "kinds.h"
 #include <sqlite3ext.h>
 #include <string.h>
@@ -79,7 +80,8 @@ static void regexp(sqlite3_context *context, int count, sqlite3_value **words) {
 }
 
 static void show(sqlite3_context *context, const uint8_t *text, gaxtrel_part part) {
-    sqlite3_result_text64(context, (const char *)text + part.start, part.end - part.start, SQLITE_TRANSIENT, SQLITE_UTF8);
+    const char *start = (const char *)text + part.start;
+    sqlite3_result_text64(context, start, part.end - part.start, SQLITE_TRANSIENT, SQLITE_UTF8);
 }
 
 static void first_part(sqlite3_context *context, int count, sqlite3_value **words) {

@@ -1,5 +1,5 @@
-/* Each request for memory of a few queries is refused in turn, SQLite's and the library's: a query ends with its rows or
-   with SQLITE_NOMEM, and all is freed. SQLite is linked in, so that its requests are seen. */
+/* Each request for memory of a few queries is refused in turn, SQLite's and the library's: a query ends with its rows
+   or with SQLITE_NOMEM, and all is freed. SQLite is linked in, so that its requests are seen. */
 #include "tests/refusals.h"
 #include <sqlite3.h>
 #include <stdbool.h>

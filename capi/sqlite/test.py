@@ -1,4 +1,3 @@
-#!/usr/bin/env python3
 """Asks the sqlite3 shell with the extension loaded: test.py EXTENSION. The last line is `N passed, M failed`."""
 
 import re
