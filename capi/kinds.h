@@ -1,4 +1,4 @@
-/* kinds.h: the names of GAXTREL_UNCLOSED_BRACKET and its kind, as grep writes them. */
+/* kinds.h: the names of the kinds of faults, as grep writes them. */
 #ifndef GAXTREL_KINDS_H
 #define GAXTREL_KINDS_H
 

@@ -8,20 +8,17 @@
 
 SQLITE_EXTENSION_INIT1
 
-/* SQLITE_OK, or the code of why there is no matcher, and for SQLITE_ERROR a message. */
+/* SQLITE_OK; SQLITE_NOMEM; or for a refused pattern SQLITE_ERROR, and a message in place of none. */
 static int compile(gaxtrel_matcher *matcher, sqlite3_value *pattern, char **message) {
     gaxtrel_fault fault;
     const uint8_t *text = sqlite3_value_text(pattern);
+    int length = sqlite3_value_bytes(pattern);
     if (!text) return SQLITE_NOMEM;
-    switch (gaxtrel_compile(matcher, text, sqlite3_value_bytes(pattern), GAXTREL_EXTENDED, false, false, &fault)) {
-    case GAXTREL_OK:
-        return SQLITE_OK;
-    case GAXTREL_REFUSED:
+    uint32_t answer = gaxtrel_compile(matcher, text, length, GAXTREL_EXTENDED, false, false, &fault);
+    if (answer == GAXTREL_OK) return SQLITE_OK;
+    if (answer == GAXTREL_REFUSED)
         *message = sqlite3_mprintf("gaxtrel: %s at %llu", kind_name(fault.kind), (unsigned long long)fault.at);
-        return *message ? SQLITE_ERROR : SQLITE_NOMEM;
-    default:
-        return SQLITE_NOMEM;
-    }
+    return *message ? SQLITE_ERROR : SQLITE_NOMEM;
 }
 
 /* The part with all of its first and of its last character. */
@@ -60,23 +57,8 @@ static gaxtrel_matcher *matcher_of(sqlite3_context *context, sqlite3_value *patt
     return 0;
 }
 
-/* What a function needs of its words. There is none where a word is NULL, or after an error. */
-static gaxtrel_matcher *begin(sqlite3_context *context, sqlite3_value **words, const uint8_t **text, size_t *length) {
-    gaxtrel_matcher *matcher;
-    if (sqlite3_value_type(words[0]) == SQLITE_NULL || sqlite3_value_type(words[1]) == SQLITE_NULL) return 0;
-    matcher = matcher_of(context, words[0]);
-    *text = sqlite3_value_text(words[1]);
-    *length = (size_t)sqlite3_value_bytes(words[1]);
-    if (matcher && !*text) sqlite3_result_error_nomem(context);
-    return *text ? matcher : 0;
-}
-
-static void regexp(sqlite3_context *context, int count, sqlite3_value **words) {
-    const uint8_t *text;
-    size_t length;
-    gaxtrel_matcher *matcher = begin(context, words, &text, &length);
-    (void)count;
-    if (matcher) sqlite3_result_int(context, gaxtrel_is_match(matcher, text, length) == GAXTREL_YES);
+static bool has_null(sqlite3_value **words) {
+    return sqlite3_value_type(words[0]) == SQLITE_NULL || sqlite3_value_type(words[1]) == SQLITE_NULL;
 }
 
 static void show(sqlite3_context *context, const uint8_t *text, gaxtrel_part part) {
@@ -84,13 +66,20 @@ static void show(sqlite3_context *context, const uint8_t *text, gaxtrel_part par
     sqlite3_result_text64(context, start, part.end - part.start, SQLITE_TRANSIENT, SQLITE_UTF8);
 }
 
-static void first_part(sqlite3_context *context, int count, sqlite3_value **words) {
-    const uint8_t *text;
-    size_t length;
-    gaxtrel_part part;
-    gaxtrel_matcher *matcher = begin(context, words, &text, &length);
+/* Both functions; what was given to sqlite3_create_function says whether a part is wanted. */
+static void answer(sqlite3_context *context, int count, sqlite3_value **words) {
     (void)count;
-    if (matcher && gaxtrel_find(matcher, text, length, 0, &part) == GAXTREL_YES)
+    if (has_null(words)) return;
+    gaxtrel_part part;
+    gaxtrel_matcher *matcher = matcher_of(context, words[0]);
+    const uint8_t *text = sqlite3_value_text(words[1]);
+    size_t length = (size_t)sqlite3_value_bytes(words[1]);
+    if (!matcher) return;
+    if (!text)
+        sqlite3_result_error_nomem(context);
+    else if (!sqlite3_user_data(context))
+        sqlite3_result_int(context, gaxtrel_is_match(matcher, text, length) == GAXTREL_YES);
+    else if (gaxtrel_find(matcher, text, length, 0, &part) == GAXTREL_YES)
         show(context, text, widened(part, text, length));
 }
 
@@ -182,28 +171,26 @@ static int put_text(cursor *here, sqlite3_value *text) {
     return found == GAXTREL_NO_MEMORY ? SQLITE_NOMEM : SQLITE_OK;
 }
 
-static bool is_same(sqlite3_value *one, sqlite3_value *other) {
-    int length = one ? sqlite3_value_bytes(one) : -1;
-    return length == sqlite3_value_bytes(other) && !memcmp(sqlite3_value_text(one), sqlite3_value_text(other), length);
-}
-
 /* Another pattern, if it is another. */
 static int put_pattern(sqlite3_vtab_cursor *base, sqlite3_value *pattern) {
     cursor *here = (cursor *)base;
-    if (!sqlite3_value_text(pattern)) return SQLITE_NOMEM;
-    if (is_same(here->pattern, pattern)) return SQLITE_OK;
+    const char *before = here->pattern ? (const char *)sqlite3_value_text(here->pattern) : 0;
+    const char *text = (const char *)sqlite3_value_text(pattern);
+    int length = sqlite3_value_bytes(pattern);
+    if (before && text && sqlite3_value_bytes(here->pattern) == length && !memcmp(before, text, length))
+        return SQLITE_OK;
     sqlite3_value_free(here->pattern);
     here->pattern = 0;
     int code = compile(&here->matcher, pattern, &base->pVtab->zErrMsg);
     if (code != SQLITE_OK) return code;
     here->pattern = sqlite3_value_dup(pattern);
-    return here->pattern && sqlite3_value_text(here->pattern) ? SQLITE_OK : SQLITE_NOMEM;
+    return here->pattern ? SQLITE_OK : SQLITE_NOMEM;
 }
 
 static int parts_filter(sqlite3_vtab_cursor *base, int plan, const char *name, int count, sqlite3_value **words) {
     (void)plan, (void)name, (void)count;
     ((cursor *)base)->ended = true;
-    if (sqlite3_value_type(words[0]) == SQLITE_NULL || sqlite3_value_type(words[1]) == SQLITE_NULL) return SQLITE_OK;
+    if (has_null(words)) return SQLITE_OK;
     int code = put_pattern(base, words[0]);
     if (code == SQLITE_OK) code = put_text((cursor *)base, words[1]);
     return code == SQLITE_OK ? parts_next(base) : code;
@@ -235,7 +222,7 @@ int sqlite3_gaxtrel_init(sqlite3 *db, char **message, const sqlite3_api_routines
     enum { KIND = SQLITE_UTF8 | SQLITE_DETERMINISTIC | SQLITE_INNOCUOUS };
     SQLITE_EXTENSION_INIT2(api);
     (void)message;
-    int code = sqlite3_create_function(db, "regexp", 2, KIND, 0, regexp, 0, 0);
-    if (code == SQLITE_OK) code = sqlite3_create_function(db, "gaxtrel_part", 2, KIND, 0, first_part, 0, 0);
+    int code = sqlite3_create_function(db, "regexp", 2, KIND, 0, answer, 0, 0);
+    if (code == SQLITE_OK) code = sqlite3_create_function(db, "gaxtrel_part", 2, KIND, "", answer, 0, 0);
     return code == SQLITE_OK ? sqlite3_create_module(db, "gaxtrel_parts", &parts, 0) : code;
 }
