@@ -18,6 +18,8 @@
 # make test-lib   tries it in C (plain, under sanitizers, with each allocation refused, from eight threads) and in
 #                 Python, on AT&T's cases, rows and scripts of tests/, and beside the built grep on 100,000 patterns
 #                 (needs a C compiler and Python 3.11)
+# make test-engines  tries its extensions of SQLite and PostgreSQL and its module for Dask in the real engines (needs
+#                 sqlite3, libsqlite3-dev, postgresql, postgresql-server-dev-all, python3-distributed)
 # make figures    makes docs/figures/*.svg of crates.txt and of tables of the pages
 # make size       prints the size of code, specs and proofs in bytes, and how many functions there are
 # make evidence   writes docs/EVIDENCE.md: the newest run of each of the targets above
@@ -45,7 +47,7 @@ EMACS = emacs
 NVIM = nvim
 
 .PHONY: all programs gate audit test test-program test-random test-growth test-changes test-memory test-editor test-nvim \
-    lib test-lib figures size evidence grep-name install install-occur uninstall uninstall-occur install-lib \
+    lib test-lib test-engines figures size evidence grep-name install install-occur uninstall uninstall-occur install-lib \
     uninstall-lib dist deb clean
 
 all: programs
@@ -118,6 +120,11 @@ test-lib: build/lib/libgaxtrel.a build/grep
 	tools/evidence.sh test-lib $(MAKE) --no-print-directory -C capi test
 	tools/evidence.sh test-lib-cases $(MAKE) --no-print-directory -C capi test-cases
 	tools/evidence.sh test-lib-random python3 capi/tests/random_patterns.py build/grep
+
+test-engines: build/lib/libgaxtrel.a build/grep
+	tools/evidence.sh test-sqlite $(MAKE) --no-print-directory -C capi test-sqlite
+	tools/evidence.sh test-postgres $(MAKE) --no-print-directory -C capi test-postgres
+	tools/evidence.sh test-dask $(MAKE) --no-print-directory -C capi test-dask
 
 figures:
 	tools/figures.py

@@ -3,9 +3,9 @@
    What a caller owes, since nothing checks it:
    - each pointer points to what its type says, also where a length is 0, and no two overlap where
      one is written;
-   - a matcher or a session begins with GAXTREL_NONE, is written by these calls alone, is not copied
-     or moved by memcpy, and is used by one call at a time. It may go to another thread in between,
-     ordered by a lock, a start or a join;
+   - a matcher or a session begins with GAXTREL_NONE, is written by these calls alone, and is used by
+     one call at a time. It may be moved by memcpy, after which the old one is not used, not even to
+     free it; and it may go to another thread, ordered by a lock, a start or a join;
    - a thread has 64 KB of stack for a call, which is enough for any pattern;
    - no call from a signal handler, or in the child of a fork of a process with threads.
 

@@ -67,6 +67,7 @@ def build_wheel(wheel_directory: str, config_settings: Any = None, metadata_dire
     files = {f"{PACKAGE}/{file.name}": file.read_bytes() for file in sorted((HERE / PACKAGE).glob("*.py"))
              if file.is_file()}
     files[f"{PACKAGE}/py.typed"] = b""
+    files[f"{PACKAGE}/version.py"] = f'__version__ = "{version()}"\n'.encode()
     files[f"{PACKAGE}/libgaxtrel.so"] = linked()
     files[f"{about}/METADATA"] = metadata().encode()
     files[f"{about}/WHEEL"] = (f"Wheel-Version: 1.0\nGenerator: {Path(__file__).stem}\nRoot-Is-Purelib: false\n"

@@ -42,9 +42,11 @@ static int one(void) {
     CHECK(16, gaxtrel_is_match(&m, P("a.B")) == 1 && gaxtrel_is_match(&m, P("a.Bc")) == 0);
     CHECK(17, gaxtrel_compile(&m, P(""), GAXTREL_EXTENDED, false, true, &fault) == GAXTREL_OK);
     CHECK(18, gaxtrel_is_match(&m, P("")) == 1 && gaxtrel_is_match(&m, P("a")) == 0);
-    gaxtrel_free(&m);
-    gaxtrel_free(&m);
-    CHECK(19, gaxtrel_is_match(&m, P("x")) == GAXTREL_MISUSED);
+    gaxtrel_matcher moved = m;
+    CHECK(19, gaxtrel_is_match(&moved, P("")) == 1 && gaxtrel_is_match(&moved, P("a")) == 0);
+    gaxtrel_free(&moved);
+    gaxtrel_free(&moved);
+    CHECK(20, gaxtrel_is_match(&moved, P("x")) == GAXTREL_MISUSED);
     return 0;
 }
 

@@ -14,13 +14,19 @@ from __future__ import annotations
 
 import ctypes
 import enum
+import mmap
 import threading
 from collections.abc import Callable, Iterator
 from pathlib import Path
 from typing import Any, NamedTuple, Self
 
-__all__ = ["Error", "Kind", "Match", "Pattern", "Session", "Syntax", "Work", "compile",
+from gaxtrel.version import __version__ as __version__
+
+__all__ = ["Error", "Kind", "Match", "Pattern", "Session", "Syntax", "Text", "Work", "compile",
            "compile_lines"]
+
+Text = bytes | bytearray | memoryview | mmap.mmap
+"""A line or a text: anything that has bytes in one stretch of memory. No thread may change it during a call."""
 
 
 class Syntax(enum.IntEnum):
@@ -76,7 +82,7 @@ class Match:
 
     __slots__ = ("_end", "_start", "string")
 
-    def __init__(self, string: bytes, start: int, end: int) -> None:
+    def __init__(self, string: Text, start: int, end: int) -> None:
         self.string, self._start, self._end = string, start, end
 
     def start(self) -> int:
@@ -93,7 +99,9 @@ class Match:
 
     def group(self) -> bytes:
         """Its bytes."""
-        return self.string[self._start:self._end]
+        if isinstance(self.string, bytes):
+            return self.string[self._start:self._end]
+        return bytes(memoryview(self.string).cast("B")[self._start:self._end])
 
     def __repr__(self) -> str:
         return f"<gaxtrel.Match span={self.span()} match={self.group()!r}>"
@@ -120,6 +128,13 @@ class _Fault(ctypes.Structure):
 
 class _Part(ctypes.Structure):
     _fields_ = [("start", ctypes.c_size_t), ("end", ctypes.c_size_t)]
+
+
+class _Buffer(ctypes.Structure):
+    """Python's Py_buffer, of which the first words are used."""
+
+    _fields_ = [("at", ctypes.c_void_p), ("of", ctypes.c_void_p), ("length", ctypes.c_ssize_t),
+                ("others", ctypes.c_void_p * 7)]
 
 
 _library = ctypes.CDLL(str(Path(__file__).with_name("libgaxtrel.so")))
@@ -152,11 +167,24 @@ _replies = _call("session_replies", ctypes.c_size_t, *_TEXT, ctypes.POINTER(ctyp
 _close = _call("session_free", result=None, held=_Session)
 
 
-def _bytes(text: bytes) -> bytes:
-    """The text, if it is one."""
-    if not isinstance(text, bytes):
-        raise TypeError(f"bytes are wanted, not {type(text).__name__}")
-    return text
+class _View:
+    """Where the bytes of an object are, and how many, while this is kept."""
+
+    def __init__(self, text: Text) -> None:
+        self._buffer = _Buffer()
+        ctypes.pythonapi.PyObject_GetBuffer(ctypes.py_object(text), ctypes.byref(self._buffer), 0)
+        self._as_parameter_ = ctypes.c_char_p(self._buffer.at) if len(self) else b""
+
+    def __len__(self) -> int:
+        return int(self._buffer.length)
+
+    def __del__(self) -> None:
+        ctypes.pythonapi.PyBuffer_Release(ctypes.byref(self._buffer))
+
+
+def _text(text: Text) -> bytes | _View:
+    """The text as C can take it."""
+    return text if isinstance(text, bytes) else _View(text)
 
 
 def _work_of(held: Any) -> Work:
@@ -164,7 +192,7 @@ def _work_of(held: Any) -> Work:
     return Work(*(getattr(held.work, name) for name in Work._fields))
 
 
-def _place(text: bytes, start: int) -> int:
+def _place(text: bytes | _View, start: int) -> int:
     """A place as C can take it: all places after the end are alike."""
     return max(0, min(start, len(text) + 1))
 
@@ -197,8 +225,11 @@ class Pattern(_Held):
 
     def __init__(self, pattern: bytes, syntax: Syntax = Syntax.EXTENDED, fold: bool = False,
                  whole: bool = False, several: bool = False) -> None:
-        self.pattern, self.syntax, self.fold, self.whole = _bytes(pattern), Syntax(syntax), fold, whole
+        if not isinstance(pattern, bytes):
+            raise TypeError(f"bytes are wanted, not {type(pattern).__name__}")
+        self.pattern, self.syntax, self.fold, self.whole = pattern, Syntax(syntax), fold, whole
         self.several = several
+        self._whole: Pattern | None = None
         super().__init__(_Matcher(), _free)
         fault = _Fault()
         make = _compile_lines if several else _compile
@@ -217,49 +248,62 @@ class Pattern(_Held):
             raise ValueError("the pattern is closed")
         return answer == 1
 
-    def is_match(self, line: bytes) -> bool:
+    def is_match(self, line: Text) -> bool:
         """Whether the line is matched."""
+        text = _text(line)
         with self._lock:
-            return self._ask(_is_match, _bytes(line), len(line))
+            return self._ask(_is_match, text, len(text))
 
-    def search(self, line: bytes, start: int = 0) -> Match | None:
+    def fullmatch(self, line: Text) -> Match | None:
+        """The line, if all of it is matched."""
+        if not self.is_match(line):
+            return None
+        if not self.whole:
+            self._whole = self._whole or Pattern(self.pattern, self.syntax, self.fold, True, self.several)
+            if not self._whole.is_match(line):
+                return None
+        return Match(line, 0, len(_text(line)))
+
+    def search(self, line: Text, start: int = 0) -> Match | None:
         """The matched part that begins earliest from a place on, and of those the longest. It is
         not empty."""
-        part = _Part()
+        part, text = _Part(), _text(line)
         with self._lock:
-            found = self._ask(_find, _bytes(line), len(line), _place(line, start), ctypes.byref(part))
+            found = self._ask(_find, text, len(text), _place(text, start), ctypes.byref(part))
         return Match(line, part.start, part.end) if found else None
 
-    def finditer(self, line: bytes, start: int = 0) -> Iterator[Match]:
+    def finditer(self, line: Text, start: int = 0) -> Iterator[Match]:
         """All parts of the line from a place on, each searched from the end of the one before.
         They are found at once, in time linear in the line; where memory for that is refused it
         raises a `MemoryError`."""
-        count, room = ctypes.c_size_t(), min(len(_bytes(line)), _FIRST_ROOM)
+        text, count = _text(line), ctypes.c_size_t()
+        room = min(len(text), _FIRST_ROOM)
         while True:
             parts = (_Part * room)()
             with self._lock:
-                self._ask(_parts, line, len(line), _place(line, start), parts, room,
+                self._ask(_parts, text, len(text), _place(text, start), parts, room,
                           ctypes.byref(count))
             if count.value <= room:
                 return (Match(line, part.start, part.end) for part in parts[:count.value])
             room = count.value
 
-    def lines(self, text: bytes, start: int = 0) -> Iterator[Match]:
+    def lines(self, text: Text, start: int = 0) -> Iterator[Match]:
         """The matched lines of what is left of a text from a place on, without their newlines."""
-        line, at = _Part(), _place(_bytes(text), start)
+        line, all_lines = _Part(), _text(text)
+        at = _place(all_lines, start)
         while True:
             with self._lock:
-                found = self._ask(_next_line, text, len(text), at, ctypes.byref(line))
+                found = self._ask(_next_line, all_lines, len(all_lines), at, ctypes.byref(line))
             if not found:
                 return
             yield Match(text, line.start, line.end)
             at = line.end + 1
 
-    def count_lines(self, text: bytes) -> int:
+    def count_lines(self, text: Text) -> int:
         """How many lines of a text are matched."""
-        count = ctypes.c_uint64()
+        count, lines = ctypes.c_uint64(), _text(text)
         with self._lock:
-            self._ask(_count_lines, _bytes(text), len(text), ctypes.byref(count))
+            self._ask(_count_lines, lines, len(lines), ctypes.byref(count))
         return count.value
 
     @property
@@ -287,12 +331,12 @@ class Session(_Held):
         if _open(self._at, states):
             raise MemoryError
 
-    def answer(self, commands: bytes) -> bytes:
+    def answer(self, commands: Text) -> bytes:
         """The replies to commands, by the language of occur(1), with the lines that they count.
         After a `MemoryError` the first of them may have been answered."""
-        count = ctypes.c_size_t()
+        count, text = ctypes.c_size_t(), _text(commands)
         with self._lock:
-            status = _answer(self._at, _bytes(commands), len(commands), ctypes.byref(count))
+            status = _answer(self._at, text, len(text), ctypes.byref(count))
             if status == 2:
                 raise MemoryError
             if status > 2:

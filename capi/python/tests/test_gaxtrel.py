@@ -2,11 +2,15 @@
 
 from __future__ import annotations
 
+import array
 import copy
+import mmap
 import pickle
 import sys
+import tempfile
 import threading
 import unittest
+from pathlib import Path
 
 import gaxtrel
 from gaxtrel import Kind, Syntax
@@ -59,6 +63,39 @@ class Searches(unittest.TestCase):
         self.assertTrue(pattern.is_match(b"a.B"))
         self.assertFalse(pattern.is_match(b"a.Bc") or pattern.is_match(b"axB"))
 
+    def test_fullmatch(self) -> None:
+        self.assertEqual(self.pattern.fullmatch(b"abcd").span(), (0, 4))
+        self.assertIsNone(self.pattern.fullmatch(b"abc"))
+        self.assertIsNone(self.pattern.fullmatch(b"x"))
+        self.assertEqual(gaxtrel.compile(b"a*").fullmatch(b"").span(), (0, 0))
+        self.assertIsNone(gaxtrel.compile_lines(b"a\nb").fullmatch(b"ab"))
+        self.assertEqual(gaxtrel.compile(b"A", fold=True, whole=True).fullmatch(memoryview(b"a")).group(), b"a")
+
+    def test_any_buffer(self) -> None:
+        line = b"xabcdebc\nxab"
+        with tempfile.TemporaryFile() as file:
+            file.write(line)
+            file.flush()
+            mapped = mmap.mmap(file.fileno(), 0, access=mmap.ACCESS_READ)
+            for text in (line, bytearray(line), memoryview(line), mapped,
+                         memoryview(line).cast("I"), array.array("B", line)):
+                self.assertTrue(self.pattern.is_match(text))
+                self.assertEqual(self.pattern.search(text).group(), b"abcd")
+                self.assertEqual([found.group() for found in self.pattern.finditer(text, 5)], [b"bc", b"ab"])
+                self.assertEqual([found.group() for found in self.pattern.lines(text)], [b"xabcdebc", b"xab"])
+                self.assertEqual(self.pattern.count_lines(text), 2)
+            mapped.close()
+        text = bytearray(b"ab")
+        for _ in range(3):
+            self.assertTrue(self.pattern.is_match(text))
+            text.append(7)  # which no view hinders
+        self.assertFalse(self.pattern.is_match(bytearray()))
+        self.assertRaises(BufferError, self.pattern.is_match, memoryview(b"abc")[::2])
+
+    def test_version(self) -> None:
+        version = (Path(__file__).resolve().parents[3] / "VERSION").read_text(encoding="ascii").strip()
+        self.assertEqual(gaxtrel.__version__, version)
+
     def test_no_pattern_and_the_empty_one(self) -> None:
         self.assertFalse(gaxtrel.compile_lines(b"").is_match(b""))
         self.assertTrue(gaxtrel.compile_lines(b"\n").is_match(b"a"))
@@ -106,9 +143,11 @@ class Errors(unittest.TestCase):
         self.assertEqual((refused.exception.kind, refused.exception.pattern), (Kind.TooManyPatterns, 65_535))
 
     def test_types(self) -> None:
-        for wrong in ("a", bytearray(b"a"), memoryview(b"a"), None, 7):
+        for wrong in (bytearray(b"a"), memoryview(b"a")):
             self.assertRaises(TypeError, gaxtrel.compile, wrong)
-            for call in ("is_match", "search", "finditer", "count_lines"):
+        for wrong in ("a", None, 7):
+            self.assertRaises(TypeError, gaxtrel.compile, wrong)
+            for call in ("is_match", "fullmatch", "search", "finditer", "count_lines"):
                 self.assertRaises(TypeError, getattr(gaxtrel.compile(b"a"), call), wrong)
             self.assertRaises(TypeError, list, map(list, [gaxtrel.compile(b"a").lines(wrong)]))
         self.assertRaises(ValueError, gaxtrel.compile, b"a", 3)
@@ -116,7 +155,7 @@ class Errors(unittest.TestCase):
     def test_closed(self) -> None:
         with gaxtrel.compile(b"a") as pattern:
             self.assertTrue(pattern.is_match(b"a"))
-        for call in ("is_match", "search", "finditer", "count_lines"):
+        for call in ("is_match", "fullmatch", "search", "finditer", "count_lines"):
             self.assertRaises(ValueError, getattr(pattern, call), b"a")
         pattern.close()
 
