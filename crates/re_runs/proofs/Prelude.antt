@@ -4,7 +4,7 @@ pub use Rattle.memchr.specs.Lanes.{HasLanes, Marks}
 pub use Rattle.re_meter.specs.Meters.{AddsUpTo}
 pub use Rattle.re_runs.specs.Working.Blocks.{FindsNext, HoldsOfMany, IsBlock, IsLineFrom, IsNext, Lacks, LineBegins, PassesAll, StandsIn}
 pub use Rattle.re_runs.specs.Working.Finders.{runs_of}
-pub use Rattle.re_runs.specs.Working.Runs.{AllPass, AreProbesOf, BeginsWithout, FindsRun, HasBitAt, HasBitFor, HasBits, HaveBits, IsLongestRun, IsNoWider, IsProbeOf, LacksRun, PassesAt, RunIsAt, RunStandsAt, Runs, bits_of, front_of, longest_of, look_cost, mark_of, members_of, most_sets, one_run, set_at, sets_of_each}
+pub use Rattle.re_runs.specs.Working.Runs.{AllPass, AreProbesOf, BeginsWithout, FindsRun, HasBitAt, HasBitFor, HasBits, IsLongestRun, IsNoWider, IsProbeOf, LacksRun, PassesAt, RunIsAt, RunStandsAt, Runs, bits_of, front_of, longest_of, look_cost, mark_of, members_of, most_sets, one_run, set_at, sets_of_each}
 pub use Rattle.re_runs.specs.declared.alike.Alike.{Alike}
 pub use Rattle.re_runs.specs.declared.probes.Probe.{Probe}
 pub use Rattle.re_runs.specs.declared.probes.Probes.{Probes}

@@ -3,7 +3,7 @@ ghost use Rattle.std.specs.Prelude.{◌≡◌, ◌+◌, ◌<◌, ◌≤◌, ℕ,
 ghost use Rattle.std.specs.Int.{bit_at};
 ghost use Rattle.memchr.specs.Find.{Nowhere};
 ghost use Rattle.memchr.specs.Lanes.{HasLanes};
-ghost use Rattle.re_runs.specs.Working.Runs.{AllPass, AreProbesOf, HasBitAt, HaveRoom, IsNoWider, IsProbeOf, PassesAt};
+ghost use Rattle.re_runs.specs.Working.Runs.{AllPass, AreProbesOf, HaveRoom, IsNoWider, IsProbeOf, PassesAt};
 ghost use Rattle.re_runs.specs.Working.Runs.{bits_of, mark_of, sets_of_each};
 
 use crate::alike::Alike;
@@ -58,15 +58,6 @@ impl Probe {
         }
     }
 
-    // The bits of the look-ups for the byte after this place.
-    #[inline(always)]
-    fn bits(&self, line: &[u8], place: usize) -> u8
-        requires { place + self.now.at < length line.now }
-        ensures { result ≡ bits_of self.now.nibbles (slice_index line.now (place + self.now.at)) }
-    {
-        self.nibbles.bits(line[place + self.at])
-    }
-
     // What is not 0 for those of 32 places after which the byte passes by look-ups.
     #[inline(always)]
     fn looked_up(&self, line: &[u8], place: usize) -> u8x32
@@ -113,19 +104,6 @@ impl Probes {
             second,
             third,
         })
-    }
-
-    /// The bits that all three look-ups have in common after this place.
-    #[inline(always)]
-    pub fn bits(&self, line: &[u8], place: usize) -> u8
-        requires { HaveRoom self.now line.now (place + 1) }
-        ensures { (bit : ℕ) → HasBitAt self.now.first line.now place bit →
-            HasBitAt self.now.second line.now place bit → HasBitAt self.now.third line.now place bit
-            → bit_at result bit ≡ 1 }
-    {
-        let first = self.first.bits(line, place);
-        let second = self.second.bits(line, place);
-        first & second & self.third.bits(line, place)
     }
 
     /// Goes on from `from` by 32 places until some of 32 are marked, or fewer than 32 are left

@@ -1,7 +1,7 @@
 //! Runs of sets of bytes, one of which is looked for.
 ghost use Rattle.std.specs.Prelude.{◌≡◌, ◌↔◌, ◌⊎◌, ◌+◌, ◌<◌, ◌≤◌, Some, IfSome, IsTrue, MatchOption, length, map};
 ghost use Rattle.re_trees.specs.Working.Trees.{members};
-ghost use Rattle.re_runs.specs.Working.Runs.{HaveBits, IsLongestRun, IsNoWider, RunIsAt, RunStandsAt, longest_of, sets_of_each, set_at};
+ghost use Rattle.re_runs.specs.Working.Runs.{IsLongestRun, IsNoWider, RunIsAt, RunStandsAt, longest_of, sets_of_each, set_at};
 
 use re_trees::ByteSet;
 
@@ -30,16 +30,14 @@ pub fn longest(runs: &[Vec<ByteSet>]) -> usize
     longest
 }
 
-/// Whether the line has a byte of each set of some run, from the place on. Runs without these bits are
-/// passed over.
+/// Whether the line has a byte of each set of some run, from the place on.
 #[inline(always)]
-pub fn take_some(runs: &[Vec<ByteSet>], bits: u8, line: &[u8], place: usize) -> bool
-    requires within { place ≤ length line.now }
-    requires bits { HaveBits bits line.now (sets_of_each runs.now) place }
+pub fn take_some(runs: &[Vec<ByteSet>], line: &[u8], place: usize) -> bool
+    requires { place ≤ length line.now }
     ensures { IsTrue result ↔ RunStandsAt line.now (sets_of_each runs.now) place }
 {
     'runs: for number in 0..runs.len() {
-        if bits >> (number % 8) & 1 == 1 && is_at(&runs[number], line, place) {
+        if is_at(&runs[number], line, place) {
             return true;
         }
     }

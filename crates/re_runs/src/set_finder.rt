@@ -5,7 +5,7 @@ ghost use Rattle.memchr.specs.Find.{IsFirst};
 ghost use Rattle.memchr.specs.Lanes.{Marks};
 ghost use Rattle.re_trees.specs.Working.Trees.{members};
 ghost use Rattle.re_trees.specs.declared.bytes.ByteSet.{ByteSet};
-ghost use Rattle.re_runs.specs.Working.Runs.{AllPass, AreProbesOf, FindsRun, HaveBits, HaveRoom, IsLongestRun, IsNoWider, RunStandsAt};
+ghost use Rattle.re_runs.specs.Working.Runs.{AllPass, AreProbesOf, FindsRun, HaveRoom, IsLongestRun, IsNoWider, RunStandsAt};
 ghost use Rattle.re_runs.specs.Working.Runs.{longest_of, look_cost, members_of, sets_of_each};
 ghost use Rattle.re_meter.specs.Meters.{many_passed};
 
@@ -29,9 +29,6 @@ const MANY_STOPS: u64 = 1_024;
 
 // Runs of so few sets are compared sooner than further tests are made at 32 places.
 const FEW_SETS: usize = 4;
-
-// From so many runs on it is worth while to ask which of them a place is marked for.
-const MANY_RUNS: usize = 4;
 
 /// Looks for the first of several runs of sets, one byte of each set in turn: for bytes of the rarest
 /// sets at 32 places at once, and where these are it compares the others. Contracts see the runs.
@@ -174,22 +171,7 @@ impl SetFinder {
         requires { place ≤ length line.now }
         ensures { IsTrue result ↔ RunStandsAt line.now (members_of self.now) place }
     {
-        take_some(&self.runs, self.bits_at(line, place), line, place)
-    }
-
-    // The bits of the runs that may be in the line at the place: all of eight where there are few runs.
-    #[inline(always)]
-    fn bits_at(&self, line: &[u8], place: usize) -> u8
-        requires { place ≤ length line.now }
-        ensures { HaveBits result line.now (members_of self.now) place }
-    {
-        if self.runs.len() < MANY_RUNS {
-            return u8::MAX;
-        }
-        if line.len() - place < self.width {
-            return u8::MAX;
-        }
-        self.probes.bits(line, place)
+        take_some(&self.runs, line, place)
     }
 
     // The same by tests of bits or by look-ups, which one of several runs, `EACH`, has to pass: 32

@@ -1,5 +1,5 @@
 -- Where a run of sets is in a line, and what the tests of its probes say.
-use Rattle.re_runs.proofs.Prelude.{◌%◌, HasBitAt, HaveBits, ◌≡◌, ℕ, suc, ◌+◌, ◌-◌, ◌<◌, ◌≤◌, ◌↔◌, ◌⊎◌, inl, inr, Bool, IsTrue, List, Vec, [], ◌∷◌, ◌++◌, length, map, drop, get_or, slice_index, Option, None, Some, refl, sym, ap, ◌∙◌, subst, arith, nat_eq, eq-eqb, length-append, length-drop, bit_at, starts_with, Bytes, Text, nothing, only, members, ByteSet, OccursAt, FindsNeedle, Nowhere, NoneBefore, Marks, Probe, Probes, Runs, members_of, one_run, RunIsAt, IsNoWider, RunStandsAt, Any, longest_of, IsLongestRun, take, FindsRun, set_at, sets_of_each, PassesAt, AllPass, IsProbeOf, AreProbesOf, bit_at-zero, cases_lt, eqb-true, Decides-eqb, starts_is, get_or-drop, get_or_append_left, get_or-append-add, length-map}
+use Rattle.re_runs.proofs.Prelude.{◌%◌, HasBitAt, ◌≡◌, ℕ, suc, ◌+◌, ◌-◌, ◌<◌, ◌≤◌, ◌↔◌, ◌⊎◌, inl, inr, Bool, IsTrue, List, Vec, [], ◌∷◌, ◌++◌, length, map, drop, get_or, slice_index, Option, None, Some, refl, sym, ap, ◌∙◌, subst, arith, nat_eq, eq-eqb, length-append, length-drop, bit_at, starts_with, Bytes, Text, nothing, only, members, ByteSet, OccursAt, FindsNeedle, Nowhere, NoneBefore, Marks, Probe, Probes, Runs, members_of, one_run, RunIsAt, IsNoWider, RunStandsAt, Any, longest_of, IsLongestRun, take, FindsRun, set_at, sets_of_each, PassesAt, AllPass, IsProbeOf, AreProbesOf, bit_at-zero, cases_lt, eqb-true, Decides-eqb, starts_is, get_or-drop, get_or_append_left, get_or-append-add, length-map}
 use Rattle.std.specs.Prelude.{IfSome, MatchOption, max, zero}
 use Rattle.std.proofs.lemmas.List.{get_or-map, map-append, take_more}
 use Rattle.re_trees.proofs.lemmas.Decisions.{Any-first}
@@ -256,12 +256,6 @@ module _ (runs : Runs) (width : ℕ) (wide : IsNoWider width runs) (line : Text)
       has_bit probes.third are.third n run lt at there (several yes),
     );
   }
-
-  -- runs that are there have the bits that the three tests have in common
-  pub bits_there : (probes : Probes) (m : ℕ) → 2 ≤ length runs → AreProbesOf probes width runs
-      → ((bit : ℕ) → HasBitAt probes.first line k bit → HasBitAt probes.second line k bit → HasBitAt probes.third line k bit → bit_at m bit ≡ 1) → HaveBits m line runs k
-  bits_there probes m several are both n run lt at there =
-      both (n % 8) (has_bit probes.first are.first n run lt at there several) (has_bit probes.second are.second n run lt at there several) (has_bit probes.third are.third n run lt at there several)
 
 -- the runs of a finder
 pub seen_runs : (seen : List (List ByteSet)) (runs : List (Vec ByteSet)) → map (λ run. run.items) runs ≡ seen → members_of seen ≡ sets_of_each runs

@@ -124,11 +124,6 @@ pub record HaveRoom (probes : Probes) (line : Text) (past : ℕ) : Type 0 where
   pub second : past + probes.second.at ≤ length line
   pub third : past + probes.third.at ≤ length line
 
--- each run that is at place k has one of these bits, one of eight
-abbrev pub HaveBits : ℕ → Text → Runs → ℕ → Type 0
-HaveBits bits line runs k =
-    (n : ℕ) (run : List Bytes) → n < length runs → get_or runs n run ≡ run → RunIsAt line k run → bit_at bits (n % 8) ≡ 1
-
 -- each byte of the set has the bit in the tables
 abbrev pub HasBitFor : Nibbles → ℕ → Bytes → Type 0
 HasBitFor nibbles bit set = (x : ℕ) → x < 256 → IsTrue (set x) → bit_at (bits_of nibbles x) bit ≡ 1
