@@ -62,7 +62,7 @@ pub use Rattle.re_syntax.specs.Spelled.{IsMeant}
 pub use Rattle.re_syntax.specs.declared.fault.PatternFault.{PatternFault}
 pub use Rattle.re_trees.specs.declared.span.Span.{Span}
 pub use Rattle.re_syntax.specs.declared.syntax.Syntax.{Syntax}
-pub use Rattle.std.proofs.Common.{All, Any, Bool, Bor, Decides, Err, IfErr, IfOk, IfSome, IsErr, IsErrAnd, IsTrue, List, MatchBool, MatchOption, None, Ok, OnErr, Option, Result, Some, [], ap, append-nil, append_assoc, arith, codes, decimal, drop, drop-drop, drop_at, false, get_or, get_or-append-add, get_or-drop, if◌then◌else◌, inl, inr, is_err, is_some, le-ltb, length, length-append, length-drop, length-take, length-take-le, lt-ltb, ltb-false, ltb-true, map, min, mul-le-mul_left, mul-le-mul_right, nat_eq, nat_le, nat_lt, not, refl, rules, slice_range, subst, suc, sum_by, sym, take, take-append-drop, take-suc, take_all, true, zero, ℕ, ◌&&◌, ◌*◌, ◌++◌, ◌+◌, ◌-◌, ◌<◌, ◌^◌, ◌||◌, ◌↔◌, ◌∙◌, ◌∷◌, ◌≡◌, ◌≢◌, ◌≤◌, ◌⊎◌}
+pub use Rattle.std.proofs.Common.{All, Any, Bool, Bor, Decides, Err, IfErr, IfOk, IfSome, IsErr, IsErrAnd, IsTrue, List, MatchBool, MatchOption, None, Ok, OnErr, Option, Result, Some, [], ap, append-nil, append_assoc, arith, codes, decimal, drop, drop-drop, drop_at, false, get_or, get_or-append-add, get_or-drop, if◌then◌else◌, inl, inr, is_err, is_some, le-ltb, length, length-append, length-drop, length-take, length-take-le, lt-ltb, ltb-false, ltb-true, map, min, mul-le-mul_left, mul-le-mul_right, nat_eq, nat_le, nat_lt, not, refl, rules, slice_range, subst, suc, sym, take, take-append-drop, take-suc, take_all, true, zero, ℕ, ◌&&◌, ◌*◌, ◌++◌, ◌+◌, ◌-◌, ◌<◌, ◌^◌, ◌||◌, ◌↔◌, ◌∙◌, ◌∷◌, ◌≡◌, ◌≢◌, ◌≤◌, ◌⊎◌}
 pub use Rattle.std.proofs.KnownBytes.{Appends-nil, Appends-trans, Consumes-nil}
 pub use Rattle.std.proofs.Math.Decide.{dec_le, map_dec}
 pub use Rattle.std.proofs.Math.Nat.{min-eq_left, min-eq_right}

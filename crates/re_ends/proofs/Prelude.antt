@@ -4,9 +4,9 @@ pub use Rattle.re_auto.specs.Working.Positions.{Part, PartHolds, Reaches, is_beg
 pub use Rattle.re_ends.specs.Working.GreatestEnds.{AddsEnds, FoundPast, Leads, LeadsPast, MatchesPast}
 pub use Rattle.re_trees.specs.Bytes.{Text}
 pub use Rattle.re_trees.specs.Expression.{Expression}
-pub use Rattle.re_trees.specs.Holds.{Holds, Matches, positions}
+pub use Rattle.re_trees.specs.Holds.{Holds, positions}
 pub use Rattle.re_trees.specs.Parts.{IsFound}
 pub use Rattle.re_trees.specs.Working.Trees.{expression_of}
-pub use Rattle.std.proofs.Common.{Bool, IsTrue, List, Some, [], ap, arith, drop, false, get_or, get_or-set_other, get_or-set_same, inl, inr, length, length-append, length-set, map, max, nat_eq, refl, replicate, set, slice_get, slice_index, subst, suc, sym, take, true, zero, ℕ, ◌*◌, ◌++◌, ◌+◌, ◌-◌, ◌/◌, ◌<◌, ◌↔◌, ◌∙◌, ◌∷◌, ◌≡◌, ◌≤◌, ◌⊎◌}
+pub use Rattle.std.proofs.Common.{Bool, List, Some, [], ap, arith, drop, false, get_or, get_or-set_other, get_or-set_same, inl, inr, length, length-append, length-set, map, max, nat_eq, refl, replicate, set, slice_get, slice_index, subst, suc, sym, take, true, zero, ℕ, ◌*◌, ◌++◌, ◌+◌, ◌-◌, ◌/◌, ◌<◌, ◌↔◌, ◌∙◌, ◌∷◌, ◌≡◌, ◌≤◌, ◌⊎◌}
 pub use Rattle.std.proofs.lemmas.Bool.{cases_eq, cases_lt, false≢true, true≢false}
 pub use Rattle.std.proofs.lemmas.List.{get_or_append_left, length-replicate, with_items_is}

@@ -1,6 +1,6 @@
 -- The words of specs and of std that proofs of this crate use, passed on from one place. Declares nothing.
 pub use Rattle.re_runs.specs.Working.Blocks.{CountsMatched, FindsMatched, FindsNext, HoldsOfMany, Lacks, PassesAll, PassesUnmatched, StandsIn}
-pub use Rattle.re_needle.specs.Working.Needles.{HasNoBegin, IsJustRun, IsNeeded, IsNeedleFor, IsNeedleOf, IsRunNeedleFor, IsSettled, LacksNeeded, RunBegins, RunIsNeeded, RunStandsBetween, StandsBetween}
+pub use Rattle.re_needle.specs.Working.Needles.{HasNoBegin, IsJustRun, IsNeeded, IsNeedleFor, IsNeedleOf, IsRunNeedleFor, IsSettled, LacksNeeded, RunBegins, RunIsNeeded, StandsBetween}
 pub use Rattle.re_runs.specs.Working.Finders.{runs_of}
 pub use Rattle.re_needle.specs.Working.Outlines.{AddsOutline, AddsSets, AddsTurns, AreJoined, AreSetMarks, BeginsWith, Fits, IsOutline, Leads, MarkFits, shown}
 pub use Rattle.re_runs.specs.Working.Runs.{BeginsWithout, FindsRun, IsLongestRun, IsNoWider, LacksRun, RunIsAt, RunStandsAt, Runs, front_of, members_of, most_sets, one_run, set_at, sets_of_each}

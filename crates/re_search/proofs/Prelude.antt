@@ -5,18 +5,14 @@ pub use Rattle.re_ends.specs.Working.GreatestEnds.{AddsEnds, FoundPast}
 pub use Rattle.re_ends.specs.declared.table.Window.{Window}
 pub use Rattle.re_match.specs.Working.Aheads.{IsAhead, past}
 pub use Rattle.re_match.specs.declared.ahead.Ahead.TheVariants.{In}
-pub use Rattle.re_match.specs.Working.Literals.{Literals, any_literal}
 pub use Rattle.re_match.specs.Working.Same.{SameMatcher}
 pub use Rattle.re_meter.specs.Meters.{AddsUpTo}
-pub use Rattle.re_runs.specs.Working.Blocks.{IsLineFrom}
 pub use Rattle.re_search.specs.Reading.{IsReadable, IsRefusedFor, IsSmallFor}
 pub use Rattle.re_search.specs.Working.LineParts.{AreAllEnds, AreEnds, AreEndsIn, ArePartsOf, FindsBefore, LineEnds, spent}
-pub use Rattle.re_search.specs.Working.Matchers.{matched_expression}
 pub use Rattle.re_search.specs.Working.Patterns.{IsPattern, meaning, meant_by, pattern_expression}
 pub use Rattle.re_search.specs.Working.Searchers.{SameSearchers, expressions_by, sought_by}
 pub use Rattle.re_search.specs.Working.Sought.{FindsSought, IsSought, PassesUnsought, Sought}
 pub use Rattle.re_search.specs.Working.Strings.{AddsEach, string_expression}
-pub use Rattle.re_search.specs.declared.matcher.Matcher.{Matcher}
 pub use Rattle.re_search.specs.declared.pattern.Pattern.{Pattern}
 pub use Rattle.re_search.specs.declared.pattern.Pattern.TheVariants.{String, Tree}
 pub use Rattle.re_search.specs.declared.searchers.Searchers.{Searchers}
@@ -35,13 +31,12 @@ pub use Rattle.re_syntax.specs.declared.fault.PatternFault.{PatternFault}
 pub use Rattle.re_trees.specs.declared.span.Span.{Span}
 pub use Rattle.re_syntax.specs.declared.syntax.Syntax.{Syntax}
 pub use Rattle.re_syntax.specs.declared.syntax.Syntax.TheVariants.{Fixed}
-pub use Rattle.std.proofs.Common.{All, Any, Bool, IfSome, IsTrue, List, None, Option, Some, [], add-one, ap, append-nil, append_assoc, arith, drop, drop-drop, eq-eqb, false, get_or, if◌then◌else◌, inl, inr, is_some, length, length-append, length-drop, lt-ltb, map, max, mul-le-mul_left, mul-le-mul_right, nat_lt, refl, rules, set, slice_index, slice_range, slice_set, subst, sym, take, take-suc, take_all, true, true≢false, suc, zero, ℕ, ◌*◌, ◌++◌, ◌+◌, ◌-◌, ◌<◌, ◌^◌, ◌↔◌, ◌∙◌, ◌∷◌, ◌≡◌, ◌≢◌, ◌≤◌, ◌⊎◌}
+pub use Rattle.std.proofs.Common.{Bool, IfSome, IsTrue, List, None, Option, Some, [], add-one, ap, append-nil, append_assoc, arith, drop, eq-eqb, false, get_or, if◌then◌else◌, inl, inr, is_some, length, length-drop, map, max, mul-le-mul_left, refl, rules, set, slice_index, slice_range, slice_set, subst, sym, take, take-suc, take_all, true, true≢false, suc, zero, ℕ, ◌*◌, ◌++◌, ◌+◌, ◌-◌, ◌<◌, ◌^◌, ◌↔◌, ◌∙◌, ◌∷◌, ◌≡◌, ◌≢◌, ◌≤◌, ◌⊎◌}
 pub use Rattle.std.proofs.Math.Decide.{dec_le}
 pub use Rattle.std.proofs.Math.Seq.{map-set_same}
 pub use Rattle.std.proofs.lemmas.Bool.{cases_lt, false≢true}
 pub use Rattle.std.proofs.lemmas.List.{get_or-map, get_or-replicate, length-replicate, get_or_default, get_or_past, length-map, map-append, take_rest, with_items_is}
-pub use Rattle.std.proofs.lemmas.List.Elements.{All-append, All-cons, All-from_get_or, All-head, All-map, All-nil, All-push, All-tail}
+pub use Rattle.std.proofs.lemmas.List.Elements.{All-append, All-from_get_or, All-head}
 pub use Rattle.std.proofs.lemmas.Option.{IfSome_then}
 pub use Rattle.std.proofs.lemmas.Result.{err_from_is_err_and}
-pub use Rattle.std.specs.Option.{ForSome}
 pub use Rattle.std.specs.Prelude.{replicate}

@@ -34,9 +34,6 @@ module _ (P : Text → Type 0) where
     pub few : count ≤ start
     pub goes_on : (more : List Text) → Chosen P (lines_of (drop start block)) more → (all : List Text) × Chosen P (lines_of block) all × (terminated all ≡ (sent ++ slice_range block run start) ++ terminated more) × (length all ≡ count + length more)
 
-  pub runs_none : (block : Text) → IsBlock block → RunsTo block 0 0 0 []
-  runs_none block whole = record { is_block = whole; low = omega arith; within = omega arith; few = omega arith; goes_on = λ more c. (more, c, refl, omega arith) }
-
   -- one more is, and the lines before it are not; so far as the bytes before it don't lead to it, they
   -- are sent
   pub runs_next : {block sent : Text} {run start count : ℕ} → RunsTo block run start count sent → (at : Span) → at.end < length (drop start block) → IsNext P (lines_of (drop start block)) at

@@ -1,7 +1,7 @@
 -- Searches for many fixed strings: which of them end at a place, and which is the best.
 use Rattle.re_strings.proofs.Prelude.{◌≡◌, ◌↔◌, ℕ, zero, suc, add-one, ◌+◌, ◌-◌, ◌<◌, ◌≤◌, inl, inr, Bool, true, false, IsTrue, List, [], ◌∷◌, ◌++◌, length, take, drop, slice_index, nat_eq, Option, Some, None, refl, sym, ap, subst, ◌∙◌, arith, length-drop, if◌then◌else◌, get_or, eq-eqb, eq-or-lt_of_le, eqb-true, eqb-false, cases_lt, get_or_default_zero, drop-length, take-suc, drop-append-le, drop-drop, length-take-le, take-append-drop, Text, IsBest, Least, better, places, better_span, Span, IsFront, IsString, StandsFor, EndsIn, Labels, StepsOn, Occurs, NoneBetween, StandsAtNode, StandsSince, IsBestOccurrence, better_ending}
 use Rattle.re_trees.proofs.lemmas.BestStretches.{better_places, best_so_far}
-use Rattle.re_strings.proofs.lemmas.SetSteps.{front_shorter, string_front, empty_end, may_at_first}
+use Rattle.re_strings.proofs.lemmas.SetSteps.{front_shorter, string_front, may_at_first}
 
 -- what is read of a line up to a place has that length
 pub read_length : (line : Text) (place : ℕ) → place ≤ length line → length (take place line) ≡ place
@@ -52,13 +52,6 @@ module _ (all : Labels) (from : ℕ) (line : Text) where
   -- a string that ends at a place begins where the node does or later
   pub begins_with_node : (place n : ℕ) (s : StandsAtNode all from line place n) → (i : ℕ) → from ≤ i → IsFront all.strings (drop i (take place line)) → s.start ≤ i
   begins_with_node place n s i low front = elim (cases_lt i s.start) [ inl early ↦ absurd (s.none i low early front) | inr late ↦ late ]
-
-  -- at the root none ends
-  pub none_at_root : all.label 0 ≡ [] → (place : ℕ) → place ≤ length line → StandsAtNode all from line place 0 → (i : ℕ) → ¬ Occurs all.strings from line i place
-  none_at_root root place within s i o =
-      let end : s.start ≡ length (take place line) = empty_end (take place line) s.start s.high (sym root ∙ s.is) in
-      let le = begins_with_node place 0 s i o.0 (string_front all.strings (drop i (take place line)) o.3) in
-      omega (arith, end, read_length line place within, le, o.1)
 
   -- the length of the node
   pub node_length : (place n : ℕ) → place ≤ length line → (s : StandsAtNode all from line place n) → length (all.label n) ≡ place - s.start

@@ -9,10 +9,12 @@ use Rattle.re_ends.proofs.groups.Groups.close_all.Goals as goal
 pub add_to-range-requires-clause-made : goal.add_to-range-requires-clause-made
 add_to-range-requires-clause-made c =
     let (b, same, none) = c.requires in
-    let m = c.turn-range.ensures b same (c.pieces.invariant.met b same none) in
-    (b.e, m.made.preceding,
+    let m = c.turn-range.ensures b same (c.pieces.invariant.met b same none) in (
+      b.e,
+      m.made.preceding,
       (λ k lt bit. m.row.small _ _ (c.pieces.i, rw same c.pieces-test.true, refl, subst (λ xs. Names (slice_index xs c.pieces.i) (c.word_of.result * 64 + k)) (sym same) (subst (λ n. Names (slice_index c.args.after.now c.pieces.i) (n * 64 + k)) (sym c.word_of.ensures) ((c.members_of.ensures k lt).0 bit)))),
-      ap length c.deref_mut.ensures.value ∙ m.made.met)
+      ap length c.deref_mut.ensures.value ∙ m.made.met,
+    )
 
 pub add_to-range-requires-clause-word : goal.add_to-range-requires-clause-word
 add_to-range-requires-clause-word c =
@@ -37,9 +39,9 @@ pieces-preserved c = record {
         row = m.made.row;
         runs = m.made.runs;
       }) m.closed (rw met c.add_to-range.ensures.covers) (λ p.
-          let are = laws.piece_members (slice_index c.args.after.now c.pieces.i) c.members_of.result c.word_of.result c.word_of.ensures c.members_of.ensures (λ r. (part_of b.e 0).follow p r) in
-          let added = rw c.deref_mut.ensures.value at (c.add_to-range.ensures.added b.e p m.made.preceding) in
-          rw (met, same) ((λ h. elim (added.0 h) [ inl old ↦ inl old | inr more ↦ inr (are.0 more) ]), (λ h. elim h [ inl old ↦ added.1 (inl old) | inr more ↦ added.1 (inr (are.1 more)) ])));
+      let are = laws.piece_members (slice_index c.args.after.now c.pieces.i) c.members_of.result c.word_of.result c.word_of.ensures c.members_of.ensures (λ r. (part_of b.e 0).follow p r) in
+      let added = rw c.deref_mut.ensures.value at (c.add_to-range.ensures.added b.e p m.made.preceding) in
+      rw (met, same) ((λ h. elim (added.0 h) [ inl old ↦ inl old | inr more ↦ inr (are.0 more) ]), (λ h. elim h [ inl old ↦ added.1 (inl old) | inr more ↦ added.1 (inr (are.1 more)) ])));
   first = λ none. absurd (omega (arith, none));
   last = λ some. ap (λ n. group_of (slice_index c.args.after.now n)) (let is : c.pieces.i + 1 - 1 ≡ c.pieces.i = omega arith in is);
 }
